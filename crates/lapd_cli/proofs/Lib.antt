@@ -1,0 +1,4 @@
+pub mod HexText
+pub mod Walks
+pub mod WordsOf
+pub mod Printed

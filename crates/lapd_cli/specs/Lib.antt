@@ -1,0 +1,5 @@
+pub mod Answer
+pub mod Line
+pub mod Script
+pub mod Session
+pub mod Walked

@@ -1,0 +1,86 @@
+//! The program `lapd`: a link of the ISDN D channel (ITU-T Q.921) that answers a script.
+//!
+//! Scripts come on standard input, a line for each thing that happens, and each line's answer goes
+//! to standard output before more is read. Begin with [`script::walk`], which every command shares.
+#![tactic(auto)]
+
+mod answer;
+mod command_line;
+mod line;
+mod print;
+mod script;
+#[cfg(test)]
+mod tests;
+
+use answer::answer;
+use clap::error::ErrorKind;
+use command_line::{Chosen, choose};
+use lapd_link::Params;
+use script::ScriptFault;
+use std::io::BufWriter;
+use std::process::ExitCode;
+use std::{env, io};
+
+/// The exit status after a fault of the command line.
+const COMMAND_LINE: u8 = 2;
+
+fn main(rt: HostRuntime) -> ExitCode {
+    let words = match words(&rt) {
+        Ok(words) => words,
+        Err(error) if error.kind() == io::ErrorKind::OutOfMemory => {
+            return stop(&rt, ScriptFault::Memory);
+        }
+        Err(error) => {
+            let _ = eprintln!(rt; "error: {error}");
+            return ExitCode::from(COMMAND_LINE);
+        }
+    };
+    match choose(rt.alloc(), words.as_slice()) {
+        Ok(chosen) => match run(&rt, chosen) {
+            Ok(()) => ExitCode::SUCCESS,
+            Err(fault) => stop(&rt, fault),
+        },
+        Err(error) if error.kind() == ErrorKind::OutOfMemory => stop(&rt, ScriptFault::Memory),
+        Err(error) => show(&rt, &error),
+    }
+}
+
+// The command line's words.
+fn words(rt: &HostRuntime) -> io::Result<Vec<String>> {
+    Ok(env::args(rt)?.collect(rt.alloc())?)
+}
+
+// Does what the words chose, over standard input and output.
+fn run(rt: &HostRuntime, chosen: Chosen) -> Result<(), ScriptFault> {
+    let mut script = rt.stdin();
+    let mut out = BufWriter::new(rt.alloc(), rt.stdout()).map_err(|_| ScriptFault::Memory)?;
+    let ended = match chosen {
+        Chosen::Answer { side } => answer(rt.alloc(), &mut script, &mut out, side, params()),
+    };
+    // What a device that failed did not take is given up.
+    let _left = out.into_parts();
+    ended
+}
+
+// What the link is made with: a window of one frame, N200 = 3 and room for 512 messages.
+fn params() -> Params {
+    Params::new(1, 3, 512).unwrap()
+}
+
+// Says how the script ended.
+fn stop(rt: &HostRuntime, fault: ScriptFault) -> ExitCode {
+    let _ = eprintln!(rt; "{fault}");
+    ExitCode::from(fault.status())
+}
+
+// Prints the parser's text where it belongs.
+fn show(rt: &HostRuntime, error: &clap::Error) -> ExitCode {
+    let printed = error.print(rt);
+    if error.use_stderr() {
+        ExitCode::from(COMMAND_LINE)
+    } else if printed.is_err() {
+        ExitCode::from(ScriptFault::Device.status())
+    } else {
+        ExitCode::SUCCESS
+    }
+}

@@ -1,0 +1,66 @@
+-- The grammar of frames (Q.921 clause 3), apart from how they are read.
+use Rattle.std.specs.Prelude.{◌≡◌, ℕ, nat_eq, nat_lt, if◌then◌else◌, List, ◌++◌, length, Option, Some, None, Result, Ok, Err}
+use Rattle.lapd_field.specs.declared.side.Side.{Side}
+use Rattle.lapd_field.specs.declared.side.Role.{Role}
+use Rattle.lapd_field.specs.declared.side.Role.TheVariants.{Command, Answer}
+use Rattle.lapd_field.specs.declared.address.Address.{Address}
+use Rattle.lapd_field.specs.declared.control.Control.{Control}
+use Rattle.lapd_field.specs.declared.control.Control.TheVariants.{I, Rr, Rnr, Rej, Sabme, Dm, Ui, Disc, Ua, Frmr, Xid}
+use Rattle.lapd_field.specs.Address.{address_octets, IsAddress}
+use Rattle.lapd_field.specs.Control.{control_octets, IsControl}
+use Rattle.lapd_frame.specs.declared.fault_kind.FaultKind.{FaultKind}
+use Rattle.lapd_frame.specs.declared.fault_kind.FaultKind.TheVariants.{Undefined, InfoNotPermitted, WrongSize, InfoTooLong}
+
+-- the parts of a frame (Q.921 2.1 to 2.5)
+pub record Fields : Type 0 where
+  pub address : Address
+  pub control : Control
+  pub info : List ℕ
+
+-- at most N201 octets of information (Q.921 5.9.3)
+abbrev pub free : ℕ → Option FaultKind
+free len = if nat_lt 260 len then Some InfoTooLong else None
+
+-- no information
+abbrev pub bare : FaultKind → ℕ → Option FaultKind
+bare fault len = if nat_lt 0 len then Some fault else None
+
+-- five octets of information (Q.921 3.6.11)
+abbrev pub five : ℕ → Option FaultKind
+five len = if nat_eq len 5 then None else Some WrongSize
+
+-- What each line of the control table (Q.921 Table 5) refuses: the other role, then information of this length.
+abbrev pub content_fault : Role → Control → ℕ → Option FaultKind
+content_fault Command (I ns nr p) len = free len
+content_fault Answer (I ns nr p) len = Some Undefined
+content_fault role (Rr nr pf) len = bare WrongSize len
+content_fault role (Rnr nr pf) len = bare WrongSize len
+content_fault role (Rej nr pf) len = bare WrongSize len
+content_fault Command (Sabme p) len = bare InfoNotPermitted len
+content_fault Answer (Sabme p) len = Some Undefined
+content_fault Answer (Dm f) len = bare InfoNotPermitted len
+content_fault Command (Dm f) len = Some Undefined
+content_fault Command (Ui p) len = free len
+content_fault Answer (Ui p) len = Some Undefined
+content_fault Command (Disc p) len = bare InfoNotPermitted len
+content_fault Answer (Disc p) len = Some Undefined
+content_fault Answer (Ua f) len = bare InfoNotPermitted len
+content_fault Command (Ua f) len = Some Undefined
+content_fault Answer (Frmr f) len = five len
+content_fault Command (Frmr f) len = Some Undefined
+content_fault role (Xid pf) len = free len
+
+-- the octets of a frame that this side sends
+abbrev pub spelling : Side → Fields → List ℕ
+spelling from f = address_octets from f.address ++ control_octets f.control ++ f.info
+
+-- these parts are a frame
+pub record IsFrame (f : Fields) : Type 0 where
+  pub address : IsAddress f.address
+  pub control : IsControl f.control
+  pub content : content_fault f.address.role f.control (length f.info) ≡ None
+
+-- what stands between these parts and a frame, or the frame
+abbrev pub frame_of : Address → Control → List ℕ → Option FaultKind → Result Fields FaultKind
+frame_of address control info None = Ok (record { address = address; control = control; info = info })
+frame_of address control info (Some fault) = Err fault

@@ -1,0 +1,62 @@
+ghost use Rattle.std.specs.Prelude.{◌≡◌};
+ghost use Rattle.lapd_frame.specs.Fault.{fault_name, kind_of};
+
+use lapd_field::FieldFault;
+use thiserror::Error;
+
+/// What is wrong with octets that are no frame, in the order in which it is looked for.
+#[derive(Clone, Copy, Debug, PartialEq, Eq, Error)]
+pub enum FaultKind {
+    /// F1: too few octets (Q.921 2.9 b).
+    #[error("F1 TooShort")]
+    TooShort,
+    /// F2: an address extension bit is wrong (Q.921 2.9 e).
+    #[error("F2 BadAddress")]
+    BadAddress,
+    /// F3: the service access point is not served (Q.921 2.9 e).
+    #[error("F3 SapiNotServed")]
+    SapiNotServed,
+    /// F4: an undefined control field, a reserved bit that is set, or a command sent as a response or a response as
+    /// a command (Q.921 3.6.1).
+    #[error("F4 Undefined")]
+    Undefined,
+    /// F5: information in a SABME, DISC, DM or UA frame (Q.921 3.6.11).
+    #[error("F5 InfoNotPermitted")]
+    InfoNotPermitted,
+    /// F6: an S frame that is not of 4 octets, or a FRMR frame whose information is not of 5 (Q.921 3.6.11).
+    #[error("F6 WrongSize")]
+    WrongSize,
+    /// F7: more than 260 octets of information, N201, in an I, UI or XID frame (Q.921 5.9.3).
+    #[error("F7 InfoTooLong")]
+    InfoTooLong,
+}
+
+impl FaultKind {
+    /// Its number and name, as in `F1 TooShort`.
+    pub fn name(self) -> &'static str
+        ensures { result.now ≡ fault_name self }
+    {
+        match self {
+            FaultKind::TooShort => "F1 TooShort",
+            FaultKind::BadAddress => "F2 BadAddress",
+            FaultKind::SapiNotServed => "F3 SapiNotServed",
+            FaultKind::Undefined => "F4 Undefined",
+            FaultKind::InfoNotPermitted => "F5 InfoNotPermitted",
+            FaultKind::WrongSize => "F6 WrongSize",
+            FaultKind::InfoTooLong => "F7 InfoTooLong",
+        }
+    }
+}
+
+impl From<FieldFault> for FaultKind {
+    ghost from_gives = { λ fault kind. kind ≡ kind_of fault };
+
+    fn from(fault: FieldFault) -> FaultKind {
+        match fault {
+            FieldFault::TooShort => FaultKind::TooShort,
+            FieldFault::BadAddress => FaultKind::BadAddress,
+            FieldFault::SapiNotServed => FaultKind::SapiNotServed,
+            FieldFault::Undefined => FaultKind::Undefined,
+        }
+    }
+}

@@ -1,0 +1,192 @@
+ghost use Rattle.std.specs.Prelude.{◌≡◌, ◌++◌, ◌+◌, ◌≤◌, length, take, drop, IfOk, IfErr, Ok, Err, Some, None, option_map, ℕ};
+ghost use Rattle.std.specs.Result.{result_err};
+ghost use Rattle.lapd_frame.specs.Frame.{Fields, IsFrame, content_fault, frame_of, spelling};
+ghost use Rattle.lapd_frame.specs.Reading.{frame_at, first_fault, joined, address_of};
+
+use crate::{FaultKind, FrameFault};
+use lapd_field::{Address, Control, FieldFault, Role, Side};
+use std::marker::Model;
+
+/// The greatest length of a frame, in octets: address, control field and N201 octets of information.
+pub const MOST_OCTETS: usize = 264;
+
+/// A frame in the grammar of Q.921 clause 3. It borrows its information.
+#[derive(Debug, Drop)]
+pub struct Frame<'a> {
+    address: Address,
+    control: Control,
+    info: &'a [u8],
+}
+
+impl<'a> Model for Frame<'a> {
+    ghost use Rattle.std.specs.Prelude.{◌≡◌, None, length};
+    ghost use Rattle.lapd_frame.specs.Frame.{Fields, content_fault};
+
+    ghost Value = { Fields };
+
+    ghost view = { λ f. record { address = f.address; control = f.control; info = f.info.now } };
+
+    ghost invariant = { λ f. content_fault f.address.role f.control (length f.info.now) ≡ None };
+}
+
+impl<'a> Frame<'a> {
+    /// The frame of these parts, or the first of F4 to F7 that keeps them from being one.
+    pub fn new(address: Address, control: Control, info: &'a [u8]) -> Result<Frame<'a>, FaultKind>
+        ensures { result ≡ frame_of address control info.now (content_fault address.role control (length info.now)) }
+    {
+        match content_fault(address.role, &control, info.len()) {
+            Some(fault) => Err(fault),
+            None => Ok(Frame {
+                address,
+                control,
+                info,
+            }),
+        }
+    }
+
+    /// The frame that `octets` are, which `from` sent. It borrows its information from them. An `Err` is their first
+    /// fault, with the address for F4 to F7 and without it for F1 to F3.
+    pub fn read(octets: &'a [u8], from: Side) -> Result<Frame<'a>, FrameFault>
+        // What is read is in the grammar and spelled so, and what is spelled so is read.
+        ensures found { IfOk result (λ f. IsFrame f × (octets.now ≡ spelling from f)) }
+        ensures only { (f : Fields) → IsFrame f → octets.now ≡ spelling from f → result ≡ Ok f }
+
+        // Which fault it is, and for which link.
+        ensures order { option_map (λ e. e.kind) (result_err result) ≡ first_fault from octets.now }
+        ensures address { IfErr result (λ e. e.address ≡ address_of from octets.now e.kind) }
+        ensures exact { result ≡ frame_at from octets.now }
+    {
+        frame_at(octets, from)
+    }
+
+    /// Writes the frame, as `from` sends it, to the front of `out`, and tells its length in octets, 3 to 264. The
+    /// octets behind it stay as they are.
+    pub fn write(&self, from: Side, out: &mut [u8; 264]) -> usize
+        ensures written { out.new ≡ spelling from self.now ++ drop result out.old }
+        ensures len { result ≡ length (spelling from self.now) }
+    {
+        let address = self.address.write(from);
+        let control = self.control.write();
+        put(out, 0, &address);
+        put(out, 2, control.as_slice());
+        let behind = 2 + control.len();
+        put(out, behind, self.info);
+        behind + self.info.len()
+    }
+
+    /// Its address.
+    pub fn address(&self) -> Address
+        ensures { result ≡ self.now.address }
+    {
+        self.address
+    }
+
+    /// Its control field.
+    pub fn control(&self) -> Control
+        ensures { result ≡ self.now.control }
+    {
+        self.control
+    }
+
+    /// Its information: no octets where there is none.
+    pub fn info(&self) -> &'a [u8]
+        ensures { result.now ≡ self.now.info }
+    {
+        self.info
+    }
+}
+
+/// The frame of these octets.
+fn frame_at(octets: &[u8], from: Side) -> Result<Frame<'_>, FrameFault>
+    ensures exact { result ≡ frame_at from octets.now }
+    ensures found { IfOk result (λ f. IsFrame f × (octets.now ≡ spelling from f)) }
+{
+    match octets {
+        [first, second, _, ..] => {
+            let field = &octets[2..];
+            joined(
+                Address::read([*first, *second], from),
+                Control::read(field),
+                field,
+            )
+        }
+        _ => Err(discarded(FaultKind::TooShort)),
+    }
+}
+
+/// The frame of an address field and of the control field behind it, which takes some of `octets`. The first fault of
+/// the two comes first, and with it whether the octets are for a link.
+fn joined(
+    address: Result<Address, FieldFault>,
+    control: Result<(Control, usize), FieldFault>,
+    octets: &[u8],
+) -> Result<Frame<'_>, FrameFault>
+    requires { IfOk control (λ c. c.1 ≤ length octets.now) }
+    ensures { result ≡ joined address control octets.now }
+{
+    match (address, control) {
+        (Err(FieldFault::BadAddress), _) => Err(discarded(FaultKind::BadAddress)),
+        (_, Err(FieldFault::TooShort)) => Err(discarded(FaultKind::TooShort)),
+        (Err(_), _) => Err(discarded(FaultKind::SapiNotServed)),
+        (Ok(address), Err(_)) => Err(for_link(FaultKind::Undefined, address)),
+        (Ok(address), Ok((control, taken))) => {
+            let link = address;
+            match Frame::new(address, control, &octets[taken..]) {
+                Ok(frame) => Ok(frame),
+                Err(kind) => Err(for_link(kind, link)),
+            }
+        }
+    }
+}
+
+/// A fault of octets that are for no link.
+fn discarded(kind: FaultKind) -> FrameFault
+    ensures { result ≡ record { kind = kind; address = None } }
+{
+    FrameFault {
+        kind,
+        address: None,
+    }
+}
+
+/// A fault of octets for the link with this address.
+fn for_link(kind: FaultKind, address: Address) -> FrameFault
+    ensures { result ≡ record { kind = kind; address = Some address } }
+{
+    FrameFault {
+        kind,
+        address: Some(address),
+    }
+}
+
+/// Writes octets at this place of `out`.
+fn put(out: &mut [u8; 264], at: usize, octets: &[u8])
+    requires { at + length octets.now ≤ 264 }
+    ensures { out.new ≡ take at out.old ++ octets.now ++ drop (at + length octets.now) out.old }
+{
+    out[at..at + octets.len()].copy_from_slice(octets);
+}
+
+/// What the control table refuses of such a frame, with `len` octets of information.
+fn content_fault(role: Role, control: &Control, len: usize) -> Option<FaultKind>
+    ensures { result ≡ content_fault role control.now len }
+{
+    let undefined = Some(FaultKind::Undefined);
+    match (role, *control) {
+        (_, Control::Rr { .. } | Control::Rnr { .. } | Control::Rej { .. }) => {
+            (len > 0).then_some(FaultKind::WrongSize)
+        }
+        (_, Control::Xid { .. }) => (len > 260).then_some(FaultKind::InfoTooLong),
+        (Role::Command, Control::I { .. } | Control::Ui { .. }) => {
+            (len > 260).then_some(FaultKind::InfoTooLong)
+        }
+        (Role::Command, Control::Sabme { .. } | Control::Disc { .. }) => {
+            (len > 0).then_some(FaultKind::InfoNotPermitted)
+        }
+        (Role::Answer, Control::Dm { .. } | Control::Ua { .. }) => {
+            (len > 0).then_some(FaultKind::InfoNotPermitted)
+        }
+        (Role::Answer, Control::Frmr { .. }) => (len != 5).then_some(FaultKind::WrongSize),
+        _ => undefined,
+    }
+}

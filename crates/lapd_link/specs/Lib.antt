@@ -1,0 +1,14 @@
+pub use Rattle.lapd_frame.specs.Address
+pub use Rattle.lapd_frame.specs.Control
+pub use Rattle.lapd_frame.specs.Fault
+pub use Rattle.lapd_frame.specs.Frame
+pub use Rattle.lapd_frame.specs.Reading
+pub use Rattle.lapd_timers.specs.Timer
+pub mod Event
+pub mod Link
+pub mod Numbers
+pub mod Out
+pub mod Refusal
+pub mod State
+pub mod Table
+pub mod Words

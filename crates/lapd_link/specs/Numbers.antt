@@ -1,0 +1,25 @@
+-- The numbers that an end is made with (Q.921 5.9).
+use Rattle.std.specs.Prelude.{ℕ, ◌≤◌, ◌&&◌, nat_le, if◌then◌else◌, Bool, Option, Some, None}
+
+pub record Numbers : Type 0 where
+  pub k : ℕ
+  pub n200 : ℕ
+  pub room : ℕ
+
+-- The window has fewer than 128 places, so that an N(R) equal to V(A) and one equal to V(S) differ.
+pub record AreInRange (n : Numbers) : Type 0 where
+  pub k_low : 1 ≤ n.k
+  pub k_high : n.k ≤ 127
+  pub n200_low : 1 ≤ n.n200
+  pub n200_high : n.n200 ≤ 100
+  pub room_low : 1 ≤ n.room
+  pub room_high : n.room ≤ 1024
+
+-- these numbers, where each is in its range
+abbrev pub lies_between : ℕ → ℕ → ℕ → Bool
+lies_between low n high = nat_le low n && nat_le n high
+
+abbrev pub numbers_of : ℕ → ℕ → ℕ → Option Numbers
+numbers_of k n200 room =
+    if lies_between 1 k 127 && (lies_between 1 n200 100 && lies_between 1 room 1024)
+    then Some (record { k = k; n200 = n200; room = room }) else None
