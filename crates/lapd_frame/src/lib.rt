@@ -19,3 +19,6 @@ pub use frame_fault::FrameFault;
 pub use frmr_info::FrmrInfo;
 pub use lapd_field::{Address, Control, FieldFault, Number, Role, Sapi, Side, Tei};
 pub use laws::{one_frame, one_spelling, read_as_spelled};
+
+#[cfg(test)]
+mod tests;

@@ -1,0 +1,227 @@
+-- Laws of counting that hold in both readings.
+use Rattle.std.proofs.Common.{◌≡◌, ℕ, zero, suc, ◌+◌, ◌-◌, ◌%◌, ◌<◌, ◌≤◌, ◌↔◌, true, refl, ◌∙◌, arith}
+use Rattle.std.proofs.lemmas.Bool.Decides.{nat_tests}
+use Rattle.lapd_mod128.specs.Counting.{Reading, Whole, Tagged, IsNumber, after, moved, AreSteps, LiesFrom, InFewerSteps, reaches, steps, lies_within}
+
+-- what the tests of the two readings tell, as orders
+pub reaches_tells : (a b : ℕ) → reaches Whole a b ≡ true → a ≤ b
+unfolding reaches
+reaches_tells a b h = grind (arith, nat_tests)
+
+pub reaches_holds : (a b : ℕ) → a ≤ b → reaches Whole a b ≡ true
+unfolding reaches
+reaches_holds a b h = grind (arith, nat_tests)
+
+pub tags_are_reached : (a b : ℕ) → reaches Tagged a b ≡ true
+unfolding reaches
+tags_are_reached a b = refl
+
+pub whole_within_tells : (a x b : ℕ) → lies_within Whole a x b ≡ true → (a ≤ x) × (x ≤ b)
+unfolding lies_within
+whole_within_tells a x b h = grind (arith, nat_tests)
+
+pub whole_within_holds : (a x b : ℕ) → a ≤ x → x ≤ b → lies_within Whole a x b ≡ true
+unfolding lies_within
+whole_within_holds a x b low high = grind (arith, nat_tests)
+
+pub tagged_within_tells : (a x b : ℕ) → lies_within Tagged a x b ≡ true → steps Tagged a x ≤ steps Tagged a b
+unfolding lies_within
+tagged_within_tells a x b h = grind (arith, nat_tests)
+
+pub tagged_within_holds : (a x b : ℕ) → steps Tagged a x ≤ steps Tagged a b → lies_within Tagged a x b ≡ true
+unfolding lies_within
+tagged_within_holds a x b h = grind (arith, nat_tests)
+
+reaches_between_whole : (a x b : ℕ) → lies_within Whole a x b ≡ true → (reaches Whole a x ≡ true) × (reaches Whole x b ≡ true) × (reaches Whole a b ≡ true)
+unfolding reaches
+reaches_between_whole a x b h = let between = whole_within_tells a x b h in
+    (grind (arith, nat_tests), grind (arith, nat_tests), grind (arith, nat_tests))
+
+within_one_more_whole : (a x b : ℕ) → lies_within Whole a x b ≡ true → lies_within Whole a x (after Whole b) ≡ true
+unfolding after
+within_one_more_whole a x b h = let between = whole_within_tells a x b h in
+    whole_within_holds a x (b + 1) between.0 (omega arith)
+
+within_the_whole_whole : (a x y b : ℕ) → lies_within Whole a x b ≡ true → lies_within Whole x y b ≡ true → lies_within Whole a y b ≡ true
+within_the_whole_whole a x y b hx hy = let one = whole_within_tells a x b hx in let two = whole_within_tells x y b hy in
+    whole_within_holds a y b (omega arith) two.1
+
+-- counting whole numbers is adding
+pub moved_whole : (n a : ℕ) → moved Whole n a ≡ a + n
+unfolding moved after
+moved_whole zero a = omega arith
+moved_whole (suc n) a = omega (arith, moved_whole n a)
+
+-- counting tags is adding, and leaving out each 128
+pub moved_tagged : (n a : ℕ) → a < 128 → moved Tagged n a ≡ (a + n) % 128
+unfolding moved after
+moved_tagged zero a h = omega arith
+moved_tagged (suc n) a h = omega (arith, moved_tagged n a h)
+
+-- one step on from a number is a number
+pub after_is_number : (r : Reading) (n : ℕ) → IsNumber r n → IsNumber r (after r n)
+unfolding after
+after_is_number Whole n h = tt
+after_is_number Tagged n h = omega arith
+
+-- numbers with the same next number are the same
+pub after_is_injective : (r : Reading) (a b : ℕ) → IsNumber r a → IsNumber r b → after r a ≡ after r b → a ≡ b
+unfolding after
+after_is_injective Whole a b ha hb same = omega arith
+after_is_injective Tagged a b ha hb same = omega arith
+
+-- the subtraction is the number of steps
+pub steps_are_counted : (r : Reading) (a b : ℕ) → IsNumber r a → IsNumber r b → reaches r a b ≡ true → AreSteps r (steps r a b) a b
+unfolding steps
+steps_are_counted Whole a b ha hb h = record {
+  lead = moved_whole (b - a) a ∙ omega (arith, reaches_tells a b h);
+  fewest = λ m less same. omega (arith, moved_whole m a, same, less);
+}
+steps_are_counted Tagged a b ha hb h = record {
+  lead = moved_tagged ((b % 128 + 128 - a % 128) % 128) a ha ∙ omega arith;
+  fewest = λ m less same. omega (arith, moved_tagged m a ha, same, less);
+}
+
+-- there is one number of steps at most
+pub steps_are_unique : (r : Reading) (n m a b : ℕ) → AreSteps r n a b → AreSteps r m a b → n ≡ m
+steps_are_unique r n m a b hn hm = grind (arith, hn.fewest m, hm.fewest n, hn.lead, hm.lead)
+
+-- no steps lead from a number to itself
+pub no_steps : (r : Reading) (a : ℕ) → steps r a a ≡ 0
+unfolding steps
+no_steps Whole a = omega arith
+no_steps Tagged a = omega arith
+
+-- numbers with no steps between them are the same
+pub no_steps_is_same : (r : Reading) (a b : ℕ) → IsNumber r a → IsNumber r b → reaches r a b ≡ true → steps r a b ≡ 0 → a ≡ b
+unfolding steps
+no_steps_is_same Whole a b ha hb h none = omega (arith, reaches_tells a b h)
+no_steps_is_same Tagged a b ha hb h none = omega arith
+
+-- at most 127 steps lead from one tag to another
+pub tagged_steps_are_below : (a b : ℕ) → steps Tagged a b < 128
+unfolding steps
+tagged_steps_are_below a b = omega arith
+
+-- the steps to a number between add up
+pub steps_add_up : (r : Reading) (a x b : ℕ) → lies_within r a x b ≡ true → steps r a x + steps r x b ≡ steps r a b
+unfolding steps
+steps_add_up Whole a x b h = omega (arith, whole_within_tells a x b h)
+steps_add_up Tagged a x b h = omega (arith, tagged_within_tells a x b h)
+
+-- a number between is reached in no more steps
+pub steps_to_between : (r : Reading) (a x b : ℕ) → lies_within r a x b ≡ true → steps r a x ≤ steps r a b
+steps_to_between r a x b h = omega (arith, steps_add_up r a x b h)
+
+-- from a number between no more steps are left
+pub steps_from_between : (r : Reading) (a x b : ℕ) → lies_within r a x b ≡ true → steps r x b ≤ steps r a b
+steps_from_between r a x b h = omega (arith, steps_add_up r a x b h)
+
+-- a number that lies between two others is reached from the first, and reaches the second
+pub reaches_between : (r : Reading) (a x b : ℕ) → lies_within r a x b ≡ true → (reaches r a x ≡ true) × (reaches r x b ≡ true) × (reaches r a b ≡ true)
+unfolding reaches
+reaches_between Whole a x b h = reaches_between_whole a x b h
+reaches_between Tagged a x b h = (refl, refl, refl)
+
+-- one step on, one step more leads there
+pub one_more_step : (r : Reading) (a b : ℕ) → reaches r a b ≡ true → steps r a b < 127 → steps r a (after r b) ≡ steps r a b + 1
+unfolding steps after
+one_more_step Whole a b h room = omega (arith, reaches_tells a b h)
+one_more_step Tagged a b h room = omega arith
+
+-- the same for whole numbers, however far apart
+pub one_more_whole_step : (a b : ℕ) → a ≤ b → steps Whole a (after Whole b) ≡ steps Whole a b + 1
+unfolding steps after
+one_more_whole_step a b h = omega arith
+
+-- from one step on, one step less is left
+pub one_step_less : (r : Reading) (a b : ℕ) → 0 < steps r a b → steps r (after r a) b + 1 ≡ steps r a b
+unfolding steps after
+one_step_less Whole a b more = omega arith
+one_step_less Tagged a b more = omega arith
+
+-- two numbers that both go one step on stay as far apart
+pub steps_stay : (r : Reading) (a b : ℕ) → steps r (after r a) (after r b) ≡ steps r a b
+unfolding steps after
+steps_stay Whole a b = omega arith
+steps_stay Tagged a b = omega arith
+
+-- as many steps lead to where some steps lead
+pub steps_moved : (r : Reading) (n a : ℕ) → IsNumber r a → n < 128 → steps r a (moved r n a) ≡ n
+unfolding steps
+steps_moved Whole n a ha less = omega (arith, moved_whole n a)
+steps_moved Tagged n a ha less = omega (arith, moved_tagged n a ha)
+
+-- the first of two numbers lies within them
+pub first_lies_within : (r : Reading) (a b : ℕ) → reaches r a b ≡ true → lies_within r a a b ≡ true
+first_lies_within Whole a b h = whole_within_holds a a b (omega arith) (reaches_tells a b h)
+first_lies_within Tagged a b h = tagged_within_holds a a b (omega (arith, no_steps Tagged a))
+
+-- and so does the last
+pub last_lies_within : (r : Reading) (a b : ℕ) → reaches r a b ≡ true → lies_within r a b b ≡ true
+last_lies_within Whole a b h = whole_within_holds a b b (reaches_tells a b h) (omega arith)
+last_lies_within Tagged a b h = tagged_within_holds a b b (omega arith)
+
+-- what lies within two numbers lies within them also where the last goes one step on
+pub within_one_more : (r : Reading) (a x b : ℕ) → lies_within r a x b ≡ true → steps r a b < 127 → lies_within r a x (after r b) ≡ true
+unfolding reaches
+within_one_more Whole a x b h room = within_one_more_whole a x b h
+within_one_more Tagged a x b h room = tagged_within_holds a x (after Tagged b)
+    (omega (arith, tagged_within_tells a x b h, one_more_step Tagged a b refl room))
+
+-- of two numbers between, the later one lies within what the earlier one leaves: V(A) moves up to N(R), no further
+pub within_the_rest : (r : Reading) (a x y b : ℕ) → lies_within r a y b ≡ true → lies_within r a x y ≡ true → lies_within r x y b ≡ true
+unfolding steps
+within_the_rest Whole a x y b hy hx = whole_within_holds x y b (whole_within_tells a x y hx).1 (whole_within_tells a y b hy).1
+within_the_rest Tagged a x y b hy hx = tagged_within_holds x y b
+    (omega (arith, tagged_within_tells a y b hy, tagged_within_tells a x y hx))
+
+-- what lies within a part lies within the whole
+pub within_the_whole : (r : Reading) (a x y b : ℕ) → lies_within r a x b ≡ true → lies_within r x y b ≡ true → lies_within r a y b ≡ true
+unfolding steps
+within_the_whole Whole a x y b hx hy = within_the_whole_whole a x y b hx hy
+within_the_whole Tagged a x y b hx hy = tagged_within_holds a y b
+    (omega (arith, tagged_within_tells a x b hx, tagged_within_tells x y b hy))
+
+-- between a number and itself lies only that number
+pub only_itself_within : (r : Reading) (a x : ℕ) → IsNumber r a → IsNumber r x → lies_within r a x a ≡ true → a ≡ x
+only_itself_within r a x ha hx h =
+    no_steps_is_same r a x ha hx (reaches_between r a x a h).0 (omega (arith, steps_add_up r a x a h, no_steps r a))
+
+-- the comparison is the order by counting
+pub within_is_counted : (r : Reading) (a x b : ℕ) → IsNumber r a → IsNumber r x → IsNumber r b → lies_within r a x b ≡ true → LiesFrom r a x b
+within_is_counted r a x b ha hx hb h = (
+  steps r a x,
+  steps r a b,
+  steps_are_counted r a x ha hx (reaches_between r a x b h).0,
+  steps_are_counted r a b ha hb (reaches_between r a x b h).2,
+  steps_to_between r a x b h,
+)
+
+pub counted_is_within : (r : Reading) (a x b : ℕ) → IsNumber r a → IsNumber r x → IsNumber r b → LiesFrom r a x b → lies_within r a x b ≡ true
+unfolding reaches
+counted_is_within Whole a x b ha hx hb (n, m, to_x, to_b, order) = whole_within_holds a x b
+    (omega (arith, moved_whole n a, to_x.lead))
+    (omega (arith, moved_whole n a, moved_whole m a, to_x.lead, to_b.lead, order))
+counted_is_within Tagged a x b ha hx hb (n, m, to_x, to_b, order) = tagged_within_holds a x b
+    (omega (
+      arith,
+      order,
+      steps_are_unique Tagged n (steps Tagged a x) a x to_x (steps_are_counted Tagged a x ha hx refl),
+      steps_are_unique Tagged m (steps Tagged a b) a b to_b (steps_are_counted Tagged a b ha hb refl),
+    ))
+
+-- there are fewer than `k` steps where fewer than `k` steps lead
+pub fewer_steps_are_counted : (r : Reading) (k a b : ℕ) → IsNumber r a → IsNumber r b → reaches r a b ≡ true → steps r a b < k → InFewerSteps r k a b
+fewer_steps_are_counted r k a b ha hb h fewer = (steps r a b, fewer, (steps_are_counted r a b ha hb h).lead)
+
+pub counted_are_fewer_steps : (r : Reading) (k a b : ℕ) → IsNumber r a → IsNumber r b → reaches r a b ≡ true → InFewerSteps r k a b → steps r a b < k
+counted_are_fewer_steps r k a b ha hb h (n, fewer, lead) =
+    grind (arith, fewer, lead, (steps_are_counted r a b ha hb h).fewest n)
+
+-- the two directions of each as one law
+pub lying_is_counting : (r : Reading) (a x b : ℕ) → IsNumber r a → IsNumber r x → IsNumber r b → (lies_within r a x b ≡ true) ↔ LiesFrom r a x b
+lying_is_counting r a x b ha hx hb = (within_is_counted r a x b ha hx hb, counted_is_within r a x b ha hx hb)
+
+pub fewer_is_counting : (r : Reading) (k a b : ℕ) → IsNumber r a → IsNumber r b → reaches r a b ≡ true → (steps r a b < k) ↔ InFewerSteps r k a b
+fewer_is_counting r k a b ha hb h = (fewer_steps_are_counted r k a b ha hb h, counted_are_fewer_steps r k a b ha hb h)

@@ -1,0 +1,160 @@
+ghost use Rattle.std.specs.Prelude.{◌≡◌, ◌<◌, ◌≤◌, ◌↔◌, IsTrue, IfSome, is_some, nat_lt};
+ghost use Rattle.lapd_mod128.specs.Counting.{Tagged, after, moved, steps, lies_within, AreSteps, LiesFrom, InFewerSteps};
+
+use std::marker::Model;
+
+/// A state variable or sequence number, from 0 to 127; after 127 comes 0 (Q.921 3.5.2.1).
+///
+/// The default is 0, which all three state variables are set to when multiple frame operation begins
+/// (Q.921 5.5.1.2).
+#[derive(Clone, Copy, Debug, Default, PartialEq, Eq)]
+pub struct Seq {
+    value: u8,
+}
+
+impl Model for Seq {
+    ghost use Rattle.std.specs.Prelude.{ℕ, ◌<◌};
+
+    ghost Value = { ℕ };
+
+    ghost view = { λ s. s.value };
+
+    ghost invariant = { λ s. s.value < 128 };
+
+    ghost inverse = { λ n. record { value = n } };
+}
+
+#[tactic(auto, using(crate::proofs::Steps::steps_are_counted), unfolding(crate::specs::Counting::after, crate::specs::Counting::steps, crate::specs::Counting::reaches, crate::specs::Counting::lies_within))]
+impl Seq {
+    /// The counter of this value, or `None` where it is above 127.
+    pub fn new(value: u8) -> Option<Seq>
+        ensures in_range { is_some result ≡ nat_lt value 128 }
+        ensures same { IfSome result (λ s. s ≡ value) }
+    {
+        if value < 128 {
+            Some(Seq { value })
+        } else {
+            None
+        }
+    }
+
+    /// The value, from 0 to 127.
+    pub fn value(self) -> u8
+        ensures same { result ≡ self }
+        ensures in_range { result < 128 }
+    {
+        self.value
+    }
+
+    /// One step on.
+    pub fn next(self) -> Seq
+        ensures one_on { result ≡ after Tagged self }
+        ensures in_range { result < 128 }
+    {
+        Seq {
+            value: (self.value + 1) % 128,
+        }
+    }
+
+    /// One step back: the counter whose next one is this.
+    pub fn back(self) -> Seq
+        ensures undone { after Tagged result ≡ self }
+        ensures in_range { result < 128 }
+    {
+        Seq {
+            value: (self.value + 127) % 128,
+        }
+    }
+
+    /// How many steps of one lead from `a` to `b`, from 0 to 127.
+    pub fn distance(a: Seq, b: Seq) -> u8
+        ensures counted { AreSteps Tagged result a b }
+        ensures subtracted { result ≡ steps Tagged a b }
+        ensures in_range { result < 128 }
+    {
+        (b.value + 128 - a.value) % 128
+    }
+
+    /// Whether `a` reaches `x` in no more steps than `b`, as a valid N(R) lies from V(A) to V(S) (Q.921 3.5.2.3).
+    pub fn within(a: Seq, x: Seq, b: Seq) -> bool
+        ensures counted { IsTrue result ↔ LiesFrom Tagged a x b }
+        ensures compared { result ≡ lies_within Tagged a x b }
+    {
+        Seq::distance(a, x) <= Seq::distance(a, b)
+    }
+
+    /// Whether fewer than `k` frames are outstanding, so that one more may be sent (Q.921 5.9.5).
+    pub fn window_open(va: Seq, vs: Seq, k: u8) -> bool
+        requires positive { 1 ≤ k }
+        requires at_most { k ≤ 127 }
+        ensures counted { IsTrue result ↔ InFewerSteps Tagged k va vs }
+        ensures compared { result ≡ nat_lt (steps Tagged va vs) k }
+    {
+        Seq::distance(va, vs) < k
+    }
+}
+
+#[cfg(test)]
+mod tests {
+    use super::*;
+
+    // The counter of a value that is in range.
+    fn at(value: u8) -> Seq {
+        Seq::new(value).unwrap_or_default()
+    }
+
+    #[test]
+    fn values_are_0_to_127(rt: HostRuntime) {
+        for (value, want) in [(0, Some(0)), (127, Some(127)), (128, None), (255, None)] {
+            assert_eq!(rt; Seq::new(value).map(Seq::value), want, "at {value}");
+        }
+        assert_eq!(rt; Seq::default().value(), 0);
+    }
+
+    #[test]
+    fn after_127_comes_0(rt: HostRuntime) {
+        for (value, next) in [(0, 1), (126, 127), (127, 0)] {
+            assert_eq!(rt; at(value).next().value(), next, "after {value}");
+            assert_eq!(rt; at(next).back().value(), value, "before {next}");
+        }
+    }
+
+    #[test]
+    fn steps_go_over_the_wrap(rt: HostRuntime) {
+        for (a, b, want) in [
+            (120, 3, 11),
+            (3, 120, 117),
+            (0, 127, 127),
+            (127, 0, 1),
+            (5, 5, 0),
+        ] {
+            assert_eq!(rt; Seq::distance(at(a), at(b)), want, "from {a} to {b}");
+        }
+    }
+
+    #[test]
+    fn numbers_lie_within_by_steps(rt: HostRuntime) {
+        for (x, want) in [
+            (1, true),
+            (4, false),
+            (126, true),
+            (127, true),
+            (3, true),
+            (125, false),
+        ] {
+            assert_eq!(rt;
+                Seq::within(at(126), at(x), at(3)),
+                want,
+                "{x} from 126 to 3"
+            );
+        }
+    }
+
+    #[test]
+    fn a_window_of_127_has_127_places(rt: HostRuntime) {
+        assert!(rt; Seq::window_open(at(100), at(98), 127));
+        assert!(rt; !Seq::window_open(at(100), at(99), 127));
+        assert!(rt; Seq::window_open(at(7), at(7), 1));
+        assert!(rt; !Seq::window_open(at(7), at(8), 1));
+    }
+}

@@ -1,0 +1,222 @@
+ghost use Rattle.std.specs.Prelude.{◌≡◌, ◌+◌, ◌-◌, ◌<◌, ◌≤◌, ◌==◌, length, map, slice_get, Some, IfOk, IfErr, OnOk, OnErr, is_err};
+ghost use Rattle.lapd_queue.specs.Waiting.{with_room, with_message, one_more_sent, without_first, all_unsent, emptied};
+
+use std::alloc::{AllocError, Global};
+use std::collections::VecDeque;
+use std::marker::Model;
+
+/// Messages of layer 3 in the order in which they were given, of which some at the front are sent.
+///
+/// It is a ring of the size that it was made with: no call but `new` takes memory.
+#[derive(Drop)]
+pub struct IQueue {
+    messages: VecDeque<Vec<u8>>,
+    sent: u16,
+    room: u16,
+}
+
+impl Model for IQueue {
+    ghost use Rattle.std.specs.Prelude.{length, map};
+    ghost use Rattle.std.specs.VecDeque.{deque_capacity};
+    ghost use Rattle.lapd_queue.specs.Waiting.{Waiting, IsSound};
+
+    ghost Value = { Waiting };
+
+    ghost view = { λ q. record { messages = map (λ m. m.items) q.messages.items; sent = q.sent; room = q.room } };
+
+    ghost invariant = { λ q. IsSound q.sent (length q.messages.items) q.room (deque_capacity q.messages) };
+}
+
+#[tactic(auto, using(crate::proofs::Messages::messages), unfolding(crate::specs::Waiting::with_room, crate::specs::Waiting::with_message, crate::specs::Waiting::one_more_sent, crate::specs::Waiting::without_first, crate::specs::Waiting::all_unsent, crate::specs::Waiting::emptied))]
+impl IQueue {
+    /// An empty queue with room for `room` messages, from 1 to 1,024. All of it is taken here, or the error answered.
+    pub fn new(alloc: Global, room: u16) -> Result<IQueue, AllocError>
+        requires positive { 1 ≤ room }
+        requires at_most { room ≤ 1024 }
+        ensures { IfOk result (λ q. q ≡ with_room room) }
+    {
+        Ok(IQueue {
+            messages: VecDeque::with_capacity(alloc, usize::from(room))?,
+            sent: 0,
+            room,
+        })
+    }
+
+    /// How many messages there is room for, at most 1,024.
+    pub fn room(&self) -> u16
+        ensures count { result ≡ self.now.room }
+        ensures at_most { result ≤ 1024 }
+    {
+        self.room
+    }
+
+    /// How many messages wait, sent or not.
+    pub fn len(&self) -> u16
+        ensures count { result ≡ length self.now.messages }
+        ensures at_most { result ≤ self.now.room }
+    {
+        self.messages.len() as u16
+    }
+
+    /// Whether no message waits.
+    pub fn is_empty(&self) -> bool
+        ensures { result ≡ (length self.now.messages == 0) }
+    {
+        self.messages.is_empty()
+    }
+
+    /// How many messages at the front are sent.
+    pub fn sent(&self) -> u16
+        ensures count { result ≡ self.now.sent }
+        ensures at_most { result ≤ length self.now.messages }
+    {
+        self.sent
+    }
+
+    /// How many messages are not sent.
+    pub fn unsent(&self) -> u16
+        ensures count { result ≡ length self.now.messages - self.now.sent }
+        ensures rest { self.now.sent + result ≡ length self.now.messages }
+    {
+        self.len() - self.sent
+    }
+
+    /// The octets of the message at place `i`, counted from 0 at the front and below `len`.
+    pub fn at(&self, i: u16) -> &[u8]
+        requires { i < length self.now.messages }
+        ensures { slice_get self.now.messages i ≡ Some result.now }
+    {
+        self.messages[usize::from(i)].as_slice()
+    }
+
+    /// Puts a message at the end, unsent (Q.921 5.6.1). Where `room` messages wait, it is handed back and the queue is
+    /// unchanged.
+    pub fn put(&mut self, message: Vec<u8>) -> Result<(), Vec<u8>>
+        ensures full { is_err result ≡ (length self.old.messages == self.old.room) }
+        ensures ok { OnOk result (self.new ≡ with_message message.items self.old) }
+        ensures handed_back { IfErr result (λ back. back ≡ message) }
+        ensures unchanged { OnErr result (self.new ≡ self.old) }
+    {
+        if self.len() == self.room {
+            return Err(message);
+        }
+        let Ok(()) = self.messages.push_back(message) else {
+            unreachable!()
+        };
+        Ok(())
+    }
+
+    /// Marks the first unsent message as sent (Q.921 5.6.1). There has to be one.
+    pub fn sent_one(&mut self)
+        requires { self.old.sent < length self.old.messages }
+        ensures { self.new ≡ one_more_sent self.old }
+    {
+        self.sent += 1;
+    }
+
+    /// Removes the `n` messages at the front, at most `sent`, which are now acknowledged (Q.921 5.6.3.2). The cost grows
+    /// with `n` and not with the length of the queue.
+    pub fn acknowledge(&mut self, n: u16)
+        requires { n ≤ self.old.sent }
+        ensures left { self.new ≡ without_first n self.old }
+        ensures were_there { n ≤ length self.old.messages }
+    {
+        for _ in 0..n {
+            self.messages.pop_front();
+        }
+        self.sent -= n;
+    }
+
+    /// Marks all messages as unsent, to be sent again (Q.921 5.6.4).
+    pub fn go_back(&mut self)
+        ensures { self.new ≡ all_unsent self.old }
+    {
+        self.sent = 0;
+    }
+
+    /// Drops all messages, sent or not, and tells how many there were (Q.921 5.5.1, 5.5.3).
+    pub fn discard(&mut self) -> u16
+        ensures dropped { result ≡ length self.old.messages }
+        ensures empty { self.new ≡ emptied self.old }
+    {
+        let dropped = self.len();
+        self.go_back();
+        self.messages.clear();
+        dropped
+    }
+}
+
+#[cfg(test)]
+mod tests {
+    use super::*;
+    use std::test::Fail;
+
+    #[test]
+    fn the_third_of_two_is_handed_back(rt: HostRuntime) -> Result<(), Fail> {
+        let mut queue = IQueue::new(rt.alloc(), 2)?;
+        assert_eq!(rt; queue.room(), 2);
+        assert!(rt; queue.is_empty());
+        assert!(rt; queue.put(b"a".to_vec(rt.alloc())?).is_ok());
+        assert!(rt; queue.put(b"b".to_vec(rt.alloc())?).is_ok());
+        let refused = queue.put(b"c".to_vec(rt.alloc())?);
+        let back = refused.err().expect(&rt, "the queue is full");
+        assert_eq!(rt; back.as_slice(), b"c".as_slice());
+        assert!(rt; queue.unsent() == 2);
+        queue.sent_one();
+        assert!(rt; queue.sent() == 1);
+        queue.acknowledge(1);
+        assert!(rt; queue.len() == 1);
+        assert_eq!(rt; queue.sent(), 0);
+        assert_eq!(rt; queue.at(0), b"b".as_slice());
+        assert_eq!(rt; queue.discard(), 1);
+        assert!(rt; queue.is_empty());
+        Ok(())
+    }
+
+    #[test]
+    fn messages_are_sent_again_from_the_front(rt: HostRuntime) -> Result<(), Fail> {
+        let mut queue = IQueue::new(rt.alloc(), 3)?;
+        for octet in 1..4u8 {
+            assert!(rt; queue.put([octet].to_vec(rt.alloc())?).is_ok());
+        }
+        assert!(rt; queue.unsent() == 3);
+        queue.sent_one();
+        assert!(rt; queue.unsent() == 2);
+        queue.sent_one();
+        queue.go_back();
+        assert_eq!(rt; (queue.len(), queue.sent(), queue.unsent()), (3, 0, 3));
+        assert!(rt; queue.len() == 3);
+        for octet in 1..4u8 {
+            assert_eq!(rt; queue.at(u16::from(octet) - 1), [octet].as_slice());
+        }
+        Ok(())
+    }
+
+    #[test]
+    fn a_thousand_messages_go_through_three_places(rt: HostRuntime) -> Result<(), Fail> {
+        let mut queue = IQueue::new(rt.alloc(), 3)?;
+        for number in 0..1000u32 {
+            let octets = number.to_be_bytes();
+            assert!(rt; queue.put(octets.to_vec(rt.alloc())?).is_ok());
+            assert!(rt; queue.len() == 1);
+            assert_eq!(rt; queue.at(0), octets.as_slice(), "message {number}");
+            assert!(rt; queue.unsent() == 1);
+            queue.sent_one();
+            assert!(rt; queue.sent() == 1);
+            queue.acknowledge(1);
+        }
+        assert!(rt; queue.is_empty());
+        Ok(())
+    }
+
+    #[test]
+    fn the_largest_queue_takes_1024_messages(rt: HostRuntime) -> Result<(), Fail> {
+        let mut queue = IQueue::new(rt.alloc(), 1024)?;
+        for _ in 0..1024 {
+            assert!(rt; queue.put(Vec::new(rt.alloc())).is_ok());
+        }
+        assert!(rt; queue.put(Vec::new(rt.alloc())).is_err());
+        assert_eq!(rt; queue.discard(), 1024);
+        Ok(())
+    }
+}

@@ -1,0 +1,4 @@
+pub mod Outstanding
+pub mod Range
+pub mod Receiving
+pub mod Tagging

@@ -1,0 +1,10 @@
+use lapd_field::Control;
+
+/// What becomes of an I frame by its N(S) (Q.921 5.6.2).
+#[derive(Clone, Copy, Debug, PartialEq, Eq)]
+pub struct Receipt {
+    /// Whether its information is handed to layer 3; otherwise it is discarded.
+    pub accepted: bool,
+    /// The response that is due at once: RR or RNR with F=1, or REJ.
+    pub answer: Option<Control>,
+}

@@ -1,0 +1,423 @@
+ghost use Rattle.std.specs.Prelude.{◌≡◌, ◌<◌, ◌≤◌, ◌&&◌, true, false, not, Some, IfSome, is_some};
+ghost use Rattle.lapd_mod128.specs.Counting.{Tagged, after};
+ghost use Rattle.lapd_supervision.specs.Marks.{initial_marks, cleared, zeroed, own_status, acknowledgement, ack_pending_cleared, is_accepted, is_rejected, poll_answer, received, message_answer, is_valid, acknowledged, acknowledged_count, is_all, gone_back, may_send, next_message, sent, own_busy_to, peer_busy_to};
+
+use crate::{Advance, Receipt};
+use lapd_field::{Control, Number};
+use lapd_mod128::Seq;
+use std::marker::Model;
+
+/// The counters and conditions of one end in multiple frame operation (Q.921 3.5.2, 5.6, 5.8).
+///
+/// V(S) is the number of the next I frame to send, V(A) the first one not yet acknowledged, V(R) the next one
+/// expected; each goes from 0 to 127, and after 127 comes 0. A call changes the fields that its text names, and no
+/// other. Every supervisory frame that it gives has N(R) = V(R).
+#[derive(Clone, Copy, Debug, Default, PartialEq, Eq)]
+pub struct Window {
+    vs: Seq,
+    va: Seq,
+    vr: Seq,
+    peer_busy: bool,
+    own_busy: bool,
+    rejecting: bool,
+    ack_pending: bool,
+}
+
+impl Model for Window {
+    ghost use Rattle.std.specs.Prelude.{◌<◌};
+    ghost use Rattle.lapd_supervision.specs.Marks.{Marks};
+
+    ghost Value = { Marks };
+
+    ghost view = { λ w. record {
+      vs = w.vs;
+      va = w.va;
+      vr = w.vr;
+      peer_busy = w.peer_busy;
+      own_busy = w.own_busy;
+      rejecting = w.rejecting;
+      ack_pending = w.ack_pending;
+    } };
+
+    ghost invariant = { λ w. (w.vs < 128) × (w.va < 128) × (w.vr < 128) };
+
+    ghost inverse = { λ m. record {
+      vs = m.vs;
+      va = m.va;
+      vr = m.vr;
+      peer_busy = m.peer_busy;
+      own_busy = m.own_busy;
+      rejecting = m.rejecting;
+      ack_pending = m.ack_pending;
+    } };
+}
+
+/// The window as it begins, and its readers.
+#[tactic(auto, unfolding(crate::specs::Marks::initial_marks))]
+impl Window {
+    /// All counters 0 and all marks false.
+    pub fn new() -> Window
+        ensures { result ≡ initial_marks }
+    {
+        Window::default()
+    }
+
+    /// V(S), the number of the next I frame to send (Q.921 3.5.2.2).
+    pub fn vs(self) -> Seq
+        ensures same { result ≡ self.vs }
+        ensures in_range { result < 128 }
+    {
+        self.vs
+    }
+
+    /// V(A), the number of the first I frame that the peer has not acknowledged (Q.921 3.5.2.3).
+    pub fn va(self) -> Seq
+        ensures same { result ≡ self.va }
+        ensures in_range { result < 128 }
+    {
+        self.va
+    }
+
+    /// V(R), the number of the next I frame that is expected (Q.921 3.5.2.5).
+    pub fn vr(self) -> Seq
+        ensures same { result ≡ self.vr }
+        ensures in_range { result < 128 }
+    {
+        self.vr
+    }
+
+    /// Whether the peer has said that it is busy (Q.921 5.6.5).
+    pub fn peer_busy(self) -> bool
+        ensures { result ≡ self.peer_busy }
+    {
+        self.peer_busy
+    }
+
+    /// Whether this end is in the own receiver busy condition (Q.921 5.6.6).
+    pub fn own_busy(self) -> bool
+        ensures { result ≡ self.own_busy }
+    {
+        self.own_busy
+    }
+
+    /// Whether a REJ was sent and the I frame that it asks for has not come (Q.921 5.8.1).
+    pub fn rejecting(self) -> bool
+        ensures { result ≡ self.rejecting }
+    {
+        self.rejecting
+    }
+
+    /// Whether an accepted I frame has not been acknowledged (Q.921 5.6.2.2).
+    pub fn ack_pending(self) -> bool
+        ensures { result ≡ self.ack_pending }
+    {
+        self.ack_pending
+    }
+}
+
+/// Establishment (Q.921 5.5.1.2).
+#[tactic(auto, unfolding(crate::specs::Marks::cleared, crate::specs::Marks::zeroed))]
+impl Window {
+    /// All four marks false.
+    pub fn clear(self) -> Window
+        ensures { result ≡ cleared self }
+    {
+        Window {
+            peer_busy: false,
+            own_busy: false,
+            rejecting: false,
+            ack_pending: false,
+            ..self
+        }
+    }
+
+    /// V(S), V(A) and V(R) 0.
+    pub fn zero(self) -> Window
+        ensures { result ≡ zeroed self }
+    {
+        let first = Seq::default();
+        Window {
+            vs: first,
+            va: first,
+            vr: first,
+            ..self
+        }
+    }
+}
+
+/// Supervisory frames.
+#[tactic(auto, unfolding(crate::specs::Marks::own_status, crate::specs::Marks::acknowledgement, crate::specs::Marks::ack_pending_cleared))]
+impl Window {
+    /// RR, or RNR where own busy, with this P or F.
+    fn status(self, pf: bool) -> Control
+        ensures { result ≡ own_status pf self }
+    {
+        let nr = number(self.vr);
+        if self.own_busy {
+            Control::Rnr { nr, pf }
+        } else {
+            Control::Rr { nr, pf }
+        }
+    }
+
+    /// Ack pending false.
+    fn nothing_pending(self) -> Window
+        ensures { result ≡ ack_pending_cleared self }
+    {
+        Window {
+            ack_pending: false,
+            ..self
+        }
+    }
+
+    /// The RR with F=0 that acknowledges what was accepted (Q.921 5.6.2.2); ack pending false.
+    pub fn acknowledge(self) -> (Window, Control)
+        ensures window { result.0 ≡ ack_pending_cleared self }
+        ensures control { result.1 ≡ acknowledgement self }
+    {
+        let nr = number(self.vr);
+        (self.nothing_pending(), Control::Rr { nr, pf: false })
+    }
+}
+
+/// A poll comes, or goes out.
+#[tactic(auto)]
+impl Window {
+    /// The response to a command with P=1: RR with F=1, or RNR where own busy (Q.921 5.6.2.1, 5.6.6); ack pending
+    /// false.
+    pub fn answer_poll(self) -> (Window, Control)
+        ensures window { result.0 ≡ ack_pending_cleared self }
+        ensures control { result.1 ≡ own_status true self }
+    {
+        let answer = self.status(true);
+        (self.nothing_pending(), answer)
+    }
+
+    /// The command that asks the peer for its status: RR with P=1, or RNR where own busy (Q.921 5.6.7); ack pending
+    /// false.
+    pub fn enquiry(self) -> (Window, Control)
+        ensures window { result.0 ≡ ack_pending_cleared self }
+        ensures control { result.1 ≡ own_status true self }
+    {
+        let poll = self.status(true);
+        (self.nothing_pending(), poll)
+    }
+
+    /// Answers where `p` is a poll.
+    #[tactic(auto, unfolding(crate::specs::Marks::poll_answer, crate::specs::Marks::ack_pending_cleared))]
+    fn polled(self, p: bool) -> (Window, Option<Control>)
+        ensures window { result.0 ≡ record self { ack_pending = not p && self.ack_pending } }
+        ensures answer { result.1 ≡ poll_answer p self }
+    {
+        if p {
+            let (window, control) = self.answer_poll();
+            (window, Some(control))
+        } else {
+            (self, None)
+        }
+    }
+}
+
+/// An I frame comes, by its N(S).
+#[tactic(auto, unfolding(crate::specs::Marks::is_accepted, crate::specs::Marks::is_rejected, crate::specs::Marks::received, crate::specs::Marks::message_answer, crate::specs::Marks::poll_answer, crate::specs::Marks::own_status))]
+impl Window {
+    /// What becomes of an I frame with this N(S) and P.
+    ///
+    /// - Own busy: it is discarded, and a poll is answered (Q.921 5.6.6).
+    /// - N(S) = V(R): it is accepted, V(R) goes one on and rejecting ends; a poll is answered, else ack pending is true
+    ///   (5.6.2).
+    /// - Otherwise it is discarded. The first such frame is answered by REJ with F=P, rejecting is true and ack pending
+    ///   false; of those that follow, a poll is answered (5.8.1).
+    pub fn take_ns(self, ns: Number, p: bool) -> (Window, Receipt)
+        ensures window { result.0 ≡ received Tagged ns p self }
+        ensures accepted { result.1.accepted ≡ is_accepted ns self }
+        ensures answer { result.1.answer ≡ message_answer Tagged ns p self }
+    {
+        if self.own_busy {
+            self.discard(p)
+        } else if ns.value() == self.vr.value() {
+            self.accept(p)
+        } else if self.rejecting {
+            self.discard(p)
+        } else {
+            self.reject(p)
+        }
+    }
+
+    /// Discards an I frame, and answers a poll.
+    fn discard(self, p: bool) -> (Window, Receipt)
+        ensures window { result.0 ≡ record self { ack_pending = not p && self.ack_pending } }
+        ensures accepted { result.1.accepted ≡ false }
+        ensures answer { result.1.answer ≡ poll_answer p self }
+    {
+        let (window, answer) = self.polled(p);
+        (
+            window,
+            Receipt {
+                accepted: false,
+                answer,
+            },
+        )
+    }
+
+    /// Takes the I frame that is the next one.
+    fn accept(self, p: bool) -> (Window, Receipt)
+        ensures window { result.0 ≡ record self { vr = after Tagged self.vr; rejecting = false; ack_pending = not p } }
+        ensures accepted { result.1.accepted ≡ true }
+        ensures answer { result.1.answer ≡ poll_answer p result.0 }
+    {
+        let taken = Window {
+            vr: self.vr.next(),
+            rejecting: false,
+            ack_pending: true,
+            ..self
+        };
+        let (window, answer) = taken.polled(p);
+        (
+            window,
+            Receipt {
+                accepted: true,
+                answer,
+            },
+        )
+    }
+
+    /// Asks for the I frames from V(R) on.
+    fn reject(self, p: bool) -> (Window, Receipt)
+        ensures window { result.0 ≡ record self { rejecting = true; ack_pending = false } }
+        ensures accepted { result.1.accepted ≡ false }
+        ensures answer { result.1.answer ≡ Some (Control.Rej self.vr p) }
+    {
+        let answer = Some(Control::Rej {
+            nr: number(self.vr),
+            pf: p,
+        });
+        let window = Window {
+            rejecting: true,
+            ack_pending: false,
+            ..self
+        };
+        (
+            window,
+            Receipt {
+                accepted: false,
+                answer,
+            },
+        )
+    }
+}
+
+/// An N(R) comes.
+#[tactic(auto, unfolding(crate::specs::Marks::is_valid, crate::specs::Marks::acknowledged, crate::specs::Marks::acknowledged_count, crate::specs::Marks::is_all, crate::specs::Marks::gone_back))]
+impl Window {
+    /// Sets V(A) to this N(R), and tells what it acknowledges; `None` where it does not lie from V(A) to V(S), counted
+    /// modulo 128 (Q.921 3.5.2.3, 5.6.3.2, 5.8.2).
+    pub fn take_nr(self, nr: Number) -> Option<(Window, Advance)>
+        ensures valid { is_some result ≡ is_valid Tagged nr self }
+        ensures window { IfSome result (λ taken. taken.0 ≡ acknowledged nr self) }
+        ensures count { IfSome result (λ taken. taken.1.count ≡ acknowledged_count Tagged nr self) }
+        ensures all { IfSome result (λ taken. taken.1.all ≡ is_all nr self) }
+    {
+        let va = counter(nr);
+        if Seq::within(self.va, va, self.vs) {
+            let count = Seq::distance(self.va, va);
+            let all = va.value() == self.vs.value();
+            Some((Window { va, ..self }, Advance { count, all }))
+        } else {
+            None
+        }
+    }
+
+    /// Sets V(S) to this N(R), so that the I frames from it on are sent again (Q.921 5.6.4, 5.8.3). It follows
+    /// `take_nr` of the same N(R).
+    pub fn go_back(self, nr: Number) -> Window
+        ensures { result ≡ gone_back nr self }
+    {
+        Window {
+            vs: counter(nr),
+            ..self
+        }
+    }
+}
+
+/// An I frame goes out.
+#[tactic(auto, unfolding(crate::specs::Marks::may_send, crate::specs::Marks::next_message, crate::specs::Marks::sent, crate::specs::Marks::ack_pending_cleared))]
+impl Window {
+    /// Whether one more I frame may be sent: the peer is not busy, and fewer than `k` are outstanding
+    /// (Q.921 5.6.1, 5.9.5).
+    pub fn may_send(self, k: u8) -> bool
+        requires positive { 1 ≤ k }
+        requires at_most { k ≤ 127 }
+        ensures { result ≡ may_send Tagged k self }
+    {
+        !self.peer_busy && Seq::window_open(self.va, self.vs, k)
+    }
+
+    /// The next I frame, with P=0; V(S) one on, ack pending false (Q.921 5.6.1).
+    pub fn send(self) -> (Window, Control)
+        ensures window { result.0 ≡ sent Tagged self }
+        ensures control { result.1 ≡ next_message self }
+    {
+        let control = Control::I {
+            ns: number(self.vs),
+            nr: number(self.vr),
+            p: false,
+        };
+        let window = Window {
+            vs: self.vs.next(),
+            ..self.nothing_pending()
+        };
+        (window, control)
+    }
+}
+
+/// Busy conditions begin and end.
+#[tactic(auto, unfolding(crate::specs::Marks::own_busy_to, crate::specs::Marks::peer_busy_to, crate::specs::Marks::ack_pending_cleared))]
+impl Window {
+    /// The own receiver busy condition begins or ends: the RNR or RR with F=0 that tells the peer; ack pending false
+    /// (Q.921 5.6.6).
+    pub fn own(self, busy: bool) -> (Window, Control)
+        ensures window { result.0 ≡ own_busy_to busy self }
+        ensures control { result.1 ≡ own_status false (own_busy_to busy self) }
+    {
+        let window = Window {
+            own_busy: busy,
+            ..self.nothing_pending()
+        };
+        (window, window.status(false))
+    }
+
+    /// The peer receiver busy condition begins or ends (Q.921 5.6.5).
+    pub fn peer(self, busy: bool) -> Window
+        ensures { result ≡ peer_busy_to busy self }
+    {
+        Window {
+            peer_busy: busy,
+            ..self
+        }
+    }
+}
+
+/// The sequence number that a counter is sent as.
+fn number(counter: Seq) -> Number
+    ensures { result ≡ counter }
+{
+    match Number::new(counter.value()) {
+        Some(number) => number,
+        None => unreachable!(),
+    }
+}
+
+/// The counter that a sequence number stands for.
+fn counter(number: Number) -> Seq
+    ensures same { result ≡ number }
+    ensures in_range { result < 128 }
+{
+    match Seq::new(number.value()) {
+        Some(counter) => counter,
+        None => unreachable!(),
+    }
+}
+
+#[cfg(test)]
+mod tests;
