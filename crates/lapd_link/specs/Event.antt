@@ -1,9 +1,7 @@
 -- What happens to an end, as the table names it: of a frame its role and its control field.
-use Rattle.std.specs.Prelude.{ℕ}
 use Rattle.lapd_frame.specs.declared.Role.{Role}
 use Rattle.lapd_frame.specs.declared.Control.{Control}
 use Rattle.lapd_frame.specs.declared.fault_kind.FaultKind.{FaultKind}
-use Rattle.lapd_frame.specs.Frame.{Fields}
 use Rattle.lapd_link.specs.declared.event.Event.{Event}
 use Rattle.lapd_link.specs.declared.event.Event.TheVariants as told
 

@@ -5,6 +5,9 @@ pub use Rattle.lapd_frame.specs.Frame
 pub use Rattle.lapd_frame.specs.Reading
 pub use Rattle.lapd_timers.specs.Timer
 pub mod Event
+pub mod FullEvent
+pub mod FullTable
+pub mod FullWords
 pub mod Link
 pub mod Numbers
 pub mod Out

@@ -1,5 +1,5 @@
 -- How a link shows an end.
-use Rattle.std.specs.Prelude.{◌≡◌, List, []}
+use Rattle.std.specs.Prelude.{◌≡◌, List}
 use Rattle.lapd_frame.specs.declared.Side.{Side}
 use Rattle.lapd_frame.specs.declared.Sapi.{Sapi}
 use Rattle.lapd_frame.specs.declared.Tei.{Tei}

@@ -1,9 +1,7 @@
 -- The state table (Q.921 Annex B): what an end makes of what happens, row by row. A pair of state and event that no
 -- row names gives nothing and changes nothing.
-use Rattle.std.specs.Prelude.{Bool, true, false, Result, Ok, Err}
-use Rattle.lapd_frame.specs.declared.Role.{Role}
+use Rattle.std.specs.Prelude.{Bool, true, false, Result, Ok}
 use Rattle.lapd_frame.specs.declared.Role.TheVariants.{Command, Answer}
-use Rattle.lapd_frame.specs.declared.Control.{Control}
 use Rattle.lapd_frame.specs.declared.Control.TheVariants.{Sabme, Dm, Disc, Ua}
 use Rattle.lapd_timers.specs.declared.timer.Timer.TheVariants.{T200, T203}
 use Rattle.lapd_link.specs.declared.state.State.{State}

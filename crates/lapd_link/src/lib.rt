@@ -11,12 +11,13 @@ mod link;
 mod out;
 mod params;
 mod state;
-
 #[cfg(test)]
 mod tests;
 
 pub use event::{Event, LinkFault};
-pub use lapd_frame::{Address, Control, FaultKind, Frame, FrameFault, Number, Role, Sapi, Side, Tei};
+pub use lapd_frame::{
+    Address, Control, FaultKind, Frame, FrameFault, Number, Role, Sapi, Side, Tei,
+};
 pub use lapd_timers::Timer;
 pub use link::{Link, Outs};
 pub use out::{Letter, Out};

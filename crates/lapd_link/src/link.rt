@@ -1,16 +1,14 @@
 ghost use Rattle.std.specs.Prelude.{◌≡◌, ◌≤◌, ◌<◌, ◌+◌, [], ◌∷◌, ◌++◌, List, IfOk, IfErr, OnErr, Ok, Err};
 ghost use Rattle.arrayvec.specs.ArrayVec.{array_vec_len};
-
 ghost use Rattle.lapd_link.specs.declared.out.Out.{Out};
 ghost use Rattle.lapd_link.specs.State.{state_number};
 ghost use Rattle.lapd_link.specs.Table.{unasked};
 
+use crate::{Event, Letter, LinkFault, Out, Params, State};
 use arrayvec::ArrayVec;
 use lapd_frame::{Control, Role, Sapi, Side, Tei};
 use lapd_timers::Timer;
 use std::alloc::{AllocError, Global};
-
-use crate::{Event, Letter, LinkFault, Out, Params, State};
 
 /// What one step gives, in order.
 pub type Outs = ArrayVec<Out, 136>;
@@ -274,8 +272,7 @@ impl Link {
     fn zero_counters(&mut self)
         ensures step { (s : Doing) (outs : List Out) → StandsFor self.old outs s → StandsFor self.new outs (zero_counters s) }
         ensures made { made_of self.new ≡ made_of self.old }
-    {
-    }
+    {}
 }
 
 /// One more output.

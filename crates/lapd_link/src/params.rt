@@ -30,12 +30,7 @@ impl Params {
     pub fn new(k: u8, n200: u8, room: u16) -> Option<Params>
         ensures { result ≡ numbers_of k n200 room }
     {
-        let in_range = 1 <= k
-            && k <= 127
-            && 1 <= n200
-            && n200 <= 100
-            && 1 <= room
-            && room <= 1024;
+        let in_range = 1 <= k && k <= 127 && 1 <= n200 && n200 <= 100 && 1 <= room && room <= 1024;
         if in_range {
             Some(Params { k, n200, room })
         } else {

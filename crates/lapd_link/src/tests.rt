@@ -1,10 +1,9 @@
 //! Rows of the state table, by what they give.
 
+use crate::{Event, Letter, Link, Out, Params};
 use lapd_frame::{Frame, Sapi, Side, Tei};
 use lapd_timers::Timer;
 use std::test::Fail;
-
-use crate::{Event, Letter, Link, Out, Params};
 
 /// A network link of SAPI 0 and TEI 64.
 fn new_link(rt: &HostRuntime) -> Result<Link, Fail> {
@@ -59,7 +58,10 @@ fn establishment_and_release(rt: HostRuntime) -> Result<(), Fail> {
         assert_eq!(rt; link.running(Timer::T203), state == 7);
         assert!(rt; !link.running(Timer::T200));
     }
-    assert_eq!(rt; (link.side(), link.sapi(), link.tei().value()), (Side::Network, Sapi::Call, 64));
+    assert_eq!(rt;
+        (link.side(), link.sapi(), link.tei().value()),
+        (Side::Network, Sapi::Call, 64)
+    );
     Ok(())
 }
 
@@ -76,7 +78,11 @@ fn ranges_of_parameters(rt: HostRuntime) {
         (7, 3, 1025, false),
     ];
     for (k, n200, room, good) in rows {
-        assert_eq!(rt; Params::new(k, n200, room).is_some(), good, "{k} {n200} {room}");
+        assert_eq!(rt;
+            Params::new(k, n200, room).is_some(),
+            good,
+            "{k} {n200} {room}"
+        );
     }
 }
 

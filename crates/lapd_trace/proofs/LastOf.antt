@@ -1,0 +1,16 @@
+-- The last lines of a list that grows.
+use Rattle.std.proofs.Common.{◌≡◌, ℕ, ◌+◌, ◌-◌, List, [], ◌∷◌, ◌++◌, length, drop, sym, ap, ◌∙◌, arith}
+use Rattle.std.proofs.lemmas.List.{drop-append-le, drop-drop, length-drop, length-append}
+use Rattle.lapd_trace.specs.Kept.{last_of}
+
+-- of the last n lines and one more, the last n are the last n of them all
+pub last_of_more : (n : ℕ) (lines : List (List ℕ)) (line : List ℕ)
+    → last_of n (last_of n lines ++ line ∷ []) ≡ last_of n (lines ++ line ∷ [])
+last_of_more n lines line =
+    let grown : List (List ℕ) = lines ++ line ∷ [] in
+    let first : ℕ = length lines - n in
+    let more : ℕ = length (drop first lines ++ line ∷ []) - n in
+    let kept : drop first grown ≡ drop first lines ++ line ∷ [] = drop-append-le first lines (line ∷ []) (omega arith) in
+    let place : first + more ≡ length grown - n =
+    omega (arith, length-append (drop first lines) (line ∷ []), length-append lines (line ∷ []), length-drop first lines) in
+    ap (λ (t : List (List ℕ)). drop more t) (sym kept) ∙ drop-drop more first grown ∙ ap (λ (k : ℕ). drop k grown) place

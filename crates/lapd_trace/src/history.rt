@@ -1,0 +1,68 @@
+ghost use Rattle.std.specs.Prelude.{◌≡◌, ◌≤◌, ℕ, List, [], ◌∷◌, ◌++◌, IfOk};
+ghost use Rattle.std.specs.String.{string_bytes};
+ghost use Rattle.lapd_trace.specs.Kept.{Kept, last_of};
+
+use crate::Lines;
+use std::alloc::{AllocError, Global};
+use std::collections::VecDeque;
+use std::marker::Model;
+
+/// The last lines of a trace, at most a number that is fixed when the history is made.
+#[derive(Drop)]
+pub struct History {
+    room: usize,
+    lines: VecDeque<String>,
+}
+
+impl Model for History {
+    ghost use Rattle.std.specs.Prelude.{◌<◌, ◌≤◌, map};
+    ghost use Rattle.std.specs.String.{string_bytes};
+    ghost use Rattle.std.specs.VecDeque.{deque_len, deque_capacity};
+    ghost use Rattle.lapd_trace.specs.Kept.{Kept};
+
+    ghost Value = { Kept };
+
+    ghost view = { λ h. record { room = h.room; lines = map string_bytes h.lines.items } };
+
+    ghost invariant = { λ h. (0 < h.room) × (deque_len h.lines ≤ h.room) × (h.room ≤ deque_capacity h.lines) };
+}
+
+impl History {
+    /// An empty history that keeps the last `n` lines, 1 to 1,024. It takes the memory of its `n` places now, and no
+    /// more later.
+    pub fn new(alloc: Global, n: usize) -> Result<History, AllocError>
+        requires least { 1 ≤ n }
+        requires most { n ≤ 1024 }
+        ensures { IfOk result (λ history. history ≡ record { room = n; lines = [] }) }
+    {
+        Ok(History {
+            room: n,
+            lines: VecDeque::with_capacity(alloc, n)?,
+        })
+    }
+
+    /// Puts a line behind the others. Where the history is full, the oldest line is dropped.
+    pub fn push(&mut self, line: String)
+        ensures push { self.new ≡ record self.old { lines = last_of self.old.room (self.old.lines ++ string_bytes line ∷ []) } }
+
+        // So it keeps the last of all lines that were pushed.
+        ensures all { (pushed : List (List ℕ)) → self.old.lines ≡ last_of self.old.room pushed
+            → self.new.lines ≡ last_of self.old.room (pushed ++ string_bytes line ∷ []) }
+    {
+        if self.lines.len() == self.room {
+            let _oldest = self.lines.pop_front();
+        }
+        let Ok(()) = self.lines.push_back(line) else {
+            unreachable!()
+        };
+    }
+
+    /// The lines that it keeps, from the oldest.
+    pub fn lines(&self) -> Lines<'_>
+        ensures { result ≡ self.now.lines }
+    {
+        Lines {
+            rest: self.lines.iter(),
+        }
+    }
+}

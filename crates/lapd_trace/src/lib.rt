@@ -1,0 +1,18 @@
+//! Frames of the ISDN D channel (ITU-T Q.921) as lines of text, and a history of the last lines.
+//!
+//! Begin with [`line`]: it takes any octets and who sent them, and gives the text of the frame, or of the first fault
+//! where they are none. [`History`] keeps the last lines of a trace in room that is taken once, and [`Lines`] goes
+//! over them from the oldest. The test `every_control_field_and_fault` shows a line for each frame.
+#![tactic(auto)]
+
+mod digits;
+mod history;
+mod lines;
+#[cfg(test)]
+mod tests;
+mod trace;
+
+pub use history::History;
+pub use lapd_frame::Side;
+pub use lines::Lines;
+pub use trace::line;

@@ -1,0 +1,140 @@
+ghost use Rattle.std.specs.Prelude.{◌≡◌, ◌++◌, IfOk, OnOk};
+ghost use Rattle.std.specs.String.{string_bytes};
+ghost use Rattle.std.specs.Fmt.{decimal};
+ghost use Rattle.lapd_trace.specs.Trace.{trace_line, frame_text, direction_text, role_text, poll_text, address_text, control_text};
+
+use crate::digits::{push_number, push_octets};
+use lapd_frame::{Address, Control, Frame, Number, Role, Side};
+use std::alloc::{AllocError, Global};
+
+/// The greatest length of a line, in octets of text, beside two digits for each octet of the frame. An I frame with
+/// information, SAPI 16 or 63 and numbers of three digits has it.
+const MOST_BESIDE_DIGITS: usize = 43;
+
+/// The line of text for `bytes`, which `from` sent: a frame by the names and values of its fields, or the first fault
+/// and the octets. For the user's frames it begins with `U>N`, for the network's with `N>U`.
+///
+/// ```text
+/// N>U SAPI 0 TEI 64 C RR N(R)=0 P=1
+/// U>N SAPI 0 TEI 64 C I N(S)=1 N(R)=2 P=0 info=0802
+/// U>N F3 SapiNotServed 04817f
+/// ```
+///
+/// It takes the room of the line once, with at most 43 octets to spare.
+///
+/// # Errors
+///
+/// `AllocError` where there was no memory for the line.
+pub fn line(alloc: Global, from: Side, bytes: &[u8]) -> Result<String, AllocError>
+    ensures { IfOk result (λ s. string_bytes s ≡ trace_line from bytes.now) }
+{
+    let digits = bytes.len().saturating_mul(2);
+    let mut text = String::with_capacity(alloc, digits.saturating_add(MOST_BESIDE_DIGITS))?;
+    text.push_str(direction_name(from))?;
+    match Frame::read(bytes, from) {
+        Ok(frame) => push_frame(&mut text, &frame)?,
+        Err(fault) => {
+            text.push_str(fault.kind.name())?;
+            push_octets(&mut text, " ", bytes)?;
+        }
+    }
+    Ok(text)
+}
+
+/// Appends address, control field and information.
+fn push_frame(text: &mut String, frame: &Frame<'_>) -> Result<(), AllocError>
+    ensures { OnOk result (string_bytes text.new ≡ string_bytes text.old ++ frame_text frame.now) }
+{
+    let address = frame.address();
+    push_address(text, &address)?;
+    push_control(text, address.role, frame.control())?;
+    push_octets(text, " info=", frame.info())
+}
+
+/// Appends SAPI, TEI and role.
+fn push_address(text: &mut String, address: &Address) -> Result<(), AllocError>
+    ensures { OnOk result (string_bytes text.new ≡ string_bytes text.old ++ address_text address.now) }
+{
+    text.push_str("SAPI ")?;
+    push_number(text, address.sapi.value())?;
+    text.push_str(" TEI ")?;
+    push_number(text, address.tei.value())?;
+    text.push_str(role_name(address.role))
+}
+
+/// Appends the name of the frame, its sequence numbers and its P/F bit.
+fn push_control(text: &mut String, role: Role, control: Control) -> Result<(), AllocError>
+    ensures { OnOk result (string_bytes text.new ≡ string_bytes text.old ++ control_text role control) }
+{
+    match control {
+        Control::I { ns, nr, p } => {
+            text.push_str("I N(S)=")?;
+            push_number(text, ns.value())?;
+            push_numbered(text, " N(R)=", nr, poll_name(role, p))
+        }
+        Control::Rr { nr, pf } => push_numbered(text, "RR N(R)=", nr, poll_name(role, pf)),
+        Control::Rnr { nr, pf } => push_numbered(text, "RNR N(R)=", nr, poll_name(role, pf)),
+        Control::Rej { nr, pf } => push_numbered(text, "REJ N(R)=", nr, poll_name(role, pf)),
+        Control::Sabme { p } => push_both(text, "SABME", poll_name(role, p)),
+        Control::Dm { f } => push_both(text, "DM", poll_name(role, f)),
+        Control::Ui { p } => push_both(text, "UI", poll_name(role, p)),
+        Control::Disc { p } => push_both(text, "DISC", poll_name(role, p)),
+        Control::Ua { f } => push_both(text, "UA", poll_name(role, f)),
+        Control::Frmr { f } => push_both(text, "FRMR", poll_name(role, f)),
+        Control::Xid { pf } => push_both(text, "XID", poll_name(role, pf)),
+    }
+}
+
+/// Appends N(R) between words before and behind it.
+fn push_numbered(
+    text: &mut String,
+    before: &str,
+    nr: Number,
+    behind: &str,
+) -> Result<(), AllocError>
+    ensures { OnOk result (string_bytes text.new ≡ string_bytes text.old ++ (before.now ++ (decimal nr ++ behind.now))) }
+{
+    text.push_str(before)?;
+    push_number(text, nr.value())?;
+    text.push_str(behind)
+}
+
+/// Appends two words.
+fn push_both(text: &mut String, first: &str, second: &str) -> Result<(), AllocError>
+    ensures { OnOk result (string_bytes text.new ≡ string_bytes text.old ++ (first.now ++ second.now)) }
+{
+    text.push_str(first)?;
+    text.push_str(second)
+}
+
+/// Who sent a frame, and to whom.
+fn direction_name(from: Side) -> &'static str
+    ensures { result.now ≡ direction_text from }
+{
+    match from {
+        Side::User => "U>N ",
+        Side::Network => "N>U ",
+    }
+}
+
+/// C for a command, R for a response.
+fn role_name(role: Role) -> &'static str
+    ensures { result.now ≡ role_text role }
+{
+    match role {
+        Role::Command => " C ",
+        Role::Answer => " R ",
+    }
+}
+
+/// The P bit of a command, the F bit of a response.
+fn poll_name(role: Role, bit: bool) -> &'static str
+    ensures { result.now ≡ poll_text role bit }
+{
+    match (role, bit) {
+        (Role::Command, false) => " P=0",
+        (Role::Command, true) => " P=1",
+        (Role::Answer, false) => " F=0",
+        (Role::Answer, true) => " F=1",
+    }
+}
