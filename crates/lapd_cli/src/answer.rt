@@ -11,7 +11,7 @@ ghost use Rattle.lapd_cli.specs.Script.{EndsAs, LineEndsAs, lines_of};
 use crate::line::{Words, octets_of, split};
 use crate::print::{put_hex, put_line, put_number, put_octets};
 use crate::script::{Command, LineFault, ScriptFault, walk};
-use lapd_frame::{Address, Control, Frame, FrameFault, Role, Sapi, Side, Tei};
+use lapd_frame::{Address, Control, FrameFault, Role, Sapi, Side, Tei};
 use lapd_link::{Event, Link, Out, Params};
 use std::alloc::Global;
 use std::io::{Read, Write};
@@ -213,7 +213,7 @@ impl Answerer {
             → LineEndsAs IsAnswerer (Some (answered s (Asked.Frame octets.now))) result self.new (W.contents out.old) (W.contents out.new) }
     {
         let place = self.place();
-        match Frame::read(octets, other_side(place.side)) {
+        match lapd_frame::read(octets, other_side(place.side)) {
             Ok(frame) => {
                 if place.is_for(&frame.address()) {
                     self.step(&place, Event::Heard(&frame), frame.info(), out)

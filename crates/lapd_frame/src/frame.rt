@@ -44,36 +44,6 @@ impl<'a> Frame<'a> {
         }
     }
 
-    /// The frame that `octets` are, which `from` sent. It borrows its information from them. An `Err` is their first
-    /// fault, with the address for F4 to F7 and without it for F1 to F3.
-    pub fn read(octets: &'a [u8], from: Side) -> Result<Frame<'a>, FrameFault>
-        // What is read is in the grammar and spelled so, and what is spelled so is read.
-        ensures found { IfOk result (λ f. IsFrame f × (octets.now ≡ spelling from f)) }
-        ensures only { (f : Fields) → IsFrame f → octets.now ≡ spelling from f → result ≡ Ok f }
-
-        // Which fault it is, and for which link.
-        ensures order { option_map (λ e. e.kind) (result_err result) ≡ first_fault from octets.now }
-        ensures address { IfErr result (λ e. e.address ≡ address_of from octets.now e.kind) }
-        ensures exact { result ≡ frame_at from octets.now }
-    {
-        frame_at(octets, from)
-    }
-
-    /// Writes the frame, as `from` sends it, to the front of `out`, and tells its length in octets, 3 to 264. The
-    /// octets behind it stay as they are.
-    pub fn write(&self, from: Side, out: &mut [u8; 264]) -> usize
-        ensures written { out.new ≡ spelling from self.now ++ drop result out.old }
-        ensures len { result ≡ length (spelling from self.now) }
-    {
-        let address = self.address.write(from);
-        let control = self.control.write();
-        put(out, 0, &address);
-        put(out, 2, control.as_slice());
-        let behind = 2 + control.len();
-        put(out, behind, self.info);
-        behind + self.info.len()
-    }
-
     /// Its address.
     pub fn address(&self) -> Address
         ensures { result ≡ self.now.address }
@@ -94,6 +64,36 @@ impl<'a> Frame<'a> {
     {
         self.info
     }
+}
+
+/// The frame that `octets` are, which `from` sent. It borrows its information from them. An `Err` is their first
+/// fault, with the address for F4 to F7 and without it for F1 to F3.
+pub fn read(octets: &[u8], from: Side) -> Result<Frame<'_>, FrameFault>
+    // What is read is in the grammar and spelled so, and what is spelled so is read.
+    ensures found { IfOk result (λ f. IsFrame f × (octets.now ≡ spelling from f)) }
+    ensures only { (f : Fields) → IsFrame f → octets.now ≡ spelling from f → result ≡ Ok f }
+
+    // Which fault it is, and for which link.
+    ensures order { option_map (λ e. e.kind) (result_err result) ≡ first_fault from octets.now }
+    ensures address { IfErr result (λ e. e.address ≡ address_of from octets.now e.kind) }
+    ensures exact { result ≡ frame_at from octets.now }
+{
+    frame_at(octets, from)
+}
+
+/// Writes the frame, as `from` sends it, to the front of `out`, and tells its length in octets, 3 to 264. The octets
+/// behind it stay as they are.
+pub fn write(frame: &Frame<'_>, from: Side, out: &mut [u8; 264]) -> usize
+    ensures written { out.new ≡ spelling from frame.now ++ drop result out.old }
+    ensures len { result ≡ length (spelling from frame.now) }
+{
+    let address = frame.address.write(from);
+    let control = frame.control.write();
+    put(out, 0, &address);
+    put(out, 2, control.as_slice());
+    let behind = 2 + control.len();
+    put(out, behind, frame.info);
+    behind + frame.info.len()
 }
 
 /// The frame of these octets.

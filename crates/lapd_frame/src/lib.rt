@@ -1,7 +1,7 @@
 //! Frames of the ISDN D channel, after ITU-T Q.921 (09/97), clause 3: reading them from octets and writing them.
 //!
 //! [`Frame`] is an address, a control field and information, and its type keeps that these are a frame of the
-//! grammar: begin with [`Frame::read`], which borrows the information from the octets, or with [`Frame::new`]. What
+//! grammar: begin with [`read`], which borrows the information from the octets, or with [`Frame::new`]. What
 //! is not in the grammar has a first fault, [`FaultKind`] F1 to F7, and [`FrameFault`] carries the address where the
 //! fault is one of a link (F4 to F7). [`FrmrInfo`] reads what a frame reject says.
 //! Flags, zero insertion and the frame check sequence are below this crate: a frame here has 3 to 264 octets.
@@ -14,7 +14,7 @@ mod frmr_info;
 mod laws;
 
 pub use fault_kind::FaultKind;
-pub use frame::{Frame, MOST_OCTETS};
+pub use frame::{Frame, MOST_OCTETS, read, write};
 pub use frame_fault::FrameFault;
 pub use frmr_info::FrmrInfo;
 pub use lapd_field::{Address, Control, FieldFault, Number, Role, Sapi, Side, Tei};

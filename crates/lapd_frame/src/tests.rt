@@ -43,13 +43,13 @@ fn reads_and_writes(
     control: Control,
     info: &[u8],
 ) -> Result<(), Fail> {
-    let frame = Frame::read(octets, from)?;
+    let frame = read(octets, from)?;
     assert_eq!(rt; frame.address(), address, "{octets:?}");
     assert_eq!(rt; frame.control(), control, "{octets:?}");
     assert_eq!(rt; frame.info(), info, "{octets:?}");
 
     let mut out = [0x5a; 264];
-    let length = frame.write(from, &mut out);
+    let length = write(&frame, from, &mut out);
     assert_eq!(rt; length, octets.len(), "{octets:?}");
     assert!(rt; length <= 264);
     assert_eq!(rt; &out[..length], octets);
@@ -82,7 +82,7 @@ const FOR_NO_LINK: [(FaultKind, &[u8]); 16] = [
 fn octets_for_no_link(rt: HostRuntime) {
     for (kind, octets) in FOR_NO_LINK {
         assert_eq!(rt;
-            Frame::read(octets, User).err(),
+            read(octets, User).err(),
             Some(discarded(kind)),
             "{octets:?}"
         );
@@ -124,7 +124,7 @@ const FOR_A_LINK: [(Side, Role, FaultKind, &[u8]); 19] = [
 fn octets_at_fault_for_a_link(rt: HostRuntime) -> Result<(), Fail> {
     for (from, role, kind, octets) in FOR_A_LINK {
         let fault = of_the_link(kind, role)?;
-        assert_eq!(rt; Frame::read(octets, from).err(), Some(fault), "{octets:?}");
+        assert_eq!(rt; read(octets, from).err(), Some(fault), "{octets:?}");
     }
     Ok(())
 }
@@ -150,7 +150,7 @@ fn told_of_261_octets(
         "{head:?}"
     );
     assert_eq!(rt;
-        Frame::read(&octets[..taken + 261], User).err(),
+        read(&octets[..taken + 261], User).err(),
         Some(fault),
         "{head:?}"
     );

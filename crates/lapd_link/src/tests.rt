@@ -1,7 +1,7 @@
 //! Rows of the state table, by what they give.
 
 use crate::{Event, Letter, Link, Out, Params};
-use lapd_frame::{Frame, Sapi, Side, Tei};
+use lapd_frame::{Sapi, Side, Tei};
 use lapd_timers::Timer;
 use std::test::Fail;
 
@@ -14,7 +14,7 @@ fn new_link(rt: &HostRuntime) -> Result<Link, Fail> {
 
 /// The outputs for a frame of the user, as text.
 fn heard(rt: &HostRuntime, link: &mut Link, octets: &[u8]) -> Result<String, Fail> {
-    let frame = Frame::read(octets, Side::User).map_err(|_| "a frame")?;
+    let frame = lapd_frame::read(octets, Side::User).map_err(|_| "a frame")?;
     let outs = link.handle(Event::Heard(&frame)).map_err(|_| "no refusal")?;
     let mut text = String::new(rt.alloc());
     for out in &outs {

@@ -31,7 +31,7 @@ pub fn line(alloc: Global, from: Side, bytes: &[u8]) -> Result<String, AllocErro
     let digits = bytes.len().saturating_mul(2);
     let mut text = String::with_capacity(alloc, digits.saturating_add(MOST_BESIDE_DIGITS))?;
     text.push_str(direction_name(from))?;
-    match Frame::read(bytes, from) {
+    match lapd_frame::read(bytes, from) {
         Ok(frame) => push_frame(&mut text, &frame)?,
         Err(fault) => {
             text.push_str(fault.kind.name())?;

@@ -2,7 +2,7 @@ use Rattle.std.proofs.Common.{ap, ◌∙◌}
 use Rattle.lapd_frame.specs.Reading.{frame_at}
 use Rattle.lapd_frame.proofs.FrameAt.{frame_again, address_carried}
 use Rattle.lapd_frame.proofs.FirstFault.{first_fault_law}
-use Rattle.lapd_frame.proofs.frame.Frame.read.Goals as goal
+use Rattle.lapd_frame.proofs.frame.read.Goals as goal
 
 pub returns : goal.returns
 returns c = record {
