@@ -1,2 +1,3 @@
+pub mod Soundness
 pub mod Stands
 pub mod WorkedRows

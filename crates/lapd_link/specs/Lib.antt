@@ -6,6 +6,7 @@ pub use Rattle.lapd_frame.specs.Reading
 pub use Rattle.lapd_timers.specs.Timer
 pub mod Event
 pub mod FullEvent
+pub mod FullSound
 pub mod FullTable
 pub mod FullWords
 pub mod Link

@@ -7,6 +7,7 @@
 #![tactic(auto)]
 
 mod event;
+mod laws;
 mod link;
 mod out;
 mod params;
@@ -19,6 +20,7 @@ pub use lapd_frame::{
     Address, Control, FaultKind, Frame, FrameFault, Number, Role, Sapi, Side, Tei,
 };
 pub use lapd_timers::Timer;
+pub use laws::all_sent_are_outstanding;
 pub use link::{Link, Outs};
 pub use out::{Letter, Out};
 pub use params::Params;
