@@ -1,6 +1,6 @@
 -- A line's answer that was printed whole.
 use Rattle.std.specs.Prelude.{⊤}
-use Rattle.std.proofs.Common.{◌≡◌, ℕ, List, Option, Some, Result, Ok, Err, OnOk, IsOkUnless}
+use Rattle.std.proofs.Common.{ℕ, List, Option, Some, Result, Ok, Err, OnOk, IsOkUnless}
 use Rattle.std.specs.Io.KnownBytes.{Appends}
 use Rattle.lapd_cli.specs.Script.{LineEndsAs}
 use Rattle.lapd_cli.specs.declared.script.LineFault.{LineFault}

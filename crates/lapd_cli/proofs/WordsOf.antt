@@ -1,5 +1,5 @@
 -- The words of a line that is cut at its first space.
-use Rattle.std.proofs.Common.{◌≡◌, ◌≢◌, ℕ, List, [], ◌∷◌, ◌++◌, ◌==◌, if◌then◌else◌, Bool, true, false, refl}
+use Rattle.std.proofs.Common.{◌≡◌, ℕ, List, [], ◌∷◌, ◌++◌, ◌==◌, if◌then◌else◌, Bool, true, false, refl}
 use Rattle.std.proofs.lemmas.Bool.{ne_eqb}
 use Rattle.lapd_cli.specs.Script.{with_first}
 use Rattle.lapd_cli.specs.Line.{words_of, HasNoSpace}

@@ -1,12 +1,12 @@
 -- The command `answer`: one link that answers a script, by the state table.
-use Rattle.std.specs.Prelude.{◌≡◌, ℕ, ◌&&◌, ◌==◌, List, [], ◌∷◌, ◌++◌, flat_map, if◌then◌else◌, codes, Bool, true, false, Option, Some, None, option_map, Result, Ok, Err}
+use Rattle.std.specs.Prelude.{◌≡◌, ℕ, ◌&&◌, ◌==◌, List, [], ◌∷◌, ◌++◌, flat_map, if◌then◌else◌, codes, Bool, false, Option, Some, None, option_map, Result, Ok, Err}
 use Rattle.std.specs.Fmt.{decimal}
 use Rattle.std.specs.Str.{bytes_eq}
 use Rattle.hex.specs.Hex.{encode_lower}
 use Rattle.lapd_frame.specs.declared.Side.{Side}
 use Rattle.lapd_frame.specs.declared.Side.TheVariants.{Network, User}
 use Rattle.lapd_frame.specs.declared.Role.{Role}
-use Rattle.lapd_frame.specs.declared.Role.TheVariants.{Command, Answer}
+use Rattle.lapd_frame.specs.declared.Role.TheVariants.{Command}
 use Rattle.lapd_frame.specs.declared.Sapi.TheVariants.{Call}
 use Rattle.lapd_frame.specs.declared.Address.{Address}
 use Rattle.lapd_frame.specs.declared.Control.{Control}
@@ -17,7 +17,6 @@ use Rattle.lapd_frame.specs.Address.{sapi_value}
 use Rattle.lapd_frame.specs.Fault.{fault_name}
 use Rattle.lapd_frame.specs.Frame.{Fields, spelling}
 use Rattle.lapd_frame.specs.Reading.{frame_at}
-use Rattle.lapd_link.specs.declared.Timer.{Timer}
 use Rattle.lapd_link.specs.Timer.{timer_name}
 use Rattle.lapd_link.specs.declared.out.Out.{Out}
 use Rattle.lapd_link.specs.declared.out.Out.TheVariants as out

@@ -1,4 +1,5 @@
 pub mod Answer
+pub mod Decode
 pub mod Line
 pub mod Script
 pub mod Session

@@ -12,6 +12,8 @@ use std::convert::AsStr;
 pub enum Chosen {
     /// Answers a script as one link of this side.
     Answer { side: Side },
+    /// Prints octets as trace lines.
+    Decode,
 }
 
 /// Reads the program's words, the first of which is its name. No further word means
@@ -33,6 +35,7 @@ pub fn choose<'a, S: AsStr>(alloc: Global, words: &'a [S]) -> Result<Chosen, Err
     let matches = program.try_get_matches_from(words)?;
     // A word for a subcommand is required, and the parser takes those of `program` alone.
     match matches.subcommand() {
+        Some(("decode", _)) => Ok(Chosen::Decode),
         Some((_, given)) => Ok(Chosen::Answer {
             side: side_of(given),
         }),
@@ -48,7 +51,8 @@ fn program<'a>(alloc: Global) -> Result<Command<'a>, Error> {
         .about("The data link of the ISDN D channel, ITU-T Q.921")
         .subcommand_required(true)
         .disable_help_subcommand(true)
-        .subcommand(answer_command(alloc)?)?;
+        .subcommand(answer_command(alloc)?)?
+        .subcommand(decode_command(alloc))?;
     Ok(program)
 }
 
@@ -57,6 +61,10 @@ fn answer_command<'a>(alloc: Global) -> Result<Command<'a>, Error> {
         .about("Answers a script as one link")
         .arg(side_option(alloc))?;
     Ok(command)
+}
+
+fn decode_command<'a>(alloc: Global) -> Command<'a> {
+    Command::new(alloc, "decode").about("Prints octets as trace lines")
 }
 
 static SIDES: [&str; 2] = ["net", "user"];

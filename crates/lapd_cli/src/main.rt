@@ -1,4 +1,5 @@
-//! The program `lapd`: a link of the ISDN D channel (ITU-T Q.921) that answers a script.
+//! The program `lapd`: it answers a script as a link of the ISDN D channel (ITU-T Q.921), or prints octets as trace
+//! lines.
 //!
 //! Scripts come on standard input, a line for each thing that happens, and each line's answer goes
 //! to standard output before more is read. Begin with [`script::walk`], which every command shares.
@@ -6,6 +7,7 @@
 
 mod answer;
 mod command_line;
+mod decode;
 mod line;
 mod print;
 mod script;
@@ -15,6 +17,7 @@ mod tests;
 use answer::answer;
 use clap::error::ErrorKind;
 use command_line::{Chosen, choose};
+use decode::decode;
 use lapd_link::Params;
 use script::ScriptFault;
 use std::io::BufWriter;
@@ -56,6 +59,7 @@ fn run(rt: &HostRuntime, chosen: Chosen) -> Result<(), ScriptFault> {
     let mut out = BufWriter::new(rt.alloc(), rt.stdout()).map_err(|_| ScriptFault::Memory)?;
     let ended = match chosen {
         Chosen::Answer { side } => answer(rt.alloc(), &mut script, &mut out, side, params()),
+        Chosen::Decode => decode(rt.alloc(), &mut script, &mut out),
     };
     // What a device that failed did not take is given up.
     let _left = out.into_parts();

@@ -1,5 +1,6 @@
 use crate::answer::answer;
 use crate::command_line::{Chosen, choose};
+use crate::decode::decode;
 use crate::script::ScriptFault;
 use clap::error::ErrorKind as LineKind;
 use lapd_frame::Side;
@@ -342,6 +343,121 @@ fn memory_runs_out(rt: HostRuntime) -> Result<(), Fail> {
     Ok(())
 }
 
+// What was sent, and its trace line.
+#[test]
+fn decodes_octets(rt: HostRuntime) {
+    let rows: [(&[u8], &[u8]); 20] = [
+        (b"net 02810101", b"N>U SAPI 0 TEI 64 C RR N(R)=0 P=1\n"),
+        (b"user 02810101", b"U>N SAPI 0 TEI 64 R RR N(R)=0 F=1\n"),
+        (b"user 00810100", b"U>N SAPI 0 TEI 64 C RR N(R)=0 P=0\n"),
+        (
+            b"net feff030f12340281",
+            b"N>U SAPI 63 TEI 127 C UI P=0 info=0f12340281\n",
+        ),
+        (b"user 0081AFFE", b"U>N SAPI 0 TEI 64 C XID P=0 info=fe\n"),
+        (b"user 0281bf", b"U>N SAPI 0 TEI 64 R XID F=1\n"),
+        (
+            b"net 0081977f00020401",
+            b"N>U SAPI 0 TEI 64 R FRMR F=1 info=7f00020401\n",
+        ),
+        (b"user", b"U>N F1 TooShort\n"),
+        (b"net", b"N>U F1 TooShort\n"),
+        (b"user 048100", b"U>N F1 TooShort 048100\n"),
+        (b"user 008101", b"U>N F1 TooShort 008101\n"),
+        (b"user 058100", b"U>N F2 BadAddress 058100\n"),
+        (b"user 04817f", b"U>N F3 SapiNotServed 04817f\n"),
+        (b"user 00811100", b"U>N F4 Undefined 00811100\n"),
+        (b"user 00810d00", b"U>N F4 Undefined 00810d00\n"),
+        (b"user 02817f", b"U>N F4 Undefined 02817f\n"),
+        (b"user 00817f00", b"U>N F5 InfoNotPermitted 00817f00\n"),
+        (b"user 0081010000", b"U>N F6 WrongSize 0081010000\n"),
+        (b"net 00819700", b"N>U F6 WrongSize 00819700\n"),
+        (b"\n# net 0\nuser\n#", b"U>N F1 TooShort\n"),
+    ];
+    for (mut script, text) in rows {
+        let mut printed = Vec::new(rt.alloc());
+        let ended = decode(rt.alloc(), &mut script, &mut printed);
+        assert_eq!(rt; ended, Ok(()));
+        assert_eq!(rt; printed.as_slice(), text);
+    }
+}
+
+#[test]
+fn decodes_no_bad_line(rt: HostRuntime) {
+    let rows: [(&[u8], u64, &[u8]); 7] = [
+        (b"nobody 00", 1, b""),
+        (b"net 0\nuser", 1, b""),
+        (b"net  00", 1, b""),
+        (b"user\n\nnet 00 \nuser\n", 3, b"U>N F1 TooShort\n"),
+        (b"NET 00", 1, b""),
+        (b"#\nnet 00 81\n", 2, b""),
+        (b"decode", 1, b""),
+    ];
+    for (mut script, number, text) in rows {
+        let mut printed = Vec::new(rt.alloc());
+        let ended = decode(rt.alloc(), &mut script, &mut printed);
+        assert_eq!(rt; ended, Err(ScriptFault::BadLine(number)));
+        assert_eq!(rt; printed.as_slice(), text);
+    }
+}
+
+// Two lines, the second in two parts, and a third that lacks its line feed.
+const SENT: [&[u8]; 3] = [b"user\nnet 0281", b"0101\n", b"user"];
+
+const TRACE: &[u8] = b"U>N F1 TooShort\nN>U SAPI 0 TEI 64 C RR N(R)=0 P=1\nU>N F1 TooShort\n";
+
+#[test]
+fn decodes_until_the_reader_fails(rt: HostRuntime) {
+    let mut printed = Vec::new(rt.alloc());
+    let mut script = Parts {
+        parts: &SENT,
+        fails: true,
+    };
+    let ended = decode(rt.alloc(), &mut script, &mut printed);
+    assert_eq!(rt; ended, Err(ScriptFault::Device));
+    assert_eq!(rt; printed.len(), 50);
+    assert!(rt; TRACE.starts_with(printed.as_slice()));
+}
+
+#[test]
+fn decodes_until_the_writer_fails(rt: HostRuntime) {
+    for room in [0, 15, 20, 49, 65] {
+        let mut out = Narrow {
+            taken: Vec::new(rt.alloc()),
+            room,
+        };
+        let mut script = Parts {
+            parts: &SENT,
+            fails: false,
+        };
+        let ended = decode(rt.alloc(), &mut script, &mut out);
+        assert_eq!(rt; ended, Err(ScriptFault::Device), "with room for {room}");
+        assert_eq!(rt; out.taken.len(), room);
+        assert!(rt; TRACE.starts_with(out.taken.as_slice()));
+    }
+}
+
+// With ample memory the script is done; where an allocation is refused, the lines before are there.
+#[test]
+fn decodes_while_there_is_memory(rt: HostRuntime) -> Result<(), Fail> {
+    let Ok(mut printed) = Vec::with_capacity(rt.alloc(), 128) else {
+        return Ok(());
+    };
+    let mut script = Parts {
+        parts: &SENT,
+        fails: false,
+    };
+    let ended = decode(rt.alloc(), &mut script, &mut printed);
+    assert!(rt; ended == Ok(()) || ended == Err(ScriptFault::Memory));
+    if ended == Ok(()) {
+        assert_eq!(rt; printed.as_slice(), TRACE);
+    } else {
+        assert!(rt; TRACE.starts_with(printed.as_slice()));
+        assert!(rt; [0, 16, 50].contains(&printed.len()));
+    }
+    Ok(())
+}
+
 #[test]
 fn faults_read(rt: HostRuntime) -> Result<(), Fail> {
     let rows = [
@@ -363,11 +479,12 @@ fn chooses(rt: HostRuntime) -> Result<(), Fail> {
         side: Side::Network,
     };
     let user = Chosen::Answer { side: Side::User };
-    let rows: [(&[&str], Chosen); 4] = [
+    let rows: [(&[&str], Chosen); 5] = [
         (&["lapd"], net),
         (&["lapd", "answer"], net),
         (&["lapd", "answer", "--side", "net"], net),
         (&["lapd", "answer", "--side=user"], user),
+        (&["lapd", "decode"], Chosen::Decode),
     ];
     for (words, want) in rows {
         assert_eq!(rt; choose(rt.alloc(), words)?, want);
@@ -377,12 +494,14 @@ fn chooses(rt: HostRuntime) -> Result<(), Fail> {
 
 #[test]
 fn refuses_words(rt: HostRuntime) {
-    let rows: [&[&str]; 6] = [
+    let rows: [&[&str]; 8] = [
         &["lapd", "--side", "user"],
         &["lapd", "answer", "--side", "user", "--side", "net"],
         &["lapd", "answer", "--side"],
         &["lapd", "answer", "--side", "other"],
         &["lapd", "answer", "more"],
+        &["lapd", "decode", "--side", "user"],
+        &["lapd", "decode", "more"],
         &["lapd", "other"],
     ];
     for words in rows {
@@ -398,7 +517,11 @@ fn refuses_words(rt: HostRuntime) {
 
 #[test]
 fn shows_help(rt: HostRuntime) {
-    let rows: [&[&str]; 2] = [&["lapd", "--help"], &["lapd", "answer", "--help"]];
+    let rows: [&[&str]; 3] = [
+        &["lapd", "--help"],
+        &["lapd", "answer", "--help"],
+        &["lapd", "decode", "--help"],
+    ];
     for words in rows {
         match choose(rt.alloc(), words) {
             Ok(_) => panic!(rt; "chosen"),

@@ -5,8 +5,10 @@ pub use Rattle.lapd_frame.specs.Frame
 pub use Rattle.lapd_frame.specs.Reading
 pub use Rattle.lapd_timers.specs.Timer
 pub mod Event
+pub mod FullCounted
 pub mod FullEvent
 pub mod FullSound
+pub mod FullStands
 pub mod FullTable
 pub mod FullWords
 pub mod Link
@@ -15,4 +17,5 @@ pub mod Out
 pub mod Refusal
 pub mod State
 pub mod Table
+pub mod Tail
 pub mod Words

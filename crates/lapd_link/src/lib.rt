@@ -9,6 +9,7 @@
 mod event;
 mod laws;
 mod link;
+mod machine;
 mod out;
 mod params;
 mod state;

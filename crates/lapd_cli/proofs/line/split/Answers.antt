@@ -1,4 +1,3 @@
-use Rattle.std.proofs.Common.{◌∷◌}
 use Rattle.lapd_cli.proofs.WordsOf.{some_word, five_words}
 use Rattle.lapd_cli.proofs.line.split.Goals as goal
 

@@ -1,4 +1,4 @@
-use Rattle.std.proofs.Common.{◌≡◌, sym, ap, subst, ◌∙◌}
+use Rattle.std.proofs.Common.{◌≡◌, ◌∙◌}
 use Rattle.lapd_link.specs.State.{state_number}
 use Rattle.lapd_link.specs.Words.{begin}
 use Rattle.lapd_cli.specs.Session.{IsAnswerer}

@@ -1,0 +1,19 @@
+use Rattle.lapd_link.specs.FullWords.{queue_up}
+use Rattle.lapd_link.proofs.Tails.{tail_given}
+use Rattle.lapd_link.proofs.machine.Machine.queue_up.Goals as goal
+
+pub returns : goal.returns
+unfolding queue_up
+returns c = record {
+  step = λ s outs h. record {
+    state = h.state;
+    retries = h.retries;
+    window = h.window;
+    layer3 = h.layer3;
+    release_pending = h.release_pending;
+    t200 = h.t200;
+    t203 = h.t203;
+    queue = rw c.in-Ok.ensures.ok (tail_given _ _ _ _ c.args.message.items h.queue);
+    put = h.put;
+  };
+}
