@@ -1,141 +1,25 @@
 //! The command `answer`: one link that answers a script.
 
-ghost use Rattle.std.specs.Prelude.{◌≡◌, ◌≤◌, ◌∷◌, ◌++◌, [], List, ℕ, IfSome, OnOk, IsOkUnless, codes, Some, flat_map};
+ghost use Rattle.std.specs.Prelude.{◌≡◌, IfSome, IsOkUnless, OnOk, Some};
 ghost use Rattle.std.specs.Io.KnownBytes.{Appends};
-ghost use Rattle.hex.specs.Hex.{encode_lower};
-ghost use Rattle.lapd_frame.specs.Frame.{spelling};
-ghost use Rattle.lapd_cli.specs.Answer.{order_as, order_of, other_side, answer_step, new_session, answer_place};
-ghost use Rattle.lapd_cli.specs.Line.{Reads, text_line};
+ghost use Rattle.lapd_cli.specs.Answer.{answer_place, answer_step, new_session, other_side, refusal_line};
 ghost use Rattle.lapd_cli.specs.Script.{EndsAs, LineEndsAs, lines_of};
 
-use crate::line::{Words, octets_of, split};
-use crate::print::{put_hex, put_line, put_number, put_octets};
+use crate::order::{Order, order_of};
+use crate::place::Place;
+use crate::print::{put_line, put_number};
 use crate::script::{Command, LineFault, ScriptFault, walk};
-use lapd_frame::{Address, Control, FrameFault, Role, Sapi, Side, Tei};
-use lapd_link::{Event, Link, Out, Params};
+use lapd_frame::{FrameFault, Sapi, Side, Tei};
+use lapd_link::{Event, Link, LinkFault, Outs, Params};
 use std::alloc::Global;
 use std::io::{Read, Write};
 
-/// What a line asks for.
-#[derive(Drop)]
-enum Order {
-    Frame(Vec<u8>),
-    State,
-}
-
-/// What a line asks for.
-fn order_of(alloc: Global, line: &[u8]) -> Result<Order, LineFault>
-    ensures { Reads order_as result (order_of line.now) }
-{
-    match split(line) {
-        Words::One(b"state") => Ok(Order::State),
-        Words::One(b"frame") => Ok(Order::Frame(Vec::new(alloc))),
-        Words::Two(b"frame", digits) => Ok(Order::Frame(octets_of(alloc, digits)?)),
-        _ => Err(LineFault::Bad),
-    }
-}
-
-/// Where a link's frames go: its side and its address.
-#[derive(Clone, Copy, Debug)]
-pub struct Place {
-    pub side: Side,
-    pub sapi: Sapi,
-    pub tei: Tei,
-}
-
-impl Place {
-    ghost use Rattle.lapd_cli.specs.Answer.{send_line, out_line, outs_text, is_for};
-
-    /// Whether this address is the link's.
-    fn is_for(&self, address: &Address) -> bool
-        ensures { result ≡ is_for self.now address.now }
-    {
-        self.sapi.value() == address.sapi.value() && self.tei.value() == address.tei.value()
-    }
-
-    /// The line of a frame that goes out.
-    fn put_send<W: Write>(
-        &self,
-        role: Role,
-        control: &Control,
-        info: &[u8],
-        out: &mut W,
-    ) -> Result<(), LineFault>
-        ensures ok { OnOk result (Appends (W.contents out.old) (W.contents out.new) (send_line self.now role control.now info.now)) }
-        ensures err { IsOkUnless result LineFault.Device }
-    {
-        let address = Address {
-            sapi: self.sapi,
-            tei: self.tei,
-            role,
-        };
-        out.write_all(b"send ")?;
-        put_parts(
-            &address.write(self.side),
-            control.write().as_slice(),
-            info,
-            out,
-        )?;
-        out.write_all(b"\n")?;
-        Ok(())
-    }
-
-    /// The line of an output, of a step to which these octets were handed.
-    fn put_out<W: Write>(&self, handed: &[u8], given: &Out, out: &mut W) -> Result<(), LineFault>
-        ensures ok { OnOk result (Appends (W.contents out.old) (W.contents out.new) (out_line self.now handed.now given.now)) }
-        ensures err { IsOkUnless result LineFault.Device }
-    {
-        match given {
-            Out::Send(role, control) => self.put_send(*role, control, &[], out),
-            Out::SendMessage(_, control) => self.put_send(Role::Command, control, &[], out),
-            Out::SendUnit => self.put_send(Role::Command, &Control::Ui { p: false }, handed, out),
-            Out::Up => put_octets(b"data", handed, out),
-            Out::UnitUp => put_octets(b"unit", handed, out),
-            Out::Established => put_line(b"established", &[], out),
-            Out::Confirmed => put_line(b"confirmed", &[], out),
-            Out::Released => put_line(b"released", &[], out),
-            Out::ReleaseConfirm => put_line(b"release-confirmed", &[], out),
-            Out::Acknowledged(n) => put_number(b"acknowledged ", *n, out),
-            Out::Dropped(n) => put_number(b"dropped ", *n, out),
-            Out::Start(timer) => put_line(b"start ", timer.name().as_bytes(), out),
-            Out::Stop(timer) => put_line(b"stop ", timer.name().as_bytes(), out),
-            Out::Report(letter) => put_line(b"report ", letter.name().as_bytes(), out),
-        }
-    }
-
-    /// The lines of a step's outputs.
-    fn put_outs<W: Write>(&self, handed: &[u8], outs: &[Out], out: &mut W) -> Result<(), LineFault>
-        ensures ok { OnOk result (Appends (W.contents out.old) (W.contents out.new) (outs_text self.now handed.now outs.now)) }
-        ensures err { IsOkUnless result LineFault.Device }
-    {
-        for given in outs {
-            self.put_out(handed, given, out)?;
-        }
-        Ok(())
-    }
-}
-
-/// Three parts of a frame in hexadecimal.
-fn put_parts<W: Write>(
-    address: &[u8],
-    control: &[u8],
-    info: &[u8],
-    out: &mut W,
-) -> Result<(), LineFault>
-    ensures ok { OnOk result (Appends (W.contents out.old) (W.contents out.new) (encode_lower (address.now ++ control.now ++ info.now))) }
-    ensures err { IsOkUnless result LineFault.Device }
-{
-    put_hex(address, out)?;
-    put_hex(control, out)?;
-    put_hex(info, out)?;
-    Ok(())
-}
-
-/// A link that answers a script.
+/// A link that answers a script, with room for the outputs of one step.
 #[derive(Drop)]
 struct Answerer {
     alloc: Global,
     link: Link,
+    outs: Outs,
 }
 
 /// Goes over a script as one link of SAPI 0 and TEI 64 on this side, made with these parameters, and writes what the
@@ -159,7 +43,8 @@ pub fn answer<R: Read, W: Write>(
         Ok(link) => link,
         Err(_) => return Err(ScriptFault::Memory),
     };
-    let mut answerer = Answerer { alloc, link };
+    let outs = Outs::new();
+    let mut answerer = Answerer { alloc, link, outs };
     walk(alloc, &mut answerer, script, out)
 }
 
@@ -175,8 +60,16 @@ impl Command for Answerer {
 
     fn answer<W: Write>(&mut self, line: &[u8], out: &mut W) -> Result<(), LineFault> {
         match order_of(self.alloc, line)? {
-            Order::State => self.put_state(out),
             Order::Frame(octets) => self.came(octets.as_slice(), out),
+            Order::T200 => self.step(Event::T200, &[], out),
+            Order::T203 => self.step(Event::T203, &[], out),
+            Order::Establish => self.step(Event::Establish, &[], out),
+            Order::Release => self.step(Event::Release, &[], out),
+            Order::Give(message) => self.give(message, out),
+            Order::BusyOn => self.step(Event::BusyOn, &[], out),
+            Order::BusyOff => self.step(Event::BusyOff, &[], out),
+            Order::Unit(octets) => self.step(Event::Unit(octets.len()), octets.as_slice(), out),
+            Order::State => self.put_state(out),
         }
     }
 }
@@ -184,8 +77,9 @@ impl Command for Answerer {
 impl Answerer {
     ghost use Rattle.lapd_frame.specs.declared.frame_fault.FrameFault.{FrameFault};
     ghost use Rattle.lapd_frame.specs.Reading.{frame_at};
-    ghost use Rattle.lapd_link.specs.Event.{happening_of};
-    ghost use Rattle.lapd_cli.specs.Answer.{Session, answered, came, came_faulty, stepped, Order as Asked};
+    ghost use Rattle.lapd_link.specs.Event.{happening_of, Give};
+    ghost use Rattle.lapd_cli.specs.Answer.{Session, answered, came, came_faulty, stepped, outs_text, messages_of};
+    ghost use Rattle.lapd_cli.specs.Order.{Order as Asked};
     ghost use Rattle.lapd_cli.specs.Session.{IsAnswerer};
 
     /// Where its frames go.
@@ -216,7 +110,7 @@ impl Answerer {
         match lapd_frame::read(octets, other_side(place.side)) {
             Ok(frame) => {
                 if place.is_for(&frame.address()) {
-                    self.step(&place, Event::Heard(&frame), frame.info(), out)
+                    self.step(Event::Heard(&frame), frame.info(), out)
                 } else {
                     put_line(b"not-mine", &[], out)
                 }
@@ -239,7 +133,7 @@ impl Answerer {
             None => put_line(b"discarded ", fault.kind.name().as_bytes(), out),
             Some(address) => {
                 if place.is_for(address) {
-                    self.step(place, Event::Fault(fault.kind), &[], out)
+                    self.step(Event::Fault(fault.kind), &[], out)
                 } else {
                     put_line(b"not-mine", &[], out)
                 }
@@ -248,21 +142,44 @@ impl Answerer {
     }
 
     /// A step of the link, to which these octets are handed, and the lines of its outputs.
-    fn step<W: Write>(
-        &mut self,
-        place: &Place,
-        event: Event,
-        handed: &[u8],
-        out: &mut W,
-    ) -> Result<(), LineFault>
-        ensures { (s : Session) → IsAnswerer self.old s → place.now ≡ s.place
+    fn step<W: Write>(&mut self, event: Event, handed: &[u8], out: &mut W) -> Result<(), LineFault>
+        ensures { (s : Session) → IsAnswerer self.old s
             → LineEndsAs IsAnswerer (Some (stepped s (happening_of event.entry) handed.now)) result self.new (W.contents out.old) (W.contents out.new) }
     {
-        match self.link.handle(event) {
-            Ok(outs) => place.put_outs(handed, outs.as_slice(), out),
-            Err(fault) => put_line(b"refused ", fault.name().as_bytes(), out),
+        match self.link.handle_into(event, &mut self.outs) {
+            Ok(()) => self.put_outs(handed, out),
+            Err(fault) => put_refusal(fault, out),
         }
     }
+
+    /// A message is given to the link, and the lines of the step's outputs.
+    fn give<W: Write>(&mut self, message: Vec<u8>, out: &mut W) -> Result<(), LineFault>
+        ensures { (s : Session) → IsAnswerer self.old s
+            → LineEndsAs IsAnswerer (Some (answered s (Asked.Give message.items))) result self.new (W.contents out.old) (W.contents out.new) }
+    {
+        match self.link.give_into(message, &mut self.outs) {
+            Ok(()) => self.put_outs(&[], out),
+            Err(refused) => put_refusal(refused.fault, out),
+        }
+    }
+
+    /// The lines of the outputs of the step that was just done, to which these octets were handed.
+    fn put_outs<W: Write>(&self, handed: &[u8], out: &mut W) -> Result<(), LineFault>
+        ensures ok { (s : Session) → IsAnswerer self.now s
+            → OnOk result (Appends (W.contents out.old) (W.contents out.new) (outs_text s.place (messages_of s.end) handed.now self.now.outs.items)) }
+        ensures err { IsOkUnless result LineFault.Device }
+    {
+        self.place()
+            .put_outs(self.link.queue(), handed, self.outs.as_slice(), out)
+    }
+}
+
+/// The line of a request that the link refused.
+fn put_refusal<W: Write>(fault: LinkFault, out: &mut W) -> Result<(), LineFault>
+    ensures ok { OnOk result (Appends (W.contents out.old) (W.contents out.new) (refusal_line fault)) }
+    ensures err { IsOkUnless result LineFault.Device }
+{
+    put_line(b"refused ", fault.name().as_bytes(), out)
 }
 
 /// The side that sends what this one hears.

@@ -1,17 +1,21 @@
 //! The command line: what the program's words choose.
 
-ghost use Rattle.std.specs.Prelude.{◌≡◌, ◌<◌, length, Ok};
+ghost use Rattle.std.specs.Prelude.{◌≡◌, ◌<◌, IfSome, length, Ok};
+ghost use Rattle.std.specs.Str.Parse.{digits_value};
+ghost use Rattle.lapd_cli.specs.CommandLine.{default_numbers, numbers_written};
 
-use clap::{Arg, ArgAction, ArgMatches, Command, Error};
-use lapd_frame::Side;
+use clap::error::ErrorKind;
+use clap::{Arg, ArgAction, ArgMatches, Command, Error, value_parser};
+use lapd_frame::{Sapi, Side};
+use lapd_link::Params;
 use std::alloc::Global;
 use std::convert::AsStr;
 
 /// What the program is to do.
 #[derive(Clone, Copy, Debug, PartialEq, Eq)]
 pub enum Chosen {
-    /// Answers a script as one link of this side.
-    Answer { side: Side },
+    /// Answers a script as one link of this side, made with these parameters.
+    Answer { side: Side, params: Params },
     /// Prints octets as trace lines.
     Decode,
 }
@@ -24,25 +28,69 @@ pub enum Chosen {
 /// The parser's, which has the text to print: help that was asked for, a fault of the command line,
 /// or want of memory.
 pub fn choose<'a, S: AsStr>(alloc: Global, words: &'a [S]) -> Result<Chosen, Error>
-    ensures { length words.now < 2 → result ≡ Ok (Chosen.Answer Side.Network) }
+    ensures { length words.now < 2 → result ≡ Ok (Chosen.Answer Side.Network default_numbers) }
 {
     if words.len() < 2 {
         return Ok(Chosen::Answer {
             side: Side::Network,
+            params: Params::basic(Sapi::Call),
         });
     }
-    let program: Command<'a> = program(alloc)?;
-    let matches = program.try_get_matches_from(words)?;
+    let mut program: Command<'a> = program(alloc)?;
+    let matches = program.try_get_matches_from_mut(words)?;
     // A word for a subcommand is required, and the parser takes those of `program` alone.
     match matches.subcommand() {
-        Some(("decode", _)) => Ok(Chosen::Decode),
-        Some((_, given)) => Ok(Chosen::Answer {
-            side: side_of(given),
-        }),
-        None => Ok(Chosen::Answer {
-            side: Side::Network,
-        }),
+        Some(("answer", given)) => answer_chosen(&mut program, given),
+        _ => Ok(Chosen::Decode),
     }
+}
+
+// What the options of `answer` choose. The parser has looked at their ranges, but it takes a sign.
+fn answer_chosen(program: &mut Command<'_>, given: &ArgMatches<'_>) -> Result<Chosen, Error> {
+    match params_given(given) {
+        Some(params) => Ok(Chosen::Answer {
+            side: side_given(given),
+            params,
+        }),
+        None => Err(program.error(
+            ErrorKind::ValueValidation,
+            "the number of an option is written in decimal digits alone",
+        )?),
+    }
+}
+
+fn side_given(given: &ArgMatches<'_>) -> Side {
+    match given.get_str("side") {
+        Some("user") => Side::User,
+        _ => Side::Network,
+    }
+}
+
+fn params_given(given: &ArgMatches<'_>) -> Option<Params> {
+    params_of(
+        given.get_str("k")?,
+        given.get_str("n200")?,
+        given.get_str("room")?,
+    )
+}
+
+// The parameters with these numbers; `None` where one is not written in decimal digits alone or is out of its range.
+fn params_of(k: &str, n200: &str, room: &str) -> Option<Params>
+    ensures { IfSome result (λ p. p ≡ numbers_written k.now n200.now room.now) }
+{
+    let k = u8::try_from(number_of(k)?).ok()?;
+    let n200 = u8::try_from(number_of(n200)?).ok()?;
+    Params::new(k, n200, number_of(room)?)
+}
+
+// The number that is written so, in decimal digits alone.
+fn number_of(digits: &str) -> Option<u16>
+    ensures { IfSome result (λ n. n ≡ digits_value 10 digits.now) }
+{
+    if digits.starts_with('+') {
+        return None;
+    }
+    digits.parse().ok()
 }
 
 fn program<'a>(alloc: Global) -> Result<Command<'a>, Error> {
@@ -56,10 +104,24 @@ fn program<'a>(alloc: Global) -> Result<Command<'a>, Error> {
     Ok(program)
 }
 
+static ANSWER_LINES: &str = "Lines of the script:
+  frame HEX              the other side sent these octets
+  t200, t203             the timer expires, if it runs
+  establish, release     layer 3 asks for it
+  give HEX               a message of layer 3 is to be sent, at most 260 octets
+  unit HEX               unit data is to be sent, at most 260 octets
+  busy on, busy off      this end can take no more messages, or can again
+  state                  the number of the state is printed
+For no octets, HEX is left out with the space before it.";
+
 fn answer_command<'a>(alloc: Global) -> Result<Command<'a>, Error> {
     let command = Command::new(alloc, "answer")
-        .about("Answers a script as one link")
-        .arg(side_option(alloc))?;
+        .about("Answers a script as one link of SAPI 0 and TEI 64")
+        .after_help(ANSWER_LINES)
+        .arg(side_option(alloc))?
+        .arg(k_option(alloc))?
+        .arg(n200_option(alloc))?
+        .arg(room_option(alloc))?;
     Ok(command)
 }
 
@@ -72,15 +134,39 @@ static SIDES: [&str; 2] = ["net", "user"];
 fn side_option<'a>(alloc: Global) -> Arg<'a> {
     Arg::new(alloc, "side")
         .long("side")
+        .value_name("SIDE")
         .help("The link's side")
         .action(ArgAction::Set)
         .value_parser(SIDES.as_slice())
         .default_value("net")
 }
 
-fn side_of(given: &ArgMatches<'_>) -> Side {
-    match given.get_str("side") {
-        Some("user") => Side::User,
-        _ => Side::Network,
-    }
+fn k_option<'a>(alloc: Global) -> Arg<'a> {
+    Arg::new(alloc, "k")
+        .long("k")
+        .value_name("FRAMES")
+        .help("The window k, from 1 to 127 I frames")
+        .action(ArgAction::Set)
+        .value_parser(value_parser!(u8).range(1..=127))
+        .default_value("1")
+}
+
+fn n200_option<'a>(alloc: Global) -> Arg<'a> {
+    Arg::new(alloc, "n200")
+        .long("n200")
+        .value_name("TIMES")
+        .help("How often a frame is sent again, from 1 to 100 times")
+        .action(ArgAction::Set)
+        .value_parser(value_parser!(u8).range(1..=100))
+        .default_value("3")
+}
+
+fn room_option<'a>(alloc: Global) -> Arg<'a> {
+    Arg::new(alloc, "room")
+        .long("room")
+        .value_name("MESSAGES")
+        .help("The room of the I queue, from 1 to 1024 messages")
+        .action(ArgAction::Set)
+        .value_parser(value_parser!(u16).range(1..=1024))
+        .default_value("512")
 }

@@ -9,6 +9,8 @@ mod answer;
 mod command_line;
 mod decode;
 mod line;
+mod order;
+mod place;
 mod print;
 mod script;
 #[cfg(test)]
@@ -18,7 +20,6 @@ use answer::answer;
 use clap::error::ErrorKind;
 use command_line::{Chosen, choose};
 use decode::decode;
-use lapd_link::Params;
 use script::ScriptFault;
 use std::io::BufWriter;
 use std::process::ExitCode;
@@ -58,17 +59,14 @@ fn run(rt: &HostRuntime, chosen: Chosen) -> Result<(), ScriptFault> {
     let mut script = rt.stdin();
     let mut out = BufWriter::new(rt.alloc(), rt.stdout()).map_err(|_| ScriptFault::Memory)?;
     let ended = match chosen {
-        Chosen::Answer { side } => answer(rt.alloc(), &mut script, &mut out, side, params()),
+        Chosen::Answer { side, params } => {
+            answer(rt.alloc(), &mut script, &mut out, side, params)
+        }
         Chosen::Decode => decode(rt.alloc(), &mut script, &mut out),
     };
     // What a device that failed did not take is given up.
     let _left = out.into_parts();
     ended
-}
-
-// What the link is made with: a window of one frame, N200 = 3 and room for 512 messages.
-fn params() -> Params {
-    Params::new(1, 3, 512).unwrap()
 }
 
 // Says how the script ended.

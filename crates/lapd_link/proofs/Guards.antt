@@ -1,7 +1,7 @@
 -- T200 guards what was sent, in both cases of whether it runs.
 use Rattle.std.proofs.Common.{◌≡◌, Bool, true, false, refl, ap, ◌∙◌, append-nil}
 use Rattle.lapd_timers.specs.declared.timer.Timer.TheVariants.{T200, T203}
-use Rattle.lapd_link.specs.FullWords.{Doing, guard, start, stop}
+use Rattle.lapd_link.specs.Words.{Doing, guard, start, stop}
 
 pub guard_starts : (s : Doing) → s.at.t200 ≡ false → start T200 (stop T203 s) ≡ guard s
 unfolding guard start stop

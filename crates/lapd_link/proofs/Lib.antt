@@ -1,5 +1,7 @@
 pub mod Guards
+pub mod Rows
+pub mod Sending
+pub mod Settled
 pub mod Soundness
-pub mod Stands
 pub mod Tails
 pub mod WorkedRows

@@ -1,5 +1,5 @@
 -- The places of an end stay with its counters, row by row.
-use Rattle.std.proofs.Common.{◌≡◌, ℕ, zero, suc, ◌+◌, ◌<◌, ◌≤◌, ◌==◌, ◌&&◌, not, nat_lt, Option, Some, None, Result, Ok, if◌then◌else◌, Bool, true, false, List, [], ◌∷◌, ◌++◌, length, length-append, subst, refl, sym, arith}
+use Rattle.std.proofs.Common.{◌≡◌, ℕ, zero, suc, ◌≤◌, ◌==◌, ◌&&◌, nat_lt, Option, Some, None, Result, Ok, if◌then◌else◌, Bool, true, false, List, [], ◌∷◌, ◌++◌, length, length-append, subst, refl, sym, arith}
 use Rattle.lapd_timers.specs.declared.timer.Timer.TheVariants.{T200, T201, T202, T203}
 use Rattle.lapd_frame.specs.declared.Role.{Role}
 use Rattle.lapd_frame.specs.declared.Role.TheVariants.{Command, Answer}
@@ -10,16 +10,16 @@ use Rattle.lapd_supervision.specs.Marks.{is_valid, is_all, cleared, zeroed, ack_
 use Rattle.lapd_supervision.proofs.Outstanding.{acknowledged_count_at_most, outstanding_after_acknowledged, outstanding_after_sent, outstanding_after_gone_back, may_send_leaves_room, reaches_after_acknowledged, reaches_after_gone_back, reaches_after_sent}
 use Rattle.lapd_link.specs.declared.state.State.{State}
 use Rattle.lapd_link.specs.declared.state.State.TheVariants.{TeiAssigned, AwaitingEstablishment, AwaitingRelease, MultipleFrameEstablished, TimerRecovery}
-use Rattle.std.proofs.lemmas.Bool.Decides.{nat_tests}
 use Rattle.lapd_frame.specs.declared.fault_kind.FaultKind.{FaultKind}
 use Rattle.lapd_link.specs.declared.event.LinkFault.{LinkFault}
+use Rattle.lapd_link.proofs.Sending.{both_true, below}
 use Rattle.lapd_link.specs.Numbers.{Numbers}
 use Rattle.lapd_link.specs.declared.out.Letter.TheVariants as letter
-use Rattle.lapd_link.specs.declared.out.Out.TheVariants.{Report}
-use Rattle.lapd_link.specs.FullEvent.{Happening, Hears, Faulty, Expires, Establish, Release, BusyOn, BusyOff, UnitData, Give}
-use Rattle.lapd_link.specs.FullSound.{AreOutstanding, AreUnsent, AreAwaiting, IsSoundIn, IsSound}
-use Rattle.lapd_link.specs.FullWords.{End, Doing, ◌▷◌, new_end, send_next, is_open, is_established, unsent, runs, begin, put, state_to, retries_to, layer3_to, release_pending_to, start, stop, expired, clear, zero_counters, peer_is_busy, self_is_busy, answer_poll, enquire, queue_up, discard, acknowledge, go_back, take_message, lose_unacknowledged, message_out, guard, put_pending}
-use Rattle.lapd_link.specs.FullTable.{establish, establish_again, give_up, tei_assigned, confirm, establishment_answered, establishment_expired, awaiting_establishment, released, release_expired, awaiting_release, advance, advance_by_message, number_wrong, message_number, poll_or_final, back_to, recovered, recovered_busy, ready_number, reject_number, not_ready_number, ready_in_recovery, not_ready_in_recovery, recovery_expired, busy_on, busy_off, in_both, established, timer_recovery, by_state, fault_reported, row, send_all, acknowledge_pending, close, step, is_final, goes_on, unless, refused, fault_letter}
+use Rattle.lapd_link.specs.declared.out.Out.TheVariants.{Report, UnitUp}
+use Rattle.lapd_link.specs.Event.{Happening, Hears, Faulty, Expires, Establish, Release, BusyOn, BusyOff, UnitData, Give}
+use Rattle.lapd_link.specs.Sound.{AreOutstanding, AreUnsent, AreAwaiting, IsSoundIn, IsSound}
+use Rattle.lapd_link.specs.Words.{End, Doing, ◌▷◌, new_end, send_next, is_open, is_established, unsent, runs, begin, put, state_to, retries_to, once_more, layer3_to, release_pending_to, start, stop, expired, clear, zero_counters, peer_is_busy, self_is_busy, answer_poll, enquire, queue_up, discard, acknowledge, go_back, take_message, lose_unacknowledged, message_out, guard, put_pending}
+use Rattle.lapd_link.specs.Table.{establish, establish_again, give_up, tei_assigned, confirm, establishment_answered, establishment_expired, awaiting_establishment, released, release_expired, awaiting_release, advance, advance_by_message, number_wrong, message_number, message_number_in_recovery, poll_or_final, poll, back_to, recovered, recovered_busy, ready_number, reject_number, not_ready_number, ready_in_recovery, not_ready_in_recovery, recovery_expired, busy_on, busy_off, in_both, established, timer_recovery, by_state, fault_reported, row, send_all, acknowledge_pending, close, step, is_final, is_unit_data, goes_on, unless, refused, fault_letter}
 
 abbrev SoundAfter : Reading → Doing → Type 0
 SoundAfter r s = IsSound r s.at
@@ -68,29 +68,29 @@ given_awaiting r false false first next given message va vs h = given_outstandin
 -- ---- States 4 and 6.
 
 sound_tei_assigned : (r : Reading) (h : Happening) (s : Doing) → s.at.state ≡ TeiAssigned → AreUnsent s.at.first s.at.next (length s.at.given) → SoundAfter r (tei_assigned h s)
-unfolding tei_assigned establish begin put state_to retries_to layer3_to release_pending_to start stop expired clear zero_counters peer_is_busy self_is_busy answer_poll enquire queue_up discard acknowledge go_back take_message lose_unacknowledged message_out guard put_pending cleared zeroed ack_pending_cleared received acknowledged acknowledged_count gone_back sent own_busy_to peer_busy_to
-sound_tei_assigned r (Hears Command (I ns nr p)) s q h = rw q h
-sound_tei_assigned r (Hears Command (Rr nr pf)) s q h = rw q h
-sound_tei_assigned r (Hears Command (Rnr nr pf)) s q h = rw q h
-sound_tei_assigned r (Hears Command (Rej nr pf)) s q h = rw q h
-sound_tei_assigned r (Hears Command (Sabme p)) s q h = begun r s.at.first s.at.next (length s.at.given) h
-sound_tei_assigned r (Hears Command (Dm f)) s q h = rw q h
-sound_tei_assigned r (Hears Command (Ui p)) s q h = rw q h
-sound_tei_assigned r (Hears Command (Disc p)) s q h = rw q h
-sound_tei_assigned r (Hears Command (Ua f)) s q h = rw q h
-sound_tei_assigned r (Hears Command (Frmr f)) s q h = rw q h
-sound_tei_assigned r (Hears Command (Xid pf)) s q h = rw q h
-sound_tei_assigned r (Hears Answer (I ns nr p)) s q h = rw q h
-sound_tei_assigned r (Hears Answer (Rr nr pf)) s q h = rw q h
-sound_tei_assigned r (Hears Answer (Rnr nr pf)) s q h = rw q h
-sound_tei_assigned r (Hears Answer (Rej nr pf)) s q h = rw q h
-sound_tei_assigned r (Hears Answer (Sabme p)) s q h = rw q h
-sound_tei_assigned r (Hears Answer (Dm f)) s q h = rw q h
-sound_tei_assigned r (Hears Answer (Ui p)) s q h = rw q h
-sound_tei_assigned r (Hears Answer (Disc p)) s q h = rw q h
-sound_tei_assigned r (Hears Answer (Ua f)) s q h = rw q h
-sound_tei_assigned r (Hears Answer (Frmr f)) s q h = rw q h
-sound_tei_assigned r (Hears Answer (Xid pf)) s q h = rw q h
+unfolding tei_assigned establish begin put state_to retries_to once_more layer3_to release_pending_to start stop expired clear zero_counters peer_is_busy self_is_busy answer_poll enquire queue_up discard acknowledge go_back take_message lose_unacknowledged message_out guard put_pending cleared zeroed ack_pending_cleared received acknowledged acknowledged_count gone_back sent own_busy_to peer_busy_to
+sound_tei_assigned r (Hears (I ns nr p) Command) s q h = rw q h
+sound_tei_assigned r (Hears (Rr nr pf) Command) s q h = rw q h
+sound_tei_assigned r (Hears (Rnr nr pf) Command) s q h = rw q h
+sound_tei_assigned r (Hears (Rej nr pf) Command) s q h = rw q h
+sound_tei_assigned r (Hears (Sabme p) Command) s q h = begun r s.at.first s.at.next (length s.at.given) h
+sound_tei_assigned r (Hears (Dm f) Command) s q h = rw q h
+sound_tei_assigned r (Hears (Ui p) Command) s q h = rw q h
+sound_tei_assigned r (Hears (Disc p) Command) s q h = rw q h
+sound_tei_assigned r (Hears (Ua f) Command) s q h = rw q h
+sound_tei_assigned r (Hears (Frmr f) Command) s q h = rw q h
+sound_tei_assigned r (Hears (Xid pf) Command) s q h = rw q h
+sound_tei_assigned r (Hears (I ns nr p) Answer) s q h = rw q h
+sound_tei_assigned r (Hears (Rr nr pf) Answer) s q h = rw q h
+sound_tei_assigned r (Hears (Rnr nr pf) Answer) s q h = rw q h
+sound_tei_assigned r (Hears (Rej nr pf) Answer) s q h = rw q h
+sound_tei_assigned r (Hears (Sabme p) Answer) s q h = rw q h
+sound_tei_assigned r (Hears (Dm f) Answer) s q h = rw q h
+sound_tei_assigned r (Hears (Ui p) Answer) s q h = rw q h
+sound_tei_assigned r (Hears (Disc p) Answer) s q h = rw q h
+sound_tei_assigned r (Hears (Ua f) Answer) s q h = rw q h
+sound_tei_assigned r (Hears (Frmr f) Answer) s q h = rw q h
+sound_tei_assigned r (Hears (Xid pf) Answer) s q h = rw q h
 sound_tei_assigned r (Faulty kind) s q h = rw q h
 sound_tei_assigned r (Expires T200) s q h = rw q h
 sound_tei_assigned r (Expires T201) s q h = rw q h
@@ -104,35 +104,37 @@ sound_tei_assigned r (UnitData len) s q h = rw q h
 sound_tei_assigned r (Give message) s q h = rw q h
 
 sound_release_expired : (r : Reading) (n200 : ℕ) (s : Doing) → s.at.state ≡ AwaitingRelease → AreUnsent s.at.first s.at.next (length s.at.given) → SoundAfter r (release_expired n200 s)
-unfolding release_expired begin put state_to retries_to layer3_to release_pending_to start stop expired clear zero_counters peer_is_busy self_is_busy answer_poll enquire queue_up discard acknowledge go_back take_message lose_unacknowledged message_out guard put_pending cleared zeroed ack_pending_cleared received acknowledged acknowledged_count gone_back sent own_busy_to peer_busy_to
-sound_release_expired r n200 s q h = either r (s.at.retries == n200) _ _ (λ _. h) (λ _. rw q h)
+unfolding release_expired begin put state_to retries_to once_more layer3_to release_pending_to start stop expired clear zero_counters peer_is_busy self_is_busy answer_poll enquire queue_up discard acknowledge go_back take_message lose_unacknowledged message_out guard put_pending cleared zeroed ack_pending_cleared received acknowledged acknowledged_count gone_back sent own_busy_to peer_busy_to
+sound_release_expired r n200 s q h = either r (nat_lt s.at.retries n200) _ _ (λ _. rw q h) (λ _. h)
 
 sound_awaiting_release : (r : Reading) (n200 : ℕ) (h : Happening) (s : Doing) → s.at.state ≡ AwaitingRelease → AreUnsent s.at.first s.at.next (length s.at.given) → SoundAfter r (awaiting_release n200 h s)
-unfolding awaiting_release released begin put state_to retries_to layer3_to release_pending_to start stop expired clear zero_counters peer_is_busy self_is_busy answer_poll enquire queue_up discard acknowledge go_back take_message lose_unacknowledged message_out guard put_pending cleared zeroed ack_pending_cleared received acknowledged acknowledged_count gone_back sent own_busy_to peer_busy_to
-sound_awaiting_release r n200 (Hears Command (I ns nr p)) s q h = rw q h
-sound_awaiting_release r n200 (Hears Command (Rr nr pf)) s q h = rw q h
-sound_awaiting_release r n200 (Hears Command (Rnr nr pf)) s q h = rw q h
-sound_awaiting_release r n200 (Hears Command (Rej nr pf)) s q h = rw q h
-sound_awaiting_release r n200 (Hears Command (Sabme p)) s q h = rw q h
-sound_awaiting_release r n200 (Hears Command (Dm f)) s q h = rw q h
-sound_awaiting_release r n200 (Hears Command (Ui p)) s q h = rw q h
-sound_awaiting_release r n200 (Hears Command (Disc p)) s q h = rw q h
-sound_awaiting_release r n200 (Hears Command (Ua f)) s q h = rw q h
-sound_awaiting_release r n200 (Hears Command (Frmr f)) s q h = rw q h
-sound_awaiting_release r n200 (Hears Command (Xid pf)) s q h = rw q h
-sound_awaiting_release r n200 (Hears Answer (I ns nr p)) s q h = rw q h
-sound_awaiting_release r n200 (Hears Answer (Rr nr pf)) s q h = rw q h
-sound_awaiting_release r n200 (Hears Answer (Rnr nr pf)) s q h = rw q h
-sound_awaiting_release r n200 (Hears Answer (Rej nr pf)) s q h = rw q h
-sound_awaiting_release r n200 (Hears Answer (Sabme p)) s q h = rw q h
-sound_awaiting_release r n200 (Hears Answer (Dm true)) s q h = h
-sound_awaiting_release r n200 (Hears Answer (Dm false)) s q h = rw q h
-sound_awaiting_release r n200 (Hears Answer (Ui p)) s q h = rw q h
-sound_awaiting_release r n200 (Hears Answer (Disc p)) s q h = rw q h
-sound_awaiting_release r n200 (Hears Answer (Ua true)) s q h = h
-sound_awaiting_release r n200 (Hears Answer (Ua false)) s q h = rw q h
-sound_awaiting_release r n200 (Hears Answer (Frmr f)) s q h = rw q h
-sound_awaiting_release r n200 (Hears Answer (Xid pf)) s q h = rw q h
+unfolding awaiting_release released begin put state_to retries_to once_more layer3_to release_pending_to start stop expired clear zero_counters peer_is_busy self_is_busy answer_poll enquire queue_up discard acknowledge go_back take_message lose_unacknowledged message_out guard put_pending cleared zeroed ack_pending_cleared received acknowledged acknowledged_count gone_back sent own_busy_to peer_busy_to
+sound_awaiting_release r n200 (Hears (I ns nr p) Command) s q h = rw q h
+sound_awaiting_release r n200 (Hears (Rr nr pf) Command) s q h = rw q h
+sound_awaiting_release r n200 (Hears (Rnr nr pf) Command) s q h = rw q h
+sound_awaiting_release r n200 (Hears (Rej nr pf) Command) s q h = rw q h
+sound_awaiting_release r n200 (Hears (Sabme p) Command) s q h = rw q h
+sound_awaiting_release r n200 (Hears (Dm true) Command) s q h = rw q h
+sound_awaiting_release r n200 (Hears (Dm false) Command) s q h = rw q h
+sound_awaiting_release r n200 (Hears (Ui p) Command) s q h = rw q h
+sound_awaiting_release r n200 (Hears (Disc p) Command) s q h = rw q h
+sound_awaiting_release r n200 (Hears (Ua true) Command) s q h = rw q h
+sound_awaiting_release r n200 (Hears (Ua false) Command) s q h = rw q h
+sound_awaiting_release r n200 (Hears (Frmr f) Command) s q h = rw q h
+sound_awaiting_release r n200 (Hears (Xid pf) Command) s q h = rw q h
+sound_awaiting_release r n200 (Hears (I ns nr p) Answer) s q h = rw q h
+sound_awaiting_release r n200 (Hears (Rr nr pf) Answer) s q h = rw q h
+sound_awaiting_release r n200 (Hears (Rnr nr pf) Answer) s q h = rw q h
+sound_awaiting_release r n200 (Hears (Rej nr pf) Answer) s q h = rw q h
+sound_awaiting_release r n200 (Hears (Sabme p) Answer) s q h = rw q h
+sound_awaiting_release r n200 (Hears (Dm true) Answer) s q h = h
+sound_awaiting_release r n200 (Hears (Dm false) Answer) s q h = rw q h
+sound_awaiting_release r n200 (Hears (Ui p) Answer) s q h = rw q h
+sound_awaiting_release r n200 (Hears (Disc p) Answer) s q h = rw q h
+sound_awaiting_release r n200 (Hears (Ua true) Answer) s q h = h
+sound_awaiting_release r n200 (Hears (Ua false) Answer) s q h = rw q h
+sound_awaiting_release r n200 (Hears (Frmr f) Answer) s q h = rw q h
+sound_awaiting_release r n200 (Hears (Xid pf) Answer) s q h = rw q h
 sound_awaiting_release r n200 (Faulty kind) s q h = rw q h
 sound_awaiting_release r n200 (Expires T200) s q h = sound_release_expired r n200 s q h
 sound_awaiting_release r n200 (Expires T201) s q h = rw q h
@@ -169,7 +171,7 @@ abbrev NothingSent : Doing → Type 0
 NothingSent s = AreUnsent s.at.first s.at.next (length s.at.given)
 
 confirmed : (r : Reading) (s : Doing) → s.at.release_pending ≡ false → AreAwaiting r s.at.layer3 s.at.release_pending s.at.first s.at.next (length s.at.given) s.at.window.va s.at.window.vs → NothingSent (confirm s)
-unfolding confirm begin put state_to retries_to layer3_to release_pending_to start stop expired clear zero_counters peer_is_busy self_is_busy answer_poll enquire queue_up discard acknowledge go_back take_message lose_unacknowledged message_out guard put_pending cleared zeroed ack_pending_cleared received acknowledged acknowledged_count gone_back sent own_busy_to peer_busy_to
+unfolding confirm begin put state_to retries_to once_more layer3_to release_pending_to start stop expired clear zero_counters peer_is_busy self_is_busy answer_poll enquire queue_up discard acknowledge go_back take_message lose_unacknowledged message_out guard put_pending cleared zeroed ack_pending_cleared received acknowledged acknowledged_count gone_back sent own_busy_to peer_busy_to
 confirmed r s q h =
     let A : Bool → Bool → Type 0 = λ asked leaving. AreAwaiting r asked leaving s.at.first s.at.next (length s.at.given) s.at.window.va s.at.window.vs in
     by_test NothingSent s.at.layer3 _ _ (λ e. subst (λ b. A b s.at.release_pending) e h)
@@ -183,35 +185,37 @@ answered_awaiting r s h =
     (λ e. begun r (confirm s).at.first (confirm s).at.next (length (confirm s).at.given) (confirmed r s e h))
 
 expired_awaiting : (r : Reading) (n200 : ℕ) (s : Doing) → s.at.state ≡ AwaitingEstablishment → AreAwaiting r s.at.layer3 s.at.release_pending s.at.first s.at.next (length s.at.given) s.at.window.va s.at.window.vs → SoundAfter r (establishment_expired n200 s)
-unfolding establishment_expired give_up begin put state_to retries_to layer3_to release_pending_to start stop expired clear zero_counters peer_is_busy self_is_busy answer_poll enquire queue_up discard acknowledge go_back take_message lose_unacknowledged message_out guard put_pending cleared zeroed ack_pending_cleared received acknowledged acknowledged_count gone_back sent own_busy_to peer_busy_to
-expired_awaiting r n200 s q h = either r (s.at.retries == n200) _ _ (λ _. dropped (length s.at.given)) (λ _. rw q h)
+unfolding establishment_expired give_up begin put state_to retries_to once_more layer3_to release_pending_to start stop expired clear zero_counters peer_is_busy self_is_busy answer_poll enquire queue_up discard acknowledge go_back take_message lose_unacknowledged message_out guard put_pending cleared zeroed ack_pending_cleared received acknowledged acknowledged_count gone_back sent own_busy_to peer_busy_to
+expired_awaiting r n200 s q h = either r (nat_lt s.at.retries n200) _ _ (λ _. rw q h) (λ _. dropped (length s.at.given))
 
 sound_awaiting_establishment : (r : Reading) (n200 : ℕ) (h : Happening) (s : Doing) → s.at.state ≡ AwaitingEstablishment → AreAwaiting r s.at.layer3 s.at.release_pending s.at.first s.at.next (length s.at.given) s.at.window.va s.at.window.vs → SoundAfter r (awaiting_establishment n200 h s)
-unfolding awaiting_establishment give_up begin put state_to retries_to layer3_to release_pending_to start stop expired clear zero_counters peer_is_busy self_is_busy answer_poll enquire queue_up discard acknowledge go_back take_message lose_unacknowledged message_out guard put_pending cleared zeroed ack_pending_cleared received acknowledged acknowledged_count gone_back sent own_busy_to peer_busy_to
-sound_awaiting_establishment r n200 (Hears Command (I ns nr p)) s q h = rw q h
-sound_awaiting_establishment r n200 (Hears Command (Rr nr pf)) s q h = rw q h
-sound_awaiting_establishment r n200 (Hears Command (Rnr nr pf)) s q h = rw q h
-sound_awaiting_establishment r n200 (Hears Command (Rej nr pf)) s q h = rw q h
-sound_awaiting_establishment r n200 (Hears Command (Sabme p)) s q h = rw q h
-sound_awaiting_establishment r n200 (Hears Command (Dm f)) s q h = rw q h
-sound_awaiting_establishment r n200 (Hears Command (Ui p)) s q h = rw q h
-sound_awaiting_establishment r n200 (Hears Command (Disc p)) s q h = rw q h
-sound_awaiting_establishment r n200 (Hears Command (Ua f)) s q h = rw q h
-sound_awaiting_establishment r n200 (Hears Command (Frmr f)) s q h = rw q h
-sound_awaiting_establishment r n200 (Hears Command (Xid pf)) s q h = rw q h
-sound_awaiting_establishment r n200 (Hears Answer (I ns nr p)) s q h = rw q h
-sound_awaiting_establishment r n200 (Hears Answer (Rr nr pf)) s q h = rw q h
-sound_awaiting_establishment r n200 (Hears Answer (Rnr nr pf)) s q h = rw q h
-sound_awaiting_establishment r n200 (Hears Answer (Rej nr pf)) s q h = rw q h
-sound_awaiting_establishment r n200 (Hears Answer (Sabme p)) s q h = rw q h
-sound_awaiting_establishment r n200 (Hears Answer (Dm true)) s q h = dropped (length s.at.given)
-sound_awaiting_establishment r n200 (Hears Answer (Dm false)) s q h = rw q h
-sound_awaiting_establishment r n200 (Hears Answer (Ui p)) s q h = rw q h
-sound_awaiting_establishment r n200 (Hears Answer (Disc p)) s q h = rw q h
-sound_awaiting_establishment r n200 (Hears Answer (Ua true)) s q h = answered_awaiting r s h
-sound_awaiting_establishment r n200 (Hears Answer (Ua false)) s q h = rw q h
-sound_awaiting_establishment r n200 (Hears Answer (Frmr f)) s q h = rw q h
-sound_awaiting_establishment r n200 (Hears Answer (Xid pf)) s q h = rw q h
+unfolding awaiting_establishment give_up begin put state_to retries_to once_more layer3_to release_pending_to start stop expired clear zero_counters peer_is_busy self_is_busy answer_poll enquire queue_up discard acknowledge go_back take_message lose_unacknowledged message_out guard put_pending cleared zeroed ack_pending_cleared received acknowledged acknowledged_count gone_back sent own_busy_to peer_busy_to
+sound_awaiting_establishment r n200 (Hears (I ns nr p) Command) s q h = rw q h
+sound_awaiting_establishment r n200 (Hears (Rr nr pf) Command) s q h = rw q h
+sound_awaiting_establishment r n200 (Hears (Rnr nr pf) Command) s q h = rw q h
+sound_awaiting_establishment r n200 (Hears (Rej nr pf) Command) s q h = rw q h
+sound_awaiting_establishment r n200 (Hears (Sabme p) Command) s q h = rw q h
+sound_awaiting_establishment r n200 (Hears (Dm true) Command) s q h = rw q h
+sound_awaiting_establishment r n200 (Hears (Dm false) Command) s q h = rw q h
+sound_awaiting_establishment r n200 (Hears (Ui p) Command) s q h = rw q h
+sound_awaiting_establishment r n200 (Hears (Disc p) Command) s q h = rw q h
+sound_awaiting_establishment r n200 (Hears (Ua true) Command) s q h = rw q h
+sound_awaiting_establishment r n200 (Hears (Ua false) Command) s q h = rw q h
+sound_awaiting_establishment r n200 (Hears (Frmr f) Command) s q h = rw q h
+sound_awaiting_establishment r n200 (Hears (Xid pf) Command) s q h = rw q h
+sound_awaiting_establishment r n200 (Hears (I ns nr p) Answer) s q h = rw q h
+sound_awaiting_establishment r n200 (Hears (Rr nr pf) Answer) s q h = rw q h
+sound_awaiting_establishment r n200 (Hears (Rnr nr pf) Answer) s q h = rw q h
+sound_awaiting_establishment r n200 (Hears (Rej nr pf) Answer) s q h = rw q h
+sound_awaiting_establishment r n200 (Hears (Sabme p) Answer) s q h = rw q h
+sound_awaiting_establishment r n200 (Hears (Dm true) Answer) s q h = dropped (length s.at.given)
+sound_awaiting_establishment r n200 (Hears (Dm false) Answer) s q h = rw q h
+sound_awaiting_establishment r n200 (Hears (Ui p) Answer) s q h = rw q h
+sound_awaiting_establishment r n200 (Hears (Disc p) Answer) s q h = rw q h
+sound_awaiting_establishment r n200 (Hears (Ua true) Answer) s q h = answered_awaiting r s h
+sound_awaiting_establishment r n200 (Hears (Ua false) Answer) s q h = rw q h
+sound_awaiting_establishment r n200 (Hears (Frmr f) Answer) s q h = rw q h
+sound_awaiting_establishment r n200 (Hears (Xid pf) Answer) s q h = rw q h
 sound_awaiting_establishment r n200 (Faulty kind) s q h = rw q h
 sound_awaiting_establishment r n200 (Expires T200) s q h = expired_awaiting r n200 s q h
 sound_awaiting_establishment r n200 (Expires T201) s q h = rw q h
@@ -286,11 +290,15 @@ advanced r nr s valid o =
 
 advanced_by_message : (r : Reading) (nr : ℕ) (s : Doing) → is_valid r nr s.at.window ≡ true → Opened r s → Opened r (advance_by_message r nr s)
 unfolding advance_by_message
-advanced_by_message r nr s valid o = by_test (Opened r) (is_established s.at.state && not s.at.window.peer_busy) _ _ (λ _. advanced r nr s valid o) (λ _. acked r nr s valid o)
+advanced_by_message r nr s valid o = by_test (Opened r) s.at.window.peer_busy _ _ (λ _. acked r nr s valid o) (λ _. advanced r nr s valid o)
 
 message_numbered : (r : Reading) (nr : ℕ) (s : Doing) → Opened r s → SoundAfter r (message_number r nr s)
 unfolding message_number
 message_numbered r nr s o = either r (is_valid r nr s.at.window) (advance_by_message r nr s) (number_wrong s) (λ valid. opened r (advance_by_message r nr s) (advanced_by_message r nr s valid o)) (λ _. wrong r s o)
+
+message_recovering : (r : Reading) (nr : ℕ) (s : Doing) → Opened r s → SoundAfter r (message_number_in_recovery r nr s)
+unfolding message_number_in_recovery
+message_recovering r nr s o = either r (is_valid r nr s.at.window) (acknowledge r nr s) (number_wrong s) (λ valid. opened r (acknowledge r nr s) (acked r nr s valid o)) (λ _. wrong r s o)
 
 ready_numbered : (r : Reading) (nr : ℕ) (s : Doing) → Opened r s → SoundAfter r (ready_number r nr s)
 unfolding ready_number
@@ -317,9 +325,16 @@ not_ready_recovering r final nr s o = either r (is_valid r nr s.at.window) _ _
 polled : (r : Reading) (role : Role) (pf : Bool) (s : Doing) → Opened r s → Opened r (poll_or_final role pf s)
 unfolding poll_or_final answer_poll ack_pending_cleared put
 polled r Command true s o = o
-polled r Answer true s o = by_test (Opened r) (is_established s.at.state) _ _ (λ _. o) (λ _. o)
+polled r Answer true s o = o
 polled r Command false s o = o
 polled r Answer false s o = o
+
+polled_in_recovery : (r : Reading) (role : Role) (pf : Bool) (s : Doing) → Opened r s → Opened r (poll role pf s)
+unfolding poll answer_poll ack_pending_cleared
+polled_in_recovery r Command true s o = o
+polled_in_recovery r Answer true s o = o
+polled_in_recovery r Command false s o = o
+polled_in_recovery r Answer false s o = o
 
 busy_told : (r : Reading) (s : Doing) → Opened r s → SoundAfter r (busy_on s)
 unfolding busy_on self_is_busy own_busy_to
@@ -329,31 +344,32 @@ free_told : (r : Reading) (s : Doing) → Opened r s → SoundAfter r (busy_off 
 unfolding busy_off self_is_busy own_busy_to
 free_told r s o = either r s.at.window.own_busy _ _ (λ _. opened r (self_is_busy false s) o) (λ _. opened r s o)
 
-sound_in_both : (r : Reading) (h : Happening) (s : Doing) → is_open s.at.state ≡ true → AreOutstanding r s.at.first s.at.next (length s.at.given) s.at.window.va s.at.window.vs → SoundAfter r (in_both r h s)
-unfolding in_both establish begin put state_to retries_to layer3_to release_pending_to start stop expired clear zero_counters peer_is_busy self_is_busy answer_poll enquire queue_up discard acknowledge go_back take_message lose_unacknowledged message_out guard put_pending cleared zeroed ack_pending_cleared received acknowledged acknowledged_count gone_back sent own_busy_to peer_busy_to
-sound_in_both r (Hears Command (I ns nr p)) s q h = message_numbered r nr (take_message r ns p s) (q, h)
-sound_in_both r (Hears Command (Rr nr pf)) s q h = opened_in r s.at.state _ q h
-sound_in_both r (Hears Command (Rnr nr pf)) s q h = opened_in r s.at.state _ q h
-sound_in_both r (Hears Command (Rej nr pf)) s q h = opened_in r s.at.state _ q h
-sound_in_both r (Hears Command (Sabme p)) s q h = begun r _ _ _ (lost r s.at.first s.at.next (length s.at.given) s.at.window.va s.at.window.vs _ refl h)
-sound_in_both r (Hears Command (Dm f)) s q h = opened_in r s.at.state _ q h
-sound_in_both r (Hears Command (Ui p)) s q h = opened_in r s.at.state _ q h
-sound_in_both r (Hears Command (Disc p)) s q h = dropped (length s.at.given)
-sound_in_both r (Hears Command (Ua f)) s q h = opened_in r s.at.state _ q h
-sound_in_both r (Hears Command (Frmr f)) s q h = opened_in r s.at.state _ q h
-sound_in_both r (Hears Command (Xid pf)) s q h = opened_in r s.at.state _ q h
-sound_in_both r (Hears Answer (I ns nr p)) s q h = opened_in r s.at.state _ q h
-sound_in_both r (Hears Answer (Rr nr pf)) s q h = opened_in r s.at.state _ q h
-sound_in_both r (Hears Answer (Rnr nr pf)) s q h = opened_in r s.at.state _ q h
-sound_in_both r (Hears Answer (Rej nr pf)) s q h = opened_in r s.at.state _ q h
-sound_in_both r (Hears Answer (Sabme p)) s q h = opened_in r s.at.state _ q h
-sound_in_both r (Hears Answer (Dm true)) s q h = opened_in r s.at.state _ q h
-sound_in_both r (Hears Answer (Dm false)) s q h = again r (s ▷ put (Report letter.E)) (q, h)
-sound_in_both r (Hears Answer (Ui p)) s q h = opened_in r s.at.state _ q h
-sound_in_both r (Hears Answer (Disc p)) s q h = opened_in r s.at.state _ q h
-sound_in_both r (Hears Answer (Ua f)) s q h = opened_in r s.at.state _ q h
-sound_in_both r (Hears Answer (Frmr f)) s q h = again r (s ▷ put (Report letter.K)) (q, h)
-sound_in_both r (Hears Answer (Xid pf)) s q h = opened_in r s.at.state _ q h
+sound_in_both : (r : Reading) (h : Happening) (s : Doing) → is_open s.at.state ≡ true → AreOutstanding r s.at.first s.at.next (length s.at.given) s.at.window.va s.at.window.vs → SoundAfter r (in_both h s)
+unfolding in_both establish begin put state_to retries_to once_more layer3_to release_pending_to start stop expired clear zero_counters peer_is_busy self_is_busy answer_poll enquire queue_up discard acknowledge go_back take_message lose_unacknowledged message_out guard put_pending cleared zeroed ack_pending_cleared received acknowledged acknowledged_count gone_back sent own_busy_to peer_busy_to
+sound_in_both r (Hears (I ns nr p) Command) s q h = opened_in r s.at.state _ q h
+sound_in_both r (Hears (Rr nr pf) Command) s q h = opened_in r s.at.state _ q h
+sound_in_both r (Hears (Rnr nr pf) Command) s q h = opened_in r s.at.state _ q h
+sound_in_both r (Hears (Rej nr pf) Command) s q h = opened_in r s.at.state _ q h
+sound_in_both r (Hears (Sabme p) Command) s q h = begun r _ _ _ (lost r s.at.first s.at.next (length s.at.given) s.at.window.va s.at.window.vs _ refl h)
+sound_in_both r (Hears (Dm true) Command) s q h = opened_in r s.at.state _ q h
+sound_in_both r (Hears (Dm false) Command) s q h = opened_in r s.at.state _ q h
+sound_in_both r (Hears (Ui p) Command) s q h = opened_in r s.at.state _ q h
+sound_in_both r (Hears (Disc p) Command) s q h = dropped (length s.at.given)
+sound_in_both r (Hears (Ua f) Command) s q h = opened_in r s.at.state _ q h
+sound_in_both r (Hears (Frmr f) Command) s q h = opened_in r s.at.state _ q h
+sound_in_both r (Hears (Xid pf) Command) s q h = opened_in r s.at.state _ q h
+sound_in_both r (Hears (I ns nr p) Answer) s q h = opened_in r s.at.state _ q h
+sound_in_both r (Hears (Rr nr pf) Answer) s q h = opened_in r s.at.state _ q h
+sound_in_both r (Hears (Rnr nr pf) Answer) s q h = opened_in r s.at.state _ q h
+sound_in_both r (Hears (Rej nr pf) Answer) s q h = opened_in r s.at.state _ q h
+sound_in_both r (Hears (Sabme p) Answer) s q h = opened_in r s.at.state _ q h
+sound_in_both r (Hears (Dm true) Answer) s q h = opened_in r s.at.state _ q h
+sound_in_both r (Hears (Dm false) Answer) s q h = again r (s ▷ put (Report letter.E)) (q, h)
+sound_in_both r (Hears (Ui p) Answer) s q h = opened_in r s.at.state _ q h
+sound_in_both r (Hears (Disc p) Answer) s q h = opened_in r s.at.state _ q h
+sound_in_both r (Hears (Ua f) Answer) s q h = opened_in r s.at.state _ q h
+sound_in_both r (Hears (Frmr f) Answer) s q h = again r (s ▷ put (Report letter.K)) (q, h)
+sound_in_both r (Hears (Xid pf) Answer) s q h = opened_in r s.at.state _ q h
 sound_in_both r (Faulty kind) s q h = opened_in r s.at.state _ q h
 sound_in_both r (Expires T200) s q h = opened_in r s.at.state _ q h
 sound_in_both r (Expires T201) s q h = opened_in r s.at.state _ q h
@@ -367,39 +383,40 @@ sound_in_both r (UnitData len) s q h = opened_in r s.at.state _ q h
 sound_in_both r (Give message) s q h = opened_in r s.at.state _ q (given_outstanding r s.at.first s.at.next s.at.given message s.at.window.va s.at.window.vs h)
 
 established_expired : (r : Reading) (s : Doing) → AreOutstanding r s.at.first s.at.next (length s.at.given) s.at.window.va s.at.window.vs → SoundAfter r (established r (Expires T200) s) × SoundAfter r (established r (Expires T203) s)
-unfolding established begin put state_to retries_to layer3_to release_pending_to start stop expired clear zero_counters peer_is_busy self_is_busy answer_poll enquire queue_up discard acknowledge go_back take_message lose_unacknowledged message_out guard put_pending cleared zeroed ack_pending_cleared received acknowledged acknowledged_count gone_back sent own_busy_to peer_busy_to
+unfolding established begin put state_to retries_to once_more layer3_to release_pending_to start stop expired clear zero_counters peer_is_busy self_is_busy answer_poll enquire queue_up discard acknowledge go_back take_message lose_unacknowledged message_out guard put_pending cleared zeroed ack_pending_cleared received acknowledged acknowledged_count gone_back sent own_busy_to peer_busy_to
 established_expired r s h = (h, h)
 
 recovery_expiring : (r : Reading) (n200 : ℕ) (s : Doing) → Opened r s → SoundAfter r (recovery_expired n200 s)
-unfolding recovery_expired expired enquire ack_pending_cleared retries_to put
-recovery_expiring r n200 s o = either r (s.at.retries == n200) (s ▷ expired T200 ▷ put (Report letter.I) ▷ establish_again) (s ▷ expired T200 ▷ enquire ▷ retries_to (s.at.retries + 1))
-    (λ _. again r (s ▷ expired T200 ▷ put (Report letter.I)) o) (λ _. opened r (s ▷ expired T200 ▷ enquire ▷ retries_to (s.at.retries + 1)) o)
+unfolding recovery_expired expired enquire ack_pending_cleared once_more put
+recovery_expiring r n200 s o = either r (nat_lt s.at.retries n200) (s ▷ once_more ▷ expired T200 ▷ enquire) (s ▷ expired T200 ▷ put (Report letter.I) ▷ establish_again)
+    (λ _. opened r (s ▷ once_more ▷ expired T200 ▷ enquire) o) (λ _. again r (s ▷ expired T200 ▷ put (Report letter.I)) o)
 
 sound_established : (r : Reading) (h : Happening) (s : Doing) → Opened r s → SoundAfter r (established r h s)
-unfolding established put peer_is_busy peer_busy_to
-sound_established r (Hears Command (I ns nr p)) s o = sound_in_both r (Hears Command (I ns nr p)) s o.0 o.1
-sound_established r (Hears Command (Rr nr pf)) s o = ready_numbered r nr (poll_or_final Command pf (peer_is_busy false s)) (polled r Command pf (peer_is_busy false s) o)
-sound_established r (Hears Command (Rnr nr pf)) s o = not_ready_numbered r nr (poll_or_final Command pf (peer_is_busy true s)) (polled r Command pf (peer_is_busy true s) o)
-sound_established r (Hears Command (Rej nr pf)) s o = reject_numbered r nr (poll_or_final Command pf (peer_is_busy false s)) (polled r Command pf (peer_is_busy false s) o)
-sound_established r (Hears Command (Sabme p)) s o = sound_in_both r (Hears Command (Sabme p)) s o.0 o.1
-sound_established r (Hears Command (Dm f)) s o = sound_in_both r (Hears Command (Dm f)) s o.0 o.1
-sound_established r (Hears Command (Ui p)) s o = sound_in_both r (Hears Command (Ui p)) s o.0 o.1
-sound_established r (Hears Command (Disc p)) s o = sound_in_both r (Hears Command (Disc p)) s o.0 o.1
-sound_established r (Hears Command (Ua f)) s o = sound_in_both r (Hears Command (Ua f)) s o.0 o.1
-sound_established r (Hears Command (Frmr f)) s o = sound_in_both r (Hears Command (Frmr f)) s o.0 o.1
-sound_established r (Hears Command (Xid pf)) s o = sound_in_both r (Hears Command (Xid pf)) s o.0 o.1
-sound_established r (Hears Answer (I ns nr p)) s o = sound_in_both r (Hears Answer (I ns nr p)) s o.0 o.1
-sound_established r (Hears Answer (Rr nr pf)) s o = ready_numbered r nr (poll_or_final Answer pf (peer_is_busy false s)) (polled r Answer pf (peer_is_busy false s) o)
-sound_established r (Hears Answer (Rnr nr pf)) s o = not_ready_numbered r nr (poll_or_final Answer pf (peer_is_busy true s)) (polled r Answer pf (peer_is_busy true s) o)
-sound_established r (Hears Answer (Rej nr pf)) s o = reject_numbered r nr (poll_or_final Answer pf (peer_is_busy false s)) (polled r Answer pf (peer_is_busy false s) o)
-sound_established r (Hears Answer (Sabme p)) s o = sound_in_both r (Hears Answer (Sabme p)) s o.0 o.1
-sound_established r (Hears Answer (Dm true)) s o = opened r (put (Report letter.B) s) o
-sound_established r (Hears Answer (Dm false)) s o = sound_in_both r (Hears Answer (Dm false)) s o.0 o.1
-sound_established r (Hears Answer (Ui p)) s o = sound_in_both r (Hears Answer (Ui p)) s o.0 o.1
-sound_established r (Hears Answer (Disc p)) s o = sound_in_both r (Hears Answer (Disc p)) s o.0 o.1
-sound_established r (Hears Answer (Ua f)) s o = sound_in_both r (Hears Answer (Ua f)) s o.0 o.1
-sound_established r (Hears Answer (Frmr f)) s o = sound_in_both r (Hears Answer (Frmr f)) s o.0 o.1
-sound_established r (Hears Answer (Xid pf)) s o = sound_in_both r (Hears Answer (Xid pf)) s o.0 o.1
+unfolding established put peer_is_busy peer_busy_to take_message received
+sound_established r (Hears (I ns nr p) Command) s o = message_numbered r nr (take_message r ns p s) o
+sound_established r (Hears (Rr nr pf) Command) s o = ready_numbered r nr (poll_or_final Command pf (peer_is_busy false s)) (polled r Command pf (peer_is_busy false s) o)
+sound_established r (Hears (Rnr nr pf) Command) s o = not_ready_numbered r nr (poll_or_final Command pf (peer_is_busy true s)) (polled r Command pf (peer_is_busy true s) o)
+sound_established r (Hears (Rej nr pf) Command) s o = reject_numbered r nr (poll_or_final Command pf (peer_is_busy false s)) (polled r Command pf (peer_is_busy false s) o)
+sound_established r (Hears (Sabme p) Command) s o = sound_in_both r (Hears (Sabme p) Command) s o.0 o.1
+sound_established r (Hears (Dm true) Command) s o = sound_in_both r (Hears (Dm true) Command) s o.0 o.1
+sound_established r (Hears (Dm false) Command) s o = sound_in_both r (Hears (Dm false) Command) s o.0 o.1
+sound_established r (Hears (Ui p) Command) s o = sound_in_both r (Hears (Ui p) Command) s o.0 o.1
+sound_established r (Hears (Disc p) Command) s o = sound_in_both r (Hears (Disc p) Command) s o.0 o.1
+sound_established r (Hears (Ua f) Command) s o = sound_in_both r (Hears (Ua f) Command) s o.0 o.1
+sound_established r (Hears (Frmr f) Command) s o = sound_in_both r (Hears (Frmr f) Command) s o.0 o.1
+sound_established r (Hears (Xid pf) Command) s o = sound_in_both r (Hears (Xid pf) Command) s o.0 o.1
+sound_established r (Hears (I ns nr p) Answer) s o = sound_in_both r (Hears (I ns nr p) Answer) s o.0 o.1
+sound_established r (Hears (Rr nr pf) Answer) s o = ready_numbered r nr (poll_or_final Answer pf (peer_is_busy false s)) (polled r Answer pf (peer_is_busy false s) o)
+sound_established r (Hears (Rnr nr pf) Answer) s o = not_ready_numbered r nr (poll_or_final Answer pf (peer_is_busy true s)) (polled r Answer pf (peer_is_busy true s) o)
+sound_established r (Hears (Rej nr pf) Answer) s o = reject_numbered r nr (poll_or_final Answer pf (peer_is_busy false s)) (polled r Answer pf (peer_is_busy false s) o)
+sound_established r (Hears (Sabme p) Answer) s o = sound_in_both r (Hears (Sabme p) Answer) s o.0 o.1
+sound_established r (Hears (Dm true) Answer) s o = opened r (put (Report letter.B) s) o
+sound_established r (Hears (Dm false) Answer) s o = sound_in_both r (Hears (Dm false) Answer) s o.0 o.1
+sound_established r (Hears (Ui p) Answer) s o = sound_in_both r (Hears (Ui p) Answer) s o.0 o.1
+sound_established r (Hears (Disc p) Answer) s o = sound_in_both r (Hears (Disc p) Answer) s o.0 o.1
+sound_established r (Hears (Ua f) Answer) s o = sound_in_both r (Hears (Ua f) Answer) s o.0 o.1
+sound_established r (Hears (Frmr f) Answer) s o = sound_in_both r (Hears (Frmr f) Answer) s o.0 o.1
+sound_established r (Hears (Xid pf) Answer) s o = sound_in_both r (Hears (Xid pf) Answer) s o.0 o.1
 sound_established r (Faulty kind) s o = sound_in_both r (Faulty kind) s o.0 o.1
 sound_established r (Expires T200) s o = (established_expired r s o.1).0
 sound_established r (Expires T201) s o = sound_in_both r (Expires T201) s o.0 o.1
@@ -413,30 +430,31 @@ sound_established r (UnitData len) s o = sound_in_both r (UnitData len) s o.0 o.
 sound_established r (Give message) s o = sound_in_both r (Give message) s o.0 o.1
 
 sound_timer_recovery : (r : Reading) (n200 : ℕ) (h : Happening) (s : Doing) → Opened r s → SoundAfter r (timer_recovery r n200 h s)
-unfolding timer_recovery put peer_is_busy peer_busy_to
-sound_timer_recovery r n200 (Hears Command (I ns nr p)) s o = sound_in_both r (Hears Command (I ns nr p)) s o.0 o.1
-sound_timer_recovery r n200 (Hears Command (Rr nr pf)) s o = ready_recovering r (is_final Command pf) nr (poll_or_final Command pf (peer_is_busy false s)) (polled r Command pf (peer_is_busy false s) o)
-sound_timer_recovery r n200 (Hears Command (Rnr nr pf)) s o = not_ready_recovering r (is_final Command pf) nr (poll_or_final Command pf (peer_is_busy true s)) (polled r Command pf (peer_is_busy true s) o)
-sound_timer_recovery r n200 (Hears Command (Rej nr pf)) s o = ready_recovering r (is_final Command pf) nr (poll_or_final Command pf (peer_is_busy false s)) (polled r Command pf (peer_is_busy false s) o)
-sound_timer_recovery r n200 (Hears Command (Sabme p)) s o = sound_in_both r (Hears Command (Sabme p)) s o.0 o.1
-sound_timer_recovery r n200 (Hears Command (Dm f)) s o = sound_in_both r (Hears Command (Dm f)) s o.0 o.1
-sound_timer_recovery r n200 (Hears Command (Ui p)) s o = sound_in_both r (Hears Command (Ui p)) s o.0 o.1
-sound_timer_recovery r n200 (Hears Command (Disc p)) s o = sound_in_both r (Hears Command (Disc p)) s o.0 o.1
-sound_timer_recovery r n200 (Hears Command (Ua f)) s o = sound_in_both r (Hears Command (Ua f)) s o.0 o.1
-sound_timer_recovery r n200 (Hears Command (Frmr f)) s o = sound_in_both r (Hears Command (Frmr f)) s o.0 o.1
-sound_timer_recovery r n200 (Hears Command (Xid pf)) s o = sound_in_both r (Hears Command (Xid pf)) s o.0 o.1
-sound_timer_recovery r n200 (Hears Answer (I ns nr p)) s o = sound_in_both r (Hears Answer (I ns nr p)) s o.0 o.1
-sound_timer_recovery r n200 (Hears Answer (Rr nr pf)) s o = ready_recovering r (is_final Answer pf) nr (poll_or_final Answer pf (peer_is_busy false s)) (polled r Answer pf (peer_is_busy false s) o)
-sound_timer_recovery r n200 (Hears Answer (Rnr nr pf)) s o = not_ready_recovering r (is_final Answer pf) nr (poll_or_final Answer pf (peer_is_busy true s)) (polled r Answer pf (peer_is_busy true s) o)
-sound_timer_recovery r n200 (Hears Answer (Rej nr pf)) s o = ready_recovering r (is_final Answer pf) nr (poll_or_final Answer pf (peer_is_busy false s)) (polled r Answer pf (peer_is_busy false s) o)
-sound_timer_recovery r n200 (Hears Answer (Sabme p)) s o = sound_in_both r (Hears Answer (Sabme p)) s o.0 o.1
-sound_timer_recovery r n200 (Hears Answer (Dm true)) s o = again r (put (Report letter.B) s) o
-sound_timer_recovery r n200 (Hears Answer (Dm false)) s o = sound_in_both r (Hears Answer (Dm false)) s o.0 o.1
-sound_timer_recovery r n200 (Hears Answer (Ui p)) s o = sound_in_both r (Hears Answer (Ui p)) s o.0 o.1
-sound_timer_recovery r n200 (Hears Answer (Disc p)) s o = sound_in_both r (Hears Answer (Disc p)) s o.0 o.1
-sound_timer_recovery r n200 (Hears Answer (Ua f)) s o = sound_in_both r (Hears Answer (Ua f)) s o.0 o.1
-sound_timer_recovery r n200 (Hears Answer (Frmr f)) s o = sound_in_both r (Hears Answer (Frmr f)) s o.0 o.1
-sound_timer_recovery r n200 (Hears Answer (Xid pf)) s o = sound_in_both r (Hears Answer (Xid pf)) s o.0 o.1
+unfolding timer_recovery put peer_is_busy peer_busy_to take_message received
+sound_timer_recovery r n200 (Hears (I ns nr p) Command) s o = message_recovering r nr (take_message r ns p s) o
+sound_timer_recovery r n200 (Hears (Rr nr pf) Command) s o = ready_recovering r (is_final Command pf) nr (poll Command pf (peer_is_busy false s)) (polled_in_recovery r Command pf (peer_is_busy false s) o)
+sound_timer_recovery r n200 (Hears (Rnr nr pf) Command) s o = not_ready_recovering r (is_final Command pf) nr (poll Command pf (peer_is_busy true s)) (polled_in_recovery r Command pf (peer_is_busy true s) o)
+sound_timer_recovery r n200 (Hears (Rej nr pf) Command) s o = ready_recovering r (is_final Command pf) nr (poll Command pf (peer_is_busy false s)) (polled_in_recovery r Command pf (peer_is_busy false s) o)
+sound_timer_recovery r n200 (Hears (Sabme p) Command) s o = sound_in_both r (Hears (Sabme p) Command) s o.0 o.1
+sound_timer_recovery r n200 (Hears (Dm true) Command) s o = sound_in_both r (Hears (Dm true) Command) s o.0 o.1
+sound_timer_recovery r n200 (Hears (Dm false) Command) s o = sound_in_both r (Hears (Dm false) Command) s o.0 o.1
+sound_timer_recovery r n200 (Hears (Ui p) Command) s o = sound_in_both r (Hears (Ui p) Command) s o.0 o.1
+sound_timer_recovery r n200 (Hears (Disc p) Command) s o = sound_in_both r (Hears (Disc p) Command) s o.0 o.1
+sound_timer_recovery r n200 (Hears (Ua f) Command) s o = sound_in_both r (Hears (Ua f) Command) s o.0 o.1
+sound_timer_recovery r n200 (Hears (Frmr f) Command) s o = sound_in_both r (Hears (Frmr f) Command) s o.0 o.1
+sound_timer_recovery r n200 (Hears (Xid pf) Command) s o = sound_in_both r (Hears (Xid pf) Command) s o.0 o.1
+sound_timer_recovery r n200 (Hears (I ns nr p) Answer) s o = sound_in_both r (Hears (I ns nr p) Answer) s o.0 o.1
+sound_timer_recovery r n200 (Hears (Rr nr pf) Answer) s o = ready_recovering r (is_final Answer pf) nr (poll Answer pf (peer_is_busy false s)) (polled_in_recovery r Answer pf (peer_is_busy false s) o)
+sound_timer_recovery r n200 (Hears (Rnr nr pf) Answer) s o = not_ready_recovering r (is_final Answer pf) nr (poll Answer pf (peer_is_busy true s)) (polled_in_recovery r Answer pf (peer_is_busy true s) o)
+sound_timer_recovery r n200 (Hears (Rej nr pf) Answer) s o = ready_recovering r (is_final Answer pf) nr (poll Answer pf (peer_is_busy false s)) (polled_in_recovery r Answer pf (peer_is_busy false s) o)
+sound_timer_recovery r n200 (Hears (Sabme p) Answer) s o = sound_in_both r (Hears (Sabme p) Answer) s o.0 o.1
+sound_timer_recovery r n200 (Hears (Dm true) Answer) s o = again r (put (Report letter.B) s) o
+sound_timer_recovery r n200 (Hears (Dm false) Answer) s o = sound_in_both r (Hears (Dm false) Answer) s o.0 o.1
+sound_timer_recovery r n200 (Hears (Ui p) Answer) s o = sound_in_both r (Hears (Ui p) Answer) s o.0 o.1
+sound_timer_recovery r n200 (Hears (Disc p) Answer) s o = sound_in_both r (Hears (Disc p) Answer) s o.0 o.1
+sound_timer_recovery r n200 (Hears (Ua f) Answer) s o = sound_in_both r (Hears (Ua f) Answer) s o.0 o.1
+sound_timer_recovery r n200 (Hears (Frmr f) Answer) s o = sound_in_both r (Hears (Frmr f) Answer) s o.0 o.1
+sound_timer_recovery r n200 (Hears (Xid pf) Answer) s o = sound_in_both r (Hears (Xid pf) Answer) s o.0 o.1
 sound_timer_recovery r n200 (Faulty kind) s o = sound_in_both r (Faulty kind) s o.0 o.1
 sound_timer_recovery r n200 (Expires T200) s o = recovery_expiring r n200 s o
 sound_timer_recovery r n200 (Expires T201) s o = sound_in_both r (Expires T201) s o.0 o.1
@@ -472,28 +490,7 @@ in_state r state s q sound = let F : State → Type 0 = λ st. IsSoundIn r st s.
 
 sound_row : (r : Reading) (n200 : ℕ) (state : State) (h : Happening) (s : Doing) → s.at.state ≡ state → IsSoundIn r state s.at → SoundAfter r (row r n200 state h s)
 unfolding row put
-sound_row r n200 state (Hears Command (I ns nr p)) s q sound = sound_by_state r n200 state (Hears Command (I ns nr p)) s q sound
-sound_row r n200 state (Hears Command (Rr nr pf)) s q sound = sound_by_state r n200 state (Hears Command (Rr nr pf)) s q sound
-sound_row r n200 state (Hears Command (Rnr nr pf)) s q sound = sound_by_state r n200 state (Hears Command (Rnr nr pf)) s q sound
-sound_row r n200 state (Hears Command (Rej nr pf)) s q sound = sound_by_state r n200 state (Hears Command (Rej nr pf)) s q sound
-sound_row r n200 state (Hears Command (Sabme p)) s q sound = sound_by_state r n200 state (Hears Command (Sabme p)) s q sound
-sound_row r n200 state (Hears Command (Dm f)) s q sound = sound_by_state r n200 state (Hears Command (Dm f)) s q sound
-sound_row r n200 state (Hears Command (Ui p)) s q sound = in_state r state s q sound
-sound_row r n200 state (Hears Command (Disc p)) s q sound = sound_by_state r n200 state (Hears Command (Disc p)) s q sound
-sound_row r n200 state (Hears Command (Ua f)) s q sound = sound_by_state r n200 state (Hears Command (Ua f)) s q sound
-sound_row r n200 state (Hears Command (Frmr f)) s q sound = sound_by_state r n200 state (Hears Command (Frmr f)) s q sound
-sound_row r n200 state (Hears Command (Xid pf)) s q sound = sound_by_state r n200 state (Hears Command (Xid pf)) s q sound
-sound_row r n200 state (Hears Answer (I ns nr p)) s q sound = sound_by_state r n200 state (Hears Answer (I ns nr p)) s q sound
-sound_row r n200 state (Hears Answer (Rr nr pf)) s q sound = sound_by_state r n200 state (Hears Answer (Rr nr pf)) s q sound
-sound_row r n200 state (Hears Answer (Rnr nr pf)) s q sound = sound_by_state r n200 state (Hears Answer (Rnr nr pf)) s q sound
-sound_row r n200 state (Hears Answer (Rej nr pf)) s q sound = sound_by_state r n200 state (Hears Answer (Rej nr pf)) s q sound
-sound_row r n200 state (Hears Answer (Sabme p)) s q sound = sound_by_state r n200 state (Hears Answer (Sabme p)) s q sound
-sound_row r n200 state (Hears Answer (Dm f)) s q sound = sound_by_state r n200 state (Hears Answer (Dm f)) s q sound
-sound_row r n200 state (Hears Answer (Ui p)) s q sound = sound_by_state r n200 state (Hears Answer (Ui p)) s q sound
-sound_row r n200 state (Hears Answer (Disc p)) s q sound = sound_by_state r n200 state (Hears Answer (Disc p)) s q sound
-sound_row r n200 state (Hears Answer (Ua f)) s q sound = sound_by_state r n200 state (Hears Answer (Ua f)) s q sound
-sound_row r n200 state (Hears Answer (Frmr f)) s q sound = sound_by_state r n200 state (Hears Answer (Frmr f)) s q sound
-sound_row r n200 state (Hears Answer (Xid pf)) s q sound = sound_by_state r n200 state (Hears Answer (Xid pf)) s q sound
+sound_row r n200 state (Hears control role) s q sound = either r (is_unit_data control role) (s ▷ put UnitUp) (s ▷ by_state r n200 state (Hears control role)) (λ _. in_state r state s q sound) (λ _. sound_by_state r n200 state (Hears control role) s q sound)
 sound_row r n200 state (Faulty kind) s q sound = fault_sound r state kind s q sound
 sound_row r n200 state (Expires T200) s q sound = either r (runs T200 s.at) (by_state r n200 state (Expires T200) s) s (λ _. sound_by_state r n200 state (Expires T200) s q sound) (λ _. in_state r state s q sound)
 sound_row r n200 state (Expires T201) s q sound = either r (runs T201 s.at) (by_state r n200 state (Expires T201) s) s (λ _. sound_by_state r n200 state (Expires T201) s q sound) (λ _. in_state r state s q sound)
@@ -514,13 +511,6 @@ established_is AwaitingEstablishment h = cc
 established_is AwaitingRelease h = cc
 established_is MultipleFrameEstablished h = refl
 established_is TimerRecovery h = cc
-
-both_true : (a b : Bool) → (a && b) ≡ true → (a ≡ true) × (b ≡ true)
-both_true true b h = (refl, h)
-both_true false b h = cc
-
-below : (a b : ℕ) → nat_lt a b ≡ true → a < b
-below a b h = grind (arith, nat_tests)
 
 sound_send_next : (r : Reading) (k : ℕ) (s : Doing) → k ≤ 127 → goes_on r k s ≡ true → SoundAfter r s → SoundAfter r (send_next r s)
 unfolding message_out guard
@@ -575,7 +565,7 @@ pub sound_step : (r : Reading) (p : Numbers) (h : Happening) (e : End) (s : Doin
 unfolding step begin
 sound_step r p h e s small sound done =
     let F : Doing → Type 0 = λ d. SoundAfter r d in
-    subst F (taken (refused p h e) _ s done) (sound_close r p.k (row r p.n200 e.state h (begin e)) small (sound_row r p.n200 e.state h (begin e) refl sound))
+    subst F (taken (refused h e) _ s done) (sound_close r p.k (row r p.n200 e.state h (begin e)) small (sound_row r p.n200 e.state h (begin e) refl sound))
 
-pub sound_new : (r : Reading) → IsSound r new_end
-sound_new r = record { places = refl; within = omega arith }
+pub sound_new : (r : Reading) (room : ℕ) → IsSound r (new_end room)
+sound_new r room = record { places = refl; within = omega arith }

@@ -4,7 +4,7 @@ use Rattle.std.proofs.lemmas.List.{length-drop, length-append, drop-append-le, d
 use Rattle.std.proofs.Math.Seq.{drop-length}
 use Rattle.std.proofs.lemmas.Bool.Decides.{nat_tests}
 use Rattle.lapd_link.specs.declared.out.Out.{Out}
-use Rattle.lapd_link.specs.FullWords.{counted}
+use Rattle.lapd_link.specs.Words.{counted}
 use Rattle.lapd_queue.specs.Waiting.{Waiting, with_message, one_more_sent, without_first, all_unsent, emptied}
 use Rattle.lapd_link.specs.Tail.{IsTail}
 
@@ -54,3 +54,12 @@ counted_above n out h = let test : nat_lt 0 n ≡ true = grind (arith, nat_tests
 
 pub counted_none : (n : ℕ) (out : ℕ → Out) → n ≤ 0 → counted n out ≡ []
 counted_none n out h = let test : nat_lt 0 n ≡ false = grind (arith, nat_tests) in rw test refl
+
+-- the queue has as much room as before
+pub room_sent : (room : ℕ) (q : Waiting) → room ≡ q.room → room ≡ (one_more_sent q).room
+unfolding one_more_sent
+room_sent room q h = h
+
+pub room_gone_back : (room : ℕ) (q : Waiting) → room ≡ q.room → room ≡ (all_unsent q).room
+unfolding all_unsent
+room_gone_back room q h = h

@@ -12,9 +12,9 @@ use Rattle.lapd_link.specs.declared.out.Out.TheVariants as out
 use Rattle.lapd_link.specs.declared.event.LinkFault.{LinkFault}
 use Rattle.lapd_link.specs.declared.event.LinkFault.TheVariants as refusal
 use Rattle.lapd_link.specs.Numbers.{Numbers}
-use Rattle.lapd_link.specs.FullEvent.{Happening, Hears, Faulty, Expires, Establish, Release, BusyOn, BusyOff, UnitData, Give}
-use Rattle.lapd_link.specs.FullWords.{End, Doing, new_end, begin, put, state_to, retries_to, layer3_to, release_pending_to, start, stop, expired, clear, zero_counters, peer_is_busy, self_is_busy, answer_poll, enquire, queue_up, discard, acknowledge, go_back, take_message, lose_unacknowledged, message_out, guard, put_pending}
-use Rattle.lapd_link.specs.FullTable.{establish, establish_again, give_up, tei_assigned, confirm, establishment_answered, establishment_expired, awaiting_establishment, released, release_expired, awaiting_release, advance, advance_by_message, number_wrong, message_number, poll_or_final, back_to, recovered, recovered_busy, ready_number, reject_number, not_ready_number, ready_in_recovery, not_ready_in_recovery, recovery_expired, busy_on, busy_off, in_both, established, timer_recovery, by_state, fault_reported, row, send_all, acknowledge_pending, close, step}
+use Rattle.lapd_link.specs.Event.{Happening, Hears, Faulty, Expires, Establish, Release, BusyOn, BusyOff, UnitData, Give}
+use Rattle.lapd_link.specs.Words.{End, Doing, new_end, begin, put, state_to, retries_to, once_more, layer3_to, release_pending_to, start, stop, expired, clear, zero_counters, peer_is_busy, self_is_busy, answer_poll, enquire, queue_up, discard, acknowledge, go_back, take_message, lose_unacknowledged, message_out, guard, put_pending}
+use Rattle.lapd_link.specs.Table.{establish, establish_again, give_up, tei_assigned, confirm, establishment_answered, establishment_expired, awaiting_establishment, released, release_expired, awaiting_release, advance, advance_by_message, number_wrong, message_number, message_number_in_recovery, poll_or_final, poll, back_to, recovered, recovered_busy, ready_number, reject_number, not_ready_number, ready_in_recovery, not_ready_in_recovery, recovery_expired, busy_on, busy_off, in_both, established, timer_recovery, by_state, fault_reported, row, send_all, acknowledge_pending, close, step}
 
 -- what an end of these numbers gives at each of these events, one after another; a refusal changes nothing
 abbrev given_by : End → Result Doing LinkFault → End
@@ -33,79 +33,79 @@ abbrev numbers : ℕ → ℕ → Numbers
 numbers k room = record { k = k; n200 = 3; room = room }
 
 -- layer 3 establishes, and the peer answers
-pub establishment : outputs (numbers 3 512) new_end (Establish ∷ Hears Answer (Ua true) ∷ [])
+pub establishment : outputs (numbers 3 512) (new_end 512) (Establish ∷ Hears (Ua true) Answer ∷ [])
     ≡ Ok (out.Send Command (Sabme true) ∷ out.Start T200 ∷ []) ∷ Ok (out.Confirmed ∷ out.Stop T200 ∷ out.Start T203 ∷ []) ∷ []
-unfolding begin put state_to retries_to layer3_to release_pending_to start stop expired clear zero_counters peer_is_busy self_is_busy answer_poll enquire queue_up discard acknowledge go_back take_message lose_unacknowledged message_out guard put_pending establish establish_again give_up tei_assigned confirm establishment_answered establishment_expired awaiting_establishment released release_expired awaiting_release advance advance_by_message number_wrong message_number poll_or_final back_to recovered recovered_busy ready_number reject_number not_ready_number ready_in_recovery not_ready_in_recovery recovery_expired busy_on busy_off in_both established timer_recovery by_state fault_reported row send_all acknowledge_pending close step initial_marks cleared zeroed own_status acknowledgement ack_pending_cleared poll_answer is_accepted is_rejected received message_answer is_valid acknowledged acknowledged_count is_all gone_back may_send next_message sent own_busy_to peer_busy_to after steps lies_within
+unfolding begin put state_to retries_to once_more layer3_to release_pending_to start stop expired clear zero_counters peer_is_busy self_is_busy answer_poll enquire queue_up discard acknowledge go_back take_message lose_unacknowledged message_out guard put_pending establish establish_again give_up tei_assigned confirm establishment_answered establishment_expired awaiting_establishment released release_expired awaiting_release advance advance_by_message number_wrong message_number message_number_in_recovery poll_or_final poll back_to recovered recovered_busy ready_number reject_number not_ready_number ready_in_recovery not_ready_in_recovery recovery_expired busy_on busy_off in_both established timer_recovery by_state fault_reported row send_all acknowledge_pending close step initial_marks cleared zeroed own_status acknowledgement ack_pending_cleared poll_answer is_accepted is_rejected received message_answer is_valid acknowledged acknowledged_count is_all gone_back may_send next_message sent own_busy_to peer_busy_to after steps lies_within
 establishment = refl
 
 -- two messages go out in a window of three
-pub messages_go_out : outputs (numbers 3 512) new_end (Establish ∷ Hears Answer (Ua true) ∷ Give (1 ∷ []) ∷ Give (2 ∷ []) ∷ [])
+pub messages_go_out : outputs (numbers 3 512) (new_end 512) (Establish ∷ Hears (Ua true) Answer ∷ Give (1 ∷ []) ∷ Give (2 ∷ []) ∷ [])
     ≡ Ok (out.Send Command (Sabme true) ∷ out.Start T200 ∷ []) ∷ Ok (out.Confirmed ∷ out.Stop T200 ∷ out.Start T203 ∷ []) ∷ Ok (out.SendMessage 0 (I 0 0 false) ∷ out.Stop T203 ∷ out.Start T200 ∷ []) ∷ Ok (out.SendMessage 1 (I 1 0 false) ∷ []) ∷ []
-unfolding begin put state_to retries_to layer3_to release_pending_to start stop expired clear zero_counters peer_is_busy self_is_busy answer_poll enquire queue_up discard acknowledge go_back take_message lose_unacknowledged message_out guard put_pending establish establish_again give_up tei_assigned confirm establishment_answered establishment_expired awaiting_establishment released release_expired awaiting_release advance advance_by_message number_wrong message_number poll_or_final back_to recovered recovered_busy ready_number reject_number not_ready_number ready_in_recovery not_ready_in_recovery recovery_expired busy_on busy_off in_both established timer_recovery by_state fault_reported row send_all acknowledge_pending close step initial_marks cleared zeroed own_status acknowledgement ack_pending_cleared poll_answer is_accepted is_rejected received message_answer is_valid acknowledged acknowledged_count is_all gone_back may_send next_message sent own_busy_to peer_busy_to after steps lies_within
+unfolding begin put state_to retries_to once_more layer3_to release_pending_to start stop expired clear zero_counters peer_is_busy self_is_busy answer_poll enquire queue_up discard acknowledge go_back take_message lose_unacknowledged message_out guard put_pending establish establish_again give_up tei_assigned confirm establishment_answered establishment_expired awaiting_establishment released release_expired awaiting_release advance advance_by_message number_wrong message_number message_number_in_recovery poll_or_final poll back_to recovered recovered_busy ready_number reject_number not_ready_number ready_in_recovery not_ready_in_recovery recovery_expired busy_on busy_off in_both established timer_recovery by_state fault_reported row send_all acknowledge_pending close step initial_marks cleared zeroed own_status acknowledgement ack_pending_cleared poll_answer is_accepted is_rejected received message_answer is_valid acknowledged acknowledged_count is_all gone_back may_send next_message sent own_busy_to peer_busy_to after steps lies_within
 messages_go_out = refl
 
 -- the peer asks for both again after the enquiry: REJ with F=0 alone does nothing, the final sends them again
-pub recovery : outputs (numbers 3 512) new_end (Establish ∷ Hears Answer (Ua true) ∷ Give (1 ∷ []) ∷ Give (2 ∷ []) ∷ Expires T200 ∷ Hears Answer (Rej 0 false) ∷ Hears Answer (Rr 0 true) ∷ [])
+pub recovery : outputs (numbers 3 512) (new_end 512) (Establish ∷ Hears (Ua true) Answer ∷ Give (1 ∷ []) ∷ Give (2 ∷ []) ∷ Expires T200 ∷ Hears (Rej 0 false) Answer ∷ Hears (Rr 0 true) Answer ∷ [])
     ≡ Ok (out.Send Command (Sabme true) ∷ out.Start T200 ∷ []) ∷ Ok (out.Confirmed ∷ out.Stop T200 ∷ out.Start T203 ∷ []) ∷ Ok (out.SendMessage 0 (I 0 0 false) ∷ out.Stop T203 ∷ out.Start T200 ∷ []) ∷ Ok (out.SendMessage 1 (I 1 0 false) ∷ []) ∷ Ok (out.Send Command (Rr 0 true) ∷ out.Start T200 ∷ []) ∷ Ok ([]) ∷ Ok (out.Stop T200 ∷ out.Start T203 ∷ out.SendMessage 0 (I 0 0 false) ∷ out.Stop T203 ∷ out.Start T200 ∷ out.SendMessage 1 (I 1 0 false) ∷ []) ∷ []
-unfolding begin put state_to retries_to layer3_to release_pending_to start stop expired clear zero_counters peer_is_busy self_is_busy answer_poll enquire queue_up discard acknowledge go_back take_message lose_unacknowledged message_out guard put_pending establish establish_again give_up tei_assigned confirm establishment_answered establishment_expired awaiting_establishment released release_expired awaiting_release advance advance_by_message number_wrong message_number poll_or_final back_to recovered recovered_busy ready_number reject_number not_ready_number ready_in_recovery not_ready_in_recovery recovery_expired busy_on busy_off in_both established timer_recovery by_state fault_reported row send_all acknowledge_pending close step initial_marks cleared zeroed own_status acknowledgement ack_pending_cleared poll_answer is_accepted is_rejected received message_answer is_valid acknowledged acknowledged_count is_all gone_back may_send next_message sent own_busy_to peer_busy_to after steps lies_within
+unfolding begin put state_to retries_to once_more layer3_to release_pending_to start stop expired clear zero_counters peer_is_busy self_is_busy answer_poll enquire queue_up discard acknowledge go_back take_message lose_unacknowledged message_out guard put_pending establish establish_again give_up tei_assigned confirm establishment_answered establishment_expired awaiting_establishment released release_expired awaiting_release advance advance_by_message number_wrong message_number message_number_in_recovery poll_or_final poll back_to recovered recovered_busy ready_number reject_number not_ready_number ready_in_recovery not_ready_in_recovery recovery_expired busy_on busy_off in_both established timer_recovery by_state fault_reported row send_all acknowledge_pending close step initial_marks cleared zeroed own_status acknowledgement ack_pending_cleared poll_answer is_accepted is_rejected received message_answer is_valid acknowledged acknowledged_count is_all gone_back may_send next_message sent own_busy_to peer_busy_to after steps lies_within
 recovery = refl
 
 -- an N(R) that nothing was sent for breaks the link
-pub number_that_is_not_valid : outputs (numbers 3 512) new_end (Establish ∷ Hears Answer (Ua true) ∷ Hears Answer (Rr 2 false) ∷ [])
+pub number_that_is_not_valid : outputs (numbers 3 512) (new_end 512) (Establish ∷ Hears (Ua true) Answer ∷ Hears (Rr 2 false) Answer ∷ [])
     ≡ Ok (out.Send Command (Sabme true) ∷ out.Start T200 ∷ []) ∷ Ok (out.Confirmed ∷ out.Stop T200 ∷ out.Start T203 ∷ []) ∷ Ok (out.Report letter.J ∷ out.Send Command (Sabme true) ∷ out.Stop T203 ∷ out.Start T200 ∷ []) ∷ []
-unfolding begin put state_to retries_to layer3_to release_pending_to start stop expired clear zero_counters peer_is_busy self_is_busy answer_poll enquire queue_up discard acknowledge go_back take_message lose_unacknowledged message_out guard put_pending establish establish_again give_up tei_assigned confirm establishment_answered establishment_expired awaiting_establishment released release_expired awaiting_release advance advance_by_message number_wrong message_number poll_or_final back_to recovered recovered_busy ready_number reject_number not_ready_number ready_in_recovery not_ready_in_recovery recovery_expired busy_on busy_off in_both established timer_recovery by_state fault_reported row send_all acknowledge_pending close step initial_marks cleared zeroed own_status acknowledgement ack_pending_cleared poll_answer is_accepted is_rejected received message_answer is_valid acknowledged acknowledged_count is_all gone_back may_send next_message sent own_busy_to peer_busy_to after steps lies_within
+unfolding begin put state_to retries_to once_more layer3_to release_pending_to start stop expired clear zero_counters peer_is_busy self_is_busy answer_poll enquire queue_up discard acknowledge go_back take_message lose_unacknowledged message_out guard put_pending establish establish_again give_up tei_assigned confirm establishment_answered establishment_expired awaiting_establishment released release_expired awaiting_release advance advance_by_message number_wrong message_number message_number_in_recovery poll_or_final poll back_to recovered recovered_busy ready_number reject_number not_ready_number ready_in_recovery not_ready_in_recovery recovery_expired busy_on busy_off in_both established timer_recovery by_state fault_reported row send_all acknowledge_pending close step initial_marks cleared zeroed own_status acknowledgement ack_pending_cleared poll_answer is_accepted is_rejected received message_answer is_valid acknowledged acknowledged_count is_all gone_back may_send next_message sent own_busy_to peer_busy_to after steps lies_within
 number_that_is_not_valid = refl
 
 -- T203 asks, and after N200 enquiries more the link is established again
-pub no_answer_to_enquiries : outputs (numbers 3 512) new_end (Establish ∷ Hears Answer (Ua true) ∷ Expires T203 ∷ Expires T200 ∷ Expires T200 ∷ Expires T200 ∷ Expires T200 ∷ [])
+pub no_answer_to_enquiries : outputs (numbers 3 512) (new_end 512) (Establish ∷ Hears (Ua true) Answer ∷ Expires T203 ∷ Expires T200 ∷ Expires T200 ∷ Expires T200 ∷ Expires T200 ∷ [])
     ≡ Ok (out.Send Command (Sabme true) ∷ out.Start T200 ∷ []) ∷ Ok (out.Confirmed ∷ out.Stop T200 ∷ out.Start T203 ∷ []) ∷ Ok (out.Send Command (Rr 0 true) ∷ out.Start T200 ∷ []) ∷ Ok (out.Send Command (Rr 0 true) ∷ out.Start T200 ∷ []) ∷ Ok (out.Send Command (Rr 0 true) ∷ out.Start T200 ∷ []) ∷ Ok (out.Send Command (Rr 0 true) ∷ out.Start T200 ∷ []) ∷ Ok (out.Report letter.I ∷ out.Send Command (Sabme true) ∷ out.Start T200 ∷ []) ∷ []
-unfolding begin put state_to retries_to layer3_to release_pending_to start stop expired clear zero_counters peer_is_busy self_is_busy answer_poll enquire queue_up discard acknowledge go_back take_message lose_unacknowledged message_out guard put_pending establish establish_again give_up tei_assigned confirm establishment_answered establishment_expired awaiting_establishment released release_expired awaiting_release advance advance_by_message number_wrong message_number poll_or_final back_to recovered recovered_busy ready_number reject_number not_ready_number ready_in_recovery not_ready_in_recovery recovery_expired busy_on busy_off in_both established timer_recovery by_state fault_reported row send_all acknowledge_pending close step initial_marks cleared zeroed own_status acknowledgement ack_pending_cleared poll_answer is_accepted is_rejected received message_answer is_valid acknowledged acknowledged_count is_all gone_back may_send next_message sent own_busy_to peer_busy_to after steps lies_within
+unfolding begin put state_to retries_to once_more layer3_to release_pending_to start stop expired clear zero_counters peer_is_busy self_is_busy answer_poll enquire queue_up discard acknowledge go_back take_message lose_unacknowledged message_out guard put_pending establish establish_again give_up tei_assigned confirm establishment_answered establishment_expired awaiting_establishment released release_expired awaiting_release advance advance_by_message number_wrong message_number message_number_in_recovery poll_or_final poll back_to recovered recovered_busy ready_number reject_number not_ready_number ready_in_recovery not_ready_in_recovery recovery_expired busy_on busy_off in_both established timer_recovery by_state fault_reported row send_all acknowledge_pending close step initial_marks cleared zeroed own_status acknowledgement ack_pending_cleared poll_answer is_accepted is_rejected received message_answer is_valid acknowledged acknowledged_count is_all gone_back may_send next_message sent own_busy_to peer_busy_to after steps lies_within
 no_answer_to_enquiries = refl
 
 -- each SABME is lost
-pub no_answer_to_establishment : outputs (numbers 1 512) new_end (Establish ∷ Expires T200 ∷ Expires T200 ∷ Expires T200 ∷ Expires T200 ∷ Expires T200 ∷ [])
+pub no_answer_to_establishment : outputs (numbers 1 512) (new_end 512) (Establish ∷ Expires T200 ∷ Expires T200 ∷ Expires T200 ∷ Expires T200 ∷ Expires T200 ∷ [])
     ≡ Ok (out.Send Command (Sabme true) ∷ out.Start T200 ∷ []) ∷ Ok (out.Send Command (Sabme true) ∷ out.Start T200 ∷ []) ∷ Ok (out.Send Command (Sabme true) ∷ out.Start T200 ∷ []) ∷ Ok (out.Send Command (Sabme true) ∷ out.Start T200 ∷ []) ∷ Ok (out.Report letter.G ∷ out.Released ∷ []) ∷ Ok ([]) ∷ []
-unfolding begin put state_to retries_to layer3_to release_pending_to start stop expired clear zero_counters peer_is_busy self_is_busy answer_poll enquire queue_up discard acknowledge go_back take_message lose_unacknowledged message_out guard put_pending establish establish_again give_up tei_assigned confirm establishment_answered establishment_expired awaiting_establishment released release_expired awaiting_release advance advance_by_message number_wrong message_number poll_or_final back_to recovered recovered_busy ready_number reject_number not_ready_number ready_in_recovery not_ready_in_recovery recovery_expired busy_on busy_off in_both established timer_recovery by_state fault_reported row send_all acknowledge_pending close step initial_marks cleared zeroed own_status acknowledgement ack_pending_cleared poll_answer is_accepted is_rejected received message_answer is_valid acknowledged acknowledged_count is_all gone_back may_send next_message sent own_busy_to peer_busy_to after steps lies_within
+unfolding begin put state_to retries_to once_more layer3_to release_pending_to start stop expired clear zero_counters peer_is_busy self_is_busy answer_poll enquire queue_up discard acknowledge go_back take_message lose_unacknowledged message_out guard put_pending establish establish_again give_up tei_assigned confirm establishment_answered establishment_expired awaiting_establishment released release_expired awaiting_release advance advance_by_message number_wrong message_number message_number_in_recovery poll_or_final poll back_to recovered recovered_busy ready_number reject_number not_ready_number ready_in_recovery not_ready_in_recovery recovery_expired busy_on busy_off in_both established timer_recovery by_state fault_reported row send_all acknowledge_pending close step initial_marks cleared zeroed own_status acknowledgement ack_pending_cleared poll_answer is_accepted is_rejected received message_answer is_valid acknowledged acknowledged_count is_all gone_back may_send next_message sent own_busy_to peer_busy_to after steps lies_within
 no_answer_to_establishment = refl
 
 -- a release in state 5 waits for the answer to the SABME
-pub release_while_establishing : outputs (numbers 1 512) new_end (Establish ∷ Release ∷ Hears Answer (Ua true) ∷ Hears Answer (Ua true) ∷ [])
+pub release_while_establishing : outputs (numbers 1 512) (new_end 512) (Establish ∷ Release ∷ Hears (Ua true) Answer ∷ Hears (Ua true) Answer ∷ [])
     ≡ Ok (out.Send Command (Sabme true) ∷ out.Start T200 ∷ []) ∷ Ok ([]) ∷ Ok (out.Send Command (Disc true) ∷ out.Start T200 ∷ []) ∷ Ok (out.Stop T200 ∷ out.ReleaseConfirm ∷ []) ∷ []
-unfolding begin put state_to retries_to layer3_to release_pending_to start stop expired clear zero_counters peer_is_busy self_is_busy answer_poll enquire queue_up discard acknowledge go_back take_message lose_unacknowledged message_out guard put_pending establish establish_again give_up tei_assigned confirm establishment_answered establishment_expired awaiting_establishment released release_expired awaiting_release advance advance_by_message number_wrong message_number poll_or_final back_to recovered recovered_busy ready_number reject_number not_ready_number ready_in_recovery not_ready_in_recovery recovery_expired busy_on busy_off in_both established timer_recovery by_state fault_reported row send_all acknowledge_pending close step initial_marks cleared zeroed own_status acknowledgement ack_pending_cleared poll_answer is_accepted is_rejected received message_answer is_valid acknowledged acknowledged_count is_all gone_back may_send next_message sent own_busy_to peer_busy_to after steps lies_within
+unfolding begin put state_to retries_to once_more layer3_to release_pending_to start stop expired clear zero_counters peer_is_busy self_is_busy answer_poll enquire queue_up discard acknowledge go_back take_message lose_unacknowledged message_out guard put_pending establish establish_again give_up tei_assigned confirm establishment_answered establishment_expired awaiting_establishment released release_expired awaiting_release advance advance_by_message number_wrong message_number message_number_in_recovery poll_or_final poll back_to recovered recovered_busy ready_number reject_number not_ready_number ready_in_recovery not_ready_in_recovery recovery_expired busy_on busy_off in_both established timer_recovery by_state fault_reported row send_all acknowledge_pending close step initial_marks cleared zeroed own_status acknowledgement ack_pending_cleared poll_answer is_accepted is_rejected received message_answer is_valid acknowledged acknowledged_count is_all gone_back may_send next_message sent own_busy_to peer_busy_to after steps lies_within
 release_while_establishing = refl
 
 -- unit data in state 4
-pub unit_data : outputs (numbers 1 512) new_end (UnitData 1 ∷ UnitData 261 ∷ [])
+pub unit_data : outputs (numbers 1 512) (new_end 512) (UnitData 1 ∷ UnitData 261 ∷ [])
     ≡ Ok (out.SendUnit ∷ []) ∷ Err refusal.TooLong ∷ []
-unfolding begin put state_to retries_to layer3_to release_pending_to start stop expired clear zero_counters peer_is_busy self_is_busy answer_poll enquire queue_up discard acknowledge go_back take_message lose_unacknowledged message_out guard put_pending establish establish_again give_up tei_assigned confirm establishment_answered establishment_expired awaiting_establishment released release_expired awaiting_release advance advance_by_message number_wrong message_number poll_or_final back_to recovered recovered_busy ready_number reject_number not_ready_number ready_in_recovery not_ready_in_recovery recovery_expired busy_on busy_off in_both established timer_recovery by_state fault_reported row send_all acknowledge_pending close step initial_marks cleared zeroed own_status acknowledgement ack_pending_cleared poll_answer is_accepted is_rejected received message_answer is_valid acknowledged acknowledged_count is_all gone_back may_send next_message sent own_busy_to peer_busy_to after steps lies_within
+unfolding begin put state_to retries_to once_more layer3_to release_pending_to start stop expired clear zero_counters peer_is_busy self_is_busy answer_poll enquire queue_up discard acknowledge go_back take_message lose_unacknowledged message_out guard put_pending establish establish_again give_up tei_assigned confirm establishment_answered establishment_expired awaiting_establishment released release_expired awaiting_release advance advance_by_message number_wrong message_number message_number_in_recovery poll_or_final poll back_to recovered recovered_busy ready_number reject_number not_ready_number ready_in_recovery not_ready_in_recovery recovery_expired busy_on busy_off in_both established timer_recovery by_state fault_reported row send_all acknowledge_pending close step initial_marks cleared zeroed own_status acknowledgement ack_pending_cleared poll_answer is_accepted is_rejected received message_answer is_valid acknowledged acknowledged_count is_all gone_back may_send next_message sent own_busy_to peer_busy_to after steps lies_within
 unit_data = refl
 
 -- the same SABME twice
-pub repeated_sabme : outputs (numbers 1 512) new_end (Hears Command (Sabme true) ∷ Hears Command (Sabme true) ∷ [])
+pub repeated_sabme : outputs (numbers 1 512) (new_end 512) (Hears (Sabme true) Command ∷ Hears (Sabme true) Command ∷ [])
     ≡ Ok (out.Send Answer (Ua true) ∷ out.Established ∷ out.Start T203 ∷ []) ∷ Ok (out.Send Answer (Ua true) ∷ out.Report letter.F ∷ out.Start T203 ∷ []) ∷ []
-unfolding begin put state_to retries_to layer3_to release_pending_to start stop expired clear zero_counters peer_is_busy self_is_busy answer_poll enquire queue_up discard acknowledge go_back take_message lose_unacknowledged message_out guard put_pending establish establish_again give_up tei_assigned confirm establishment_answered establishment_expired awaiting_establishment released release_expired awaiting_release advance advance_by_message number_wrong message_number poll_or_final back_to recovered recovered_busy ready_number reject_number not_ready_number ready_in_recovery not_ready_in_recovery recovery_expired busy_on busy_off in_both established timer_recovery by_state fault_reported row send_all acknowledge_pending close step initial_marks cleared zeroed own_status acknowledgement ack_pending_cleared poll_answer is_accepted is_rejected received message_answer is_valid acknowledged acknowledged_count is_all gone_back may_send next_message sent own_busy_to peer_busy_to after steps lies_within
+unfolding begin put state_to retries_to once_more layer3_to release_pending_to start stop expired clear zero_counters peer_is_busy self_is_busy answer_poll enquire queue_up discard acknowledge go_back take_message lose_unacknowledged message_out guard put_pending establish establish_again give_up tei_assigned confirm establishment_answered establishment_expired awaiting_establishment released release_expired awaiting_release advance advance_by_message number_wrong message_number message_number_in_recovery poll_or_final poll back_to recovered recovered_busy ready_number reject_number not_ready_number ready_in_recovery not_ready_in_recovery recovery_expired busy_on busy_off in_both established timer_recovery by_state fault_reported row send_all acknowledge_pending close step initial_marks cleared zeroed own_status acknowledgement ack_pending_cleared poll_answer is_accepted is_rejected received message_answer is_valid acknowledged acknowledged_count is_all gone_back may_send next_message sent own_busy_to peer_busy_to after steps lies_within
 repeated_sabme = refl
 
 -- in state 4; then with the peer busy and room for two
-pub refusals : outputs (numbers 1 2) new_end (Give (1 ∷ []) ∷ Hears Command (Sabme true) ∷ Hears Command (Rnr 0 false) ∷ Give (1 ∷ []) ∷ Give (2 ∷ []) ∷ Give (3 ∷ []) ∷ [])
+pub refusals : outputs (numbers 1 2) (new_end 2) (Give (1 ∷ []) ∷ Hears (Sabme true) Command ∷ Hears (Rnr 0 false) Command ∷ Give (1 ∷ []) ∷ Give (2 ∷ []) ∷ Give (3 ∷ []) ∷ [])
     ≡ Err refusal.NotEstablished ∷ Ok (out.Send Answer (Ua true) ∷ out.Established ∷ out.Start T203 ∷ []) ∷ Ok (out.Stop T203 ∷ out.Start T200 ∷ []) ∷ Ok ([]) ∷ Ok ([]) ∷ Err refusal.QueueFull ∷ []
-unfolding begin put state_to retries_to layer3_to release_pending_to start stop expired clear zero_counters peer_is_busy self_is_busy answer_poll enquire queue_up discard acknowledge go_back take_message lose_unacknowledged message_out guard put_pending establish establish_again give_up tei_assigned confirm establishment_answered establishment_expired awaiting_establishment released release_expired awaiting_release advance advance_by_message number_wrong message_number poll_or_final back_to recovered recovered_busy ready_number reject_number not_ready_number ready_in_recovery not_ready_in_recovery recovery_expired busy_on busy_off in_both established timer_recovery by_state fault_reported row send_all acknowledge_pending close step initial_marks cleared zeroed own_status acknowledgement ack_pending_cleared poll_answer is_accepted is_rejected received message_answer is_valid acknowledged acknowledged_count is_all gone_back may_send next_message sent own_busy_to peer_busy_to after steps lies_within
+unfolding begin put state_to retries_to once_more layer3_to release_pending_to start stop expired clear zero_counters peer_is_busy self_is_busy answer_poll enquire queue_up discard acknowledge go_back take_message lose_unacknowledged message_out guard put_pending establish establish_again give_up tei_assigned confirm establishment_answered establishment_expired awaiting_establishment released release_expired awaiting_release advance advance_by_message number_wrong message_number message_number_in_recovery poll_or_final poll back_to recovered recovered_busy ready_number reject_number not_ready_number ready_in_recovery not_ready_in_recovery recovery_expired busy_on busy_off in_both established timer_recovery by_state fault_reported row send_all acknowledge_pending close step initial_marks cleared zeroed own_status acknowledgement ack_pending_cleared poll_answer is_accepted is_rejected received message_answer is_valid acknowledged acknowledged_count is_all gone_back may_send next_message sent own_busy_to peer_busy_to after steps lies_within
 refusals = refl
 
 -- a frame out of sequence is rejected once, and the missing one is taken
-pub rejected_and_taken : outputs (numbers 3 512) new_end (Hears Command (Sabme true) ∷ Hears Command (I 1 0 false) ∷ Hears Command (I 2 0 false) ∷ Hears Command (I 0 0 false) ∷ [])
+pub rejected_and_taken : outputs (numbers 3 512) (new_end 512) (Hears (Sabme true) Command ∷ Hears (I 1 0 false) Command ∷ Hears (I 2 0 false) Command ∷ Hears (I 0 0 false) Command ∷ [])
     ≡ Ok (out.Send Answer (Ua true) ∷ out.Established ∷ out.Start T203 ∷ []) ∷ Ok (out.Send Answer (Rej 0 false) ∷ out.Start T203 ∷ []) ∷ Ok (out.Start T203 ∷ []) ∷ Ok (out.Up ∷ out.Start T203 ∷ out.Send Answer (Rr 1 false) ∷ []) ∷ []
-unfolding begin put state_to retries_to layer3_to release_pending_to start stop expired clear zero_counters peer_is_busy self_is_busy answer_poll enquire queue_up discard acknowledge go_back take_message lose_unacknowledged message_out guard put_pending establish establish_again give_up tei_assigned confirm establishment_answered establishment_expired awaiting_establishment released release_expired awaiting_release advance advance_by_message number_wrong message_number poll_or_final back_to recovered recovered_busy ready_number reject_number not_ready_number ready_in_recovery not_ready_in_recovery recovery_expired busy_on busy_off in_both established timer_recovery by_state fault_reported row send_all acknowledge_pending close step initial_marks cleared zeroed own_status acknowledgement ack_pending_cleared poll_answer is_accepted is_rejected received message_answer is_valid acknowledged acknowledged_count is_all gone_back may_send next_message sent own_busy_to peer_busy_to after steps lies_within
+unfolding begin put state_to retries_to once_more layer3_to release_pending_to start stop expired clear zero_counters peer_is_busy self_is_busy answer_poll enquire queue_up discard acknowledge go_back take_message lose_unacknowledged message_out guard put_pending establish establish_again give_up tei_assigned confirm establishment_answered establishment_expired awaiting_establishment released release_expired awaiting_release advance advance_by_message number_wrong message_number message_number_in_recovery poll_or_final poll back_to recovered recovered_busy ready_number reject_number not_ready_number ready_in_recovery not_ready_in_recovery recovery_expired busy_on busy_off in_both established timer_recovery by_state fault_reported row send_all acknowledge_pending close step initial_marks cleared zeroed own_status acknowledgement ack_pending_cleared poll_answer is_accepted is_rejected received message_answer is_valid acknowledged acknowledged_count is_all gone_back may_send next_message sent own_busy_to peer_busy_to after steps lies_within
 rejected_and_taken = refl
 
 -- an end that is busy discards, and answers a poll by RNR
-pub busy : outputs (numbers 1 512) new_end (Hears Command (Sabme true) ∷ BusyOn ∷ Hears Command (I 0 0 true) ∷ BusyOff ∷ [])
+pub busy : outputs (numbers 1 512) (new_end 512) (Hears (Sabme true) Command ∷ BusyOn ∷ Hears (I 0 0 true) Command ∷ BusyOff ∷ [])
     ≡ Ok (out.Send Answer (Ua true) ∷ out.Established ∷ out.Start T203 ∷ []) ∷ Ok (out.Send Answer (Rnr 0 false) ∷ []) ∷ Ok (out.Send Answer (Rnr 0 true) ∷ out.Start T203 ∷ []) ∷ Ok (out.Send Answer (Rr 0 false) ∷ []) ∷ []
-unfolding begin put state_to retries_to layer3_to release_pending_to start stop expired clear zero_counters peer_is_busy self_is_busy answer_poll enquire queue_up discard acknowledge go_back take_message lose_unacknowledged message_out guard put_pending establish establish_again give_up tei_assigned confirm establishment_answered establishment_expired awaiting_establishment released release_expired awaiting_release advance advance_by_message number_wrong message_number poll_or_final back_to recovered recovered_busy ready_number reject_number not_ready_number ready_in_recovery not_ready_in_recovery recovery_expired busy_on busy_off in_both established timer_recovery by_state fault_reported row send_all acknowledge_pending close step initial_marks cleared zeroed own_status acknowledgement ack_pending_cleared poll_answer is_accepted is_rejected received message_answer is_valid acknowledged acknowledged_count is_all gone_back may_send next_message sent own_busy_to peer_busy_to after steps lies_within
+unfolding begin put state_to retries_to once_more layer3_to release_pending_to start stop expired clear zero_counters peer_is_busy self_is_busy answer_poll enquire queue_up discard acknowledge go_back take_message lose_unacknowledged message_out guard put_pending establish establish_again give_up tei_assigned confirm establishment_answered establishment_expired awaiting_establishment released release_expired awaiting_release advance advance_by_message number_wrong message_number message_number_in_recovery poll_or_final poll back_to recovered recovered_busy ready_number reject_number not_ready_number ready_in_recovery not_ready_in_recovery recovery_expired busy_on busy_off in_both established timer_recovery by_state fault_reported row send_all acknowledge_pending close step initial_marks cleared zeroed own_status acknowledgement ack_pending_cleared poll_answer is_accepted is_rejected received message_answer is_valid acknowledged acknowledged_count is_all gone_back may_send next_message sent own_busy_to peer_busy_to after steps lies_within
 busy = refl
 
 -- information that is too long is reported, and the link is established again
-pub fault_in_a_frame : outputs (numbers 1 512) new_end (Faulty fault.InfoNotPermitted ∷ Hears Command (Sabme true) ∷ Faulty fault.InfoTooLong ∷ [])
+pub fault_in_a_frame : outputs (numbers 1 512) (new_end 512) (Faulty fault.InfoNotPermitted ∷ Hears (Sabme true) Command ∷ Faulty fault.InfoTooLong ∷ [])
     ≡ Ok (out.Report letter.M ∷ []) ∷ Ok (out.Send Answer (Ua true) ∷ out.Established ∷ out.Start T203 ∷ []) ∷ Ok (out.Report letter.O ∷ out.Send Command (Sabme true) ∷ out.Stop T203 ∷ out.Start T200 ∷ []) ∷ []
-unfolding begin put state_to retries_to layer3_to release_pending_to start stop expired clear zero_counters peer_is_busy self_is_busy answer_poll enquire queue_up discard acknowledge go_back take_message lose_unacknowledged message_out guard put_pending establish establish_again give_up tei_assigned confirm establishment_answered establishment_expired awaiting_establishment released release_expired awaiting_release advance advance_by_message number_wrong message_number poll_or_final back_to recovered recovered_busy ready_number reject_number not_ready_number ready_in_recovery not_ready_in_recovery recovery_expired busy_on busy_off in_both established timer_recovery by_state fault_reported row send_all acknowledge_pending close step initial_marks cleared zeroed own_status acknowledgement ack_pending_cleared poll_answer is_accepted is_rejected received message_answer is_valid acknowledged acknowledged_count is_all gone_back may_send next_message sent own_busy_to peer_busy_to after steps lies_within
+unfolding begin put state_to retries_to once_more layer3_to release_pending_to start stop expired clear zero_counters peer_is_busy self_is_busy answer_poll enquire queue_up discard acknowledge go_back take_message lose_unacknowledged message_out guard put_pending establish establish_again give_up tei_assigned confirm establishment_answered establishment_expired awaiting_establishment released release_expired awaiting_release advance advance_by_message number_wrong message_number message_number_in_recovery poll_or_final poll back_to recovered recovered_busy ready_number reject_number not_ready_number ready_in_recovery not_ready_in_recovery recovery_expired busy_on busy_off in_both established timer_recovery by_state fault_reported row send_all acknowledge_pending close step initial_marks cleared zeroed own_status acknowledgement ack_pending_cleared poll_answer is_accepted is_rejected received message_answer is_valid acknowledged acknowledged_count is_all gone_back may_send next_message sent own_busy_to peer_busy_to after steps lies_within
 fault_in_a_frame = refl

@@ -1,20 +1,16 @@
 -- How a link shows an end.
-use Rattle.std.specs.Prelude.{◌≡◌, List}
+use Rattle.std.specs.Prelude.{[]}
 use Rattle.lapd_frame.specs.declared.Side.{Side}
 use Rattle.lapd_frame.specs.declared.Sapi.{Sapi}
 use Rattle.lapd_frame.specs.declared.Tei.{Tei}
-use Rattle.lapd_link.specs.declared.out.Out.{Out}
 use Rattle.lapd_link.specs.declared.link.Link.{Link}
 use Rattle.lapd_link.specs.Numbers.{Numbers}
-use Rattle.lapd_link.specs.Words.{Doing}
+use Rattle.lapd_link.specs.Stands.{StandsFor}
+use Rattle.lapd_link.specs.Words.{End, begin}
 
--- A link, with the outputs of the step so far, stands for an end in mid-step. How many establishments the end has
--- had is not kept.
-pub record StandsFor (link : Link) (outs : List Out) (s : Doing) : Type 0 where
-  pub state : s.at.state ≡ link.state
-  pub t200 : s.at.t200 ≡ link.t200
-  pub t203 : s.at.t203 ≡ link.t203
-  pub put : s.outs ≡ outs
+-- A link stands for an end between two steps, whatever was given before what its queue holds.
+abbrev pub IsEnd : Link → End → Type 0
+IsEnd link e = StandsFor link.machine [] (begin e)
 
 -- for whom and with what the link is made, which no step changes
 pub record Made : Type 0 where

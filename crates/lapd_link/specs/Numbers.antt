@@ -1,5 +1,7 @@
 -- The numbers that an end is made with (Q.921 5.9).
 use Rattle.std.specs.Prelude.{ℕ, ◌≤◌, ◌&&◌, nat_le, if◌then◌else◌, Bool, Option, Some, None}
+use Rattle.lapd_frame.specs.declared.Sapi.{Sapi}
+use Rattle.lapd_frame.specs.declared.Sapi.TheVariants.{Packet}
 
 pub record Numbers : Type 0 where
   pub k : ℕ
@@ -23,3 +25,11 @@ abbrev pub numbers_of : ℕ → ℕ → ℕ → Option Numbers
 numbers_of k n200 room =
     if lies_between 1 k 127 && (lies_between 1 n200 100 && lies_between 1 room 1024)
     then Some (record { k = k; n200 = n200; room = room }) else None
+
+-- what basic access has for a SAPI, and primary rate (Q.921 5.9.2, 5.9.5)
+abbrev pub basic_numbers : Sapi → Numbers
+basic_numbers Packet = record { k = 3; n200 = 3; room = 512 }
+basic_numbers sapi = record { k = 1; n200 = 3; room = 512 }
+
+abbrev pub primary_numbers : Numbers
+primary_numbers = record { k = 7; n200 = 3; room = 512 }

@@ -11,6 +11,20 @@ pub enum Event<'a> {
     Heard(&'a Frame<'a>),
     /// Octets with the link's address came that are no frame, by one of F4 to F7.
     Fault(FaultKind),
+    /// T200 expires. Where it does not run, this is passed over.
+    T200,
+    /// T203 expires. Where it does not run, this is passed over.
+    T203,
+    /// Layer 3 asks for the link to be established (DL-ESTABLISH request).
+    Establish,
+    /// Layer 3 asks for the link to be released (DL-RELEASE request).
+    Release,
+    /// This end can take no more messages (own receiver busy, Q.921 5.6.6).
+    BusyOn,
+    /// This end can take messages again.
+    BusyOff,
+    /// Unit data of so many octets is to be sent (DL-UNIT DATA request).
+    Unit(usize),
 }
 
 /// Why a request is refused. The link is unchanged.
@@ -31,6 +45,15 @@ pub enum LinkFault {
     /// L5: layer 3 is establishing the link.
     #[error("L5 LayerThreeEstablishing")]
     LayerThreeEstablishing,
+}
+
+/// A message that was refused, handed back as it came.
+#[derive(Drop)]
+pub struct Refused {
+    /// Why.
+    pub fault: LinkFault,
+    /// The message.
+    pub message: Vec<u8>,
 }
 
 impl LinkFault {

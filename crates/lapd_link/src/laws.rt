@@ -1,11 +1,11 @@
 //! Laws of the whole state table, over its definitions. They do nothing when they are called.
 
-ghost use Rattle.std.specs.Prelude.{◌≡◌, ◌≤◌, Ok};
+ghost use Rattle.std.specs.Prelude.{◌≡◌, ◌≤◌, ℕ, Ok};
 ghost use Rattle.lapd_mod128.specs.Counting.{Reading};
-ghost use Rattle.lapd_link.specs.FullEvent.{Happening};
-ghost use Rattle.lapd_link.specs.FullSound.{IsSound};
-ghost use Rattle.lapd_link.specs.FullTable.{step};
-ghost use Rattle.lapd_link.specs.FullWords.{End, Doing, new_end};
+ghost use Rattle.lapd_link.specs.Event.{Happening};
+ghost use Rattle.lapd_link.specs.Sound.{IsSound};
+ghost use Rattle.lapd_link.specs.Table.{step};
+ghost use Rattle.lapd_link.specs.Words.{End, Doing, new_end};
 ghost use Rattle.lapd_link.specs.Numbers.{Numbers};
 
 /// Over every list of events, from a new end on, all messages that are sent and neither acknowledged nor dropped are
@@ -13,7 +13,7 @@ ghost use Rattle.lapd_link.specs.Numbers.{Numbers};
 /// establishment stands at place first + (n - V(A)); and no message is sent before the first or behind the last. On
 /// whole numbers and on tags alike, in windows of up to 127 (Q.921 5.9.5).
 pub fn all_sent_are_outstanding()
-    ensures begins { (r : Reading) → IsSound r new_end }
+    ensures begins { (r : Reading) (room : ℕ) → IsSound r (new_end room) }
     ensures stays { (r : Reading) (p : Numbers) (h : Happening) (e : End) (s : Doing) → p.k ≤ 127
         → IsSound r e → step r p h e ≡ Ok s → IsSound r s.at }
 {}

@@ -16,10 +16,12 @@ mod state;
 #[cfg(test)]
 mod tests;
 
-pub use event::{Event, LinkFault};
+pub use event::{Event, LinkFault, Refused};
 pub use lapd_frame::{
     Address, Control, FaultKind, Frame, FrameFault, Number, Role, Sapi, Side, Tei,
 };
+pub use lapd_queue::IQueue;
+pub use lapd_supervision::{Seq, Window};
 pub use lapd_timers::Timer;
 pub use laws::all_sent_are_outstanding;
 pub use link::{Link, Outs};

@@ -1,95 +1,233 @@
-ghost use Rattle.std.specs.Prelude.{◌≡◌, ◌≤◌, ◌<◌, ◌+◌, [], ◌∷◌, ◌++◌, List, IfOk, IfErr, OnErr, Ok, Err};
-ghost use Rattle.arrayvec.specs.ArrayVec.{array_vec_len};
-ghost use Rattle.lapd_link.specs.declared.out.Out.{Out};
-ghost use Rattle.lapd_link.specs.State.{state_number};
-ghost use Rattle.lapd_link.specs.Table.{unasked};
+ghost use Rattle.std.specs.Prelude.{◌≡◌, [], IfOk, IfErr, OnOk, OnErr, Ok, Err};
+ghost use Rattle.lapd_mod128.specs.Counting.{Tagged};
+ghost use Rattle.lapd_link.specs.Counted.{IsSettled};
 
-use crate::{Event, Letter, LinkFault, Out, Params, State};
+use crate::machine::Machine;
+use crate::{Event, LinkFault, Out, Params, Refused};
 use arrayvec::ArrayVec;
-use lapd_frame::{Control, Role, Sapi, Side, Tei};
+use lapd_frame::{Sapi, Side, Tei};
+use lapd_queue::IQueue;
+use lapd_supervision::Window;
 use lapd_timers::Timer;
 use std::alloc::{AllocError, Global};
 
-/// What one step gives, in order.
+/// What one step gives, in order. A step gives at most 136 outputs.
 pub type Outs = ArrayVec<Out, 136>;
 
 /// One end of a data link (Q.921 clause 5, Annex B).
 ///
 /// ```text
-///                      SABME                        DISC
-///   4 TEI assigned ----------> 7 multiple frame ----------> 4 TEI assigned
-///                                established
+///                             4 TEI assigned
+///       Establish |   ^ DM, N200      ^ UA, DM, N200     | SABME
+///                 v   |               |                  v
+///   5 awaiting establishment   6 awaiting release   7 multiple frame established
+///                 | UA                ^ Release          | T200, T203   ^ final
+///                 v                   |                  v              |
+///   7 multiple frame established -----+             8 timer recovery ---+
 /// ```
-#[derive(Debug, Drop)]
+///
+/// In 7 and 8 a SABME establishes anew, a DISC releases, and what breaks the procedures leads back to 5.
+#[derive(Drop)]
 pub struct Link {
     side: Side,
     sapi: Sapi,
     tei: Tei,
     params: Params,
-    state: State,
-    t200: bool,
-    t203: bool,
+    machine: Machine,
+    ghost settled: { IsSettled machine },
 }
 
 impl Link {
-    ghost use Rattle.lapd_link.specs.Event.{happening_of};
-    ghost use Rattle.lapd_link.specs.Link.{StandsFor, Made, made_of};
+    ghost use Rattle.lapd_link.specs.Event.{happening_of, Give};
+    ghost use Rattle.lapd_link.specs.Link.{IsEnd, Made, made_of};
     ghost use Rattle.lapd_link.specs.Table.{step};
-    ghost use Rattle.lapd_link.specs.Words.{End, Doing, begin, new_end, runs};
+    ghost use Rattle.lapd_link.specs.Words.{End, Doing, new_end};
 
-    #[tactic(auto, unfolding(crate::specs::Words::begin))]
-    /// A link in state 4, of this side, for `sapi` (not management) and `tei` (not the group TEI).
+    /// A link in state 4, of this side, for `sapi` (not management) and `tei` (not the group TEI). It takes the memory
+    /// of its I queue.
+    ///
+    /// # Errors
+    ///
+    /// `AllocError` where that memory was refused.
     pub fn new(
-        _alloc: Global,
+        alloc: Global,
         side: Side,
         sapi: Sapi,
         tei: Tei,
         params: Params,
     ) -> Result<Link, AllocError>
-        ensures end { IfOk result (λ link. StandsFor link [] (begin new_end)) }
+        ensures end { IfOk result (λ link. IsEnd link (new_end params.room)) }
         ensures made { IfOk result (λ link. made_of link ≡ record { side = side; sapi = sapi; tei = tei; params = params }) }
     {
+        let machine = Machine::new(alloc, params.room())?;
         Ok(Link {
             side,
             sapi,
             tei,
             params,
-            state: State::TeiAssigned,
-            t200: false,
-            t203: false,
+            machine,
         })
     }
 
-    /// What is to be done for an event, in order. It takes no memory.
+    /// What is to be done for an event, in order. It takes no memory. Where speed matters, lend the outputs:
+    /// [`Link::handle_into`].
+    ///
+    /// A frame that is handed in has the link's SAPI and TEI and comes from the other side; a fault is one of F4 to F7.
+    ///
+    /// # Errors
+    ///
+    /// L3 for unit data of more than 260 octets; L4 for an `Establish` in state 6, or in state 5 with a release
+    /// pending. The link is unchanged.
     pub fn handle(&mut self, event: Event) -> Result<Outs, LinkFault>
-        ensures ok { IfOk result (λ outs. (e : End) → StandsFor self.old [] (begin e)
-            → (s : Doing) × (step (happening_of event.entry) e ≡ Ok s) × StandsFor self.new outs.items s) }
-        ensures err { IfErr result (λ fault. (e : End) → StandsFor self.old [] (begin e)
-            → step (happening_of event.entry) e ≡ Err fault) }
+        ensures ok { IfOk result (λ outs. (e : End) → IsEnd self.old e
+            → (s : Doing) × (step Tagged self.old.params (happening_of event.entry) e ≡ Ok s) × (s.outs ≡ outs.items) × IsEnd self.new s.at) }
+        ensures err { IfErr result (λ fault. (e : End) → IsEnd self.old e
+            → step Tagged self.old.params (happening_of event.entry) e ≡ Err fault) }
         ensures unchanged { OnErr result (self.new ≡ self.old) }
         ensures made { made_of self.new ≡ made_of self.old }
     {
         let mut outs = Outs::new();
-        self.take(event, &mut outs);
+        self.handle_into(event, &mut outs)?;
         Ok(outs)
     }
 
+    /// As [`Link::handle`], into outputs that the caller lends, which are emptied first.
+    ///
+    /// # Errors
+    ///
+    /// As [`Link::handle`].
+    pub fn handle_into(&mut self, event: Event, outs: &mut Outs) -> Result<(), LinkFault>
+        ensures ok { OnOk result ((e : End) → IsEnd self.old e
+            → (s : Doing) × (step Tagged self.old.params (happening_of event.entry) e ≡ Ok s) × (s.outs ≡ outs.new.items) × IsEnd self.new s.at) }
+        ensures err { IfErr result (λ fault. (e : End) → IsEnd self.old e
+            → step Tagged self.old.params (happening_of event.entry) e ≡ Err fault) }
+        ensures unchanged { OnErr result (self.new ≡ self.old) }
+        ensures empty { OnErr result (outs.new.items ≡ []) }
+        ensures made { made_of self.new ≡ made_of self.old }
+    {
+        self.machine.begins(outs);
+        match self.machine.refuses(&event) {
+            Some(fault) => Err(fault),
+            None => {
+                self.machine
+                    .step(self.params.k(), self.params.n200(), event, outs);
+                Ok(())
+            }
+        }
+    }
+
+    /// A message of layer 3 (DL-DATA request), and what is to be done for it, in order. It takes no memory. Where speed
+    /// matters, lend the outputs: [`Link::give_into`].
+    ///
+    /// # Errors
+    ///
+    /// In this order: L3 for a message of more than 260 octets, L1 in state 4, L4 in state 6 and in state 5 with a
+    /// release pending, L5 in state 5 where layer 3 establishes, L2 where the queue is full. The message is handed
+    /// back, and the link is unchanged.
+    pub fn give(&mut self, message: Vec<u8>) -> Result<Outs, Refused>
+        ensures ok { IfOk result (λ outs. (e : End) → IsEnd self.old e
+            → (s : Doing) × (step Tagged self.old.params (Give message.items) e ≡ Ok s) × (s.outs ≡ outs.items) × IsEnd self.new s.at) }
+        ensures err { IfErr result (λ refused. (refused.message ≡ message) × ((e : End) → IsEnd self.old e
+            → step Tagged self.old.params (Give message.items) e ≡ Err refused.fault)) }
+        ensures unchanged { OnErr result (self.new ≡ self.old) }
+        ensures made { made_of self.new ≡ made_of self.old }
+    {
+        let mut outs = Outs::new();
+        self.give_into(message, &mut outs)?;
+        Ok(outs)
+    }
+
+    /// As [`Link::give`], into outputs that the caller lends, which are emptied first.
+    ///
+    /// # Errors
+    ///
+    /// As [`Link::give`].
+    pub fn give_into(&mut self, message: Vec<u8>, outs: &mut Outs) -> Result<(), Refused>
+        ensures ok { OnOk result ((e : End) → IsEnd self.old e
+            → (s : Doing) × (step Tagged self.old.params (Give message.items) e ≡ Ok s) × (s.outs ≡ outs.new.items) × IsEnd self.new s.at) }
+        ensures err { IfErr result (λ refused. (refused.message ≡ message) × ((e : End) → IsEnd self.old e
+            → step Tagged self.old.params (Give message.items) e ≡ Err refused.fault)) }
+        ensures unchanged { OnErr result (self.new ≡ self.old) }
+        ensures empty { OnErr result (outs.new.items ≡ []) }
+        ensures made { made_of self.new ≡ made_of self.old }
+    {
+        self.machine.begins(outs);
+        match self.machine.refuses_message(message.len()) {
+            Some(fault) => Err(Refused { fault, message }),
+            None => {
+                self.machine.take_and_send(self.params.k(), message, outs);
+                Ok(())
+            }
+        }
+    }
+}
+
+/// What a link shows.
+#[tactic(auto, unfolding(crate::specs::Words::begin))]
+impl Link {
+    ghost use Rattle.lapd_link.specs.Link.{IsEnd, made_of};
+    ghost use Rattle.lapd_link.specs.State.{state_number};
+    ghost use Rattle.lapd_link.specs.Tail.{IsTail};
+    ghost use Rattle.lapd_link.specs.Words.{End, runs};
+
     /// The number of its state, 4 to 8.
     pub fn state(&self) -> u8
-        ensures { (s : Doing) → StandsFor self.now [] s → result ≡ state_number s.at.state }
+        ensures { (e : End) → IsEnd self.now e → result ≡ state_number e.state }
     {
-        self.state.number()
+        self.machine.state.number()
+    }
+
+    /// V(S), V(A), V(R) and the marks.
+    pub fn window(&self) -> Window
+        ensures { (e : End) → IsEnd self.now e → result ≡ e.window }
+    {
+        self.machine.window
+    }
+
+    /// RC: how often the last command was sent again.
+    pub fn rc(&self) -> u8
+        ensures { (e : End) → IsEnd self.now e → result ≡ e.retries }
+    {
+        self.machine.retries
     }
 
     /// Whether this timer of the link runs.
     pub fn running(&self, timer: Timer) -> bool
-        ensures { (s : Doing) → StandsFor self.now [] s → result ≡ runs timer s.at }
+        ensures { (e : End) → IsEnd self.now e → result ≡ runs timer e }
     {
         match timer {
-            Timer::T200 => self.t200,
-            Timer::T203 => self.t203,
+            Timer::T200 => self.machine.t200,
+            Timer::T203 => self.machine.t203,
             Timer::T201 | Timer::T202 => false,
         }
+    }
+
+    /// Whether layer 3 establishes the link, in state 5.
+    pub fn layer3_initiated(&self) -> bool
+        ensures { (e : End) → IsEnd self.now e → result ≡ e.layer3 }
+    {
+        self.machine.layer3
+    }
+
+    /// Whether a release waits for the answer to the SABME, in state 5.
+    pub fn release_pending(&self) -> bool
+        ensures { (e : End) → IsEnd self.now e → result ≡ e.release_pending }
+    {
+        self.machine.release_pending
+    }
+
+    /// The messages that are neither acknowledged nor dropped.
+    pub fn queue(&self) -> &IQueue
+        ensures { (e : End) → IsEnd self.now e → IsTail e.given e.first e.next result.now }
+    {
+        &self.machine.queue
+    }
+
+    /// How many messages its queue has room for, 1 to 1,024.
+    pub fn room(&self) -> u16
+        ensures { (e : End) → IsEnd self.now e → result ≡ e.room }
+    {
+        self.machine.queue.room()
     }
 
     /// Whose end it is.
@@ -112,176 +250,4 @@ impl Link {
     {
         self.tei
     }
-}
-
-/// The rows of the table, state by state.
-#[tactic(auto, unfolding(crate::specs::Table::row, crate::specs::Table::tei_assigned, crate::specs::Table::established))]
-impl Link {
-    ghost use Rattle.lapd_link.specs.Event.{happening_of, Hears};
-    ghost use Rattle.lapd_link.specs.Link.{StandsFor, made_of};
-    ghost use Rattle.lapd_link.specs.Table.{row, tei_assigned, established};
-    ghost use Rattle.lapd_link.specs.Words.{Doing};
-
-    fn take(&mut self, event: Event, outs: &mut Outs)
-        requires { array_vec_len outs.old ≤ 100 }
-        ensures step { (s : Doing) → StandsFor self.old outs.old.items s
-            → StandsFor self.new outs.new.items (row self.old.state (happening_of event.entry) s) }
-        ensures made { made_of self.new ≡ made_of self.old }
-    {
-        match (self.state, event) {
-            (State::TeiAssigned, Event::Heard(frame)) => {
-                self.tei_assigned(frame.address().role, frame.control(), outs);
-            }
-            (State::MultipleFrameEstablished, Event::Heard(frame)) => {
-                self.established(frame.address().role, frame.control(), outs);
-            }
-            _ => {}
-        }
-    }
-
-    /// State 4, TEI assigned.
-    fn tei_assigned(&mut self, role: Role, control: Control, outs: &mut Outs)
-        requires { array_vec_len outs.old ≤ 100 }
-        ensures step { (s : Doing) → StandsFor self.old outs.old.items s
-            → StandsFor self.new outs.new.items (tei_assigned (Hears role control) s) }
-        ensures made { made_of self.new ≡ made_of self.old }
-    {
-        match (role, control) {
-            (Role::Command, Control::Sabme { p }) => {
-                self.put(Out::Send(Role::Answer, Control::Ua { f: p }), outs);
-                self.zero_counters();
-                self.put(Out::Established, outs);
-                self.start_t203(outs);
-                self.state_to(State::MultipleFrameEstablished);
-            }
-            (Role::Command, Control::Disc { p }) => {
-                self.put(Out::Send(Role::Answer, Control::Dm { f: p }), outs);
-            }
-            (Role::Answer, Control::Ua { f }) => self.put(Out::Report(unasked(f)), outs),
-            _ => {}
-        }
-    }
-
-    /// State 7, multiple frame established.
-    fn established(&mut self, role: Role, control: Control, outs: &mut Outs)
-        requires { array_vec_len outs.old ≤ 100 }
-        ensures step { (s : Doing) → StandsFor self.old outs.old.items s
-            → StandsFor self.new outs.new.items (established (Hears role control) s) }
-        ensures made { made_of self.new ≡ made_of self.old }
-    {
-        match (role, control) {
-            (Role::Command, Control::Sabme { p }) => {
-                self.put(Out::Send(Role::Answer, Control::Ua { f: p }), outs);
-                self.put(Out::Report(Letter::F), outs);
-                self.stop_t200(outs);
-                self.start_t203(outs);
-                self.zero_counters();
-            }
-            (Role::Command, Control::Disc { p }) => {
-                self.put(Out::Send(Role::Answer, Control::Ua { f: p }), outs);
-                self.put(Out::Released, outs);
-                self.stop_t200(outs);
-                self.stop_t203(outs);
-                self.state_to(State::TeiAssigned);
-            }
-            (Role::Answer, Control::Ua { f }) => self.put(Out::Report(unasked(f)), outs),
-            _ => {}
-        }
-    }
-}
-
-/// The report of a UA that was not asked for.
-fn unasked(f: bool) -> Letter
-    ensures { result ≡ unasked f }
-{
-    if f { Letter::C } else { Letter::D }
-}
-
-/// The words of the table.
-#[tactic(auto, unfolding(crate::specs::Words::put, crate::specs::Words::state_to, crate::specs::Words::zero_counters, crate::specs::Words::start, crate::specs::Words::stop))]
-impl Link {
-    ghost use Rattle.lapd_link.specs.Link.{StandsFor, made_of};
-    ghost use Rattle.lapd_link.specs.Words.{Doing, put, state_to, zero_counters, start, stop};
-
-    /// An output.
-    fn put(&mut self, out: Out, outs: &mut Outs)
-        requires { array_vec_len outs.old < 136 }
-        ensures step { (s : Doing) → StandsFor self.old outs.old.items s → StandsFor self.new outs.new.items (put out s) }
-        ensures room { array_vec_len outs.new ≤ array_vec_len outs.old + 1 }
-        ensures made { made_of self.new ≡ made_of self.old }
-    {
-        push(outs, out);
-    }
-
-    /// START T200: the timer runs anew.
-    fn start_t200(&mut self, outs: &mut Outs)
-        requires { array_vec_len outs.old < 136 }
-        ensures step { (s : Doing) → StandsFor self.old outs.old.items s → StandsFor self.new outs.new.items (start Timer.T200 s) }
-        ensures room { array_vec_len outs.new ≤ array_vec_len outs.old + 1 }
-        ensures made { made_of self.new ≡ made_of self.old }
-    {
-        self.t200 = true;
-        push(outs, Out::Start(Timer::T200));
-    }
-
-    /// STOP T200: stopped where it runs.
-    fn stop_t200(&mut self, outs: &mut Outs)
-        requires { array_vec_len outs.old < 136 }
-        ensures step { (s : Doing) → StandsFor self.old outs.old.items s → StandsFor self.new outs.new.items (stop Timer.T200 s) }
-        ensures room { array_vec_len outs.new ≤ array_vec_len outs.old + 1 }
-        ensures made { made_of self.new ≡ made_of self.old }
-    {
-        if self.t200 {
-            self.t200 = false;
-            push(outs, Out::Stop(Timer::T200));
-        }
-    }
-
-    /// START T203: the timer runs anew.
-    fn start_t203(&mut self, outs: &mut Outs)
-        requires { array_vec_len outs.old < 136 }
-        ensures step { (s : Doing) → StandsFor self.old outs.old.items s → StandsFor self.new outs.new.items (start Timer.T203 s) }
-        ensures room { array_vec_len outs.new ≤ array_vec_len outs.old + 1 }
-        ensures made { made_of self.new ≡ made_of self.old }
-    {
-        self.t203 = true;
-        push(outs, Out::Start(Timer::T203));
-    }
-
-    /// STOP T203: stopped where it runs.
-    fn stop_t203(&mut self, outs: &mut Outs)
-        requires { array_vec_len outs.old < 136 }
-        ensures step { (s : Doing) → StandsFor self.old outs.old.items s → StandsFor self.new outs.new.items (stop Timer.T203 s) }
-        ensures room { array_vec_len outs.new ≤ array_vec_len outs.old + 1 }
-        ensures made { made_of self.new ≡ made_of self.old }
-    {
-        if self.t203 {
-            self.t203 = false;
-            push(outs, Out::Stop(Timer::T203));
-        }
-    }
-
-    fn state_to(&mut self, state: State)
-        ensures step { (s : Doing) (outs : List Out) → StandsFor self.old outs s → StandsFor self.new outs (state_to state s) }
-        ensures made { made_of self.new ≡ made_of self.old }
-    {
-        self.state = state;
-    }
-
-    /// ZERO: an establishment begins.
-    fn zero_counters(&mut self)
-        ensures step { (s : Doing) (outs : List Out) → StandsFor self.old outs s → StandsFor self.new outs (zero_counters s) }
-        ensures made { made_of self.new ≡ made_of self.old }
-    {}
-}
-
-/// One more output.
-fn push(outs: &mut Outs, out: Out)
-    requires { array_vec_len outs.old < 136 }
-    ensures items { outs.new.items ≡ outs.old.items ++ out ∷ [] }
-    ensures len { array_vec_len outs.new ≡ array_vec_len outs.old + 1 }
-{
-    // The check finds the type of the fields in an output by this name.
-    let _none: Option<Control> = None;
-    outs.push(out);
 }

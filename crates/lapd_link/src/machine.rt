@@ -1,20 +1,24 @@
-//! What a link is to keep when it meets the whole state table, and the words of the table on it. The rows come next;
-//! `Link` does not stand on it yet.
+//! The state variables of a link, and what each word and row of the state table does to them.
 
-ghost use Rattle.std.specs.Prelude.{◌≡◌, ◌<◌, ◌+◌, [], ◌∷◌, ◌++◌};
+ghost use Rattle.std.specs.Prelude.{◌≡◌, ◌<◌, ◌+◌, ◌==◌, [], ◌∷◌, ◌++◌};
 ghost use Rattle.arrayvec.specs.ArrayVec.{array_vec_len};
 
-use crate::{Out, Outs, Params, State};
+use crate::{Out, Outs, State};
 use lapd_frame::Control;
 use lapd_queue::IQueue;
 use lapd_supervision::Window;
 
+mod closed;
+mod established;
+mod recovery;
+mod refusals;
+mod rows;
+mod sending;
 mod words;
 
 /// The state variables of an end (Q.921 Annex B).
 #[derive(Drop)]
 pub struct Machine {
-    pub params: Params,
     pub state: State,
     /// RC, how often a frame was sent again.
     pub retries: u8,

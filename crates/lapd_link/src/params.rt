@@ -1,6 +1,7 @@
-ghost use Rattle.std.specs.Prelude.{◌≡◌};
-ghost use Rattle.lapd_link.specs.Numbers.{numbers_of};
+ghost use Rattle.std.specs.Prelude.{◌≡◌, ◌≤◌};
+ghost use Rattle.lapd_link.specs.Numbers.{numbers_of, basic_numbers, primary_numbers};
 
+use lapd_frame::Sapi;
 use std::marker::Model;
 
 /// What a data link is made with (Q.921 5.9).
@@ -36,5 +37,59 @@ impl Params {
         } else {
             None
         }
+    }
+
+    /// What Q.921 5.9 gives basic access: a window of 1 for call control, of 3 for packet communication, N200 of 3, and
+    /// room for 512 messages. Management has no link, and is answered as call control.
+    pub fn basic(sapi: Sapi) -> Params
+        ensures { result ≡ basic_numbers sapi }
+    {
+        let k = match sapi {
+            Sapi::Packet => 3,
+            Sapi::Call | Sapi::Management => 1,
+        };
+        Params {
+            k,
+            n200: 3,
+            room: 512,
+        }
+    }
+
+    /// What Q.921 5.9 gives primary rate: a window of 7, N200 of 3, and room for 512 messages.
+    pub fn primary() -> Params
+        ensures { result ≡ primary_numbers }
+    {
+        Params {
+            k: 7,
+            n200: 3,
+            room: 512,
+        }
+    }
+
+    /// The window, 1 to 127 frames.
+    pub fn k(&self) -> u8
+        ensures same { result ≡ self.now.k }
+        ensures low { 1 ≤ result }
+        ensures high { result ≤ 127 }
+    {
+        self.k
+    }
+
+    /// How often a frame is sent again, 1 to 100.
+    pub fn n200(&self) -> u8
+        ensures same { result ≡ self.now.n200 }
+        ensures low { 1 ≤ result }
+        ensures high { result ≤ 100 }
+    {
+        self.n200
+    }
+
+    /// How many messages there is room for, 1 to 1,024.
+    pub fn room(&self) -> u16
+        ensures same { result ≡ self.now.room }
+        ensures low { 1 ≤ result }
+        ensures high { result ≤ 1024 }
+    {
+        self.room
     }
 }

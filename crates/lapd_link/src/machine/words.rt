@@ -6,7 +6,7 @@ ghost use Rattle.lapd_mod128.specs.Counting.{Tagged};
 ghost use Rattle.lapd_supervision.specs.Marks.{cleared, zeroed, own_status, acknowledgement, ack_pending_cleared, is_accepted, received, message_answer, acknowledged, acknowledged_count, is_valid, gone_back, next_message, sent, own_busy_to, peer_busy_to};
 ghost use Rattle.lapd_queue.specs.Waiting.{with_message, one_more_sent, without_first, all_unsent, emptied};
 ghost use Rattle.lapd_link.specs.declared.out.Out.{Out};
-ghost use Rattle.lapd_link.specs.FullWords.{Doing, put, state_to, retries_to, layer3_to, release_pending_to, start, stop, expired, clear, zero_counters, peer_is_busy, self_is_busy, answer_poll, enquire, queue_up, discard, acknowledge, go_back, take_message, lose_unacknowledged, message_out, guard, put_pending};
+ghost use Rattle.lapd_link.specs.Words.{Doing, put, state_to, retries_to, once_more, layer3_to, release_pending_to, start, stop, expired, clear, zero_counters, peer_is_busy, self_is_busy, answer_poll, enquire, queue_up, discard, acknowledge, go_back, take_message, lose_unacknowledged, message_out, guard, put_pending};
 
 use crate::machine::{Machine, push};
 use crate::{Out, Outs, State};
@@ -14,10 +14,10 @@ use lapd_frame::{Number, Role};
 use lapd_timers::Timer;
 
 /// Words that set one thing.
-#[tactic(auto, unfolding(crate::specs::FullWords::put, crate::specs::FullWords::state_to, crate::specs::FullWords::retries_to, crate::specs::FullWords::layer3_to, crate::specs::FullWords::release_pending_to, crate::specs::FullWords::start, crate::specs::FullWords::stop, crate::specs::FullWords::expired))]
+#[tactic(auto, unfolding(crate::specs::Words::put, crate::specs::Words::state_to, crate::specs::Words::retries_to, crate::specs::Words::once_more, crate::specs::Words::layer3_to, crate::specs::Words::release_pending_to, crate::specs::Words::start, crate::specs::Words::stop, crate::specs::Words::expired))]
 impl Machine {
-    ghost use Rattle.lapd_link.specs.FullCounted.{IsCounted};
-    ghost use Rattle.lapd_link.specs.FullStands.{StandsFor};
+    ghost use Rattle.lapd_link.specs.Counted.{IsCounted};
+    ghost use Rattle.lapd_link.specs.Stands.{StandsFor};
 
     /// An output.
     pub fn put(&mut self, out: Out, outs: &mut Outs)
@@ -43,6 +43,14 @@ impl Machine {
         self.retries = retries;
     }
 
+    /// RC is one more.
+    pub fn once_more(&mut self)
+        requires { self.old.retries < 255 }
+        ensures step { (s : Doing) (outs : List Out) → StandsFor self.old outs s → StandsFor self.new outs (once_more s) }
+    {
+        self.retries += 1;
+    }
+
     /// Layer 3 establishes, or the data link by itself.
     pub fn layer3_to(&mut self, on: bool)
         ensures step { (s : Doing) (outs : List Out) → StandsFor self.old outs s → StandsFor self.new outs (layer3_to on s) }
@@ -62,6 +70,8 @@ impl Machine {
         requires room { array_vec_len outs.old + 1 ≤ 136 }
         ensures step { (s : Doing) → StandsFor self.old outs.old.items s → StandsFor self.new outs.new.items (start Timer.T200 s) }
         ensures len { array_vec_len outs.new ≤ array_vec_len outs.old + 1 }
+        ensures window { self.new.window ≡ self.old.window }
+        ensures t200 { self.new.t200 ≡ true }
     {
         self.t200 = true;
         push(outs, Out::Start(Timer::T200));
@@ -101,6 +111,7 @@ impl Machine {
         requires room { array_vec_len outs.old + 1 ≤ 136 }
         ensures step { (s : Doing) → StandsFor self.old outs.old.items s → StandsFor self.new outs.new.items (stop Timer.T203 s) }
         ensures len { array_vec_len outs.new ≤ array_vec_len outs.old + 1 }
+        ensures window { self.new.window ≡ self.old.window }
     {
         if self.t203 {
             self.t203 = false;
@@ -117,10 +128,10 @@ impl Machine {
 }
 
 /// Words of the marks and counters.
-#[tactic(auto, unfolding(crate::specs::FullWords::clear, crate::specs::FullWords::zero_counters, crate::specs::FullWords::peer_is_busy, crate::specs::FullWords::self_is_busy, crate::specs::FullWords::answer_poll, crate::specs::FullWords::enquire, crate::specs::FullWords::put_pending, crate::specs::FullWords::take_message))]
+#[tactic(auto, unfolding(crate::specs::Words::clear, crate::specs::Words::zero_counters, crate::specs::Words::peer_is_busy, crate::specs::Words::self_is_busy, crate::specs::Words::answer_poll, crate::specs::Words::enquire, crate::specs::Words::put_pending, crate::specs::Words::take_message))]
 impl Machine {
-    ghost use Rattle.lapd_link.specs.FullCounted.{IsCounted};
-    ghost use Rattle.lapd_link.specs.FullStands.{StandsFor};
+    ghost use Rattle.lapd_link.specs.Counted.{IsCounted};
+    ghost use Rattle.lapd_link.specs.Stands.{StandsFor};
 
     /// CLEAR: busy, rejecting and a pending acknowledgement are forgotten.
     pub fn clear(&mut self)
@@ -210,10 +221,10 @@ impl Machine {
 }
 
 /// Words of the messages.
-#[tactic(auto, using(crate::proofs::Tails::tail_waiting, crate::proofs::Tails::tail_place, crate::proofs::Tails::tail_emptied, crate::proofs::Tails::tail_acknowledged, crate::proofs::Tails::tail_gone_back, crate::proofs::Tails::tail_sent, crate::proofs::Tails::tail_given), unfolding(crate::specs::FullWords::queue_up, crate::specs::FullWords::discard, crate::specs::FullWords::acknowledge, crate::specs::FullWords::go_back, crate::specs::FullWords::lose_unacknowledged, crate::specs::FullWords::message_out))]
+#[tactic(auto, using(crate::proofs::Tails::tail_waiting, crate::proofs::Tails::tail_place, crate::proofs::Tails::tail_emptied, crate::proofs::Tails::tail_acknowledged, crate::proofs::Tails::tail_gone_back, crate::proofs::Tails::tail_sent, crate::proofs::Tails::tail_given, crate::proofs::Tails::room_sent, crate::proofs::Tails::room_gone_back), unfolding(crate::specs::Words::queue_up, crate::specs::Words::discard, crate::specs::Words::acknowledge, crate::specs::Words::go_back, crate::specs::Words::lose_unacknowledged, crate::specs::Words::message_out))]
 impl Machine {
-    ghost use Rattle.lapd_link.specs.FullCounted.{IsCounted};
-    ghost use Rattle.lapd_link.specs.FullStands.{StandsFor};
+    ghost use Rattle.lapd_link.specs.Counted.{IsCounted};
+    ghost use Rattle.lapd_link.specs.Stands.{StandsFor};
 
     /// A message joins the queue, which has room for it.
     pub fn queue_up(&mut self, message: Vec<u8>)
@@ -282,6 +293,8 @@ impl Machine {
         requires unsent { self.old.queue.sent < length self.old.queue.messages }
         ensures step { (s : Doing) → StandsFor self.old outs.old.items s → StandsFor self.new outs.new.items (message_out Tagged s) }
         ensures len { array_vec_len outs.new ≤ array_vec_len outs.old + 1 }
+        ensures window { self.new.window ≡ sent Tagged self.old.window }
+        ensures t200 { self.new.t200 ≡ self.old.t200 }
     {
         let place = self.queue.sent();
         let (window, control) = self.window.send();
@@ -294,14 +307,16 @@ impl Machine {
 /// T200 guards what was sent.
 #[tactic(auto, using(crate::proofs::Guards::guard_starts, crate::proofs::Guards::guard_runs))]
 impl Machine {
-    ghost use Rattle.lapd_link.specs.FullCounted.{IsCounted};
-    ghost use Rattle.lapd_link.specs.FullStands.{StandsFor};
+    ghost use Rattle.lapd_link.specs.Counted.{IsCounted};
+    ghost use Rattle.lapd_link.specs.Stands.{StandsFor};
 
     /// Where T200 does not run, T203 is stopped and it is started.
     pub fn guard(&mut self, outs: &mut Outs)
-        requires room { array_vec_len outs.old + 2 ≤ 136 }
+        requires room { array_vec_len outs.old + (if self.old.t200 then 0 else 2) ≤ 136 }
         ensures step { (s : Doing) → StandsFor self.old outs.old.items s → StandsFor self.new outs.new.items (guard s) }
         ensures len { array_vec_len outs.new ≤ array_vec_len outs.old + (if self.old.t200 then 0 else 2) }
+        ensures window { self.new.window ≡ self.old.window }
+        ensures t200 { self.new.t200 ≡ true }
     {
         if !self.t200 {
             self.stop_t203(outs);

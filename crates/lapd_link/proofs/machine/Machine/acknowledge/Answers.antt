@@ -3,12 +3,13 @@ use Rattle.lapd_mod128.specs.Counting.{Tagged}
 use Rattle.lapd_supervision.proofs.Outstanding.{acknowledged_count_at_most}
 use Rattle.lapd_supervision.specs.Marks.{acknowledged, acknowledged_count}
 use Rattle.lapd_link.specs.declared.out.Out.TheVariants.{Acknowledged}
-use Rattle.lapd_link.specs.FullWords.{acknowledge}
+use Rattle.lapd_link.specs.Words.{acknowledge}
 use Rattle.lapd_link.proofs.Tails.{tail_acknowledged, counted_above, counted_none}
 use Rattle.lapd_link.proofs.machine.Machine.acknowledge.Goals as goal
+use Rattle.lapd_queue.specs.Waiting.{without_first}
 
 pub returns-then-count-gt0-clause-step : goal.returns-then-count-gt0-clause-step
-unfolding acknowledge
+unfolding acknowledge without_first
 returns-then-count-gt0-clause-step c = λ s h.
     let told : c.from-count.result ≡ acknowledged_count Tagged c.args.nr c.args.self.now.window = c.from-count.ensures ∙ c.in-Some.ensures.count in
     let count : acknowledged_count Tagged c.args.nr s.at.window ≡ c.from-count.result = ap (acknowledged_count Tagged c.args.nr) h.window ∙ sym told in
@@ -22,11 +23,12 @@ returns-then-count-gt0-clause-step c = λ s h.
       t200 = h.t200;
       t203 = h.t203;
       queue = rw (count, c.acknowledge.ensures.left) (tail_acknowledged _ _ _ c.from-count.result _ h.queue few c.acknowledge.ensures.were_there);
+      room = rw c.acknowledge.ensures.left h.room;
       put = rw (h.put, count, counted_above c.from-count.result Acknowledged c.if-count-gt0.true) (sym c.push.ensures.items);
     }
 
 pub returns-else-count-gt0-clause-step : goal.returns-else-count-gt0-clause-step
-unfolding acknowledge
+unfolding acknowledge without_first
 returns-else-count-gt0-clause-step c = λ s h.
     let told : c.from-count.result ≡ acknowledged_count Tagged c.args.nr c.args.self.now.window = c.from-count.ensures ∙ c.in-Some.ensures.count in
     let count : acknowledged_count Tagged c.args.nr s.at.window ≡ c.from-count.result = ap (acknowledged_count Tagged c.args.nr) h.window ∙ sym told in
@@ -40,6 +42,7 @@ returns-else-count-gt0-clause-step c = λ s h.
       t200 = h.t200;
       t203 = h.t203;
       queue = rw (count, c.acknowledge.ensures.left) (tail_acknowledged _ _ _ c.from-count.result _ h.queue few c.acknowledge.ensures.were_there);
+      room = rw c.acknowledge.ensures.left h.room;
       put = rw (h.put, count, counted_none c.from-count.result Acknowledged c.if-count-gt0.false) (append-nil _);
     }
 
