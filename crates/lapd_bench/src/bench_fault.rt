@@ -1,0 +1,48 @@
+use lapd_frame::FaultKind;
+use lapd_link::{LinkFault, Refused};
+use std::alloc::AllocError;
+use thiserror::Error;
+
+/// Why the messages were not all passed.
+#[derive(Clone, Copy, Debug, PartialEq, Eq, Error)]
+pub enum BenchFault {
+    /// The words are no number of messages.
+    #[error("usage: lapd_bench [MESSAGES]")]
+    CommandLine,
+    /// Memory ran out.
+    #[error("out of memory")]
+    Memory,
+    /// A request was refused.
+    #[error("refused: {0}")]
+    Refused(LinkFault),
+    /// What was to be sent is no frame.
+    #[error("no frame: {0:?}")]
+    NoFrame(FaultKind),
+    /// An end was to send a frame and sent none.
+    #[error("nothing was sent")]
+    NothingSent,
+}
+
+impl From<AllocError> for BenchFault {
+    fn from(_error: AllocError) -> BenchFault {
+        BenchFault::Memory
+    }
+}
+
+impl From<LinkFault> for BenchFault {
+    fn from(fault: LinkFault) -> BenchFault {
+        BenchFault::Refused(fault)
+    }
+}
+
+impl From<Refused> for BenchFault {
+    fn from(refused: Refused) -> BenchFault {
+        BenchFault::Refused(refused.fault)
+    }
+}
+
+impl From<FaultKind> for BenchFault {
+    fn from(kind: FaultKind) -> BenchFault {
+        BenchFault::NoFrame(kind)
+    }
+}
