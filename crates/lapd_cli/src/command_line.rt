@@ -1,8 +1,8 @@
 //! The command line: what the program's words choose.
 
-ghost use Rattle.std.specs.Prelude.{◌≡◌, ◌<◌, IfSome, length, Ok};
-ghost use Rattle.std.specs.Str.Parse.{digits_value};
-ghost use Rattle.lapd_cli.specs.CommandLine.{default_numbers, numbers_written};
+ghost use Rattle.std.specs.Prelude.{◌≡◌, ◌<◌, ◌^◌, SomeIff, length, Ok};
+ghost use Rattle.std.specs.Str.Parse.{digits_value, IsNumeral};
+ghost use Rattle.lapd_cli.specs.CommandLine.{default_numbers, numbers_written, AreWritten};
 
 use clap::error::ErrorKind;
 use clap::{Arg, ArgAction, ArgMatches, Command, Error, value_parser};
@@ -76,7 +76,7 @@ fn params_given(given: &ArgMatches<'_>) -> Option<Params> {
 
 // The parameters with these numbers; `None` where one is not written in decimal digits alone or is out of its range.
 fn params_of(k: &str, n200: &str, room: &str) -> Option<Params>
-    ensures { IfSome result (λ p. p ≡ numbers_written k.now n200.now room.now) }
+    ensures { SomeIff result (AreWritten k.now n200.now room.now) (numbers_written k.now n200.now room.now) }
 {
     let k = u8::try_from(number_of(k)?).ok()?;
     let n200 = u8::try_from(number_of(n200)?).ok()?;
@@ -85,7 +85,7 @@ fn params_of(k: &str, n200: &str, room: &str) -> Option<Params>
 
 // The number that is written so, in decimal digits alone.
 fn number_of(digits: &str) -> Option<u16>
-    ensures { IfSome result (λ n. n ≡ digits_value 10 digits.now) }
+    ensures { SomeIff result (IsNumeral 10 digits.now × (digits_value 10 digits.now < 2 ^ 16)) (digits_value 10 digits.now) }
 {
     if digits.starts_with('+') {
         return None;
