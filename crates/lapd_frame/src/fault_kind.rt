@@ -13,7 +13,7 @@ pub enum FaultKind {
     /// F2: an address extension bit is wrong (Q.921 2.9 e).
     #[error("F2 BadAddress")]
     BadAddress,
-    /// F3: the service access point is not served (Q.921 2.9 e).
+    /// F3: the service access point is not served (Q.921 2.9 f).
     #[error("F3 SapiNotServed")]
     SapiNotServed,
     /// F4: an undefined control field, a reserved bit that is set, or a command sent as a response or a response as

@@ -16,10 +16,10 @@ use Rattle.lapd_link.specs.declared.out.Out.{Out}
 use Rattle.lapd_link.specs.declared.out.Out.TheVariants.{Send, SendMessage, Up, Established, Acknowledged, Dropped, Start, Stop}
 
 -- An end: its state, how often it has sent again, V(S), V(A), V(R) and the marks, whether layer 3 establishes and
--- whether a release waits for the answer to the SABME, which timers run, how many establishments it has had; and of all
+-- whether a release waits for the answer to the SABME, which timers run, how many establishments it has had; of all
 -- messages that layer 3 ever gave and that were taken, the place of the first that is neither acknowledged nor dropped,
--- and of the first that is not sent; and how many messages may wait. In states 7 and 8 message number n of the present establishment stands at place
--- first + (n - V(A)).
+-- and of the first that is not sent; and how many messages may wait. In states 7 and 8 message number n of the present
+-- establishment stands at place first + (n - V(A)).
 pub record End : Type 0 where
   pub state : State
   pub retries : ℕ

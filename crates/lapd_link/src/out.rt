@@ -4,7 +4,7 @@ ghost use Rattle.lapd_link.specs.Out.{letter_code};
 use lapd_frame::{Control, Role};
 use lapd_timers::Timer;
 
-/// What an event calls for (Q.921 4.1.3 and Annex B).
+/// What an event calls for (Q.921 4.1 and Annex B).
 #[derive(Clone, Copy, Debug, Default, PartialEq, Eq)]
 pub enum Out {
     /// A frame without information is sent.
