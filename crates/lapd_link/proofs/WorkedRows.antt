@@ -1,11 +1,12 @@
 -- The state table at worked rows: the definitions compute what the standard's procedures give, step by step.
-use Rattle.std.proofs.Common.{◌≡◌, ℕ, List, [], ◌∷◌, true, false, Result, Ok, Err, refl}
+use Rattle.std.proofs.Common.{◌≡◌, ℕ, zero, suc, ◌+◌, List, [], ◌∷◌, true, false, Result, Ok, Err, refl}
 use Rattle.lapd_timers.specs.declared.timer.Timer.TheVariants.{T200, T203}
 use Rattle.lapd_frame.specs.declared.Role.TheVariants.{Command, Answer}
 use Rattle.lapd_frame.specs.declared.Control.TheVariants.{I, Rr, Rnr, Rej, Sabme, Disc, Ua}
 use Rattle.lapd_frame.specs.declared.fault_kind.FaultKind.TheVariants as fault
 use Rattle.lapd_mod128.specs.Counting.{Tagged, after, steps, lies_within}
 use Rattle.lapd_supervision.specs.Marks.{initial_marks, cleared, zeroed, own_status, acknowledgement, ack_pending_cleared, poll_answer, is_accepted, is_rejected, received, message_answer, is_valid, acknowledged, acknowledged_count, is_all, gone_back, may_send, next_message, sent, own_busy_to, peer_busy_to}
+use Rattle.lapd_link.specs.declared.state.State.TheVariants.{MultipleFrameEstablished}
 use Rattle.lapd_link.specs.declared.out.Letter.TheVariants as letter
 use Rattle.lapd_link.specs.declared.out.Out.{Out}
 use Rattle.lapd_link.specs.declared.out.Out.TheVariants as out
@@ -109,3 +110,24 @@ pub fault_in_a_frame : outputs (numbers 1 512) (new_end 512) (Faulty fault.InfoN
     ≡ Ok (out.Report letter.M ∷ []) ∷ Ok (out.Send Answer (Ua true) ∷ out.Established ∷ out.Start T203 ∷ []) ∷ Ok (out.Report letter.O ∷ out.Send Command (Sabme true) ∷ out.Stop T203 ∷ out.Start T200 ∷ []) ∷ []
 unfolding begin put state_to retries_to once_more layer3_to release_pending_to start stop expired clear zero_counters peer_is_busy self_is_busy answer_poll enquire queue_up discard acknowledge go_back take_message lose_unacknowledged message_out guard put_pending establish establish_again give_up tei_assigned confirm establishment_answered establishment_expired awaiting_establishment released release_expired awaiting_release advance advance_by_message number_wrong message_number message_number_in_recovery poll_or_final poll back_to recovered recovered_busy ready_number reject_number not_ready_number ready_in_recovery not_ready_in_recovery recovery_expired busy_on busy_off in_both established timer_recovery by_state fault_reported row send_all acknowledge_pending close step initial_marks cleared zeroed own_status acknowledgement ack_pending_cleared poll_answer is_accepted is_rejected received message_answer is_valid acknowledged acknowledged_count is_all gone_back may_send next_message sent own_busy_to peer_busy_to after steps lies_within
 fault_in_a_frame = refl
+
+-- so many messages of one octet
+abbrev many : ℕ → List (List ℕ)
+many zero = []
+many (suc n) = (1 ∷ []) ∷ many n
+
+-- so many I frames, from this place and number on, with N(R) = 1
+abbrev frames : ℕ → ℕ → ℕ → List Out
+frames zero place number = []
+frames (suc n) place number = out.SendMessage place (I number 1 false) ∷ frames n (place + 1) (number + 1)
+
+-- of 254 messages 127 are sent
+abbrev half_sent : End
+half_sent = record (new_end 512) { state = MultipleFrameEstablished; window = record initial_marks { vs = 127 }; t200 = true; given = many 254; next = 127 }
+
+-- the longest step: an I frame with P=1 that acknowledges 127 messages opens the window for the other 127
+pub longest_step : outputs (numbers 127 512) half_sent (Hears (I 0 127 true) Command ∷ [])
+    ≡ Ok (out.Up ∷ out.Send Answer (Rr 1 true) ∷ out.Acknowledged 127 ∷ out.Stop T200 ∷ out.Start T203
+    ∷ out.SendMessage 0 (I 127 1 false) ∷ out.Stop T203 ∷ out.Start T200 ∷ frames 126 1 0) ∷ []
+unfolding begin put state_to retries_to once_more layer3_to release_pending_to start stop expired clear zero_counters peer_is_busy self_is_busy answer_poll enquire queue_up discard acknowledge go_back take_message lose_unacknowledged message_out guard put_pending establish establish_again give_up tei_assigned confirm establishment_answered establishment_expired awaiting_establishment released release_expired awaiting_release advance advance_by_message number_wrong message_number message_number_in_recovery poll_or_final poll back_to recovered recovered_busy ready_number reject_number not_ready_number ready_in_recovery not_ready_in_recovery recovery_expired busy_on busy_off in_both established timer_recovery by_state fault_reported row send_all acknowledge_pending close step initial_marks cleared zeroed own_status acknowledgement ack_pending_cleared poll_answer is_accepted is_rejected received message_answer is_valid acknowledged acknowledged_count is_all gone_back may_send next_message sent own_busy_to peer_busy_to after steps lies_within
+longest_step = refl
