@@ -3,7 +3,7 @@ use Rattle.std.proofs.Common.{◌≡◌, ◌≢◌, ℕ, Bool, true, false, not,
 use Rattle.std.proofs.lemmas.Bool.Decides.{nat_tests}
 use Rattle.lapd_field.specs.declared.control.Control.TheVariants.{Rr, Rnr, Rej}
 use Rattle.lapd_mod128.specs.Counting.{Reading, after}
-use Rattle.lapd_supervision.specs.Marks.{Marks, own_status, is_accepted, is_rejected, poll_answer, received, message_answer, Receives}
+use Rattle.lapd_supervision.specs.StateVariables.{StateVariables, status_frame, is_accepted, is_rejected, poll_response, after_i_frame, i_frame_response, Receives}
 
 is_next : (a b : ℕ) → a ≡ b → (a == b) ≡ true
 is_next a b same = grind (arith, nat_tests)
@@ -13,80 +13,80 @@ is_no_next a b other = grind (arith, nat_tests)
 
 -- ---- Whether it is accepted, and whether it is rejected.
 
-busy_is_not_accepted : (ns : ℕ) (m : Marks) → m.own_busy ≡ true → is_accepted ns m ≡ false
+busy_is_not_accepted : (ns : ℕ) (m : StateVariables) → m.own_busy ≡ true → is_accepted ns m ≡ false
 unfolding is_accepted
 busy_is_not_accepted ns m busy = rw busy refl
 
-busy_is_not_rejected : (ns : ℕ) (m : Marks) → m.own_busy ≡ true → is_rejected ns m ≡ false
+busy_is_not_rejected : (ns : ℕ) (m : StateVariables) → m.own_busy ≡ true → is_rejected ns m ≡ false
 unfolding is_rejected
 busy_is_not_rejected ns m busy = rw busy refl
 
-next_is_accepted : (ns : ℕ) (m : Marks) → m.own_busy ≡ false → ns ≡ m.vr → is_accepted ns m ≡ true
+next_is_accepted : (ns : ℕ) (m : StateVariables) → m.own_busy ≡ false → ns ≡ m.vr → is_accepted ns m ≡ true
 unfolding is_accepted
 next_is_accepted ns m free same = rw (free, is_next ns m.vr same) refl
 
-next_is_not_rejected : (ns : ℕ) (m : Marks) → m.own_busy ≡ false → ns ≡ m.vr → is_rejected ns m ≡ false
+next_is_not_rejected : (ns : ℕ) (m : StateVariables) → m.own_busy ≡ false → ns ≡ m.vr → is_rejected ns m ≡ false
 unfolding is_rejected
 next_is_not_rejected ns m free same = rw (free, is_next ns m.vr same) refl
 
-other_is_not_accepted : (ns : ℕ) (m : Marks) → m.own_busy ≡ false → ns ≢ m.vr → is_accepted ns m ≡ false
+other_is_not_accepted : (ns : ℕ) (m : StateVariables) → m.own_busy ≡ false → ns ≢ m.vr → is_accepted ns m ≡ false
 unfolding is_accepted
 other_is_not_accepted ns m free other = rw (free, is_no_next ns m.vr other) refl
 
-other_is_rejected_once : (ns : ℕ) (m : Marks) → m.own_busy ≡ false → ns ≢ m.vr → is_rejected ns m ≡ not m.rejecting
+other_is_rejected_once : (ns : ℕ) (m : StateVariables) → m.own_busy ≡ false → ns ≢ m.vr → is_rejected ns m ≡ not m.rejecting
 unfolding is_rejected
 other_is_rejected_once ns m free other = rw (free, is_no_next ns m.vr other) refl
 
 -- ---- What becomes of it, from that.
 
 -- neither: discarded, and a poll is answered
-discarded : (r : Reading) (ns : ℕ) (p : Bool) (m : Marks) → is_accepted ns m ≡ false → is_rejected ns m ≡ false →
-    Receives r ns p m (record m { ack_pending = not p && m.ack_pending }) false (poll_answer p m)
-unfolding received message_answer poll_answer own_status
+discarded : (r : Reading) (ns : ℕ) (p : Bool) (m : StateVariables) → is_accepted ns m ≡ false → is_rejected ns m ≡ false →
+    Receives r ns p m (record m { ack_pending = not p && m.ack_pending }) false (poll_response p m)
+unfolding after_i_frame i_frame_response poll_response status_frame
 discarded r ns p m accepted rejected = record {
-  marks = rw (accepted, rejected) refl;
+  variables = rw (accepted, rejected) refl;
   taken = accepted;
   answered = rw (accepted, rejected) refl;
 }
 
 -- own busy: discarded, and a poll is answered
-pub received_while_busy : (r : Reading) (ns : ℕ) (p : Bool) (m : Marks) → m.own_busy ≡ true →
-    Receives r ns p m (record m { ack_pending = not p && m.ack_pending }) false (poll_answer p m)
+pub received_while_busy : (r : Reading) (ns : ℕ) (p : Bool) (m : StateVariables) → m.own_busy ≡ true →
+    Receives r ns p m (record m { ack_pending = not p && m.ack_pending }) false (poll_response p m)
 received_while_busy r ns p m busy =
     discarded r ns p m (busy_is_not_accepted ns m busy) (busy_is_not_rejected ns m busy)
 
 -- the next one: accepted, and a poll is answered, or an acknowledgement is left pending
-pub received_in_sequence : (r : Reading) (ns : ℕ) (p : Bool) (m : Marks) → m.own_busy ≡ false → ns ≡ m.vr →
+pub received_in_sequence : (r : Reading) (ns : ℕ) (p : Bool) (m : StateVariables) → m.own_busy ≡ false → ns ≡ m.vr →
     Receives r ns p m (record m { vr = after r m.vr; rejecting = false; ack_pending = not p }) true (if p then Some (Rr (after r m.vr) true) else None)
-unfolding received message_answer poll_answer own_status
+unfolding after_i_frame i_frame_response poll_response status_frame
 received_in_sequence r ns p m free same = let accepted = next_is_accepted ns m free same in let rejected = next_is_not_rejected ns m free same in record {
-  marks = rw accepted refl;
+  variables = rw accepted refl;
   taken = accepted;
   answered = rw (rejected, accepted, free) refl;
 }
 
 -- the first out of sequence: discarded, and answered by REJ with F as its P
-pub received_out_of_sequence : (r : Reading) (ns : ℕ) (p : Bool) (m : Marks) → m.own_busy ≡ false → ns ≢ m.vr → m.rejecting ≡ false →
+pub received_out_of_sequence : (r : Reading) (ns : ℕ) (p : Bool) (m : StateVariables) → m.own_busy ≡ false → ns ≢ m.vr → m.rejecting ≡ false →
     Receives r ns p m (record m { rejecting = true; ack_pending = false }) false (Some (Rej m.vr p))
-unfolding received message_answer
+unfolding after_i_frame i_frame_response
 received_out_of_sequence r ns p m free other fresh = let accepted = other_is_not_accepted ns m free other in let rejected = other_is_rejected_once ns m free other ∙ ap not fresh in record {
-  marks = rw (accepted, rejected) refl;
+  variables = rw (accepted, rejected) refl;
   taken = accepted;
   answered = rw rejected refl;
 }
 
 -- those that follow: discarded, and a poll is answered
-pub received_while_rejecting : (r : Reading) (ns : ℕ) (p : Bool) (m : Marks) → m.own_busy ≡ false → ns ≢ m.vr → m.rejecting ≡ true →
-    Receives r ns p m (record m { ack_pending = not p && m.ack_pending }) false (poll_answer p m)
+pub received_while_rejecting : (r : Reading) (ns : ℕ) (p : Bool) (m : StateVariables) → m.own_busy ≡ false → ns ≢ m.vr → m.rejecting ≡ true →
+    Receives r ns p m (record m { ack_pending = not p && m.ack_pending }) false (poll_response p m)
 received_while_rejecting r ns p m free other rejecting =
     discarded r ns p m (other_is_not_accepted ns m free other) (other_is_rejected_once ns m free other ∙ ap not rejecting)
 
 -- ---- The status
 
-pub status_while_busy : (pf : Bool) (m : Marks) → m.own_busy ≡ true → own_status pf m ≡ Rnr m.vr pf
-unfolding own_status
+pub status_while_busy : (pf : Bool) (m : StateVariables) → m.own_busy ≡ true → status_frame pf m ≡ Rnr m.vr pf
+unfolding status_frame
 status_while_busy pf m busy = rw busy refl
 
-pub status_while_free : (pf : Bool) (m : Marks) → m.own_busy ≡ false → own_status pf m ≡ Rr m.vr pf
-unfolding own_status
+pub status_while_free : (pf : Bool) (m : StateVariables) → m.own_busy ≡ false → status_frame pf m ≡ Rr m.vr pf
+unfolding status_frame
 status_while_free pf m free = rw free refl

@@ -3,11 +3,11 @@ use Rattle.std.specs.Prelude.{ℕ, ◌+◌, ◌≤◌}
 use Rattle.lapd_field.specs.declared.control.Control.{Control}
 use Rattle.lapd_field.specs.declared.control.Control.TheVariants.{I, Rr, Rnr, Rej, Sabme, Dm, Ui, Disc, Ua, Frmr, Xid}
 use Rattle.lapd_mod128.specs.Counting.{tag, AreNear}
-use Rattle.lapd_supervision.specs.Marks.{Marks}
+use Rattle.lapd_supervision.specs.StateVariables.{StateVariables}
 
--- the marks with the tag of each counter
-unfoldable pub tag_marks : Marks → Marks
-tag_marks m = record m { vs = tag m.vs; va = tag m.va; vr = tag m.vr }
+-- the state variables with the tag of each counter
+unfoldable pub tag_variables : StateVariables → StateVariables
+tag_variables m = record m { vs = tag m.vs; va = tag m.va; vr = tag m.vr }
 
 -- the control field with the tag of each number
 unfoldable pub tag_control : Control → Control
@@ -24,11 +24,11 @@ tag_control (Frmr f) = Frmr f
 tag_control (Xid pf) = Xid pf
 
 -- at most 127 I frames are outstanding (Q.921 5.9.5)
-pub record IsWindow (m : Marks) : Type 0 where
+pub record IsWindow (m : StateVariables) : Type 0 where
   pub in_order : m.va ≤ m.vs
   pub at_most : m.vs ≤ m.va + 127
 
 -- an N(R) lies within 127 of V(A) and of V(S)
-pub record IsNearWindow (nr : ℕ) (m : Marks) : Type 0 where
+pub record IsNearWindow (nr : ℕ) (m : StateVariables) : Type 0 where
   pub near_va : AreNear m.va nr
   pub near_vs : AreNear nr m.vs

@@ -1,6 +1,6 @@
 ghost use Rattle.std.specs.Prelude.{◌≡◌, ◌<◌, ◌≤◌, ◌&&◌, true, false, not, Some, IfSome, is_some};
 ghost use Rattle.lapd_mod128.specs.Counting.{Tagged, after};
-ghost use Rattle.lapd_supervision.specs.Marks.{initial_marks, cleared, zeroed, own_status, acknowledgement, ack_pending_cleared, is_accepted, is_rejected, poll_answer, received, message_answer, is_valid, acknowledged, acknowledged_count, is_all, gone_back, may_send, next_message, sent, own_busy_to, peer_busy_to};
+ghost use Rattle.lapd_supervision.specs.StateVariables.{initial_variables, without_exceptions, with_zero_counters, status_frame, acknowledgement, without_ack_pending, is_accepted, is_rejected, poll_response, after_i_frame, i_frame_response, is_valid_nr, with_va, acknowledged_count, acknowledges_all, with_vs, may_send, next_i_frame, after_sending, with_own_busy, with_peer_busy};
 
 use crate::{Advance, Receipt};
 use lapd_field::{Control, Number};
@@ -25,9 +25,9 @@ pub struct Window {
 
 impl Model for Window {
     ghost use Rattle.std.specs.Prelude.{◌<◌};
-    ghost use Rattle.lapd_supervision.specs.Marks.{Marks};
+    ghost use Rattle.lapd_supervision.specs.StateVariables.{StateVariables};
 
-    ghost Value = { Marks };
+    ghost Value = { StateVariables };
 
     ghost view = { λ w. record {
       vs = w.vs;
@@ -53,11 +53,11 @@ impl Model for Window {
 }
 
 /// The window as it begins, and its readers.
-#[tactic(auto, unfolding(crate::specs::Marks::initial_marks))]
+#[tactic(auto, unfolding(crate::specs::StateVariables::initial_variables))]
 impl Window {
     /// All counters 0 and all marks false.
     pub fn new() -> Window
-        ensures { result ≡ initial_marks }
+        ensures { result ≡ initial_variables }
     {
         Window::default()
     }
@@ -116,11 +116,11 @@ impl Window {
 }
 
 /// Establishment (Q.921 5.5.1.2).
-#[tactic(auto, unfolding(crate::specs::Marks::cleared, crate::specs::Marks::zeroed))]
+#[tactic(auto, unfolding(crate::specs::StateVariables::without_exceptions, crate::specs::StateVariables::with_zero_counters))]
 impl Window {
     /// All four marks false.
     pub fn clear(self) -> Window
-        ensures { result ≡ cleared self }
+        ensures { result ≡ without_exceptions self }
     {
         Window {
             peer_busy: false,
@@ -133,7 +133,7 @@ impl Window {
 
     /// V(S), V(A) and V(R) 0.
     pub fn zero(self) -> Window
-        ensures { result ≡ zeroed self }
+        ensures { result ≡ with_zero_counters self }
     {
         let first = Seq::default();
         Window {
@@ -146,11 +146,11 @@ impl Window {
 }
 
 /// Supervisory frames.
-#[tactic(auto, unfolding(crate::specs::Marks::own_status, crate::specs::Marks::acknowledgement, crate::specs::Marks::ack_pending_cleared))]
+#[tactic(auto, unfolding(crate::specs::StateVariables::status_frame, crate::specs::StateVariables::acknowledgement, crate::specs::StateVariables::without_ack_pending))]
 impl Window {
     /// RR, or RNR where own busy, with this P or F.
     fn status(self, pf: bool) -> Control
-        ensures { result ≡ own_status pf self }
+        ensures { result ≡ status_frame pf self }
     {
         let nr = number(self.vr);
         if self.own_busy {
@@ -162,7 +162,7 @@ impl Window {
 
     /// Ack pending false.
     fn nothing_pending(self) -> Window
-        ensures { result ≡ ack_pending_cleared self }
+        ensures { result ≡ without_ack_pending self }
     {
         Window {
             ack_pending: false,
@@ -172,7 +172,7 @@ impl Window {
 
     /// The RR with F=0 that acknowledges what was accepted (Q.921 5.6.2.2); ack pending false.
     pub fn acknowledge(self) -> (Window, Control)
-        ensures window { result.0 ≡ ack_pending_cleared self }
+        ensures window { result.0 ≡ without_ack_pending self }
         ensures control { result.1 ≡ acknowledgement self }
     {
         let nr = number(self.vr);
@@ -186,8 +186,8 @@ impl Window {
     /// The response to a command with P=1: RR with F=1, or RNR where own busy (Q.921 5.6.2.1, 5.6.6); ack pending
     /// false.
     pub fn answer_poll(self) -> (Window, Control)
-        ensures window { result.0 ≡ ack_pending_cleared self }
-        ensures control { result.1 ≡ own_status true self }
+        ensures window { result.0 ≡ without_ack_pending self }
+        ensures control { result.1 ≡ status_frame true self }
     {
         let answer = self.status(true);
         (self.nothing_pending(), answer)
@@ -196,18 +196,18 @@ impl Window {
     /// The command that asks the peer for its status: RR with P=1, or RNR where own busy (Q.921 5.6.7); ack pending
     /// false.
     pub fn enquiry(self) -> (Window, Control)
-        ensures window { result.0 ≡ ack_pending_cleared self }
-        ensures control { result.1 ≡ own_status true self }
+        ensures window { result.0 ≡ without_ack_pending self }
+        ensures control { result.1 ≡ status_frame true self }
     {
         let poll = self.status(true);
         (self.nothing_pending(), poll)
     }
 
     /// Answers where `p` is a poll.
-    #[tactic(auto, unfolding(crate::specs::Marks::poll_answer, crate::specs::Marks::ack_pending_cleared))]
+    #[tactic(auto, unfolding(crate::specs::StateVariables::poll_response, crate::specs::StateVariables::without_ack_pending))]
     fn polled(self, p: bool) -> (Window, Option<Control>)
         ensures window { result.0 ≡ record self { ack_pending = not p && self.ack_pending } }
-        ensures answer { result.1 ≡ poll_answer p self }
+        ensures answer { result.1 ≡ poll_response p self }
     {
         if p {
             let (window, control) = self.answer_poll();
@@ -219,7 +219,7 @@ impl Window {
 }
 
 /// An I frame comes, by its N(S).
-#[tactic(auto, unfolding(crate::specs::Marks::is_accepted, crate::specs::Marks::is_rejected, crate::specs::Marks::received, crate::specs::Marks::message_answer, crate::specs::Marks::poll_answer, crate::specs::Marks::own_status))]
+#[tactic(auto, unfolding(crate::specs::StateVariables::is_accepted, crate::specs::StateVariables::is_rejected, crate::specs::StateVariables::after_i_frame, crate::specs::StateVariables::i_frame_response, crate::specs::StateVariables::poll_response, crate::specs::StateVariables::status_frame))]
 impl Window {
     /// What becomes of an I frame with this N(S) and P.
     ///
@@ -229,9 +229,9 @@ impl Window {
     /// - Otherwise it is discarded. The first such frame is answered by REJ with F=P, rejecting is true and ack pending
     ///   false; of those that follow, a poll is answered (5.8.1).
     pub fn take_ns(self, ns: Number, p: bool) -> (Window, Receipt)
-        ensures window { result.0 ≡ received Tagged ns p self }
+        ensures window { result.0 ≡ after_i_frame Tagged ns p self }
         ensures accepted { result.1.accepted ≡ is_accepted ns self }
-        ensures answer { result.1.answer ≡ message_answer Tagged ns p self }
+        ensures answer { result.1.answer ≡ i_frame_response Tagged ns p self }
     {
         if self.own_busy {
             self.discard(p)
@@ -248,7 +248,7 @@ impl Window {
     fn discard(self, p: bool) -> (Window, Receipt)
         ensures window { result.0 ≡ record self { ack_pending = not p && self.ack_pending } }
         ensures accepted { result.1.accepted ≡ false }
-        ensures answer { result.1.answer ≡ poll_answer p self }
+        ensures answer { result.1.answer ≡ poll_response p self }
     {
         let (window, answer) = self.polled(p);
         (
@@ -264,7 +264,7 @@ impl Window {
     fn accept(self, p: bool) -> (Window, Receipt)
         ensures window { result.0 ≡ record self { vr = after Tagged self.vr; rejecting = false; ack_pending = not p } }
         ensures accepted { result.1.accepted ≡ true }
-        ensures answer { result.1.answer ≡ poll_answer p result.0 }
+        ensures answer { result.1.answer ≡ poll_response p result.0 }
     {
         let taken = Window {
             vr: self.vr.next(),
@@ -308,15 +308,15 @@ impl Window {
 }
 
 /// An N(R) comes.
-#[tactic(auto, unfolding(crate::specs::Marks::is_valid, crate::specs::Marks::acknowledged, crate::specs::Marks::acknowledged_count, crate::specs::Marks::is_all, crate::specs::Marks::gone_back))]
+#[tactic(auto, unfolding(crate::specs::StateVariables::is_valid_nr, crate::specs::StateVariables::with_va, crate::specs::StateVariables::acknowledged_count, crate::specs::StateVariables::acknowledges_all, crate::specs::StateVariables::with_vs))]
 impl Window {
     /// Sets V(A) to this N(R), and tells what it acknowledges; `None` where it does not lie from V(A) to V(S), counted
     /// modulo 128 (Q.921 3.5.2.3, 5.6.3.2, 5.8.2).
     pub fn take_nr(self, nr: Number) -> Option<(Window, Advance)>
-        ensures valid { is_some result ≡ is_valid Tagged nr self }
-        ensures window { IfSome result (λ taken. taken.0 ≡ acknowledged nr self) }
+        ensures valid { is_some result ≡ is_valid_nr Tagged nr self }
+        ensures window { IfSome result (λ taken. taken.0 ≡ with_va nr self) }
         ensures count { IfSome result (λ taken. taken.1.count ≡ acknowledged_count Tagged nr self) }
-        ensures all { IfSome result (λ taken. taken.1.all ≡ is_all nr self) }
+        ensures all { IfSome result (λ taken. taken.1.all ≡ acknowledges_all nr self) }
     {
         let va = counter(nr);
         if Seq::within(self.va, va, self.vs) {
@@ -331,7 +331,7 @@ impl Window {
     /// Sets V(S) to this N(R), so that the I frames from it on are sent again (Q.921 5.6.4, 5.8.3). It follows
     /// `take_nr` of the same N(R).
     pub fn go_back(self, nr: Number) -> Window
-        ensures { result ≡ gone_back nr self }
+        ensures { result ≡ with_vs nr self }
     {
         Window {
             vs: counter(nr),
@@ -341,7 +341,7 @@ impl Window {
 }
 
 /// An I frame goes out.
-#[tactic(auto, unfolding(crate::specs::Marks::may_send, crate::specs::Marks::next_message, crate::specs::Marks::sent, crate::specs::Marks::ack_pending_cleared))]
+#[tactic(auto, unfolding(crate::specs::StateVariables::may_send, crate::specs::StateVariables::next_i_frame, crate::specs::StateVariables::after_sending, crate::specs::StateVariables::without_ack_pending))]
 impl Window {
     /// Whether one more I frame may be sent: the peer is not busy, and fewer than `k` are outstanding
     /// (Q.921 5.6.1, 5.9.5).
@@ -355,8 +355,8 @@ impl Window {
 
     /// The next I frame, with P=0; V(S) one on, ack pending false (Q.921 5.6.1).
     pub fn send(self) -> (Window, Control)
-        ensures window { result.0 ≡ sent Tagged self }
-        ensures control { result.1 ≡ next_message self }
+        ensures window { result.0 ≡ after_sending Tagged self }
+        ensures control { result.1 ≡ next_i_frame self }
     {
         let control = Control::I {
             ns: number(self.vs),
@@ -372,13 +372,13 @@ impl Window {
 }
 
 /// Busy conditions begin and end.
-#[tactic(auto, unfolding(crate::specs::Marks::own_busy_to, crate::specs::Marks::peer_busy_to, crate::specs::Marks::ack_pending_cleared))]
+#[tactic(auto, unfolding(crate::specs::StateVariables::with_own_busy, crate::specs::StateVariables::with_peer_busy, crate::specs::StateVariables::without_ack_pending))]
 impl Window {
     /// The own receiver busy condition begins or ends: the RNR or RR with F=0 that tells the peer; ack pending false
     /// (Q.921 5.6.6).
     pub fn own(self, busy: bool) -> (Window, Control)
-        ensures window { result.0 ≡ own_busy_to busy self }
-        ensures control { result.1 ≡ own_status false (own_busy_to busy self) }
+        ensures window { result.0 ≡ with_own_busy busy self }
+        ensures control { result.1 ≡ status_frame false (with_own_busy busy self) }
     {
         let window = Window {
             own_busy: busy,
@@ -389,7 +389,7 @@ impl Window {
 
     /// The peer receiver busy condition begins or ends (Q.921 5.6.5).
     pub fn peer(self, busy: bool) -> Window
-        ensures { result ≡ peer_busy_to busy self }
+        ensures { result ≡ with_peer_busy busy self }
     {
         Window {
             peer_busy: busy,
