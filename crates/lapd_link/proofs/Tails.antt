@@ -1,10 +1,10 @@
 -- The I queue stays the tail of what was given, under each word that moves a place or a message.
-use Rattle.std.proofs.Common.{◌≡◌, ℕ, ◌+◌, ◌-◌, ◌<◌, ◌≤◌, nat_lt, true, false, List, [], ◌∷◌, ◌++◌, length, drop, refl, sym, ap, ◌∙◌, arith}
+use Rattle.std.proofs.Common.{◌≡◌, ℕ, ◌+◌, ◌-◌, ◌<◌, ◌≤◌, nat_lt, true, false, List, [], ◌∷◌, ◌++◌, length, drop, Result, Ok, Err, OnOk, refl, sym, ap, ◌∙◌, arith}
 use Rattle.std.proofs.lemmas.List.{length-drop, length-append, drop-append-le, drop-drop}
 use Rattle.std.proofs.Math.Seq.{drop-length}
 use Rattle.std.proofs.lemmas.Bool.Decides.{nat_tests}
-use Rattle.lapd_link.specs.declared.out.Out.{Out}
-use Rattle.lapd_link.specs.Words.{counted}
+use Rattle.lapd_states.specs.declared.out.Out.{Out}
+use Rattle.lapd_states.specs.Procedures.{counted}
 use Rattle.lapd_queue.specs.Waiting.{Waiting, with_message, one_more_sent, without_first, all_unsent, emptied}
 use Rattle.lapd_link.specs.Tail.{IsTail}
 
@@ -63,3 +63,8 @@ room_sent room q h = h
 pub room_gone_back : (room : ℕ) (q : Waiting) → room ≡ q.room → room ≡ (all_unsent q).room
 unfolding all_unsent
 room_gone_back room q h = h
+
+-- what holds where a call is done
+pub on_ok : {X Y : Type 0} (r : Result X Y) (P Q : Type 0) → OnOk r P → (P → Q) → OnOk r Q
+on_ok (Ok x) P Q h f = f h
+on_ok (Err y) P Q h f = h

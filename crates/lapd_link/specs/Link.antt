@@ -1,23 +1,49 @@
--- How a link shows an end.
-use Rattle.std.specs.Prelude.{[]}
+-- How a link shows an end, and how its calls are stated.
+use Rattle.std.specs.Prelude.{◌≡◌, ◌==◌, ◌&&◌, List, [], Bool, true, Ok, Err, ⊤}
+use Rattle.lapd_mod128.specs.Counting.{Tagged}
 use Rattle.lapd_frame.specs.declared.Side.{Side}
 use Rattle.lapd_frame.specs.declared.Sapi.{Sapi}
 use Rattle.lapd_frame.specs.declared.Tei.{Tei}
+use Rattle.lapd_frame.specs.declared.Address.{Address}
+use Rattle.lapd_frame.specs.Address.{sapi_value}
+use Rattle.lapd_frame.specs.Fault.{is_for_link}
+use Rattle.lapd_states.specs.declared.event.Event.{Event}
+use Rattle.lapd_states.specs.declared.event.Event.TheVariants as event
+use Rattle.lapd_states.specs.declared.event.LinkFault.{LinkFault}
+use Rattle.lapd_states.specs.declared.out.Out.{Out}
+use Rattle.lapd_states.specs.End.{End, StepState, begin}
+use Rattle.lapd_states.specs.Input.{Input}
+use Rattle.lapd_states.specs.Table.{step}
 use Rattle.lapd_link.specs.declared.link.Link.{Link}
-use Rattle.lapd_link.specs.Numbers.{Numbers}
-use Rattle.lapd_link.specs.Stands.{StandsFor}
-use Rattle.lapd_link.specs.Words.{End, begin}
+use Rattle.lapd_link.specs.StandsFor.{StandsFor}
 
 -- A link stands for an end between two steps, whatever was given before what its queue holds.
-abbrev pub IsEnd : Link → End → Type 0
-IsEnd link e = StandsFor link.machine [] (begin e)
+abbrev pub LinkStandsFor : Link → End → Type 0
+LinkStandsFor link e = StandsFor link.machine [] (begin e)
 
--- for whom and with what the link is made, which no step changes
-pub record Made : Type 0 where
+-- for whom the link is made, which no step changes
+pub record Setup : Type 0 where
   pub side : Side
   pub sapi : Sapi
   pub tei : Tei
-  pub params : Numbers
 
-abbrev pub made_of : Link → Made
-made_of link = record { side = link.side; sapi = link.sapi; tei = link.tei; params = link.params }
+abbrev pub setup_of : Link → Setup
+setup_of link = record { side = link.side; sapi = link.sapi; tei = link.tei }
+
+-- the address is the link's
+abbrev pub is_address_of : Setup → Address → Bool
+is_address_of setup a = (sapi_value setup.sapi == sapi_value a.sapi) && (setup.tei == a.tei)
+
+-- an event that is for the link: a frame with its address, or a fault that is one of a link (F4 to F7)
+abbrev pub IsForLink : Link → Event → Type 0
+IsForLink link (event.Heard frame) = is_address_of (setup_of link) frame.now.address ≡ true
+IsForLink link (event.Fault kind) = is_for_link kind ≡ true
+IsForLink link other = ⊤
+
+-- the step of the table: its outputs, in order, and a link that stands for the end after it
+abbrev pub Steps : Link → Link → Input → List Out → Type 0
+Steps old new input outs = (e : End) → LinkStandsFor old e → (s : StepState) × (step Tagged input e ≡ Ok s) × (s.outs ≡ outs) × LinkStandsFor new s.end
+
+-- the table refuses
+abbrev pub Refuses : Link → Input → LinkFault → Type 0
+Refuses link input fault = (e : End) → LinkStandsFor link e → step Tagged input e ≡ Err fault

@@ -6,25 +6,16 @@
 //! and what is to be sent, started or told to layer 3 is handed out.
 #![tactic(auto)]
 
-mod event;
-mod laws;
 mod link;
 mod machine;
-mod out;
-mod params;
-mod state;
 #[cfg(test)]
 mod tests;
 
-pub use event::{Event, LinkFault, Refused};
 pub use lapd_frame::{
     Address, Control, FaultKind, Frame, FrameFault, Number, Role, Sapi, Side, Tei,
 };
 pub use lapd_queue::IQueue;
+pub use lapd_states::{Event, Letter, LinkFault, Out, Params, Refused, State};
 pub use lapd_supervision::{Seq, Window};
 pub use lapd_timers::Timer;
-pub use laws::all_sent_are_outstanding;
 pub use link::{Link, Outs};
-pub use out::{Letter, Out};
-pub use params::Params;
-pub use state::State;

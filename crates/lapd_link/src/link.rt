@@ -1,12 +1,11 @@
-ghost use Rattle.std.specs.Prelude.{◌≡◌, [], IfOk, IfErr, OnOk, OnErr, Ok, Err};
-ghost use Rattle.lapd_mod128.specs.Counting.{Tagged};
-ghost use Rattle.lapd_link.specs.Counted.{IsSettled};
+ghost use Rattle.std.specs.Prelude.{◌≡◌, ◌<◌, ◌≢◌, [], IfOk, IfErr, OnOk, OnErr};
+ghost use Rattle.lapd_link.specs.Sent.{IsBetweenSteps};
 
 use crate::machine::Machine;
-use crate::{Event, LinkFault, Out, Params, Refused};
 use arrayvec::ArrayVec;
-use lapd_frame::{Sapi, Side, Tei};
+use lapd_frame::{Address, Sapi, Side, Tei};
 use lapd_queue::IQueue;
+use lapd_states::{Event, LinkFault, Out, Params, Refused};
 use lapd_supervision::Window;
 use lapd_timers::Timer;
 use std::alloc::{AllocError, Global};
@@ -32,16 +31,14 @@ pub struct Link {
     side: Side,
     sapi: Sapi,
     tei: Tei,
-    params: Params,
     machine: Machine,
-    ghost settled: { IsSettled machine },
+    ghost between: { IsBetweenSteps machine },
 }
 
 impl Link {
-    ghost use Rattle.lapd_link.specs.Event.{happening_of, Give};
-    ghost use Rattle.lapd_link.specs.Link.{IsEnd, Made, made_of};
-    ghost use Rattle.lapd_link.specs.Table.{step};
-    ghost use Rattle.lapd_link.specs.Words.{End, Doing, new_end};
+    ghost use Rattle.lapd_states.specs.End.{new_end};
+    ghost use Rattle.lapd_states.specs.Input.{input_of, Give};
+    ghost use Rattle.lapd_link.specs.Link.{LinkStandsFor, Setup, setup_of, Steps, Refuses, IsForLink, is_address_of};
 
     /// A link in state 4, of this side, for `sapi` (not management) and `tei` (not the group TEI). It takes the memory
     /// of its I queue.
@@ -56,15 +53,16 @@ impl Link {
         tei: Tei,
         params: Params,
     ) -> Result<Link, AllocError>
-        ensures end { IfOk result (λ link. IsEnd link (new_end params.room)) }
-        ensures made { IfOk result (λ link. made_of link ≡ record { side = side; sapi = sapi; tei = tei; params = params }) }
+        requires sapi { sapi ≢ Sapi.Management }
+        requires tei { tei < 127 }
+        ensures end { IfOk result (λ link. LinkStandsFor link (new_end params)) }
+        ensures setup { IfOk result (λ link. setup_of link ≡ record { side = side; sapi = sapi; tei = tei }) }
     {
-        let machine = Machine::new(alloc, params.room())?;
+        let machine = Machine::new(alloc, params)?;
         Ok(Link {
             side,
             sapi,
             tei,
-            params,
             machine,
         })
     }
@@ -72,19 +70,19 @@ impl Link {
     /// What is to be done for an event, in order. It takes no memory. Where speed matters, lend the outputs:
     /// [`Link::handle_into`].
     ///
-    /// A frame that is handed in has the link's SAPI and TEI and comes from the other side; a fault is one of F4 to F7.
+    /// A frame that is handed in has the link's SAPI and TEI ([`Link::is_for`]), and comes from the other side; a fault
+    /// is one of F4 to F7 ([`FaultKind::is_for_link`]).
     ///
     /// # Errors
     ///
     /// L3 for unit data of more than 260 octets; L4 for an `Establish` in state 6, or in state 5 with a release
     /// pending. The link is unchanged.
     pub fn handle(&mut self, event: Event) -> Result<Outs, LinkFault>
-        ensures ok { IfOk result (λ outs. (e : End) → IsEnd self.old e
-            → (s : Doing) × (step Tagged self.old.params (happening_of event.entry) e ≡ Ok s) × (s.outs ≡ outs.items) × IsEnd self.new s.at) }
-        ensures err { IfErr result (λ fault. (e : End) → IsEnd self.old e
-            → step Tagged self.old.params (happening_of event.entry) e ≡ Err fault) }
+        requires for_link { IsForLink self.old event }
+        ensures ok { IfOk result (λ outs. Steps self.old self.new (input_of event.entry) outs.items) }
+        ensures err { IfErr result (Refuses self.old (input_of event.entry)) }
         ensures unchanged { OnErr result (self.new ≡ self.old) }
-        ensures made { made_of self.new ≡ made_of self.old }
+        ensures setup { setup_of self.new ≡ setup_of self.old }
     {
         let mut outs = Outs::new();
         self.handle_into(event, &mut outs)?;
@@ -97,20 +95,18 @@ impl Link {
     ///
     /// As [`Link::handle`].
     pub fn handle_into(&mut self, event: Event, outs: &mut Outs) -> Result<(), LinkFault>
-        ensures ok { OnOk result ((e : End) → IsEnd self.old e
-            → (s : Doing) × (step Tagged self.old.params (happening_of event.entry) e ≡ Ok s) × (s.outs ≡ outs.new.items) × IsEnd self.new s.at) }
-        ensures err { IfErr result (λ fault. (e : End) → IsEnd self.old e
-            → step Tagged self.old.params (happening_of event.entry) e ≡ Err fault) }
+        requires for_link { IsForLink self.old event }
+        ensures ok { OnOk result (Steps self.old self.new (input_of event.entry) outs.new.items) }
+        ensures err { IfErr result (Refuses self.old (input_of event.entry)) }
         ensures unchanged { OnErr result (self.new ≡ self.old) }
         ensures empty { OnErr result (outs.new.items ≡ []) }
-        ensures made { made_of self.new ≡ made_of self.old }
+        ensures setup { setup_of self.new ≡ setup_of self.old }
     {
-        self.machine.begins(outs);
+        outs.clear();
         match self.machine.refuses(&event) {
             Some(fault) => Err(fault),
             None => {
-                self.machine
-                    .step(self.params.k(), self.params.n200(), event, outs);
+                self.machine.step(event, outs);
                 Ok(())
             }
         }
@@ -125,12 +121,10 @@ impl Link {
     /// release pending, L5 in state 5 where layer 3 establishes, L2 where the queue is full. The message is handed
     /// back, and the link is unchanged.
     pub fn give(&mut self, message: Vec<u8>) -> Result<Outs, Refused>
-        ensures ok { IfOk result (λ outs. (e : End) → IsEnd self.old e
-            → (s : Doing) × (step Tagged self.old.params (Give message.items) e ≡ Ok s) × (s.outs ≡ outs.items) × IsEnd self.new s.at) }
-        ensures err { IfErr result (λ refused. (refused.message ≡ message) × ((e : End) → IsEnd self.old e
-            → step Tagged self.old.params (Give message.items) e ≡ Err refused.fault)) }
+        ensures ok { IfOk result (λ outs. Steps self.old self.new (Give message.items) outs.items) }
+        ensures err { IfErr result (λ refused. (refused.message ≡ message) × Refuses self.old (Give message.items) refused.fault) }
         ensures unchanged { OnErr result (self.new ≡ self.old) }
-        ensures made { made_of self.new ≡ made_of self.old }
+        ensures setup { setup_of self.new ≡ setup_of self.old }
     {
         let mut outs = Outs::new();
         self.give_into(message, &mut outs)?;
@@ -143,57 +137,68 @@ impl Link {
     ///
     /// As [`Link::give`].
     pub fn give_into(&mut self, message: Vec<u8>, outs: &mut Outs) -> Result<(), Refused>
-        ensures ok { OnOk result ((e : End) → IsEnd self.old e
-            → (s : Doing) × (step Tagged self.old.params (Give message.items) e ≡ Ok s) × (s.outs ≡ outs.new.items) × IsEnd self.new s.at) }
-        ensures err { IfErr result (λ refused. (refused.message ≡ message) × ((e : End) → IsEnd self.old e
-            → step Tagged self.old.params (Give message.items) e ≡ Err refused.fault)) }
+        ensures ok { OnOk result (Steps self.old self.new (Give message.items) outs.new.items) }
+        ensures err { IfErr result (λ refused. (refused.message ≡ message) × Refuses self.old (Give message.items) refused.fault) }
         ensures unchanged { OnErr result (self.new ≡ self.old) }
         ensures empty { OnErr result (outs.new.items ≡ []) }
-        ensures made { made_of self.new ≡ made_of self.old }
+        ensures setup { setup_of self.new ≡ setup_of self.old }
     {
-        self.machine.begins(outs);
-        match self.machine.refuses_message(message.len()) {
-            Some(fault) => Err(Refused { fault, message }),
-            None => {
-                self.machine.take_and_send(self.params.k(), message, outs);
+        outs.clear();
+        if let Some(fault) = self.machine.refuses_message(message.len()) {
+            return Err(Refused { fault, message });
+        }
+        match self.machine.queue_up(message) {
+            Ok(()) => {
+                self.machine.close(outs);
                 Ok(())
             }
+            Err(message) => Err(Refused {
+                fault: LinkFault::QueueFull,
+                message,
+            }),
         }
+    }
+
+    /// Whether frames with this address are the link's.
+    pub fn is_for(&self, address: &Address) -> bool
+        ensures { result ≡ is_address_of (setup_of self.now) address.now }
+    {
+        self.sapi.value() == address.sapi.value() && self.tei.value() == address.tei.value()
     }
 }
 
 /// What a link shows.
-#[tactic(auto, unfolding(crate::specs::Words::begin))]
+#[tactic(auto, unfolding(lapd_states::specs::End::begin))]
 impl Link {
-    ghost use Rattle.lapd_link.specs.Link.{IsEnd, made_of};
-    ghost use Rattle.lapd_link.specs.State.{state_number};
+    ghost use Rattle.lapd_states.specs.End.{End, runs};
+    ghost use Rattle.lapd_states.specs.State.{state_number};
+    ghost use Rattle.lapd_link.specs.Link.{LinkStandsFor, setup_of};
     ghost use Rattle.lapd_link.specs.Tail.{IsTail};
-    ghost use Rattle.lapd_link.specs.Words.{End, runs};
 
     /// The number of its state, 4 to 8.
     pub fn state(&self) -> u8
-        ensures { (e : End) → IsEnd self.now e → result ≡ state_number e.state }
+        ensures { (e : End) → LinkStandsFor self.now e → result ≡ state_number e.state }
     {
         self.machine.state.number()
     }
 
     /// V(S), V(A), V(R) and the marks.
     pub fn window(&self) -> Window
-        ensures { (e : End) → IsEnd self.now e → result ≡ e.window }
+        ensures { (e : End) → LinkStandsFor self.now e → result ≡ e.window }
     {
         self.machine.window
     }
 
     /// RC: how often the last command was sent again.
     pub fn rc(&self) -> u8
-        ensures { (e : End) → IsEnd self.now e → result ≡ e.retries }
+        ensures { (e : End) → LinkStandsFor self.now e → result ≡ e.rc }
     {
-        self.machine.retries
+        self.machine.rc
     }
 
     /// Whether this timer of the link runs.
     pub fn running(&self, timer: Timer) -> bool
-        ensures { (e : End) → IsEnd self.now e → result ≡ runs timer e }
+        ensures { (e : End) → LinkStandsFor self.now e → result ≡ runs timer e }
     {
         match timer {
             Timer::T200 => self.machine.t200,
@@ -204,49 +209,49 @@ impl Link {
 
     /// Whether layer 3 establishes the link, in state 5.
     pub fn layer3_initiated(&self) -> bool
-        ensures { (e : End) → IsEnd self.now e → result ≡ e.layer3 }
+        ensures { (e : End) → LinkStandsFor self.now e → result ≡ e.layer3_initiated }
     {
-        self.machine.layer3
+        self.machine.layer3_initiated
     }
 
     /// Whether a release waits for the answer to the SABME, in state 5.
     pub fn release_pending(&self) -> bool
-        ensures { (e : End) → IsEnd self.now e → result ≡ e.release_pending }
+        ensures { (e : End) → LinkStandsFor self.now e → result ≡ e.release_pending }
     {
         self.machine.release_pending
     }
 
     /// The messages that are neither acknowledged nor dropped.
     pub fn queue(&self) -> &IQueue
-        ensures { (e : End) → IsEnd self.now e → IsTail e.given e.first e.next result.now }
+        ensures { (e : End) → LinkStandsFor self.now e → IsTail e.given e.first e.next result.now }
     {
         &self.machine.queue
     }
 
     /// How many messages its queue has room for, 1 to 1,024.
     pub fn room(&self) -> u16
-        ensures { (e : End) → IsEnd self.now e → result ≡ e.room }
+        ensures { (e : End) → LinkStandsFor self.now e → result ≡ e.parameters.room }
     {
         self.machine.queue.room()
     }
 
     /// Whose end it is.
     pub fn side(&self) -> Side
-        ensures { result ≡ (made_of self.now).side }
+        ensures { result ≡ (setup_of self.now).side }
     {
         self.side
     }
 
     /// Its service access point.
     pub fn sapi(&self) -> Sapi
-        ensures { result ≡ (made_of self.now).sapi }
+        ensures { result ≡ (setup_of self.now).sapi }
     {
         self.sapi
     }
 
     /// Its terminal endpoint.
     pub fn tei(&self) -> Tei
-        ensures { result ≡ (made_of self.now).tei }
+        ensures { result ≡ (setup_of self.now).tei }
     {
         self.tei
     }

@@ -1,31 +1,36 @@
-//! The state variables of a link, and what each word and row of the state table does to them.
+//! What a link keeps, and what each word and row of the state table does to it.
 
-ghost use Rattle.std.specs.Prelude.{◌≡◌, ◌<◌, ◌+◌, ◌==◌, [], ◌∷◌, ◌++◌};
+ghost use Rattle.std.specs.Prelude.{◌≡◌, ◌<◌, ◌+◌, [], ◌∷◌, ◌++◌};
 ghost use Rattle.arrayvec.specs.ArrayVec.{array_vec_len};
 
-use crate::{Out, Outs, State};
+use crate::Outs;
 use lapd_frame::Control;
 use lapd_queue::IQueue;
+use lapd_states::{Out, Params, State};
 use lapd_supervision::Window;
 
-mod closed;
+mod awaiting_establishment;
+mod awaiting_release;
+mod close;
+mod dispatcher;
 mod established;
-mod recovery;
+mod procedures;
 mod refusals;
-mod rows;
-mod sending;
-mod words;
+mod step;
+mod tei_assigned;
+mod timer_recovery;
 
-/// The state variables of an end (Q.921 Annex B).
+/// The variables of an end (Q.921 Annex B).
 #[derive(Drop)]
 pub struct Machine {
+    pub params: Params,
     pub state: State,
-    /// RC, how often a frame was sent again.
-    pub retries: u8,
-    /// V(S), V(A), V(R) and the marks.
+    /// RC, how often the last command was sent again (in state 8, how many enquiries were sent).
+    pub rc: u8,
+    /// V(S), V(A), V(R) and the conditions.
     pub window: Window,
-    /// Layer 3 establishes the link.
-    pub layer3: bool,
+    /// Layer 3 initiated the establishment.
+    pub layer3_initiated: bool,
     /// A release waits for the answer to the SABME.
     pub release_pending: bool,
     pub t200: bool,

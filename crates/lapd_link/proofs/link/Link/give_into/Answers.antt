@@ -1,21 +1,34 @@
 use Rattle.std.proofs.Common.{refl, sym, ◌∙◌}
-use Rattle.lapd_link.specs.Event.{Give}
-use Rattle.lapd_link.proofs.Settled.{end_of, shows_end, settles, stays_settled, step_done, step_refused}
+use Rattle.lapd_states.specs.End.{begin}
+use Rattle.lapd_states.specs.Input.{Give}
+use Rattle.lapd_link.proofs.BetweenSteps.{end_of, shows_end, settles, stays_between, step_done, step_refused, not_full, is_full, queued_and_closed}
 use Rattle.lapd_link.proofs.link.Link.give_into.Goals as goal
 
-pub invariant_of-self-in-None : goal.invariant_of-self-in-None
-invariant_of-self-in-None c = record {
-  settled =
+pub invariant_of-self : goal.invariant_of-self
+invariant_of-self c = record {
+  between =
       let m = c.args.self.now.machine in
-      let none = c.in-None.ensures.refusal c.args.message.items (sym (c.len.ensures ∙ c.args.message.ok.0)) (end_of m) (shows_end m) in
-      stays_settled c.args.self.now.params (Give c.args.message.items) m _ _ _ (rw (sym c.k.ensures.same) c.k.ensures.high) c.begins.ensures.sent c.args.self.now.settled
-      (step_done c.args.self.now.params (Give c.args.message.items) (end_of m) _ _ c.k.ensures.same refl none) (c.take_and_send.ensures.step c.args.self.now.params.n200 (end_of m) (shows_end m));
+      let message = c.args.message.items in
+      let shown = shows_end m c.args.self.now.between in
+      let none = not_full _ _ (c.in_default.ensures message (end_of m) (sym (c.len.ensures ∙ c.args.message.ok.0)) shown) (sym c.in-Ok.ensures.full) in
+      let done = c.close.ensures.step _ (rw c.clear.ensures (c.in-Ok.ensures.ok (begin (end_of m)) _ shown)) in
+      stays_between (Give message) m _ _ _ c.args.self.now.between (step_done (Give message) (end_of m) (sym none)) (queued_and_closed _ _ message (end_of m) none done);
 }
 
 pub returns-in-Some-clause-err : goal.returns-in-Some-clause-err
-returns-in-Some-clause-err c = (refl, λ e h. step_refused c.args.self.now.params (Give c.args.message.items) e c.in-Some.fault (c.in-Some.ensures.refusal c.args.message.items (sym (c.len.ensures ∙ c.args.message.ok.0)) e h))
+returns-in-Some-clause-err c = (refl, λ e h. step_refused (Give c.args.message.items) e c.in-Some.fault (sym (c.in-Some.ensures c.args.message.items e (sym (c.len.ensures ∙ c.args.message.ok.0)) h)))
 
-pub returns-in-None-clause-ok : goal.returns-in-None-clause-ok
-returns-in-None-clause-ok c = λ e h.
-    let done = c.take_and_send.ensures.step c.args.self.now.params.n200 e h in
-    (_, step_done c.args.self.now.params (Give c.args.message.items) e _ _ c.k.ensures.same refl (c.in-None.ensures.refusal c.args.message.items (sym (c.len.ensures ∙ c.args.message.ok.0)) e h), done.put, settles _ _ _ done)
+pub returns-in-Ok-clause-ok : goal.returns-in-Ok-clause-ok
+returns-in-Ok-clause-ok c = λ e h.
+    let message = c.args.message.items in
+    let none = not_full _ _ (c.in_default.ensures message e (sym (c.len.ensures ∙ c.args.message.ok.0)) h) (sym c.in-Ok.ensures.full) in
+    let done = queued_and_closed _ _ message e none (c.close.ensures.step _ (rw c.clear.ensures (c.in-Ok.ensures.ok (begin e) _ h))) in
+    (_, step_done (Give message) e (sym none), done.put, settles _ _ _ done)
+
+pub returns-in-Err-clause-err : goal.returns-in-Err-clause-err
+returns-in-Err-clause-err c = (
+  c.in-Err.ensures.handed_back,
+  λ e h.
+      let message = c.args.message.items in
+      step_refused (Give message) e _ (is_full _ _ (c.in_default.ensures message e (sym (c.len.ensures ∙ c.args.message.ok.0)) h) (sym c.in-Err.ensures.full)),
+)

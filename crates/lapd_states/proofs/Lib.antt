@@ -1,0 +1,4 @@
+pub mod ParametersStay
+pub mod Sending
+pub mod Soundness
+pub mod WorkedRows
