@@ -1,5 +1,5 @@
 ghost use Rattle.std.specs.Prelude.{◌≡◌, ◌<◌, ◌≤◌, ◌↔◌, IsTrue, IfSome, is_some, nat_lt};
-ghost use Rattle.lapd_mod128.specs.Counting.{Tagged, after, moved, steps, lies_within, AreSteps, LiesFrom, InFewerSteps};
+ghost use Rattle.lapd_mod128.specs.Counting.{Tagged, after, number_after, steps, lies_within, AreSteps, LiesFrom, InFewerSteps};
 
 use std::marker::Model;
 

@@ -1,4 +1,4 @@
-ghost use Rattle.std.specs.Prelude.{◌≡◌, ◌+◌, ◌-◌, ◌<◌, ◌≤◌, ◌==◌, length, map, slice_get, Some, IfOk, IfErr, OnOk, OnErr, is_err};
+ghost use Rattle.std.specs.Prelude.{◌≡◌, ◌+◌, ◌-◌, ◌<◌, ◌≤◌, ◌==◌, length, map, slice_get, option_copied, Some, IfOk, IfErr, OnOk, OnErr, is_err};
 ghost use Rattle.lapd_queue.specs.Waiting.{with_room, with_message, one_more_sent, without_first, all_unsent, emptied};
 
 use std::alloc::{AllocError, Global};
@@ -87,6 +87,13 @@ impl IQueue {
         ensures { slice_get self.now.messages i ≡ Some result.now }
     {
         self.messages[usize::from(i)].as_slice()
+    }
+
+    /// The octets of the message at place `i`, counted from 0 at the front, or `None` where no more than `i` wait.
+    pub fn get(&self, i: u16) -> Option<&[u8]>
+        ensures { option_copied result ≡ slice_get self.now.messages i }
+    {
+        self.messages.get(usize::from(i)).map(Vec::as_slice)
     }
 
     /// Puts a message at the end, unsent (Q.921 5.6.1). Where `room` messages wait, it is handed back and the queue is
