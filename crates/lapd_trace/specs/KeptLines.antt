@@ -1,7 +1,7 @@
 -- What a history shows: its room and the lines that it keeps.
 use Rattle.std.specs.Prelude.{ℕ, ◌-◌, List, length, drop}
 
-pub record Kept : Type 0 where
+pub record KeptLines : Type 0 where
   pub room : ℕ
   pub lines : List (List ℕ)
 
