@@ -6,12 +6,18 @@
 #![tactic(auto)]
 
 #[cfg(test)]
+mod counters;
+#[cfg(test)]
 mod fields;
 #[cfg(test)]
 mod frames;
+#[cfg(test)]
+mod queues;
 #[cfg(test)]
 mod reports;
 #[cfg(test)]
 mod traces;
 #[cfg(test)]
 mod wants;
+#[cfg(test)]
+mod windows;
