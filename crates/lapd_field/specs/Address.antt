@@ -1,5 +1,5 @@
 -- The address field of a frame (Q.921 3.3): its octets as a function of its parts, and its parts as found in octets.
-use Rattle.std.specs.Prelude.{ℕ, ◌+◌, ◌*◌, ◌/◌, ◌%◌, ◌≤◌, ◌==◌, ◌||◌, nat_le, if◌then◌else◌, Bool, true, false, List, [], ◌∷◌, Option, Some, None, Result, Ok, Err}
+use Rattle.std.specs.Prelude.{ℕ, ◌+◌, ◌*◌, ◌/◌, ◌%◌, ◌≤◌, ◌==◌, ◌||◌, nat_le, if◌then◌else◌, Bool, true, false, List, [], ◌∷◌, codes, Option, Some, None, Result, Ok, Err}
 use Rattle.lapd_field.specs.declared.sapi.Sapi.{Sapi}
 use Rattle.lapd_field.specs.declared.sapi.Sapi.TheVariants.{Call, Packet, Management}
 use Rattle.lapd_field.specs.declared.side.Side.{Side}
@@ -9,6 +9,15 @@ use Rattle.lapd_field.specs.declared.side.Role.TheVariants.{Command, Answer}
 use Rattle.lapd_field.specs.declared.address.Address.{Address}
 use Rattle.lapd_field.specs.declared.field_fault.FieldFault.{FieldFault}
 use Rattle.lapd_field.specs.declared.field_fault.FieldFault.TheVariants.{BadAddress, SapiNotServed}
+
+-- the side that hears what this one sends
+abbrev pub other_side : Side → Side
+other_side Network = User
+other_side User = Network
+
+abbrev pub side_name : Side → List ℕ
+side_name Network = codes "network"
+side_name User = codes "user"
 
 -- the number of a service access point (Q.921 3.3.3)
 abbrev pub sapi_value : Sapi → ℕ

@@ -43,9 +43,9 @@ impl Control {
     {
         let (control, taken) = match octets {
             [] => return Err(FieldFault::TooShort),
-            [first, ..] if !has_second(*first) => (unnumbered(*first), 1),
+            [first, ..] if !has_second(*first) => (unnumbered_field(*first), 1),
             [_] => return Err(FieldFault::TooShort),
-            [first, second, ..] => (numbered(*first, *second), 2),
+            [first, second, ..] => (numbered_field(*first, *second), 2),
         };
         match control {
             Some(control) => Ok((control, taken)),
@@ -58,17 +58,17 @@ impl Control {
         ensures { result.items ≡ control_octets self.now }
     {
         match *self {
-            Control::I { ns, nr, p } => two(ns.value() * 2, nr, p),
-            Control::Rr { nr, pf } => two(0x01, nr, pf),
-            Control::Rnr { nr, pf } => two(0x05, nr, pf),
-            Control::Rej { nr, pf } => two(0x09, nr, pf),
-            Control::Sabme { p } => one(0x6f, p),
-            Control::Dm { f } => one(0x0f, f),
-            Control::Ui { p } => one(0x03, p),
-            Control::Disc { p } => one(0x43, p),
-            Control::Ua { f } => one(0x63, f),
-            Control::Frmr { f } => one(0x87, f),
-            Control::Xid { pf } => one(0xaf, pf),
+            Control::I { ns, nr, p } => two_octets(ns.value() * 2, nr, p),
+            Control::Rr { nr, pf } => two_octets(0x01, nr, pf),
+            Control::Rnr { nr, pf } => two_octets(0x05, nr, pf),
+            Control::Rej { nr, pf } => two_octets(0x09, nr, pf),
+            Control::Sabme { p } => one_octet(0x6f, p),
+            Control::Dm { f } => one_octet(0x0f, f),
+            Control::Ui { p } => one_octet(0x03, p),
+            Control::Disc { p } => one_octet(0x43, p),
+            Control::Ua { f } => one_octet(0x63, f),
+            Control::Frmr { f } => one_octet(0x87, f),
+            Control::Xid { pf } => one_octet(0xaf, pf),
         }
     }
 }
@@ -81,7 +81,7 @@ fn has_second(first: u8) -> bool
 }
 
 /// The field of an I or S frame.
-fn numbered(first: u8, second: u8) -> Option<Control>
+fn numbered_field(first: u8, second: u8) -> Option<Control>
     ensures { result ≡ numbered_at first second }
 {
     let nr = Number::new(second / 2)?;
@@ -100,7 +100,7 @@ fn numbered(first: u8, second: u8) -> Option<Control>
 }
 
 /// The field of a U frame.
-fn unnumbered(first: u8) -> Option<Control>
+fn unnumbered_field(first: u8) -> Option<Control>
     ensures { result ≡ unnumbered_at first }
 {
     match first {
@@ -123,7 +123,7 @@ fn unnumbered(first: u8) -> Option<Control>
 }
 
 /// The octet of a U frame, with P or F worth 16.
-fn one(octet: u8, pf: bool) -> ArrayVec<u8, 2>
+fn one_octet(octet: u8, pf: bool) -> ArrayVec<u8, 2>
     requires { octet < 0xB0 }
     ensures { result.items ≡ (octet + bit pf * 16) ∷ [] }
 {
@@ -133,7 +133,7 @@ fn one(octet: u8, pf: bool) -> ArrayVec<u8, 2>
 }
 
 /// The octets of an I or S frame.
-fn two(first: u8, nr: Number, pf: bool) -> ArrayVec<u8, 2>
+fn two_octets(first: u8, nr: Number, pf: bool) -> ArrayVec<u8, 2>
     ensures { result.items ≡ first ∷ (nr * 2 + bit pf) ∷ [] }
 {
     let mut octets = ArrayVec::new();

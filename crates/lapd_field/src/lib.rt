@@ -22,6 +22,3 @@ pub use number::Number;
 pub use sapi::Sapi;
 pub use side::{Role, Side};
 pub use tei::Tei;
-
-#[cfg(test)]
-mod tests;

@@ -1,6 +1,8 @@
-ghost use Rattle.std.specs.Prelude.{◌≡◌, ◌≤◌};
+ghost use Rattle.std.specs.Prelude.{◌≡◌, ◌≤◌, Some};
+ghost use Rattle.std.specs.Fmt.{decimal};
 ghost use Rattle.lapd_field.specs.Address.{number_at};
 
+use std::fmt;
 use std::marker::Model;
 
 /// A sequence number of a frame, N(S) or N(R): 0 to 127 (Q.921 3.5.2.1).
@@ -39,5 +41,14 @@ impl Number {
         ensures range { result ≤ 127 }
     {
         self.value
+    }
+}
+
+impl fmt::Display for Number {
+    ghost output = { λ number. Some (decimal number) };
+
+    fn fmt<W: fmt::Write>(&self, f: &mut fmt::Formatter<W>) -> fmt::Result {
+        let value = self.value;
+        write!(f, "{value}")
     }
 }

@@ -1,5 +1,8 @@
-ghost use Rattle.std.specs.Prelude.{◌≡◌};
+ghost use Rattle.std.specs.Prelude.{◌≡◌, Some};
+ghost use Rattle.std.specs.Fmt.{decimal};
 ghost use Rattle.lapd_field.specs.Address.{sapi_value, sapi_at};
+
+use std::fmt;
 
 /// A service access point identifier that is served (Q.921 3.3.3, Table 2).
 #[derive(Clone, Copy, Debug, PartialEq, Eq)]
@@ -34,5 +37,14 @@ impl Sapi {
             Sapi::Packet => 16,
             Sapi::Management => 63,
         }
+    }
+}
+
+impl fmt::Display for Sapi {
+    ghost output = { λ sapi. Some (decimal (sapi_value sapi)) };
+
+    fn fmt<W: fmt::Write>(&self, f: &mut fmt::Formatter<W>) -> fmt::Result {
+        let value = self.value();
+        write!(f, "{value}")
     }
 }

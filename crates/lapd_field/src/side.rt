@@ -1,3 +1,8 @@
+ghost use Rattle.std.specs.Prelude.{◌≡◌, Some};
+ghost use Rattle.lapd_field.specs.Address.{other_side, side_name};
+
+use std::fmt;
+
 /// A side of the user-network interface.
 #[derive(Clone, Copy, Debug, PartialEq, Eq)]
 pub enum Side {
@@ -5,6 +10,29 @@ pub enum Side {
     Network,
     /// The terminal.
     User,
+}
+
+impl Side {
+    /// The side that hears what this one sends.
+    pub fn other(self) -> Side
+        ensures { result ≡ other_side self }
+    {
+        match self {
+            Side::Network => Side::User,
+            Side::User => Side::Network,
+        }
+    }
+}
+
+impl fmt::Display for Side {
+    ghost output = { λ side. Some (side_name side) };
+
+    fn fmt<W: fmt::Write>(&self, f: &mut fmt::Formatter<W>) -> fmt::Result {
+        match self {
+            Side::Network => write!(f, "network"),
+            Side::User => write!(f, "user"),
+        }
+    }
 }
 
 /// What a frame is to the end that hears it (Q.921 3.3.2). Who sent it decides how the C/R bit says so.

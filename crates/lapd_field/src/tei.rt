@@ -1,6 +1,8 @@
-ghost use Rattle.std.specs.Prelude.{◌≡◌, ◌≤◌};
+ghost use Rattle.std.specs.Prelude.{◌≡◌, ◌≤◌, Some};
+ghost use Rattle.std.specs.Fmt.{decimal};
 ghost use Rattle.lapd_field.specs.Address.{number_at};
 
+use std::fmt;
 use std::marker::Model;
 
 /// A terminal endpoint identifier, 0 to 127 (Q.921 3.3.4). 0 to 63 are assigned by the user, 64 to 126 by the
@@ -47,5 +49,14 @@ impl Tei {
         ensures range { result ≤ 127 }
     {
         self.value
+    }
+}
+
+impl fmt::Display for Tei {
+    ghost output = { λ tei. Some (decimal tei) };
+
+    fn fmt<W: fmt::Write>(&self, f: &mut fmt::Formatter<W>) -> fmt::Result {
+        let value = self.value;
+        write!(f, "{value}")
     }
 }

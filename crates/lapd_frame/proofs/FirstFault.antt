@@ -15,8 +15,8 @@ use Rattle.lapd_field.specs.Control.{control_at, has_second, with_second, with_l
 use Rattle.lapd_frame.specs.declared.fault_kind.FaultKind.{FaultKind}
 use Rattle.lapd_frame.specs.declared.fault_kind.FaultKind.TheVariants.{TooShort, BadAddress, SapiNotServed, InfoNotPermitted, WrongSize, InfoTooLong}
 use Rattle.lapd_frame.specs.declared.frame_fault.FrameFault.{FrameFault}
-use Rattle.lapd_frame.specs.Frame.{Fields, frame_of}
-use Rattle.lapd_frame.specs.Reading.{frame_at, first_fault, joined, for_link, line, content_lines, info_len, is_nil}
+use Rattle.lapd_frame.specs.Frame.{Fields, n201, frame_of}
+use Rattle.lapd_frame.specs.Reading.{frame_at, first_fault, frame_of_fields, fault_for_link, line, content_lines, info_len, is_nil}
 
 abbrev pub kind_at : Result Fields FrameFault → Option FaultKind
 kind_at r = option_map (λ (e : FrameFault). e.kind) (result_err r)
@@ -41,12 +41,12 @@ no_second : (third : ℕ) → has_second third ≡ false → ((third % 2 == 0) �
 no_second third h = no_second_at (third % 2 == 0) (third % 4 == 1) h
 
 kind_if : (a : Address) (c : Control) (info : List ℕ) (b : Bool) (fault : FaultKind)
-    → kind_at (for_link a (frame_of a c info (if b then Some fault else None))) ≡ (if b then Some fault else None)
+    → kind_at (fault_for_link a (frame_of a c info (if b then Some fault else None))) ≡ (if b then Some fault else None)
 kind_if a c info true fault = refl
 kind_if a c info false fault = refl
 
 kind_unless : (a : Address) (c : Control) (info : List ℕ) (b : Bool) (fault : FaultKind)
-    → kind_at (for_link a (frame_of a c info (if b then None else Some fault))) ≡ (if not b then Some fault else None)
+    → kind_at (fault_for_link a (frame_of a c info (if b then None else Some fault))) ≡ (if not b then Some fault else None)
 kind_unless a c info true fault = refl
 kind_unless a c info false fault = refl
 
@@ -55,7 +55,7 @@ kind_unless a c info false fault = refl
 -- behind a control field of one octet
 abbrev IsOneOctet : Sapi → ℕ → Role → List ℕ → ℕ → Type 0
 IsOneOctet sapi tei role rest third = has_second third ≡ false
-    → kind_at (joined (Ok (record { sapi = sapi; tei = tei; role = role })) (with_length (unnumbered_at third) 1) (third ∷ rest)) ≡ content_lines role third (length rest)
+    → kind_at (frame_of_fields (Ok (record { sapi = sapi; tei = tei; role = role })) (with_length (unnumbered_at third) 1) (third ∷ rest)) ≡ content_lines role third (length rest)
 
 -- a U frame as a command
 command_octet : (sapi : Sapi) (tei : ℕ) (third : ℕ) (rest : List ℕ) → IsOneOctet sapi tei Command rest third
@@ -65,16 +65,16 @@ command_octet sapi tei third rest =
     octet_cases P third 0x7F (λ _. kind_if _ _ rest (nat_lt 0 (length rest)) InfoNotPermitted) (λ e7F.
     octet_cases P third 0x0F (λ _. refl) (λ e0F.
     octet_cases P third 0x1F (λ _. refl) (λ e1F.
-    octet_cases P third 0x03 (λ _. kind_if _ _ rest (nat_lt 260 (length rest)) InfoTooLong) (λ e03.
-    octet_cases P third 0x13 (λ _. kind_if _ _ rest (nat_lt 260 (length rest)) InfoTooLong) (λ e13.
+    octet_cases P third 0x03 (λ _. kind_if _ _ rest (nat_lt n201 (length rest)) InfoTooLong) (λ e03.
+    octet_cases P third 0x13 (λ _. kind_if _ _ rest (nat_lt n201 (length rest)) InfoTooLong) (λ e13.
     octet_cases P third 0x43 (λ _. kind_if _ _ rest (nat_lt 0 (length rest)) InfoNotPermitted) (λ e43.
     octet_cases P third 0x53 (λ _. kind_if _ _ rest (nat_lt 0 (length rest)) InfoNotPermitted) (λ e53.
     octet_cases P third 0x63 (λ _. refl) (λ e63.
     octet_cases P third 0x73 (λ _. refl) (λ e73.
     octet_cases P third 0x87 (λ _. refl) (λ e87.
     octet_cases P third 0x97 (λ _. refl) (λ e97.
-    octet_cases P third 0xAF (λ _. kind_if _ _ rest (nat_lt 260 (length rest)) InfoTooLong) (λ eAF.
-    octet_cases P third 0xBF (λ _. kind_if _ _ rest (nat_lt 260 (length rest)) InfoTooLong) (λ eBF.
+    octet_cases P third 0xAF (λ _. kind_if _ _ rest (nat_lt n201 (length rest)) InfoTooLong) (λ eAF.
+    octet_cases P third 0xBF (λ _. kind_if _ _ rest (nat_lt n201 (length rest)) InfoTooLong) (λ eBF.
     λ h. let odd = (no_second third h).0 in let low = (no_second third h).1 in rw (e6F, e7F, e0F, e1F, e03, e13, e43, e53, e63, e73, e87, e97, eAF, eBF, odd, low) refl))))))))))))))
 
 -- a U frame as a answer
@@ -93,18 +93,18 @@ answer_octet sapi tei third rest =
     octet_cases P third 0x73 (λ _. kind_if _ _ rest (nat_lt 0 (length rest)) InfoNotPermitted) (λ e73.
     octet_cases P third 0x87 (λ _. kind_unless _ _ rest (nat_eq (length rest) 5) WrongSize) (λ e87.
     octet_cases P third 0x97 (λ _. kind_unless _ _ rest (nat_eq (length rest) 5) WrongSize) (λ e97.
-    octet_cases P third 0xAF (λ _. kind_if _ _ rest (nat_lt 260 (length rest)) InfoTooLong) (λ eAF.
-    octet_cases P third 0xBF (λ _. kind_if _ _ rest (nat_lt 260 (length rest)) InfoTooLong) (λ eBF.
+    octet_cases P third 0xAF (λ _. kind_if _ _ rest (nat_lt n201 (length rest)) InfoTooLong) (λ eAF.
+    octet_cases P third 0xBF (λ _. kind_if _ _ rest (nat_lt n201 (length rest)) InfoTooLong) (λ eBF.
     λ h. let odd = (no_second third h).0 in let low = (no_second third h).1 in rw (e6F, e7F, e0F, e1F, e03, e13, e43, e53, e63, e73, e87, e97, eAF, eBF, odd, low) refl))))))))))))))
 
 -- behind a control field of two octets
 abbrev IsTwoOctets : Sapi → ℕ → Role → ℕ → List ℕ → ℕ → Type 0
-IsTwoOctets sapi tei role second rest third = kind_at (joined (Ok (record { sapi = sapi; tei = tei; role = role })) (with_length (numbered_at third second) 2) (third ∷ second ∷ rest))
+IsTwoOctets sapi tei role second rest third = kind_at (frame_of_fields (Ok (record { sapi = sapi; tei = tei; role = role })) (with_length (numbered_at third second) 2) (third ∷ second ∷ rest))
     ≡ content_lines role third (length rest)
 
 -- an I frame
 even_octets : (sapi : Sapi) (tei : ℕ) (role : Role) (second : ℕ) (rest : List ℕ) (third : ℕ) → (third % 2 == 0) ≡ true → IsTwoOctets sapi tei role second rest third
-even_octets sapi tei Command second rest third even = rw even (kind_if _ _ rest (nat_lt 260 (length rest)) InfoTooLong)
+even_octets sapi tei Command second rest third even = rw even (kind_if _ _ rest (nat_lt n201 (length rest)) InfoTooLong)
 even_octets sapi tei Answer second rest third even = rw even refl
 
 -- an S frame
@@ -127,7 +127,7 @@ two_octets_at sapi tei role second rest third false e h = odd_octets sapi tei ro
 -- ---- All of the octets.
 
 -- no service access point is served
-unserved : (octets : List ℕ) (control : Result (Control × ℕ) FieldFault) → (control ≡ Err field.TooShort → ⊥) → kind_at (joined (Err field.SapiNotServed) control octets) ≡ Some SapiNotServed
+unserved : (octets : List ℕ) (control : Result (Control × ℕ) FieldFault) → (control ≡ Err field.TooShort → ⊥) → kind_at (frame_of_fields (Err field.SapiNotServed) control octets) ≡ Some SapiNotServed
 unserved octets (Ok c) h = refl
 unserved octets (Err field.TooShort) h = absurd (h refl)
 unserved octets (Err field.BadAddress) h = refl
@@ -139,13 +139,13 @@ with_length-fits None n h = cc
 with_length-fits (Some c) n h = cc
 
 unserved_at : (third : ℕ) (rest octets : List ℕ) (two : Bool)
-    → kind_at (joined (Err field.SapiNotServed) (if two then with_second third rest else with_length (unnumbered_at third) 1) octets) ≡ line (two && is_nil rest) TooShort (Some SapiNotServed)
+    → kind_at (frame_of_fields (Err field.SapiNotServed) (if two then with_second third rest else with_length (unnumbered_at third) 1) octets) ≡ line (two && is_nil rest) TooShort (Some SapiNotServed)
 unserved_at third [] octets true = refl
 unserved_at third (second ∷ rest) octets true = unserved octets _ (with_length-fits (numbered_at third second) 2)
 unserved_at third rest octets false = unserved octets _ (with_length-fits (unnumbered_at third) 1)
 
 served : (sapi : Sapi) (tei : ℕ) (role : Role) (third : ℕ) (rest : List ℕ) (two : Bool) → has_second third ≡ two
-    → kind_at (joined (Ok (record { sapi = sapi; tei = tei; role = role })) (control_at (third ∷ rest)) (third ∷ rest))
+    → kind_at (frame_of_fields (Ok (record { sapi = sapi; tei = tei; role = role })) (control_at (third ∷ rest)) (third ∷ rest))
     ≡ line (has_second third && is_nil rest) TooShort (content_lines role third (info_len third rest))
 served sapi tei role third [] true e = rw e refl
 served sapi tei role third (second ∷ rest) true e = rw e (two_octets_at sapi tei role second rest third _ refl e)
@@ -153,7 +153,7 @@ served sapi tei Command third rest false e = rw e (command_octet sapi tei third 
 served sapi tei Answer third rest false e = rw e (answer_octet sapi tei third rest e)
 
 whole : (bad : Bool) (sapi : Option Sapi) (tei : ℕ) (role : Role) (third : ℕ) (rest : List ℕ)
-    → kind_at (joined (if bad then Err field.BadAddress else with_sapi sapi tei role) (control_at (third ∷ rest)) (third ∷ rest))
+    → kind_at (frame_of_fields (if bad then Err field.BadAddress else with_sapi sapi tei role) (control_at (third ∷ rest)) (third ∷ rest))
     ≡ line bad BadAddress (line (has_second third && is_nil rest) TooShort (line (is_none sapi) SapiNotServed (content_lines role third (info_len third rest))))
 whole true sapi tei role third rest = refl
 whole false None tei role third rest = unserved_at third rest (third ∷ rest) (has_second third)

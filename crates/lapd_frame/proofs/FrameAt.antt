@@ -17,12 +17,12 @@ use Rattle.lapd_frame.specs.declared.fault_kind.FaultKind.{FaultKind}
 use Rattle.lapd_frame.specs.declared.fault_kind.FaultKind.TheVariants.{InfoNotPermitted, WrongSize, InfoTooLong}
 use Rattle.lapd_frame.specs.declared.frame_fault.FrameFault.{FrameFault}
 use Rattle.lapd_frame.specs.Fault.{is_for_link}
-use Rattle.lapd_frame.specs.Frame.{Fields, IsFrame, content_fault, frame_of, spelling}
-use Rattle.lapd_frame.specs.Reading.{frame_at, for_link, joined, address_of}
+use Rattle.lapd_frame.specs.Frame.{Fields, IsFrame, n201, content_fault, frame_of, spelling}
+use Rattle.lapd_frame.specs.Reading.{frame_at, fault_for_link, frame_of_fields, address_of}
 
 -- three octets or more are an address, and what begins with a control field
 pub joined_is_frame_at : (from : Side) (octets : List ℕ) → 3 ≤ length octets
-    → joined (address_at from (get_or octets 0 0 ∷ get_or octets 1 0 ∷ [])) (control_at (drop 2 octets)) (drop 2 octets) ≡ frame_at from octets
+    → frame_of_fields (address_at from (get_or octets 0 0 ∷ get_or octets 1 0 ∷ [])) (control_at (drop 2 octets)) (drop 2 octets) ≡ frame_at from octets
 joined_is_frame_at from [] h = absurd (omega arith)
 joined_is_frame_at from (first ∷ []) h = absurd (omega arith)
 joined_is_frame_at from (first ∷ second ∷ []) h = absurd (omega arith)
@@ -45,23 +45,23 @@ drop-control (Frmr f) info = refl
 drop-control (Xid pf) info = refl
 
 -- octets of a frame are joined of its fields
-spelling-joined : (from : Side) (first second : ℕ) (c : Control) (info : List ℕ)
-    → frame_at from (first ∷ second ∷ (control_octets c ++ info)) ≡ joined (address_at from (first ∷ second ∷ [])) (control_at (control_octets c ++ info)) (control_octets c ++ info)
-spelling-joined from first second (I ns nr p) info = refl
-spelling-joined from first second (Rr nr pf) info = refl
-spelling-joined from first second (Rnr nr pf) info = refl
-spelling-joined from first second (Rej nr pf) info = refl
-spelling-joined from first second (Sabme p) info = refl
-spelling-joined from first second (Dm f) info = refl
-spelling-joined from first second (Ui p) info = refl
-spelling-joined from first second (Disc p) info = refl
-spelling-joined from first second (Ua f) info = refl
-spelling-joined from first second (Frmr f) info = refl
-spelling-joined from first second (Xid pf) info = refl
+spelling-frame_of_fields : (from : Side) (first second : ℕ) (c : Control) (info : List ℕ)
+    → frame_at from (first ∷ second ∷ (control_octets c ++ info)) ≡ frame_of_fields (address_at from (first ∷ second ∷ [])) (control_at (control_octets c ++ info)) (control_octets c ++ info)
+spelling-frame_of_fields from first second (I ns nr p) info = refl
+spelling-frame_of_fields from first second (Rr nr pf) info = refl
+spelling-frame_of_fields from first second (Rnr nr pf) info = refl
+spelling-frame_of_fields from first second (Rej nr pf) info = refl
+spelling-frame_of_fields from first second (Sabme p) info = refl
+spelling-frame_of_fields from first second (Dm f) info = refl
+spelling-frame_of_fields from first second (Ui p) info = refl
+spelling-frame_of_fields from first second (Disc p) info = refl
+spelling-frame_of_fields from first second (Ua f) info = refl
+spelling-frame_of_fields from first second (Frmr f) info = refl
+spelling-frame_of_fields from first second (Xid pf) info = refl
 
 pub frame_again : (from : Side) (f : Fields) → content_fault f.address.role f.control (length f.info) ≡ None → frame_at from (spelling from f) ≡ Ok f
 frame_again from f h =
-    spelling-joined from (sapi_value f.address.sapi * 4 + command_bit from f.address.role * 2) (f.address.tei * 2 + 1) f.control f.info ∙ rw (address_again from f.address, control_again f.control f.info, drop-control f.control f.info, h) refl
+    spelling-frame_of_fields from (sapi_value f.address.sapi * 4 + command_bit from f.address.role * 2) (f.address.tei * 2 + 1) f.control f.info ∙ rw (address_again from f.address, control_again f.control f.info, drop-control f.control f.info, h) refl
 
 -- ---- What is read is spelled so.
 
@@ -79,16 +79,16 @@ Read f = Ok f
 same_frame : (f g : Fields) → Read f ≡ Read g → f ≡ g
 same_frame f g h = cc
 
-for_link_ok : (a : Address) (c : Control) (n : ℕ) (octets : List ℕ) (fault : Option FaultKind) (f : Fields) → content_fault a.role c (length (drop n octets)) ≡ fault
-    → for_link a (frame_of a c (drop n octets) fault) ≡ Ok f → IsJoined (Ok a) (Ok (c, n)) octets f
-for_link_ok a c n octets (Some fault) f e h = cc
-for_link_ok a c n octets None f e h =
+fault_for_link_ok : (a : Address) (c : Control) (n : ℕ) (octets : List ℕ) (fault : Option FaultKind) (f : Fields) → content_fault a.role c (length (drop n octets)) ≡ fault
+    → fault_for_link a (frame_of a c (drop n octets) fault) ≡ Ok f → IsJoined (Ok a) (Ok (c, n)) octets f
+fault_for_link_ok a c n octets (Some fault) f e h = cc
+fault_for_link_ok a c n octets None f e h =
     let same : record { address = a; control = c; info = drop n octets } ≡ f = same_frame _ f h in
     subst (IsJoined (Ok a) (Ok (c, n)) octets) same (record { taken = n; address_is = refl; control_is = refl; info_is = refl; content = e })
 
-joined_ok : (address : Result Address FieldFault) (control : Result (Control × ℕ) FieldFault) (octets : List ℕ) (f : Fields) → joined address control octets ≡ Ok f
+joined_ok : (address : Result Address FieldFault) (control : Result (Control × ℕ) FieldFault) (octets : List ℕ) (f : Fields) → frame_of_fields address control octets ≡ Ok f
     → IsJoined address control octets f
-joined_ok (Ok a) (Ok (c, n)) octets f h = for_link_ok a c n octets _ f refl h
+joined_ok (Ok a) (Ok (c, n)) octets f h = fault_for_link_ok a c n octets _ f refl h
 joined_ok (Err field.TooShort) (Ok c) octets f h = cc
 joined_ok (Err field.TooShort) (Err field.TooShort) octets f h = cc
 joined_ok (Err field.TooShort) (Err field.BadAddress) octets f h = cc
@@ -121,7 +121,7 @@ spelled from f head octets n ha hc hi =
 pub found_joined : (from : Side) (address : Result Address FieldFault) (control : Result (Control × ℕ) FieldFault) (head octets : List ℕ) (f : Fields)
     → IfOk address (λ a. IsAddress a × (head ≡ address_octets from a))
     → IfOk control (λ r. IsControl r.0 × (r.1 ≡ length (control_octets r.0)) × (take r.1 octets ≡ control_octets r.0))
-    → joined address control octets ≡ Ok f → IsFrame f × (head ++ octets ≡ spelling from f)
+    → frame_of_fields address control octets ≡ Ok f → IsFrame f × (head ++ octets ≡ spelling from f)
 found_joined from address control head octets f ha hc h =
     let j = joined_ok address control octets f h in
     let a = rw j.address_is at ha in
@@ -140,7 +140,7 @@ cells (first ∷ second ∷ rest) h = refl
 pub found_frame_at : (from : Side) (octets : List ℕ) (address : Result Address FieldFault) (control : Result (Control × ℕ) FieldFault) (r : Result Fields FrameFault) → 3 ≤ length octets
     → IfOk address (λ a. IsAddress a × (get_or octets 0 0 ∷ get_or octets 1 0 ∷ [] ≡ address_octets from a))
     → IfOk control (λ c. IsControl c.0 × (c.1 ≡ length (control_octets c.0)) × (take c.1 (drop 2 octets) ≡ control_octets c.0))
-    → r ≡ joined address control (drop 2 octets) → IfOk r (λ f. IsFrame f × (octets ≡ spelling from f))
+    → r ≡ frame_of_fields address control (drop 2 octets) → IfOk r (λ f. IsFrame f × (octets ≡ spelling from f))
 found_frame_at from octets address control r long ha hc e =
     if_ok r _ (λ f h.
     let j = found_joined from address control (get_or octets 0 0 ∷ get_or octets 1 0 ∷ []) (drop 2 octets) f ha hc (sym e ∙ h) in
@@ -169,7 +169,7 @@ unless_for_link true kind h = tt
 unless_for_link false kind h = h
 
 content_for_link : (role : Role) (c : Control) (len : ℕ) → IsOfLink (content_fault role c len)
-content_for_link Command (I ns nr p) len = if_for_link (nat_lt 260 len) InfoTooLong refl
+content_for_link Command (I ns nr p) len = if_for_link (nat_lt n201 len) InfoTooLong refl
 content_for_link Answer (I ns nr p) len = refl
 content_for_link Command (Rr nr pf) len = if_for_link (nat_lt 0 len) WrongSize refl
 content_for_link Answer (Rr nr pf) len = if_for_link (nat_lt 0 len) WrongSize refl
@@ -181,7 +181,7 @@ content_for_link Command (Sabme p) len = if_for_link (nat_lt 0 len) InfoNotPermi
 content_for_link Answer (Sabme p) len = refl
 content_for_link Command (Dm f) len = refl
 content_for_link Answer (Dm f) len = if_for_link (nat_lt 0 len) InfoNotPermitted refl
-content_for_link Command (Ui p) len = if_for_link (nat_lt 260 len) InfoTooLong refl
+content_for_link Command (Ui p) len = if_for_link (nat_lt n201 len) InfoTooLong refl
 content_for_link Answer (Ui p) len = refl
 content_for_link Command (Disc p) len = if_for_link (nat_lt 0 len) InfoNotPermitted refl
 content_for_link Answer (Disc p) len = refl
@@ -189,19 +189,19 @@ content_for_link Command (Ua f) len = refl
 content_for_link Answer (Ua f) len = if_for_link (nat_lt 0 len) InfoNotPermitted refl
 content_for_link Command (Frmr f) len = refl
 content_for_link Answer (Frmr f) len = unless_for_link (nat_eq len 5) WrongSize refl
-content_for_link Command (Xid pf) len = if_for_link (nat_lt 260 len) InfoTooLong refl
-content_for_link Answer (Xid pf) len = if_for_link (nat_lt 260 len) InfoTooLong refl
+content_for_link Command (Xid pf) len = if_for_link (nat_lt n201 len) InfoTooLong refl
+content_for_link Answer (Xid pf) len = if_for_link (nat_lt n201 len) InfoTooLong refl
 
 -- a fault carries this address where it is of a link
 abbrev Carries : Option Address → Result Fields FrameFault → Type 0
 Carries address r = IfErr r (λ e. e.address ≡ (if is_for_link e.kind then address else None))
 
-for_link_carries : (a : Address) (c : Control) (info : List ℕ) (fault : Option FaultKind) → IsOfLink fault → Carries (Some a) (for_link a (frame_of a c info fault))
-for_link_carries a c info None h = tt
-for_link_carries a c info (Some kind) h = rw h refl
+fault_for_link_carries : (a : Address) (c : Control) (info : List ℕ) (fault : Option FaultKind) → IsOfLink fault → Carries (Some a) (fault_for_link a (frame_of a c info fault))
+fault_for_link_carries a c info None h = tt
+fault_for_link_carries a c info (Some kind) h = rw h refl
 
-address_joined : (address : Result Address FieldFault) (control : Result (Control × ℕ) FieldFault) (octets : List ℕ) → Carries (result_ok address) (joined address control octets)
-address_joined (Ok a) (Ok (c, n)) octets = for_link_carries a c (drop n octets) _ (content_for_link a.role c (length (drop n octets)))
+address_joined : (address : Result Address FieldFault) (control : Result (Control × ℕ) FieldFault) (octets : List ℕ) → Carries (result_ok address) (frame_of_fields address control octets)
+address_joined (Ok a) (Ok (c, n)) octets = fault_for_link_carries a c (drop n octets) _ (content_for_link a.role c (length (drop n octets)))
 address_joined (Err field.BadAddress) control octets = refl
 address_joined (Err field.TooShort) (Ok c) octets = refl
 address_joined (Err field.TooShort) (Err field.TooShort) octets = refl

@@ -17,38 +17,42 @@ pub record Fields : Type 0 where
   pub control : Control
   pub info : List ℕ
 
--- at most N201 octets of information (Q.921 5.9.3)
-abbrev pub free : ℕ → Option FaultKind
-free len = if nat_lt 260 len then Some InfoTooLong else None
+-- N201, the greatest number of octets of information (Q.921 5.9.3)
+abbrev pub n201 : ℕ
+n201 = 260
+
+-- at most N201 octets of information
+abbrev pub at_most_n201 : ℕ → Option FaultKind
+at_most_n201 len = if nat_lt n201 len then Some InfoTooLong else None
 
 -- no information
-abbrev pub bare : FaultKind → ℕ → Option FaultKind
-bare fault len = if nat_lt 0 len then Some fault else None
+abbrev pub no_information : FaultKind → ℕ → Option FaultKind
+no_information fault len = if nat_lt 0 len then Some fault else None
 
 -- five octets of information (Q.921 3.6.11)
-abbrev pub five : ℕ → Option FaultKind
-five len = if nat_eq len 5 then None else Some WrongSize
+abbrev pub five_octets : ℕ → Option FaultKind
+five_octets len = if nat_eq len 5 then None else Some WrongSize
 
 -- What each line of the control table (Q.921 Table 5) refuses: the other role, then information of this length.
 abbrev pub content_fault : Role → Control → ℕ → Option FaultKind
-content_fault Command (I ns nr p) len = free len
+content_fault Command (I ns nr p) len = at_most_n201 len
 content_fault Answer (I ns nr p) len = Some Undefined
-content_fault role (Rr nr pf) len = bare WrongSize len
-content_fault role (Rnr nr pf) len = bare WrongSize len
-content_fault role (Rej nr pf) len = bare WrongSize len
-content_fault Command (Sabme p) len = bare InfoNotPermitted len
+content_fault role (Rr nr pf) len = no_information WrongSize len
+content_fault role (Rnr nr pf) len = no_information WrongSize len
+content_fault role (Rej nr pf) len = no_information WrongSize len
+content_fault Command (Sabme p) len = no_information InfoNotPermitted len
 content_fault Answer (Sabme p) len = Some Undefined
-content_fault Answer (Dm f) len = bare InfoNotPermitted len
+content_fault Answer (Dm f) len = no_information InfoNotPermitted len
 content_fault Command (Dm f) len = Some Undefined
-content_fault Command (Ui p) len = free len
+content_fault Command (Ui p) len = at_most_n201 len
 content_fault Answer (Ui p) len = Some Undefined
-content_fault Command (Disc p) len = bare InfoNotPermitted len
+content_fault Command (Disc p) len = no_information InfoNotPermitted len
 content_fault Answer (Disc p) len = Some Undefined
-content_fault Answer (Ua f) len = bare InfoNotPermitted len
+content_fault Answer (Ua f) len = no_information InfoNotPermitted len
 content_fault Command (Ua f) len = Some Undefined
-content_fault Answer (Frmr f) len = five len
+content_fault Answer (Frmr f) len = five_octets len
 content_fault Command (Frmr f) len = Some Undefined
-content_fault role (Xid pf) len = free len
+content_fault role (Xid pf) len = at_most_n201 len
 
 -- the octets of a frame that this side sends
 abbrev pub spelling : Side → Fields → List ℕ

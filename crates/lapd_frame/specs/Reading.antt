@@ -15,32 +15,32 @@ use Rattle.lapd_frame.specs.declared.fault_kind.FaultKind.{FaultKind}
 use Rattle.lapd_frame.specs.declared.fault_kind.FaultKind.TheVariants.{TooShort, BadAddress, SapiNotServed, Undefined, InfoNotPermitted, WrongSize, InfoTooLong}
 use Rattle.lapd_frame.specs.declared.frame_fault.FrameFault.{FrameFault}
 use Rattle.lapd_frame.specs.Fault.{is_for_link}
-use Rattle.lapd_frame.specs.Frame.{Fields, content_fault, frame_of}
+use Rattle.lapd_frame.specs.Frame.{Fields, n201, content_fault, frame_of}
 
 -- octets of no link (Q.921 2.9)
-abbrev pub discarded : FaultKind → Result Fields FrameFault
-discarded kind = Err (record { kind = kind; address = None })
+abbrev pub fault_for_no_link : FaultKind → Result Fields FrameFault
+fault_for_no_link kind = Err (record { kind = kind; address = None })
 
 -- a fault of the link with this address
-abbrev pub for_link : Address → Result Fields FaultKind → Result Fields FrameFault
-for_link address (Ok f) = Ok f
-for_link address (Err kind) = Err (record { kind = kind; address = Some address })
+abbrev pub fault_for_link : Address → Result Fields FaultKind → Result Fields FrameFault
+fault_for_link address (Ok f) = Ok f
+fault_for_link address (Err kind) = Err (record { kind = kind; address = Some address })
 
 -- What an address field, the control field behind it, which takes some of the octets, and the information after it
 -- come to.
-abbrev pub joined : Result Address FieldFault → Result (Control × ℕ) FieldFault → List ℕ → Result Fields FrameFault
-joined (Err field.BadAddress) control octets = discarded BadAddress
-joined address (Err field.TooShort) octets = discarded TooShort
-joined (Err fault) control octets = discarded SapiNotServed
-joined (Ok address) (Err fault) octets = for_link address (Err Undefined)
-joined (Ok address) (Ok (control, taken)) octets = for_link address (frame_of address control (drop taken octets) (content_fault address.role control (length (drop taken octets))))
+abbrev pub frame_of_fields : Result Address FieldFault → Result (Control × ℕ) FieldFault → List ℕ → Result Fields FrameFault
+frame_of_fields (Err field.BadAddress) control octets = fault_for_no_link BadAddress
+frame_of_fields address (Err field.TooShort) octets = fault_for_no_link TooShort
+frame_of_fields (Err fault) control octets = fault_for_no_link SapiNotServed
+frame_of_fields (Ok address) (Err fault) octets = fault_for_link address (Err Undefined)
+frame_of_fields (Ok address) (Ok (control, taken)) octets = fault_for_link address (frame_of address control (drop taken octets) (content_fault address.role control (length (drop taken octets))))
 
 -- the frame that these octets of this sender are, or why they are none
 abbrev pub frame_at : Side → List ℕ → Result Fields FrameFault
-frame_at from [] = discarded TooShort
-frame_at from (first ∷ []) = discarded TooShort
-frame_at from (first ∷ second ∷ []) = discarded TooShort
-frame_at from (first ∷ second ∷ third ∷ rest) = joined (address_at from (first ∷ second ∷ [])) (control_at (third ∷ rest)) (third ∷ rest)
+frame_at from [] = fault_for_no_link TooShort
+frame_at from (first ∷ []) = fault_for_no_link TooShort
+frame_at from (first ∷ second ∷ []) = fault_for_no_link TooShort
+frame_at from (first ∷ second ∷ third ∷ rest) = frame_of_fields (address_at from (first ∷ second ∷ [])) (control_at (third ∷ rest)) (third ∷ rest)
 
 abbrev pub is_nil : List ℕ → Bool
 is_nil [] = true
@@ -59,13 +59,13 @@ abbrev pub is_among : List ℕ → ℕ → Bool
 is_among octets octet = list_any (λ o. octet == o) octets
 
 -- first octets of control fields, by what they are (Q.921 Table 5): the S frames
-abbrev pub supervisory : List ℕ
-supervisory = 0x01 ∷ 0x05 ∷ 0x09 ∷ []
+abbrev pub supervisory_octets : List ℕ
+supervisory_octets = 0x01 ∷ 0x05 ∷ 0x09 ∷ []
 
 -- the U frames that this role may be: UI, DISC, SABME and XID, or DM, UA, FRMR and XID
-abbrev pub unnumbered : Role → List ℕ
-unnumbered Command = 0x03 ∷ 0x13 ∷ 0x43 ∷ 0x53 ∷ 0x6F ∷ 0x7F ∷ 0xAF ∷ 0xBF ∷ []
-unnumbered Answer = 0x0F ∷ 0x1F ∷ 0x63 ∷ 0x73 ∷ 0x87 ∷ 0x97 ∷ 0xAF ∷ 0xBF ∷ []
+abbrev pub unnumbered_octets : Role → List ℕ
+unnumbered_octets Command = 0x03 ∷ 0x13 ∷ 0x43 ∷ 0x53 ∷ 0x6F ∷ 0x7F ∷ 0xAF ∷ 0xBF ∷ []
+unnumbered_octets Answer = 0x0F ∷ 0x1F ∷ 0x63 ∷ 0x73 ∷ 0x87 ∷ 0x97 ∷ 0xAF ∷ 0xBF ∷ []
 
 -- an I frame is a command
 abbrev pub is_command : Role → Bool
@@ -74,14 +74,14 @@ is_command Answer = false
 
 -- the control field is one of the table, for this role
 abbrev pub is_defined : Role → ℕ → Bool
-is_defined role first = if first % 2 == 0 then is_command role else (if first % 4 == 1 then is_among supervisory first else is_among (unnumbered role) first)
+is_defined role first = if first % 2 == 0 then is_command role else (if first % 4 == 1 then is_among supervisory_octets first else is_among (unnumbered_octets role) first)
 
 abbrev pub is_supervisory : ℕ → Bool
-is_supervisory first = not (first % 2 == 0) && is_among supervisory first
+is_supervisory first = not (first % 2 == 0) && is_among supervisory_octets first
 
 -- SABME, DISC, DM and UA
-abbrev pub is_bare : ℕ → Bool
-is_bare first = not (first % 2 == 0) && is_among (0x6F ∷ 0x7F ∷ 0x43 ∷ 0x53 ∷ 0x0F ∷ 0x1F ∷ 0x63 ∷ 0x73 ∷ []) first
+abbrev pub is_without_information : ℕ → Bool
+is_without_information first = not (first % 2 == 0) && is_among (0x6F ∷ 0x7F ∷ 0x43 ∷ 0x53 ∷ 0x0F ∷ 0x1F ∷ 0x63 ∷ 0x73 ∷ []) first
 
 abbrev pub is_frame_reject : ℕ → Bool
 is_frame_reject first = not (first % 2 == 0) && is_among (0x87 ∷ 0x97 ∷ []) first
@@ -91,8 +91,8 @@ abbrev pub is_wrong_size : ℕ → ℕ → Bool
 is_wrong_size first len = if is_frame_reject first then not (len == 5) else (is_supervisory first && nat_lt 0 len)
 
 -- I, UI and XID
-abbrev pub is_free : ℕ → Bool
-is_free first = (first % 2 == 0) || is_among (0x03 ∷ 0x13 ∷ 0xAF ∷ 0xBF ∷ []) first
+abbrev pub is_with_information : ℕ → Bool
+is_with_information first = (first % 2 == 0) || is_among (0x03 ∷ 0x13 ∷ 0xAF ∷ 0xBF ∷ []) first
 
 -- how many octets of information stand behind a control field that begins so
 abbrev pub info_len : ℕ → List ℕ → ℕ
@@ -102,9 +102,9 @@ info_len first rest = length (if has_second first then drop 1 rest else rest)
 abbrev pub content_lines : Role → ℕ → ℕ → Option FaultKind
 content_lines role first len =
     line (not (is_defined role first)) Undefined (
-    line (is_bare first && nat_lt 0 len) InfoNotPermitted (
+    line (is_without_information first && nat_lt 0 len) InfoNotPermitted (
     line (is_wrong_size first len) WrongSize (
-    line (is_free first && nat_lt 260 len) InfoTooLong None)))
+    line (is_with_information first && nat_lt n201 len) InfoTooLong None)))
 
 -- the first fault, where there is one
 abbrev pub first_fault : Side → List ℕ → Option FaultKind

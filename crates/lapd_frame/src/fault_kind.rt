@@ -1,33 +1,27 @@
-ghost use Rattle.std.specs.Prelude.{◌≡◌};
+ghost use Rattle.std.specs.Prelude.{◌≡◌, Some};
 ghost use Rattle.lapd_frame.specs.Fault.{fault_name, kind_of};
 
 use lapd_field::FieldFault;
-use thiserror::Error;
+use std::error::Error;
+use std::fmt;
 
 /// What is wrong with octets that are no frame, in the order in which it is looked for.
-#[derive(Clone, Copy, Debug, PartialEq, Eq, Error)]
+#[derive(Clone, Copy, Debug, PartialEq, Eq)]
 pub enum FaultKind {
     /// F1: too few octets (Q.921 2.9 b).
-    #[error("F1 TooShort")]
     TooShort,
     /// F2: an address extension bit is wrong (Q.921 2.9 e).
-    #[error("F2 BadAddress")]
     BadAddress,
     /// F3: the service access point is not served (Q.921 2.9 f).
-    #[error("F3 SapiNotServed")]
     SapiNotServed,
     /// F4: an undefined control field, a reserved bit that is set, or a command sent as a response or a response as
     /// a command (Q.921 3.6.1).
-    #[error("F4 Undefined")]
     Undefined,
     /// F5: information in a SABME, DISC, DM or UA frame (Q.921 3.6.11).
-    #[error("F5 InfoNotPermitted")]
     InfoNotPermitted,
     /// F6: an S frame that is not of 4 octets, or a FRMR frame whose information is not of 5 (Q.921 3.6.11).
-    #[error("F6 WrongSize")]
     WrongSize,
     /// F7: more than 260 octets of information, N201, in an I, UI or XID frame (Q.921 5.9.3).
-    #[error("F7 InfoTooLong")]
     InfoTooLong,
 }
 
@@ -47,6 +41,16 @@ impl FaultKind {
         }
     }
 }
+
+impl fmt::Display for FaultKind {
+    ghost output = { λ kind. Some (fault_name kind) };
+
+    fn fmt<W: fmt::Write>(&self, f: &mut fmt::Formatter<W>) -> fmt::Result {
+        f.write_str(self.name())
+    }
+}
+
+impl Error for FaultKind {}
 
 impl From<FieldFault> for FaultKind {
     ghost from_gives = { λ fault kind. kind ≡ kind_of fault };

@@ -1,14 +1,17 @@
 ghost use Rattle.std.specs.Prelude.{◌≡◌, ◌++◌, ◌+◌, ◌≤◌, length, take, drop, IfOk, IfErr, Ok, Err, Some, None, option_map, ℕ};
 ghost use Rattle.std.specs.Result.{result_err};
 ghost use Rattle.lapd_frame.specs.Frame.{Fields, IsFrame, content_fault, frame_of, spelling};
-ghost use Rattle.lapd_frame.specs.Reading.{frame_at, first_fault, joined, address_of};
+ghost use Rattle.lapd_frame.specs.Reading.{frame_at, first_fault, frame_of_fields, address_of};
 
 use crate::{FaultKind, FrameFault};
 use lapd_field::{Address, Control, FieldFault, Role, Side};
 use std::marker::Model;
 
-/// The greatest length of a frame, in octets: address, control field and N201 octets of information.
-pub const MOST_OCTETS: usize = 264;
+/// N201, the greatest number of octets of information in a frame (Q.921 5.9.3).
+pub const N201: usize = 260;
+
+/// The greatest length of a frame, in octets: two of address, two of control field and N201 of information.
+pub const MOST_OCTETS: usize = 4 + N201;
 
 /// A frame in the grammar of Q.921 clause 3. It borrows its information.
 #[derive(Debug, Drop)]
@@ -83,7 +86,7 @@ pub fn read(octets: &[u8], from: Side) -> Result<Frame<'_>, FrameFault>
 
 /// Writes the frame, as `from` sends it, to the front of `out`, and tells its length in octets, 3 to 264. The octets
 /// behind it stay as they are.
-pub fn write(frame: &Frame<'_>, from: Side, out: &mut [u8; 264]) -> usize
+pub fn write(frame: &Frame<'_>, from: Side, out: &mut [u8; MOST_OCTETS]) -> usize
     ensures written { out.new ≡ spelling from frame.now ++ drop result out.old }
     ensures len { result ≡ length (spelling from frame.now) }
 {
@@ -104,43 +107,43 @@ fn frame_at(octets: &[u8], from: Side) -> Result<Frame<'_>, FrameFault>
     match octets {
         [first, second, _, ..] => {
             let field = &octets[2..];
-            joined(
+            frame_of_fields(
                 Address::read([*first, *second], from),
                 Control::read(field),
                 field,
             )
         }
-        _ => Err(discarded(FaultKind::TooShort)),
+        _ => Err(fault_for_no_link(FaultKind::TooShort)),
     }
 }
 
 /// The frame of an address field and of the control field behind it, which takes some of `octets`. The first fault of
 /// the two comes first, and with it whether the octets are for a link.
-fn joined(
+fn frame_of_fields(
     address: Result<Address, FieldFault>,
     control: Result<(Control, usize), FieldFault>,
     octets: &[u8],
 ) -> Result<Frame<'_>, FrameFault>
     requires { IfOk control (λ c. c.1 ≤ length octets.now) }
-    ensures { result ≡ joined address control octets.now }
+    ensures { result ≡ frame_of_fields address control octets.now }
 {
     match (address, control) {
-        (Err(FieldFault::BadAddress), _) => Err(discarded(FaultKind::BadAddress)),
-        (_, Err(FieldFault::TooShort)) => Err(discarded(FaultKind::TooShort)),
-        (Err(_), _) => Err(discarded(FaultKind::SapiNotServed)),
-        (Ok(address), Err(_)) => Err(for_link(FaultKind::Undefined, address)),
+        (Err(FieldFault::BadAddress), _) => Err(fault_for_no_link(FaultKind::BadAddress)),
+        (_, Err(FieldFault::TooShort)) => Err(fault_for_no_link(FaultKind::TooShort)),
+        (Err(_), _) => Err(fault_for_no_link(FaultKind::SapiNotServed)),
+        (Ok(address), Err(_)) => Err(fault_for_link(FaultKind::Undefined, address)),
         (Ok(address), Ok((control, taken))) => {
             let link = address;
             match Frame::new(address, control, &octets[taken..]) {
                 Ok(frame) => Ok(frame),
-                Err(kind) => Err(for_link(kind, link)),
+                Err(kind) => Err(fault_for_link(kind, link)),
             }
         }
     }
 }
 
 /// A fault of octets that are for no link.
-fn discarded(kind: FaultKind) -> FrameFault
+fn fault_for_no_link(kind: FaultKind) -> FrameFault
     ensures { result ≡ record { kind = kind; address = None } }
 {
     FrameFault {
@@ -150,7 +153,7 @@ fn discarded(kind: FaultKind) -> FrameFault
 }
 
 /// A fault of octets for the link with this address.
-fn for_link(kind: FaultKind, address: Address) -> FrameFault
+fn fault_for_link(kind: FaultKind, address: Address) -> FrameFault
     ensures { result ≡ record { kind = kind; address = Some address } }
 {
     FrameFault {
@@ -160,7 +163,7 @@ fn for_link(kind: FaultKind, address: Address) -> FrameFault
 }
 
 /// Writes octets at this place of `out`.
-fn put(out: &mut [u8; 264], at: usize, octets: &[u8])
+fn put(out: &mut [u8; MOST_OCTETS], at: usize, octets: &[u8])
     requires { at + length octets.now ≤ 264 }
     ensures { out.new ≡ take at out.old ++ octets.now ++ drop (at + length octets.now) out.old }
 {
@@ -176,9 +179,9 @@ fn content_fault(role: Role, control: &Control, len: usize) -> Option<FaultKind>
         (_, Control::Rr { .. } | Control::Rnr { .. } | Control::Rej { .. }) => {
             (len > 0).then_some(FaultKind::WrongSize)
         }
-        (_, Control::Xid { .. }) => (len > 260).then_some(FaultKind::InfoTooLong),
+        (_, Control::Xid { .. }) => (len > N201).then_some(FaultKind::InfoTooLong),
         (Role::Command, Control::I { .. } | Control::Ui { .. }) => {
-            (len > 260).then_some(FaultKind::InfoTooLong)
+            (len > N201).then_some(FaultKind::InfoTooLong)
         }
         (Role::Command, Control::Sabme { .. } | Control::Disc { .. }) => {
             (len > 0).then_some(FaultKind::InfoNotPermitted)

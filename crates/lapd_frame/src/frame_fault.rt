@@ -1,8 +1,10 @@
 use crate::FaultKind;
 use lapd_field::Address;
+use thiserror::Error;
 
 /// Why octets are no frame, and for which link, where that can be told.
-#[derive(Clone, Copy, Debug, PartialEq, Eq)]
+#[derive(Clone, Copy, Debug, PartialEq, Eq, Error)]
+#[error("{kind}")]
 pub struct FrameFault {
     /// The first fault of the octets.
     pub kind: FaultKind,

@@ -1,7 +1,7 @@
 -- Laws of counting that hold in both readings.
 use Rattle.std.proofs.Common.{◌≡◌, ℕ, zero, suc, ◌+◌, ◌-◌, ◌%◌, ◌<◌, ◌≤◌, ◌↔◌, true, refl, ◌∙◌, arith}
 use Rattle.std.proofs.lemmas.Bool.Decides.{nat_tests}
-use Rattle.lapd_mod128.specs.Counting.{Reading, Whole, Tagged, IsNumber, after, moved, AreSteps, LiesFrom, InFewerSteps, reaches, steps, lies_within}
+use Rattle.lapd_mod128.specs.Counting.{Reading, Whole, Tagged, IsNumber, after, number_after, AreSteps, LiesFrom, InFewerSteps, reaches, steps, lies_within}
 
 -- what the tests of the two readings tell, as orders
 pub reaches_tells : (a b : ℕ) → reaches Whole a b ≡ true → a ≤ b
@@ -47,16 +47,16 @@ within_the_whole_whole a x y b hx hy = let one = whole_within_tells a x b hx in 
     whole_within_holds a y b (omega arith) two.1
 
 -- counting whole numbers is adding
-pub moved_whole : (n a : ℕ) → moved Whole n a ≡ a + n
-unfolding moved after
-moved_whole zero a = omega arith
-moved_whole (suc n) a = omega (arith, moved_whole n a)
+pub number_after_whole : (n a : ℕ) → number_after Whole n a ≡ a + n
+unfolding number_after after
+number_after_whole zero a = omega arith
+number_after_whole (suc n) a = omega (arith, number_after_whole n a)
 
 -- counting tags is adding, and leaving out each 128
-pub moved_tagged : (n a : ℕ) → a < 128 → moved Tagged n a ≡ (a + n) % 128
-unfolding moved after
-moved_tagged zero a h = omega arith
-moved_tagged (suc n) a h = omega (arith, moved_tagged n a h)
+pub number_after_tagged : (n a : ℕ) → a < 128 → number_after Tagged n a ≡ (a + n) % 128
+unfolding number_after after
+number_after_tagged zero a h = omega arith
+number_after_tagged (suc n) a h = omega (arith, number_after_tagged n a h)
 
 -- one step on from a number is a number
 pub after_is_number : (r : Reading) (n : ℕ) → IsNumber r n → IsNumber r (after r n)
@@ -74,12 +74,12 @@ after_is_injective Tagged a b ha hb same = omega arith
 pub steps_are_counted : (r : Reading) (a b : ℕ) → IsNumber r a → IsNumber r b → reaches r a b ≡ true → AreSteps r (steps r a b) a b
 unfolding steps
 steps_are_counted Whole a b ha hb h = record {
-  lead = moved_whole (b - a) a ∙ omega (arith, reaches_tells a b h);
-  fewest = λ m less same. omega (arith, moved_whole m a, same, less);
+  lead = number_after_whole (b - a) a ∙ omega (arith, reaches_tells a b h);
+  fewest = λ m less same. omega (arith, number_after_whole m a, same, less);
 }
 steps_are_counted Tagged a b ha hb h = record {
-  lead = moved_tagged ((b % 128 + 128 - a % 128) % 128) a ha ∙ omega arith;
-  fewest = λ m less same. omega (arith, moved_tagged m a ha, same, less);
+  lead = number_after_tagged ((b % 128 + 128 - a % 128) % 128) a ha ∙ omega arith;
+  fewest = λ m less same. omega (arith, number_after_tagged m a ha, same, less);
 }
 
 -- there is one number of steps at most
@@ -147,10 +147,10 @@ steps_stay Whole a b = omega arith
 steps_stay Tagged a b = omega arith
 
 -- as many steps lead to where some steps lead
-pub steps_moved : (r : Reading) (n a : ℕ) → IsNumber r a → n < 128 → steps r a (moved r n a) ≡ n
+pub steps_to_number_after : (r : Reading) (n a : ℕ) → IsNumber r a → n < 128 → steps r a (number_after r n a) ≡ n
 unfolding steps
-steps_moved Whole n a ha less = omega (arith, moved_whole n a)
-steps_moved Tagged n a ha less = omega (arith, moved_tagged n a ha)
+steps_to_number_after Whole n a ha less = omega (arith, number_after_whole n a)
+steps_to_number_after Tagged n a ha less = omega (arith, number_after_tagged n a ha)
 
 -- the first of two numbers lies within them
 pub first_lies_within : (r : Reading) (a b : ℕ) → reaches r a b ≡ true → lies_within r a a b ≡ true
@@ -201,8 +201,8 @@ within_is_counted r a x b ha hx hb h = (
 pub counted_is_within : (r : Reading) (a x b : ℕ) → IsNumber r a → IsNumber r x → IsNumber r b → LiesFrom r a x b → lies_within r a x b ≡ true
 unfolding reaches
 counted_is_within Whole a x b ha hx hb (n, m, to_x, to_b, order) = whole_within_holds a x b
-    (omega (arith, moved_whole n a, to_x.lead))
-    (omega (arith, moved_whole n a, moved_whole m a, to_x.lead, to_b.lead, order))
+    (omega (arith, number_after_whole n a, to_x.lead))
+    (omega (arith, number_after_whole n a, number_after_whole m a, to_x.lead, to_b.lead, order))
 counted_is_within Tagged a x b ha hx hb (n, m, to_x, to_b, order) = tagged_within_holds a x b
     (omega (
       arith,

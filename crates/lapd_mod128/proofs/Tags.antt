@@ -1,8 +1,8 @@
 -- Laws that relate the two readings: they agree where whole numbers lie within 127 of each other.
 use Rattle.std.proofs.Common.{◌≡◌, ℕ, zero, suc, ◌+◌, ◌%◌, ◌<◌, ◌≤◌, ◌==◌, nat_le, refl, arith}
 use Rattle.std.proofs.lemmas.Bool.Decides.{nat_tests}
-use Rattle.lapd_mod128.specs.Counting.{Whole, Tagged, tag, after, moved, steps, lies_within, AreNear}
-use Rattle.lapd_mod128.proofs.Steps.{moved_tagged}
+use Rattle.lapd_mod128.specs.Counting.{Whole, Tagged, tag, after, number_after, steps, lies_within, AreNear}
+use Rattle.lapd_mod128.proofs.Steps.{number_after_tagged}
 
 -- the tag is the remainder
 pub tag_is_remainder : (n : ℕ) → tag n ≡ n % 128
@@ -20,9 +20,9 @@ unfolding tag
 tag_of_tag n h = omega arith
 
 -- counting on tags from 0 leads to the tag
-pub tag_is_counted : (n : ℕ) → moved Tagged n 0 ≡ tag n
+pub tag_is_counted : (n : ℕ) → number_after Tagged n 0 ≡ tag n
 unfolding tag
-tag_is_counted n = omega (arith, moved_tagged n 0)
+tag_is_counted n = omega (arith, number_after_tagged n 0)
 
 -- the tag of the next number is the next tag
 pub tag_of_after : (n : ℕ) → tag (after Whole n) ≡ after Tagged (tag n)
@@ -35,10 +35,10 @@ unfolding tag after
 after_tag n = omega arith
 
 -- the tag of where some steps lead is where they lead from the tag
-pub tag_of_moved : (n a : ℕ) → tag (moved Whole n a) ≡ moved Tagged n (tag a)
-unfolding moved
-tag_of_moved zero a = refl
-tag_of_moved (suc n) a = rw (tag_of_after (moved Whole n a), tag_of_moved n a)
+pub tag_of_number_after : (n a : ℕ) → tag (number_after Whole n a) ≡ number_after Tagged n (tag a)
+unfolding number_after
+tag_of_number_after zero a = refl
+tag_of_number_after (suc n) a = rw (tag_of_after (number_after Whole n a), tag_of_number_after n a)
 
 -- near numbers with one tag are one number
 pub near_tags_are_equal : (x y : ℕ) → AreNear x y → tag x ≡ tag y → x ≡ y

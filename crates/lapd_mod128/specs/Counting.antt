@@ -22,14 +22,14 @@ after Whole n = n + 1
 after Tagged n = (n + 1) % 128
 
 -- where `n` steps of one lead from `a`
-unfoldable pub moved : Reading → ℕ → ℕ → ℕ
-moved r zero a = a
-moved r (suc n) a = after r (moved r n a)
+unfoldable pub number_after : Reading → ℕ → ℕ → ℕ
+number_after r zero a = a
+number_after r (suc n) a = after r (number_after r n a)
 
 -- `n` steps lead from `a` to `b`, and no smaller number of steps does
 pub record AreSteps (r : Reading) (n a b : ℕ) : Type 0 where
-  pub lead : moved r n a ≡ b
-  pub fewest : (m : ℕ) → m < n → moved r m a ≢ b
+  pub lead : number_after r n a ≡ b
+  pub fewest : (m : ℕ) → m < n → number_after r m a ≢ b
 
 -- `a` reaches `x` in no more steps than `b`: the valid N(R) are so placed from V(A) to V(S) (Q.921 3.5.2.3)
 abbrev pub LiesFrom : Reading → ℕ → ℕ → ℕ → Type 0
@@ -37,7 +37,7 @@ LiesFrom r a x b = (n : ℕ) × (m : ℕ) × AreSteps r n a x × AreSteps r m a 
 
 -- fewer than `k` steps lead from `a` to `b`: fewer than k I frames are outstanding from V(A) to V(S) (Q.921 5.9.5)
 abbrev pub InFewerSteps : Reading → ℕ → ℕ → ℕ → Type 0
-InFewerSteps r k a b = (n : ℕ) × (n < k) × (moved r n a ≡ b)
+InFewerSteps r k a b = (n : ℕ) × (n < k) × (number_after r n a ≡ b)
 
 -- some number of steps leads from `a` to `b`: among tags always
 unfoldable pub reaches : Reading → ℕ → ℕ → Bool

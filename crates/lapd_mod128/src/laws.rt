@@ -4,7 +4,7 @@
 //! within 127 of each other, as all numbers of one window do (Q.921 3.5.2.1, 5.9.5).
 
 ghost use Rattle.std.specs.Prelude.{◌≡◌, ℕ, ◌+◌, ◌%◌, ◌<◌, ◌≤◌, ◌↔◌, ◌==◌, true, nat_le};
-ghost use Rattle.lapd_mod128.specs.Counting.{Reading, Whole, Tagged, IsNumber, tag, after, moved, AreSteps, LiesFrom, InFewerSteps, reaches, steps, lies_within, AreNear};
+ghost use Rattle.lapd_mod128.specs.Counting.{Reading, Whole, Tagged, IsNumber, tag, after, number_after, AreSteps, LiesFrom, InFewerSteps, reaches, steps, lies_within, AreNear};
 
 /// The subtraction is the number of steps of one, and there is no other.
 #[tactic(auto, using(crate::proofs::Steps::steps_are_counted, crate::proofs::Steps::steps_are_unique))]
@@ -74,14 +74,14 @@ pub fn between_stays()
 #[tactic(auto, using(crate::proofs::Tags::tag_is_remainder, crate::proofs::Tags::tag_is_counted))]
 pub fn tag_is_counted()
     ensures remainder { (n : ℕ) → tag n ≡ n % 128 }
-    ensures counted { (n : ℕ) → moved Tagged n 0 ≡ tag n }
+    ensures counted { (n : ℕ) → number_after Tagged n 0 ≡ tag n }
 {}
 
 /// Counting commutes with taking the tag, by one step and by any number of steps.
-#[tactic(auto, using(crate::proofs::Tags::tag_of_after, crate::proofs::Tags::tag_of_moved))]
+#[tactic(auto, using(crate::proofs::Tags::tag_of_after, crate::proofs::Tags::tag_of_number_after))]
 pub fn counting_on_tags()
     ensures one { (n : ℕ) → tag (after Whole n) ≡ after Tagged (tag n) }
-    ensures many { (n a : ℕ) → tag (moved Whole n a) ≡ moved Tagged n (tag a) }
+    ensures many { (n a : ℕ) → tag (number_after Whole n a) ≡ number_after Tagged n (tag a) }
 {}
 
 /// Near numbers are equal where their tags are.

@@ -1,5 +1,5 @@
 ghost use Rattle.std.specs.Prelude.{◌≡◌, ◌<◌, ◌≤◌, ◌↔◌, IsTrue, IfSome, is_some, nat_lt};
-ghost use Rattle.lapd_mod128.specs.Counting.{Tagged, after, moved, steps, lies_within, AreSteps, LiesFrom, InFewerSteps};
+ghost use Rattle.lapd_mod128.specs.Counting.{Tagged, after, number_after, steps, lies_within, AreSteps, LiesFrom, InFewerSteps};
 
 use std::marker::Model;
 
@@ -91,70 +91,5 @@ impl Seq {
         ensures compared { result ≡ nat_lt (steps Tagged va vs) k }
     {
         Seq::distance(va, vs) < k
-    }
-}
-
-#[cfg(test)]
-mod tests {
-    use super::*;
-
-    // The counter of a value that is in range.
-    fn at(value: u8) -> Seq {
-        Seq::new(value).unwrap_or_default()
-    }
-
-    #[test]
-    fn values_are_0_to_127(rt: HostRuntime) {
-        for (value, want) in [(0, Some(0)), (127, Some(127)), (128, None), (255, None)] {
-            assert_eq!(rt; Seq::new(value).map(Seq::value), want, "at {value}");
-        }
-        assert_eq!(rt; Seq::default().value(), 0);
-    }
-
-    #[test]
-    fn after_127_comes_0(rt: HostRuntime) {
-        for (value, next) in [(0, 1), (126, 127), (127, 0)] {
-            assert_eq!(rt; at(value).next().value(), next, "after {value}");
-            assert_eq!(rt; at(next).back().value(), value, "before {next}");
-        }
-    }
-
-    #[test]
-    fn steps_go_over_the_wrap(rt: HostRuntime) {
-        for (a, b, want) in [
-            (120, 3, 11),
-            (3, 120, 117),
-            (0, 127, 127),
-            (127, 0, 1),
-            (5, 5, 0),
-        ] {
-            assert_eq!(rt; Seq::distance(at(a), at(b)), want, "from {a} to {b}");
-        }
-    }
-
-    #[test]
-    fn numbers_lie_within_by_steps(rt: HostRuntime) {
-        for (x, want) in [
-            (1, true),
-            (4, false),
-            (126, true),
-            (127, true),
-            (3, true),
-            (125, false),
-        ] {
-            assert_eq!(rt;
-                Seq::within(at(126), at(x), at(3)),
-                want,
-                "{x} from 126 to 3"
-            );
-        }
-    }
-
-    #[test]
-    fn a_window_of_127_has_127_places(rt: HostRuntime) {
-        assert!(rt; Seq::window_open(at(100), at(98), 127));
-        assert!(rt; !Seq::window_open(at(100), at(99), 127));
-        assert!(rt; Seq::window_open(at(7), at(7), 1));
-        assert!(rt; !Seq::window_open(at(7), at(8), 1));
     }
 }

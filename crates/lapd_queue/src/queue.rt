@@ -1,4 +1,4 @@
-ghost use Rattle.std.specs.Prelude.{◌≡◌, ◌+◌, ◌-◌, ◌<◌, ◌≤◌, ◌==◌, length, map, slice_get, Some, IfOk, IfErr, OnOk, OnErr, is_err};
+ghost use Rattle.std.specs.Prelude.{◌≡◌, ◌+◌, ◌-◌, ◌<◌, ◌≤◌, ◌==◌, length, map, slice_get, option_copied, Some, IfOk, IfErr, OnOk, OnErr, is_err};
 ghost use Rattle.lapd_queue.specs.Waiting.{with_room, with_message, one_more_sent, without_first, all_unsent, emptied};
 
 use std::alloc::{AllocError, Global};
@@ -89,6 +89,13 @@ impl IQueue {
         self.messages[usize::from(i)].as_slice()
     }
 
+    /// The octets of the message at place `i`, counted from 0 at the front, or `None` where no more than `i` wait.
+    pub fn get(&self, i: u16) -> Option<&[u8]>
+        ensures { option_copied result ≡ slice_get self.now.messages i }
+    {
+        self.messages.get(usize::from(i)).map(Vec::as_slice)
+    }
+
     /// Puts a message at the end, unsent (Q.921 5.6.1). Where `room` messages wait, it is handed back and the queue is
     /// unchanged.
     pub fn put(&mut self, message: Vec<u8>) -> Result<(), Vec<u8>>
@@ -143,80 +150,5 @@ impl IQueue {
         self.go_back();
         self.messages.clear();
         dropped
-    }
-}
-
-#[cfg(test)]
-mod tests {
-    use super::*;
-    use std::test::Fail;
-
-    #[test]
-    fn the_third_of_two_is_handed_back(rt: HostRuntime) -> Result<(), Fail> {
-        let mut queue = IQueue::new(rt.alloc(), 2)?;
-        assert_eq!(rt; queue.room(), 2);
-        assert!(rt; queue.is_empty());
-        assert!(rt; queue.put(b"a".to_vec(rt.alloc())?).is_ok());
-        assert!(rt; queue.put(b"b".to_vec(rt.alloc())?).is_ok());
-        let refused = queue.put(b"c".to_vec(rt.alloc())?);
-        let back = refused.err().expect(&rt, "the queue is full");
-        assert_eq!(rt; back.as_slice(), b"c".as_slice());
-        assert!(rt; queue.unsent() == 2);
-        queue.sent_one();
-        assert!(rt; queue.sent() == 1);
-        queue.acknowledge(1);
-        assert!(rt; queue.len() == 1);
-        assert_eq!(rt; queue.sent(), 0);
-        assert_eq!(rt; queue.at(0), b"b".as_slice());
-        assert_eq!(rt; queue.discard(), 1);
-        assert!(rt; queue.is_empty());
-        Ok(())
-    }
-
-    #[test]
-    fn messages_are_sent_again_from_the_front(rt: HostRuntime) -> Result<(), Fail> {
-        let mut queue = IQueue::new(rt.alloc(), 3)?;
-        for octet in 1..4u8 {
-            assert!(rt; queue.put([octet].to_vec(rt.alloc())?).is_ok());
-        }
-        assert!(rt; queue.unsent() == 3);
-        queue.sent_one();
-        assert!(rt; queue.unsent() == 2);
-        queue.sent_one();
-        queue.go_back();
-        assert_eq!(rt; (queue.len(), queue.sent(), queue.unsent()), (3, 0, 3));
-        assert!(rt; queue.len() == 3);
-        for octet in 1..4u8 {
-            assert_eq!(rt; queue.at(u16::from(octet) - 1), [octet].as_slice());
-        }
-        Ok(())
-    }
-
-    #[test]
-    fn a_thousand_messages_go_through_three_places(rt: HostRuntime) -> Result<(), Fail> {
-        let mut queue = IQueue::new(rt.alloc(), 3)?;
-        for number in 0..1000u32 {
-            let octets = number.to_be_bytes();
-            assert!(rt; queue.put(octets.to_vec(rt.alloc())?).is_ok());
-            assert!(rt; queue.len() == 1);
-            assert_eq!(rt; queue.at(0), octets.as_slice(), "message {number}");
-            assert!(rt; queue.unsent() == 1);
-            queue.sent_one();
-            assert!(rt; queue.sent() == 1);
-            queue.acknowledge(1);
-        }
-        assert!(rt; queue.is_empty());
-        Ok(())
-    }
-
-    #[test]
-    fn the_largest_queue_takes_1024_messages(rt: HostRuntime) -> Result<(), Fail> {
-        let mut queue = IQueue::new(rt.alloc(), 1024)?;
-        for _ in 0..1024 {
-            assert!(rt; queue.put(Vec::new(rt.alloc())).is_ok());
-        }
-        assert!(rt; queue.put(Vec::new(rt.alloc())).is_err());
-        assert_eq!(rt; queue.discard(), 1024);
-        Ok(())
     }
 }

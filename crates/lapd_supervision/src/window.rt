@@ -418,6 +418,3 @@ fn counter(number: Number) -> Seq
         None => unreachable!(),
     }
 }
-
-#[cfg(test)]
-mod tests;

@@ -1,5 +1,7 @@
-ghost use Rattle.std.specs.Prelude.{◌≡◌};
+ghost use Rattle.std.specs.Prelude.{◌≡◌, Some};
 ghost use Rattle.lapd_timers.specs.Timer.{timer_name};
+
+use std::fmt;
 
 /// A timer (Q.921 5.9, Table 9).
 #[derive(Clone, Copy, Debug, PartialEq, Eq)]
@@ -28,15 +30,10 @@ impl Timer {
     }
 }
 
-#[cfg(test)]
-mod tests {
-    use super::Timer;
+impl fmt::Display for Timer {
+    ghost output = { λ timer. Some (timer_name timer) };
 
-    #[test]
-    fn names(rt: HostRuntime) {
-        assert_eq!(rt; Timer::T200.name(), "T200");
-        assert_eq!(rt; Timer::T201.name(), "T201");
-        assert_eq!(rt; Timer::T202.name(), "T202");
-        assert_eq!(rt; Timer::T203.name(), "T203");
+    fn fmt<W: fmt::Write>(&self, f: &mut fmt::Formatter<W>) -> fmt::Result {
+        f.write_str(self.name())
     }
 }

@@ -1,7 +1,7 @@
 -- The last lines of a list that grows.
 use Rattle.std.proofs.Common.{◌≡◌, ℕ, ◌+◌, ◌-◌, List, [], ◌∷◌, ◌++◌, length, drop, sym, ap, ◌∙◌, arith}
 use Rattle.std.proofs.lemmas.List.{drop-append-le, drop-drop, length-drop, length-append}
-use Rattle.lapd_trace.specs.Kept.{last_of}
+use Rattle.lapd_trace.specs.KeptLines.{last_of}
 
 -- of the last n lines and one more, the last n are the last n of them all
 pub last_of_more : (n : ℕ) (lines : List (List ℕ)) (line : List ℕ)

@@ -1,3 +1,1 @@
-pub mod HexText
-pub mod Decimals
 pub mod LastOf

@@ -1,2 +1,2 @@
 pub mod Trace
-pub mod Kept
+pub mod KeptLines

@@ -1,6 +1,6 @@
 ghost use Rattle.std.specs.Prelude.{◌≡◌, ◌≤◌, ℕ, List, [], ◌∷◌, ◌++◌, IfOk};
 ghost use Rattle.std.specs.String.{string_bytes};
-ghost use Rattle.lapd_trace.specs.Kept.{Kept, last_of};
+ghost use Rattle.lapd_trace.specs.KeptLines.{KeptLines, last_of};
 
 use crate::Lines;
 use std::alloc::{AllocError, Global};
@@ -18,9 +18,9 @@ impl Model for History {
     ghost use Rattle.std.specs.Prelude.{◌<◌, ◌≤◌, map};
     ghost use Rattle.std.specs.String.{string_bytes};
     ghost use Rattle.std.specs.VecDeque.{deque_len, deque_capacity};
-    ghost use Rattle.lapd_trace.specs.Kept.{Kept};
+    ghost use Rattle.lapd_trace.specs.KeptLines.{KeptLines};
 
-    ghost Value = { Kept };
+    ghost Value = { KeptLines };
 
     ghost view = { λ h. record { room = h.room; lines = map string_bytes h.lines.items } };
 

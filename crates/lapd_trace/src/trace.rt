@@ -1,10 +1,8 @@
 ghost use Rattle.std.specs.Prelude.{◌≡◌, ◌++◌, IfOk, OnOk};
 ghost use Rattle.std.specs.String.{string_bytes};
-ghost use Rattle.std.specs.Fmt.{decimal};
-ghost use Rattle.lapd_trace.specs.Trace.{trace_line, frame_text, direction_text, role_text, poll_text, address_text, control_text};
+ghost use Rattle.lapd_trace.specs.Trace.{trace_line, frame_text, direction_text, role_text, poll_text, address_text, control_text, octets_text};
 
-use crate::digits::{push_number, push_octets};
-use lapd_frame::{Address, Control, Frame, Number, Role, Side};
+use lapd_frame::{Address, Control, Frame, Role, Side};
 use std::alloc::{AllocError, Global};
 
 /// The greatest length of a line, in octets of text, beside two digits for each octet of the frame. An I frame with
@@ -32,34 +30,31 @@ pub fn line(alloc: Global, from: Side, bytes: &[u8]) -> Result<String, AllocErro
     let mut text = String::with_capacity(alloc, digits.saturating_add(MOST_BESIDE_DIGITS))?;
     text.push_str(direction_name(from))?;
     match lapd_frame::read(bytes, from) {
-        Ok(frame) => push_frame(&mut text, &frame)?,
+        Ok(frame) => push_frame(alloc, &mut text, &frame)?,
         Err(fault) => {
             text.push_str(fault.kind.name())?;
-            push_octets(&mut text, " ", bytes)?;
+            push_octets(alloc, &mut text, " ", bytes)?;
         }
     }
     Ok(text)
 }
 
 /// Appends address, control field and information.
-fn push_frame(text: &mut String, frame: &Frame<'_>) -> Result<(), AllocError>
+fn push_frame(alloc: Global, text: &mut String, frame: &Frame<'_>) -> Result<(), AllocError>
     ensures { OnOk result (string_bytes text.new ≡ string_bytes text.old ++ frame_text frame.now) }
 {
     let address = frame.address();
     push_address(text, &address)?;
     push_control(text, address.role, frame.control())?;
-    push_octets(text, " info=", frame.info())
+    push_octets(alloc, text, " info=", frame.info())
 }
 
 /// Appends SAPI, TEI and role.
 fn push_address(text: &mut String, address: &Address) -> Result<(), AllocError>
     ensures { OnOk result (string_bytes text.new ≡ string_bytes text.old ++ address_text address.now) }
 {
-    text.push_str("SAPI ")?;
-    push_number(text, address.sapi.value())?;
-    text.push_str(" TEI ")?;
-    push_number(text, address.tei.value())?;
-    text.push_str(role_name(address.role))
+    let (sapi, tei, role) = (address.sapi, address.tei, role_name(address.role));
+    write!(text, "SAPI {sapi} TEI {tei}{role}")
 }
 
 /// Appends the name of the frame, its sequence numbers and its P/F bit.
@@ -67,44 +62,34 @@ fn push_control(text: &mut String, role: Role, control: Control) -> Result<(), A
     ensures { OnOk result (string_bytes text.new ≡ string_bytes text.old ++ control_text role control) }
 {
     match control {
-        Control::I { ns, nr, p } => {
-            text.push_str("I N(S)=")?;
-            push_number(text, ns.value())?;
-            push_numbered(text, " N(R)=", nr, poll_name(role, p))
-        }
-        Control::Rr { nr, pf } => push_numbered(text, "RR N(R)=", nr, poll_name(role, pf)),
-        Control::Rnr { nr, pf } => push_numbered(text, "RNR N(R)=", nr, poll_name(role, pf)),
-        Control::Rej { nr, pf } => push_numbered(text, "REJ N(R)=", nr, poll_name(role, pf)),
-        Control::Sabme { p } => push_both(text, "SABME", poll_name(role, p)),
-        Control::Dm { f } => push_both(text, "DM", poll_name(role, f)),
-        Control::Ui { p } => push_both(text, "UI", poll_name(role, p)),
-        Control::Disc { p } => push_both(text, "DISC", poll_name(role, p)),
-        Control::Ua { f } => push_both(text, "UA", poll_name(role, f)),
-        Control::Frmr { f } => push_both(text, "FRMR", poll_name(role, f)),
-        Control::Xid { pf } => push_both(text, "XID", poll_name(role, pf)),
+        Control::I { ns, nr, p } => write!(text, "I N(S)={ns} N(R)={nr}{}", poll_name(role, p)),
+        Control::Rr { nr, pf } => write!(text, "RR N(R)={nr}{}", poll_name(role, pf)),
+        Control::Rnr { nr, pf } => write!(text, "RNR N(R)={nr}{}", poll_name(role, pf)),
+        Control::Rej { nr, pf } => write!(text, "REJ N(R)={nr}{}", poll_name(role, pf)),
+        Control::Sabme { p } => write!(text, "SABME{}", poll_name(role, p)),
+        Control::Dm { f } => write!(text, "DM{}", poll_name(role, f)),
+        Control::Ui { p } => write!(text, "UI{}", poll_name(role, p)),
+        Control::Disc { p } => write!(text, "DISC{}", poll_name(role, p)),
+        Control::Ua { f } => write!(text, "UA{}", poll_name(role, f)),
+        Control::Frmr { f } => write!(text, "FRMR{}", poll_name(role, f)),
+        Control::Xid { pf } => write!(text, "XID{}", poll_name(role, pf)),
     }
 }
 
-/// Appends N(R) between words before and behind it.
-fn push_numbered(
+/// Appends these words and octets in lower case hexadecimal, or nothing where there are no octets.
+fn push_octets(
+    alloc: Global,
     text: &mut String,
-    before: &str,
-    nr: Number,
-    behind: &str,
+    words: &str,
+    octets: &[u8],
 ) -> Result<(), AllocError>
-    ensures { OnOk result (string_bytes text.new ≡ string_bytes text.old ++ (before.now ++ (decimal nr ++ behind.now))) }
+    ensures { OnOk result (string_bytes text.new ≡ string_bytes text.old ++ octets_text words.now octets.now) }
 {
-    text.push_str(before)?;
-    push_number(text, nr.value())?;
-    text.push_str(behind)
-}
-
-/// Appends two words.
-fn push_both(text: &mut String, first: &str, second: &str) -> Result<(), AllocError>
-    ensures { OnOk result (string_bytes text.new ≡ string_bytes text.old ++ (first.now ++ second.now)) }
-{
-    text.push_str(first)?;
-    text.push_str(second)
+    if octets.is_empty() {
+        return Ok(());
+    }
+    text.push_str(words)?;
+    text.push_str(hex::encode(alloc, octets)?.as_str())
 }
 
 /// Who sent a frame, and to whom.

@@ -1,7 +1,7 @@
 use Rattle.std.proofs.Common.{◌≡◌, ◌∷◌, [], ◌++◌, map, List, ℕ, ap, ◌∙◌, arith}
 use Rattle.std.proofs.lemmas.Grind.{common_steps}
 use Rattle.std.specs.String.{string_bytes}
-use Rattle.lapd_trace.specs.Kept.{last_of}
+use Rattle.lapd_trace.specs.KeptLines.{last_of}
 use Rattle.lapd_trace.proofs.LastOf.{last_of_more}
 use Rattle.lapd_trace.proofs.history.History.push.Goals as goal
 
