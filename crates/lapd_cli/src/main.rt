@@ -2,25 +2,18 @@
 //! lines.
 //!
 //! Scripts come on standard input, a line for each thing that happens, and each line's answer goes
-//! to standard output before more is read. Begin with [`script::walk`], which every command shares.
+//! to standard output before more is read. The commands stand in `lapd_commands`, and the walk over a script in
+//! `lapd_script`.
 #![tactic(auto)]
 
-mod answer;
 mod command_line;
-mod decode;
-mod line;
-mod order;
-mod place;
-mod print;
-mod script;
 #[cfg(test)]
 mod tests;
 
-use answer::answer;
 use clap::error::ErrorKind;
 use command_line::{Chosen, choose};
-use decode::decode;
-use script::ScriptFault;
+use lapd_commands::{answer, decode};
+use lapd_script::ScriptFault;
 use std::io::BufWriter;
 use std::process::ExitCode;
 use std::{env, io};

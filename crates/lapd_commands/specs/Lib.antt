@@ -1,0 +1,4 @@
+pub mod Answer
+pub mod Decode
+pub mod Order
+pub mod Session
