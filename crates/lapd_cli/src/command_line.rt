@@ -1,11 +1,11 @@
 //! The command line: what the program's words choose.
 
-ghost use Rattle.std.specs.Prelude.{◌≡◌, ◌<◌, ◌^◌, SomeIff, length, Ok};
-ghost use Rattle.std.specs.Str.Parse.{digits_value, IsNumeral};
-ghost use Rattle.lapd_cli.specs.CommandLine.{default_numbers, numbers_written, AreWritten};
+ghost use Rattle.std.specs.Prelude.{◌≡◌, ◌<◌, length, Ok};
+ghost use Rattle.lapd_cli.specs.CommandLine.{default_numbers};
 
 use clap::error::ErrorKind;
 use clap::{Arg, ArgAction, ArgMatches, Command, Error, value_parser};
+use lapd_commands::params_of;
 use lapd_frame::{Sapi, Side};
 use lapd_link::Params;
 use std::alloc::Global;
@@ -72,25 +72,6 @@ fn params_given(given: &ArgMatches<'_>) -> Option<Params> {
         given.get_str("n200")?,
         given.get_str("room")?,
     )
-}
-
-// The parameters with these numbers; `None` where one is not written in decimal digits alone or is out of its range.
-fn params_of(k: &str, n200: &str, room: &str) -> Option<Params>
-    ensures { SomeIff result (AreWritten k.now n200.now room.now) (numbers_written k.now n200.now room.now) }
-{
-    let k = u8::try_from(number_of(k)?).ok()?;
-    let n200 = u8::try_from(number_of(n200)?).ok()?;
-    Params::new(k, n200, number_of(room)?)
-}
-
-// The number that is written so, in decimal digits alone.
-fn number_of(digits: &str) -> Option<u16>
-    ensures { SomeIff result (IsNumeral 10 digits.now × (digits_value 10 digits.now < 2 ^ 16)) (digits_value 10 digits.now) }
-{
-    if digits.starts_with('+') {
-        return None;
-    }
-    digits.parse().ok()
 }
 
 fn program<'a>(alloc: Global) -> Result<Command<'a>, Error> {

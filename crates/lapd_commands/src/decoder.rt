@@ -1,51 +1,15 @@
 //! The command `decode`: octets as trace lines.
 
 ghost use Rattle.std.specs.Prelude.{IfSome, ⊤};
-ghost use Rattle.lapd_commands.specs.Decode.{decode_step, sent_as, sent_of, side_of};
-ghost use Rattle.lapd_script.specs.Line.{Reads};
-ghost use Rattle.lapd_script.specs.Script.{EndsAs, lines_of};
+ghost use Rattle.lapd_commands.specs.Decode.{decode_step, trace_of};
+ghost use Rattle.lapd_script.specs.Script.{EndsAs, LineEndsAs, lines_of};
 
 use lapd_frame::Side;
-use lapd_script::{Command, LineFault, ScriptFault, Words, octets_of, put_line, split, walk};
+use lapd_script::{Command, LineFault, ScriptFault, Words, put_line, walk};
 use std::alloc::Global;
 use std::io::{Read, Write};
 
-/// What a line tells: octets, and who sent them.
-#[derive(Drop)]
-struct Sent {
-    from: Side,
-    octets: Vec<u8>,
-}
-
-/// What a line tells.
-fn sent_of(alloc: Global, line: &[u8]) -> Result<Sent, LineFault>
-    ensures { Reads sent_as result (sent_of line.now) }
-{
-    match split(line) {
-        Words::One(side) => Ok(Sent {
-            from: side_of(side)?,
-            octets: Vec::new(alloc),
-        }),
-        Words::Two(side, digits) => Ok(Sent {
-            from: side_of(side)?,
-            octets: octets_of(alloc, digits)?,
-        }),
-        _ => Err(LineFault::Bad),
-    }
-}
-
-/// The side of this name, `user` or `net`.
-fn side_of(word: &[u8]) -> Result<Side, LineFault>
-    ensures { Reads (λ side. side) result (side_of word.now) }
-{
-    match word {
-        b"user" => Ok(Side::User),
-        b"net" => Ok(Side::Network),
-        _ => Err(LineFault::Bad),
-    }
-}
-
-/// What answers a script by trace lines.
+/// What prints trace lines.
 #[derive(Drop)]
 struct Decoder {
     alloc: Global,
@@ -75,9 +39,23 @@ impl Command for Decoder {
 
     ghost stands_for = { λ _ _. ⊤ };
 
-    fn answer<W: Write>(&mut self, line: &[u8], out: &mut W) -> Result<(), LineFault> {
-        let sent = sent_of(self.alloc, line)?;
-        match lapd_trace::line(self.alloc, sent.from, sent.octets.as_slice()) {
+    fn run<W: Write>(&mut self, line: &[u8], out: &mut W) -> Result<(), LineFault> {
+        let mut words = Words::of(line);
+        match words.next_word() {
+            Some(b"user") => self.trace(Side::User, words, out),
+            Some(b"net") => self.trace(Side::Network, words, out),
+            _ => Err(LineFault::Bad),
+        }
+    }
+}
+
+impl Decoder {
+    /// The trace line of the octets behind, which this side sent.
+    fn trace<W: Write>(&self, from: Side, behind: Words<'_>, out: &mut W) -> Result<(), LineFault>
+        ensures { LineEndsAs (λ state none. ⊤) (trace_of from behind.entry) result self.now (W.contents out.old) (W.contents out.new) }
+    {
+        let octets = behind.octets(self.alloc)?;
+        match lapd_trace::line(self.alloc, from, octets.as_slice()) {
             Ok(text) => put_line(text.as_bytes(), &[], out),
             Err(_) => Err(LineFault::Memory),
         }

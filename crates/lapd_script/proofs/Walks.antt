@@ -4,7 +4,7 @@ use Rattle.std.proofs.Common.{◌≡◌, ◌≢◌, ℕ, ◌+◌, ◌<◌, List,
 use Rattle.std.specs.Io.KnownBytes.{Appends, Keeps, Consumes, IsAtEnd}
 use Rattle.std.proofs.lemmas.Bool.{ne_eqb}
 use Rattle.std.proofs.KnownBytes.{Appends-nil, Appends-trans, Appends-kept, Keeps-refl}
-use Rattle.lapd_script.specs.Script.{Step, answer_to, is_passed_over, before_rest, number_or, state_or, output_of, bad_from, bad_line, state_after, EndsAs, with_first, lines_of}
+use Rattle.lapd_script.specs.Script.{Step, outcome_of, is_passed_over, before_rest, number_or, state_or, output_of, bad_from, bad_line, state_after, EndsAs, with_first, lines_of}
 use Rattle.lapd_script.specs.Walked.{HasNoFeed, Ran, Walked, WalkEnds, KeepsFault, Came}
 use Rattle.lapd_script.specs.declared.script.ScriptFault.{ScriptFault}
 use Rattle.lapd_script.specs.declared.script.ScriptFault.TheVariants.{BadLine, Device, Memory}
@@ -24,8 +24,8 @@ none_of (Some x) h = cc
 
 -- ---- lines that ran
 
-Ran-one : {S : Type 0} (step : Step S) (s : S) (line : List ℕ) (next : List ℕ × S) → answer_to step s line ≡ Some next → Ran step s (line ∷ []) next.0 next.1
-Ran-one step s line next e = some_at (answer_to step s line) _ next e ([], sym (append-nil next.0), (refl, refl))
+Ran-one : {S : Type 0} (step : Step S) (s : S) (line : List ℕ) (next : List ℕ × S) → outcome_of step s line ≡ Some next → Ran step s (line ∷ []) next.0 next.1
+Ran-one step s line next e = some_at (outcome_of step s line) _ next e ([], sym (append-nil next.0), (refl, refl))
 
 Ran-append : {S : Type 0} (step : Step S) (s : S) (a b : List (List ℕ)) (text more : List ℕ) (t u : S) → Ran step s a text t → Ran step t b more u → Ran step s (a ++ b) (text ++ more) u
 Ran-append {S} step s [] b text more t u h k =
@@ -33,35 +33,35 @@ Ran-append {S} step s [] b text more t u h k =
     let G : List ℕ → Type 0 = λ x. Ran step s b (x ++ more) u in
     subst G (sym h.0) (subst F h.1 k)
 Ran-append {S} step s (line ∷ a) b text more t u h k =
-    let w = some_of (answer_to step s line) _ h in
-    some_at (answer_to step s line) _ w.0 w.1
+    let w = some_of (outcome_of step s line) _ h in
+    some_at (outcome_of step s line) _ w.0 w.1
     (w.2.0 ++ more, ap (λ x. x ++ more) w.2.1 ∙ append_assoc w.0.0 w.2.0 more, Ran-append step w.0.1 a b w.2.0 more t u w.2.2 k)
 
 output_of-ran : {S : Type 0} (step : Step S) (s : S) (a more : List (List ℕ)) (text : List ℕ) (t : S) → Ran step s a text t → output_of step s (a ++ more) ≡ text ++ output_of step t more
 output_of-ran step s [] more text t h = ap (λ x. output_of step x more) (sym h.1) ∙ ap (λ x. x ++ output_of step t more) (sym h.0)
 output_of-ran step s (line ∷ a) more text t h =
-    let w = some_of (answer_to step s line) _ h in
+    let w = some_of (outcome_of step s line) _ h in
     ap (λ o. before_rest o (λ x. output_of step x (a ++ more))) w.1 ∙ ap (λ x. w.0.0 ++ x) (output_of-ran step w.0.1 a more w.2.0 t w.2.2)
     ∙ sym (append_assoc w.0.0 w.2.0 (output_of step t more)) ∙ ap (λ x. x ++ output_of step t more) (sym w.2.1)
 
 bad_from-ran : {S : Type 0} (step : Step S) (n : ℕ) (s : S) (a more : List (List ℕ)) (text : List ℕ) (t : S) → Ran step s a text t → bad_from n step s (a ++ more) ≡ bad_from (n + length a) step t more
 bad_from-ran step n s [] more text t h = ap (λ x. bad_from n step x more) (sym h.1) ∙ ap (λ x. bad_from x step t more) (omega arith)
 bad_from-ran step n s (line ∷ a) more text t h =
-    let w = some_of (answer_to step s line) _ h in
+    let w = some_of (outcome_of step s line) _ h in
     ap (λ o. number_or n o (λ x. bad_from (n + 1) step x (a ++ more))) w.1 ∙ bad_from-ran step (n + 1) w.0.1 a more w.2.0 t w.2.2
     ∙ ap (λ x. bad_from x step t more) (omega arith)
 
 state_after-ran : {S : Type 0} (step : Step S) (s : S) (a : List (List ℕ)) (text : List ℕ) (t : S) → Ran step s a text t → state_after step s a ≡ t
 state_after-ran step s [] text t h = sym h.1
 state_after-ran step s (line ∷ a) text t h =
-    let w = some_of (answer_to step s line) _ h in
+    let w = some_of (outcome_of step s line) _ h in
     ap (λ o. state_or s o (λ x. state_after step x a)) w.1 ∙ state_after-ran step w.0.1 a w.2.0 t w.2.2
 
 -- ---- walks, one after the other
 
 pub Walked-none : {S : Type 0} (step : Step S) (s : S) (lines : List (List ℕ)) (n : ℕ) (old new : Option (List ℕ)) → Keeps old new → Walked step s lines lines s n n old new
 Walked-none step s lines n old new h = record {
-  answered = [];
+  finished = [];
   text = [];
   parted = refl;
   counted = omega arith;
@@ -71,17 +71,17 @@ Walked-none step s lines n old new h = record {
 
 pub Walked-trans : {S : Type 0} (step : Step S) (s : S) (lines mid more : List (List ℕ)) (t u : S) (n i m : ℕ) (a b c : Option (List ℕ)) → Walked step s lines mid t n i a b → Walked step t mid more u i m b c → Walked step s lines more u n m a c
 Walked-trans step s lines mid more t u n i m a b c p q = record {
-  answered = p.answered ++ q.answered;
+  finished = p.finished ++ q.finished;
   text = p.text ++ q.text;
-  parted = p.parted ∙ ap (λ x. p.answered ++ x) q.parted ∙ sym (append_assoc p.answered q.answered more);
-  counted = let e = p.counted in let f = q.counted in omega (arith, length-append p.answered q.answered);
-  ran = Ran-append step s p.answered q.answered p.text q.text t u p.ran q.ran;
+  parted = p.parted ∙ ap (λ x. p.finished ++ x) q.parted ∙ sym (append_assoc p.finished q.finished more);
+  counted = let e = p.counted in let f = q.counted in omega (arith, length-append p.finished q.finished);
+  ran = Ran-append step s p.finished q.finished p.text q.text t u p.ran q.ran;
   grew = Appends-trans a b c p.text q.text p.grew q.grew;
 }
 
 pub Walked-kept : {S : Type 0} (step : Step S) (s : S) (lines more : List (List ℕ)) (t : S) (n m : ℕ) (a b c : Option (List ℕ)) → Walked step s lines more t n m a b → Keeps b c → Walked step s lines more t n m a c
 Walked-kept step s lines more t n m a b c p k = record {
-  answered = p.answered;
+  finished = p.finished;
   text = p.text;
   parted = p.parted;
   counted = p.counted;
@@ -89,9 +89,9 @@ Walked-kept step s lines more t n m a b c p k = record {
   grew = Appends-kept a b c p.text p.grew k;
 }
 
-Walked-one : {S : Type 0} (step : Step S) (s : S) (line : List ℕ) (more : List (List ℕ)) (next : List ℕ × S) (n : ℕ) (a b : Option (List ℕ)) → answer_to step s line ≡ Some next → Appends a b next.0 → Walked step s (line ∷ more) more next.1 n (n + 1) a b
+Walked-one : {S : Type 0} (step : Step S) (s : S) (line : List ℕ) (more : List (List ℕ)) (next : List ℕ × S) (n : ℕ) (a b : Option (List ℕ)) → outcome_of step s line ≡ Some next → Appends a b next.0 → Walked step s (line ∷ more) more next.1 n (n + 1) a b
 Walked-one step s line more next n a b e h = record {
-  answered = line ∷ [];
+  finished = line ∷ [];
   text = next.0;
   parted = refl;
   counted = refl;
@@ -101,30 +101,30 @@ Walked-one step s line more next n a b e h = record {
 
 -- ---- one line
 
-answer_to-passed : {S : Type 0} (step : Step S) (s : S) (line : List ℕ) → is_passed_over line ≡ true → answer_to step s line ≡ Some ([], s)
-answer_to-passed step s line e = ap (λ b. cond b (Some ([], s)) (step s line)) e
+outcome_of-passed : {S : Type 0} (step : Step S) (s : S) (line : List ℕ) → is_passed_over line ≡ true → outcome_of step s line ≡ Some ([], s)
+outcome_of-passed step s line e = ap (λ b. cond b (Some ([], s)) (step s line)) e
 
-answer_to-not_passed : {S : Type 0} (step : Step S) (s : S) (line : List ℕ) → is_passed_over line ≡ false → answer_to step s line ≡ step s line
-answer_to-not_passed step s line e = ap (λ b. cond b (Some ([], s)) (step s line)) e
+outcome_of-not_passed : {S : Type 0} (step : Step S) (s : S) (line : List ℕ) → is_passed_over line ≡ false → outcome_of step s line ≡ step s line
+outcome_of-not_passed step s line e = ap (λ b. cond b (Some ([], s)) (step s line)) e
 
 -- a line that is passed over
 pub line_passed : {C S : Type 0} (stands_for : C → S → Type 0) (step : Step S) (s : S) (line : List ℕ) (more : List (List ℕ)) (command : C) (n : ℕ) (a : Option (List ℕ))
     → is_passed_over line ≡ true → stands_for command s → WalkEnds stands_for step s (Ok tt) (line ∷ more) more command n (n + 1) a a
 line_passed stands_for step s line more command n a e h =
-    (s, h, Walked-one step s line more ([], s) n a a (answer_to-passed step s line e) (Appends-nil a))
+    (s, h, Walked-one step s line more ([], s) n a a (outcome_of-passed step s line e) (Appends-nil a))
 
--- a line that is answered
-pub line_answered : {C S : Type 0} (stands_for : C → S → Type 0) (step : Step S) (s : S) (line : List ℕ) (more : List (List ℕ)) (command : C) (n : ℕ) (a b : Option (List ℕ))
+-- a line that is done
+pub line_done : {C S : Type 0} (stands_for : C → S → Type 0) (step : Step S) (s : S) (line : List ℕ) (more : List (List ℕ)) (command : C) (n : ℕ) (a b : Option (List ℕ))
     → is_passed_over line ≡ false → IsSomeAnd (step s line) (λ next. stands_for command next.1 × Appends a b next.0) → WalkEnds stands_for step s (Ok tt) (line ∷ more) more command n (n + 1) a b
-line_answered stands_for step s line more command n a b e h =
+line_done stands_for step s line more command n a b e h =
     let w = some_of (step s line) _ h in
-    (w.0.1, w.2.0, Walked-one step s line more w.0 n a b (answer_to-not_passed step s line e ∙ w.1) w.2.1)
+    (w.0.1, w.2.0, Walked-one step s line more w.0 n a b (outcome_of-not_passed step s line e ∙ w.1) w.2.1)
 
 -- a bad line
 pub line_bad : {C S : Type 0} (stands_for : C → S → Type 0) (step : Step S) (s : S) (line : List ℕ) (more : List (List ℕ)) (command : C) (n : ℕ) (a b : Option (List ℕ))
     → is_passed_over line ≡ false → IsNone (step s line) × Keeps a b → WalkEnds stands_for step s (Err (BadLine (n + 1))) (line ∷ more) more command n (n + 1) a b
 line_bad stands_for step s line more command n a b e h =
-    (s, line, more, n, Walked-none step s (line ∷ more) n a b h.1, answer_to-not_passed step s line e ∙ none_of (step s line) h.0, refl)
+    (s, line, more, n, Walked-none step s (line ∷ more) n a b h.1, outcome_of-not_passed step s line e ∙ none_of (step s line) h.0, refl)
 
 -- memory ran out
 pub memory_out : {C S : Type 0} (stands_for : C → S → Type 0) (step : Step S) (s : S) (lines more : List (List ℕ)) (command : C) (n m : ℕ) (a b : Option (List ℕ))
@@ -160,25 +160,25 @@ EndsAs-walk : {C S : Type 0} (stands_for : C → S → Type 0) (step : Step S) (
     → WalkEnds stands_for step s result lines [] command 0 m a b → EndsAs step s result lines a b
 EndsAs-walk stands_for step s (Ok done) lines command m a b q =
     let w = q.2 in
-    let text : output_of step s lines ≡ w.text = ap (output_of step s) w.parted ∙ output_of-ran step s w.answered [] w.text q.0 w.ran ∙ append-nil w.text in
-    (ap (bad_from 1 step s) w.parted ∙ bad_from-ran step 1 s w.answered [] w.text q.0 w.ran, subst (Appends a b) (sym text) w.grew)
+    let text : output_of step s lines ≡ w.text = ap (output_of step s) w.parted ∙ output_of-ran step s w.finished [] w.text q.0 w.ran ∙ append-nil w.text in
+    (ap (bad_from 1 step s) w.parted ∙ bad_from-ran step 1 s w.finished [] w.text q.0 w.ran, subst (Appends a b) (sym text) w.grew)
 EndsAs-walk stands_for step s (Err (BadLine number)) lines command m a b q =
     let w = q.4 in
     let first : output_of step q.0 (q.1 ∷ q.2) ≡ [] = ap (λ o. before_rest o (λ x. output_of step x q.2)) q.5 in
-    let text : output_of step s lines ≡ w.text = ap (output_of step s) w.parted ∙ output_of-ran step s w.answered (q.1 ∷ q.2) w.text q.0 w.ran ∙ ap (λ x. w.text ++ x) first ∙ append-nil w.text in
+    let text : output_of step s lines ≡ w.text = ap (output_of step s) w.parted ∙ output_of-ran step s w.finished (q.1 ∷ q.2) w.text q.0 w.ran ∙ ap (λ x. w.text ++ x) first ∙ append-nil w.text in
     let counted = w.counted in
-    let is_number : 1 + length w.answered ≡ number = omega (arith, q.6) in (
-      ap (bad_from 1 step s) w.parted ∙ bad_from-ran step 1 s w.answered (q.1 ∷ q.2) w.text q.0 w.ran
-          ∙ ap (λ o. number_or (1 + length w.answered) o (λ x. bad_from (1 + length w.answered + 1) step x q.2)) q.5
+    let is_number : 1 + length w.finished ≡ number = omega (arith, q.6) in (
+      ap (bad_from 1 step s) w.parted ∙ bad_from-ran step 1 s w.finished (q.1 ∷ q.2) w.text q.0 w.ran
+          ∙ ap (λ o. number_or (1 + length w.finished) o (λ x. bad_from (1 + length w.finished + 1) step x q.2)) q.5
           ∙ ap Some is_number,
       subst (Appends a b) (sym text) w.grew,
     )
 EndsAs-walk stands_for step s (Err Memory) lines command m a b q =
     let w = q.3 in
-    let whole : w.answered ++ [] ≡ w.answered = append-nil w.answered in
-    let text : output_of step s w.answered ≡ w.text = ap (output_of step s) (sym whole) ∙ output_of-ran step s w.answered [] w.text q.0 w.ran ∙ append-nil w.text in
-    let good : bad_line step s w.answered ≡ None = ap (bad_from 1 step s) (sym whole) ∙ bad_from-ran step 1 s w.answered [] w.text q.0 w.ran in
-    (w.answered, q.1, w.parted, good, subst (Appends a b) (sym text) w.grew)
+    let whole : w.finished ++ [] ≡ w.finished = append-nil w.finished in
+    let text : output_of step s w.finished ≡ w.text = ap (output_of step s) (sym whole) ∙ output_of-ran step s w.finished [] w.text q.0 w.ran ∙ append-nil w.text in
+    let good : bad_line step s w.finished ≡ None = ap (bad_from 1 step s) (sym whole) ∙ bad_from-ran step 1 s w.finished [] w.text q.0 w.ran in
+    (w.finished, q.1, w.parted, good, subst (Appends a b) (sym text) w.grew)
 EndsAs-walk stands_for step s (Err Device) lines command m a b q = tt
 
 -- the walk ends as it did, or with a device fault
@@ -196,7 +196,7 @@ stands_after : {C S : Type 0} (stands_for : C → S → Type 0) (step : Step S) 
     → WalkEnds stands_for step s ended lines [] command 0 m a b → OnOk ended (stands_for command (state_after step s lines))
 stands_after {C} {S} stands_for step s (Ok done) lines command m a b q =
     let w = q.2 in
-    let e : state_after step s lines ≡ q.0 = ap (state_after step s) (w.parted ∙ append-nil w.answered) ∙ state_after-ran step s w.answered w.text q.0 w.ran in
+    let e : state_after step s lines ≡ q.0 = ap (state_after step s) (w.parted ∙ append-nil w.finished) ∙ state_after-ran step s w.finished w.text q.0 w.ran in
     subst (stands_for command) (sym e) q.1
 stands_after stands_for step s (Err fault) lines command m a b q = tt
 
@@ -252,10 +252,10 @@ memory_after {C} {S} stands_for step s t (Err e) fault lines mid last command n 
 -- ---- a part of the script
 
 -- a whole line whose front may have been cut off
-pub whole_answered : {C S : Type 0} (stands_for : C → S → Type 0) (step : Step S) (s : S) (result : Result ⊤ ScriptFault) (cut line joined left after : List ℕ) (command : C) (n m : ℕ) (a b : Option (List ℕ))
+pub whole_done : {C S : Type 0} (stands_for : C → S → Type 0) (step : Step S) (s : S) (result : Result ⊤ ScriptFault) (cut line joined left after : List ℕ) (command : C) (n m : ℕ) (a b : Option (List ℕ))
     → joined ≡ cut ++ line → HasNoFeed cut → HasNoFeed line → WalkEnds stands_for step s result (joined ∷ lines_of (left ++ after)) (lines_of (left ++ after)) command n m a b
     → WalkEnds stands_for step s result (lines_of (cut ++ (line ++ 10 ∷ left) ++ after)) (lines_of (left ++ after)) command n m a b
-whole_answered {C} {S} stands_for step s result cut line joined left after command n m a b e h k q =
+whole_done {C} {S} stands_for step s result cut line joined left after command n m a b e h k q =
     let F : List (List ℕ) → Type 0 = λ x. WalkEnds stands_for step s result x (lines_of (left ++ after)) command n m a b in
     subst F (ap (λ x. x ∷ lines_of (left ++ after)) e ∙ sym (lines_of-whole cut line left after h k)) q
 
@@ -306,7 +306,7 @@ Came-unread stands_for step s (Some octets) now new command cut n a b p k =
     same_kept rest None h = absurd h
     same_kept rest (Some ys) h = ap Some h
 
--- a part is read and answered
+-- a part is read, and its lines are done
 pub Came-read : {C S : Type 0} (stands_for : C → S → Type 0) (step : Step S) (s : S) (initial now new : Option (List ℕ)) (command command' : C) (cut part cut' : List ℕ) (n m : ℕ) (a b c : Option (List ℕ))
     → Came stands_for step s initial now command cut n a b → Consumes now new part
     → ((t : S) (after : List ℕ) → stands_for command t → WalkEnds stands_for step t (Ok tt) (lines_of (cut ++ part ++ after)) (lines_of (cut' ++ after)) command' n m b c)

@@ -1,11 +1,9 @@
 -- The words of a script's line and of what is printed.
-use Rattle.std.specs.Prelude.{◌≡◌, ◌≢◌, ℕ, ◌==◌, List, [], ◌∷◌, ◌++◌, if◌then◌else◌, Option, Some, None, Result, Ok, Err, ⊤}
+use Rattle.std.specs.Prelude.{◌≡◌, ◌≢◌, ℕ, ◌==◌, List, [], ◌∷◌, ◌++◌, if◌then◌else◌, Option, Some, None, option_and_then, Result, Ok, Err, ⊤}
 use Rattle.std.specs.List.{AllByRecursion}
 use Rattle.std.specs.Result.{result_ok}
 use Rattle.hex.specs.Hex.{decode_of, encode_lower}
 use Rattle.lapd_script.specs.Script.{with_first}
-use Rattle.lapd_script.specs.declared.line.Words.{Words}
-use Rattle.lapd_script.specs.declared.line.Words.TheVariants.{One, Two, Three, Four, More}
 use Rattle.lapd_script.specs.declared.script.LineFault.{LineFault}
 use Rattle.lapd_script.specs.declared.script.LineFault.TheVariants.{Bad, Device, Memory}
 
@@ -23,13 +21,22 @@ words_of (octet ∷ octets) = if octet == 32 then [] ∷ words_of octets else wi
 abbrev pub HasNoSpace : List ℕ → Type 0
 HasNoSpace octets = AllByRecursion (λ octet. octet ≢ 32) octets
 
--- what was found of a line with these words
-abbrev pub AreWords : Words → List (List ℕ) → Type 0
-AreWords (One first) words = words ≡ first.now ∷ []
-AreWords (Two first second) words = words ≡ first.now ∷ second.now ∷ []
-AreWords (Three first second third) words = words ≡ first.now ∷ second.now ∷ third.now ∷ []
-AreWords (Four first second third fourth) words = words ≡ first.now ∷ second.now ∷ third.now ∷ fourth.now ∷ []
-AreWords More words = (first second third fourth fifth : List ℕ) × (rest : List (List ℕ)) × (words ≡ first ∷ second ∷ third ∷ fourth ∷ fifth ∷ rest)
+-- the words of what is left of a line, none where nothing is left
+abbrev pub words_left : Option (List ℕ) → List (List ℕ)
+words_left None = []
+words_left (Some rest) = words_of rest
+
+-- ---- What the last words of a line say.
+
+-- nothing, where no word is left
+abbrev pub nothing_of : List (List ℕ) → Option ⊤
+nothing_of [] = Some tt
+nothing_of (word ∷ words) = None
+
+-- octets: no word stands for none
+abbrev pub octets_behind : List (List ℕ) → Option (List ℕ)
+octets_behind [] = Some []
+octets_behind (digits ∷ words) = option_and_then (λ none. octets_of digits) (nothing_of words)
 
 -- a function's value, seen by `view`, is what the line says, or its fault is that the line says nothing, unless memory
 -- ran out

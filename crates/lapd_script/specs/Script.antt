@@ -22,47 +22,47 @@ is_passed_over [] = true
 is_passed_over (octet ∷ octets) = octet == 35
 
 -- what a line calls for in a state: the text that is printed and the next state, or nothing, where it is no line of the command
-abbrev pub Answer : Type 0 → Type 0
-Answer S = Option (List ℕ × S)
+abbrev pub Outcome : Type 0 → Type 0
+Outcome S = Option (List ℕ × S)
 
 -- what each line calls for in each state
 abbrev pub Step : Type 0 → Type 0
-Step S = S → List ℕ → Answer S
+Step S = S → List ℕ → Outcome S
 
 -- the step of a whole script: a line that is passed over prints nothing and changes nothing
-abbrev pub answer_to : {S : Type 0} → Step S → S → List ℕ → Answer S
-answer_to step s line = if is_passed_over line then Some ([], s) else step s line
+abbrev pub outcome_of : {S : Type 0} → Step S → S → List ℕ → Outcome S
+outcome_of step s line = if is_passed_over line then Some ([], s) else step s line
 
-abbrev pub before_rest : {S : Type 0} → Answer S → (S → List ℕ) → List ℕ
+abbrev pub before_rest : {S : Type 0} → Outcome S → (S → List ℕ) → List ℕ
 before_rest None rest = []
 before_rest (Some (text, t)) rest = text ++ rest t
 
 -- the texts of the lines, up to the first bad one
 abbrev pub output_of : {S : Type 0} → Step S → S → List (List ℕ) → List ℕ
 output_of step s [] = []
-output_of step s (line ∷ lines) = before_rest (answer_to step s line) (λ t. output_of step t lines)
+output_of step s (line ∷ lines) = before_rest (outcome_of step s line) (λ t. output_of step t lines)
 
-abbrev pub number_or : {S : Type 0} → ℕ → Answer S → (S → Option ℕ) → Option ℕ
+abbrev pub number_or : {S : Type 0} → ℕ → Outcome S → (S → Option ℕ) → Option ℕ
 number_or number None rest = Some number
 number_or number (Some (text, t)) rest = rest t
 
 -- the number of the first bad line, where the first of these lines has this number
 abbrev pub bad_from : {S : Type 0} → ℕ → Step S → S → List (List ℕ) → Option ℕ
 bad_from number step s [] = None
-bad_from number step s (line ∷ lines) = number_or number (answer_to step s line) (λ t. bad_from (number + 1) step t lines)
+bad_from number step s (line ∷ lines) = number_or number (outcome_of step s line) (λ t. bad_from (number + 1) step t lines)
 
 -- the number of the first bad line, from 1
 abbrev pub bad_line : {S : Type 0} → Step S → S → List (List ℕ) → Option ℕ
 bad_line step s lines = bad_from 1 step s lines
 
-abbrev pub state_or : {S : Type 0} → S → Answer S → (S → S) → S
+abbrev pub state_or : {S : Type 0} → S → Outcome S → (S → S) → S
 state_or s None rest = s
 state_or s (Some (text, t)) rest = rest t
 
 -- the state after the lines, up to the first bad one
 abbrev pub state_after : {S : Type 0} → Step S → S → List (List ℕ) → S
 state_after step s [] = s
-state_after step s (line ∷ lines) = state_or s (answer_to step s line) (λ t. state_after step t lines)
+state_after step s (line ∷ lines) = state_or s (outcome_of step s line) (λ t. state_after step t lines)
 
 -- all lines before some place are good, and the writer grew by their texts
 abbrev pub PrintsFront : {S : Type 0} → Step S → S → List (List ℕ) → Option (List ℕ) → Option (List ℕ) → Type 0
@@ -76,12 +76,12 @@ EndsAs step s (Err (BadLine number)) lines old new = (bad_line step s lines ≡ 
 EndsAs step s (Err Memory) lines old new = PrintsFront step s lines old new
 EndsAs step s (Err Device) lines old new = ⊤
 
--- how one line of a command ends, where it calls for this answer
-abbrev pub LineEndsAs : {C S : Type 0} → (C → S → Type 0) → Answer S → Result ⊤ LineFault → C → Option (List ℕ) → Option (List ℕ) → Type 0
-LineEndsAs stands_for answer (Ok done) command old new = IsSomeAnd answer (λ next. stands_for command next.1 × Appends old new next.0)
-LineEndsAs stands_for answer (Err Bad) command old new = IsNone answer × Keeps old new
-LineEndsAs stands_for answer (Err LineMemory) command old new = Keeps old new
-LineEndsAs stands_for answer (Err LineDevice) command old new = ⊤
+-- how one line of a command ends, where this is what it calls for
+abbrev pub LineEndsAs : {C S : Type 0} → (C → S → Type 0) → Outcome S → Result ⊤ LineFault → C → Option (List ℕ) → Option (List ℕ) → Type 0
+LineEndsAs stands_for outcome (Ok done) command old new = IsSomeAnd outcome (λ next. stands_for command next.1 × Appends old new next.0)
+LineEndsAs stands_for outcome (Err Bad) command old new = IsNone outcome × Keeps old new
+LineEndsAs stands_for outcome (Err LineMemory) command old new = Keeps old new
+LineEndsAs stands_for outcome (Err LineDevice) command old new = ⊤
 
 -- the exit status of the program after a fault; 2 is a fault of the command line
 abbrev pub status_of : ScriptFault → ℕ

@@ -1,44 +1,78 @@
 //! The words of a script's line.
 
 ghost use Rattle.std.specs.Prelude.{◌≡◌, ◌∷◌, ◌++◌, MatchOption, [], ⊤};
-ghost use Rattle.lapd_script.specs.Line.{AreWords, HasNoSpace, Reads, octets_of, words_of};
+ghost use Rattle.lapd_script.specs.Line.{HasNoSpace, Reads, nothing_of, octets_behind, octets_of, words_of};
 
 use crate::script::LineFault;
 use hex::FromHexError;
 use memchr::memchr;
 use std::alloc::Global;
+use std::marker::Model;
 
-/// The words of a line, which single spaces part. There is always one, which may be empty.
-#[derive(Clone, Copy, Debug)]
-pub enum Words<'a> {
-    One(&'a [u8]),
-    Two(&'a [u8], &'a [u8]),
-    Three(&'a [u8], &'a [u8], &'a [u8]),
-    Four(&'a [u8], &'a [u8], &'a [u8], &'a [u8]),
-    /// More than four.
-    More,
+/// The words of a line that are still to be read. Single spaces part them, so a word may be empty.
+///
+/// Each method that reads to the end of the line consumes it.
+#[derive(Debug, Drop)]
+pub struct Words<'a> {
+    rest: Option<&'a [u8]>,
 }
 
-/// The words of a line.
-pub fn split(line: &[u8]) -> Words<'_>
-    ensures { AreWords result (words_of line.now) }
-{
-    let (first, rest) = first_word(line);
-    let Some(rest) = rest else {
-        return Words::One(first);
-    };
-    let (second, rest) = first_word(rest);
-    let Some(rest) = rest else {
-        return Words::Two(first, second);
-    };
-    let (third, rest) = first_word(rest);
-    let Some(rest) = rest else {
-        return Words::Three(first, second, third);
-    };
-    let (fourth, rest) = first_word(rest);
-    match rest {
-        None => Words::Four(first, second, third, fourth),
-        Some(_) => Words::More,
+impl<'a> Model for Words<'a> {
+    ghost use Rattle.std.specs.Prelude.{ℕ, List, option_map};
+    ghost use Rattle.lapd_script.specs.Line.{words_left};
+
+    ghost Value = { List (List ℕ) };
+
+    ghost view = { λ w. words_left (option_map (λ rest. rest.now) w.rest) };
+}
+
+impl<'a> Words<'a> {
+    /// The words of a line, which comes without its line feed. There is always one.
+    pub fn of(line: &'a [u8]) -> Words<'a>
+        ensures { result ≡ words_of line.now }
+    {
+        Words { rest: Some(line) }
+    }
+
+    /// Reads the next word. `None` where the line has no more.
+    pub fn next_word(&mut self) -> Option<&'a [u8]>
+        ensures { MatchOption result (self.old ≡ []) (λ word. self.old ≡ word.now ∷ self.new) }
+    {
+        let (word, rest) = first_word(self.rest?);
+        self.rest = rest;
+        Some(word)
+    }
+
+    /// Reads the end of the line.
+    ///
+    /// # Errors
+    ///
+    /// `Bad` where a word is left.
+    pub fn nothing(mut self) -> Result<(), LineFault>
+        ensures { Reads (λ done. done) result (nothing_of self.entry) }
+    {
+        match self.next_word() {
+            None => Ok(()),
+            Some(_) => Err(LineFault::Bad),
+        }
+    }
+
+    /// Reads the octets that the last word writes in hexadecimal digits of either case, at least two digits. Where no
+    /// word is left, there are no octets.
+    ///
+    /// # Errors
+    ///
+    /// `Bad` where the word writes no octets, or is not the last one, and `Memory`.
+    pub fn octets(mut self, alloc: Global) -> Result<Vec<u8>, LineFault>
+        ensures { Reads (λ v. v.items) result (octets_behind self.entry) }
+    {
+        match self.next_word() {
+            None => Ok(Vec::new(alloc)),
+            Some(digits) => {
+                self.nothing()?;
+                octets_of(alloc, digits)
+            }
+        }
     }
 }
 
@@ -66,7 +100,7 @@ fn cut_at_space(line: &[u8]) -> (&[u8], Option<&[u8]>)
 /// # Errors
 ///
 /// `Bad` where they are not, and `Memory`.
-pub fn octets_of(alloc: Global, digits: &[u8]) -> Result<Vec<u8>, LineFault>
+fn octets_of(alloc: Global, digits: &[u8]) -> Result<Vec<u8>, LineFault>
     ensures { Reads (λ v. v.items) result (octets_of digits.now) }
 {
     if digits.is_empty() {

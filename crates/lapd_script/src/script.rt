@@ -1,8 +1,8 @@
-//! The walk over a script, which every command of the program shares.
+//! The walk over a script, which every command shares.
 
 ghost use Rattle.std.specs.Prelude.{◌≡◌, ℕ, ◌+◌, ◌<◌, ◌≤◌, ◌^◌, [], ◌∷◌, ◌++◌, List, Option, length, take, IfSome, IfNone, OnOk, IsOkUnless};
 ghost use Rattle.std.specs.Io.KnownBytes.{Appends, Keeps};
-ghost use Rattle.lapd_script.specs.Script.{Step, EndsAs, LineEndsAs, answer_to, is_passed_over as passed_over, lines_of, state_after, status_of};
+ghost use Rattle.lapd_script.specs.Script.{Step, EndsAs, LineEndsAs, outcome_of, is_passed_over as passed_over, lines_of, state_after, status_of};
 ghost use Rattle.lapd_script.specs.declared.script.LineFault.TheVariants.{Device as LineDevice};
 ghost use Rattle.lapd_script.specs.Walked.{HasNoFeed, KeepsFault, WalkEnds};
 
@@ -57,7 +57,7 @@ impl From<io::Error> for LineFault {
     }
 }
 
-/// A command of the program, which answers a script line by line.
+/// A command, which does a script line by line.
 pub trait Command {
     /// The states of the command in the specification.
     ghost State: { Type 0 };
@@ -68,12 +68,13 @@ pub trait Command {
     /// The value stands for the state.
     ghost stands_for: { Self → State → Type 0 };
 
-    /// Answers one line, without its line feed. What memory it takes it takes before it writes.
+    /// Does what one line calls for, and prints its text. The line comes without its line feed, and is not one that is
+    /// passed over. What memory this takes it takes before it writes.
     ///
     /// # Errors
     ///
     /// `Bad`, where the line is no line of the command; `Device`, where a write failed; `Memory`.
-    fn answer<W: Write>(&mut self, line: &[u8], out: &mut W) -> Result<(), LineFault>
+    fn run<W: Write>(&mut self, line: &[u8], out: &mut W) -> Result<(), LineFault>
         ensures { (s : State) → stands_for self.old s
             → LineEndsAs stands_for (step s line.now) result self.new (W.contents out.old) (W.contents out.new) };
 }
@@ -84,8 +85,8 @@ const MOST_READS: u64 = 1_000_000;
 /// How many octets one read takes at most.
 const PART: usize = 8192;
 
-/// Goes over the script, and writes the command's answers. Each whole line that was read is
-/// answered, and the writer flushed, before more is read.
+/// Goes over the script, and writes what its lines call for. Each whole line that was read is done, and the writer
+/// flushed, before more is read.
 ///
 /// # Errors
 ///
@@ -103,12 +104,12 @@ pub fn walk<C: Command, R: Read, W: Write>(
     ensures state { (s : C.State) → C.stands_for command.old s → IfSome (R.remaining script.old)
         (λ octets. OnOk result (C.stands_for command.new (state_after C.step s (lines_of octets)))) }
 {
-    let ended = answer_script(alloc, command, script, out);
+    let ended = walk_script(alloc, command, script, out);
     hand_out(ended, out)
 }
 
-// Answers the script, and flushes before each read.
-fn answer_script<C: Command, R: Read, W: Write>(
+// Goes over the script, and flushes before each read.
+fn walk_script<C: Command, R: Read, W: Write>(
     alloc: Global,
     command: &mut C,
     script: &mut R,
@@ -124,8 +125,8 @@ fn answer_script<C: Command, R: Read, W: Write>(
     for read in 0..MOST_READS {
         hand_out(Ok(()), out)?;
         match script.read(&mut part) {
-            Ok(0) => return answer_last(command, &mut number, cut.as_slice(), out),
-            Ok(count) => answer_part(command, &mut number, &mut cut, &part[..count], out)?,
+            Ok(0) => return walk_last(command, &mut number, cut.as_slice(), out),
+            Ok(count) => walk_part(command, &mut number, &mut cut, &part[..count], out)?,
             Err(error) => {
                 if error.kind() != ErrorKind::Interrupted {
                     return Err(ScriptFault::Device);
@@ -136,9 +137,9 @@ fn answer_script<C: Command, R: Read, W: Write>(
     Err(ScriptFault::Device)
 }
 
-// Answers each line that ends in these octets, which follow what was cut off so far, and keeps what
-// is cut off at their end.
-fn answer_part<C: Command, W: Write>(
+// Does each line that ends in these octets, which follow what was cut off so far, and keeps what is cut off at their
+// end.
+fn walk_part<C: Command, W: Write>(
     command: &mut C,
     number: &mut u64,
     cut: &mut Vec<u8>,
@@ -156,15 +157,15 @@ fn answer_part<C: Command, W: Write>(
 {
     let mut rest = octets;
     while let Some((line, left)) = first_line(rest) {
-        answer_whole(command, number, cut, line, out)?;
+        walk_whole(command, number, cut, line, out)?;
         rest = left;
     }
     keep(cut, rest)?;
     Ok(())
 }
 
-// Answers a whole line, whose front may have been cut off.
-fn answer_whole<C: Command, W: Write>(
+// Does a whole line, whose front may have been cut off.
+fn walk_whole<C: Command, W: Write>(
     command: &mut C,
     number: &mut u64,
     cut: &mut Vec<u8>,
@@ -182,16 +183,16 @@ fn answer_whole<C: Command, W: Write>(
         command.new number.old number.new (W.contents out.old) (W.contents out.new) }
 {
     if cut.is_empty() {
-        return answer_line(command, number, line, out);
+        return walk_line(command, number, line, out);
     }
     keep(cut, line)?;
-    answer_line(command, number, cut.as_slice(), out)?;
+    walk_line(command, number, cut.as_slice(), out)?;
     cut.clear();
     Ok(())
 }
 
-// Answers the last line, if it lacks its line feed.
-fn answer_last<C: Command, W: Write>(
+// Does the last line, if it lacks its line feed.
+fn walk_last<C: Command, W: Write>(
     command: &mut C,
     number: &mut u64,
     cut: &[u8],
@@ -206,11 +207,11 @@ fn answer_last<C: Command, W: Write>(
     if cut.is_empty() {
         return Ok(());
     }
-    answer_line(command, number, cut, out)
+    walk_line(command, number, cut, out)
 }
 
-// Counts a line, and answers it unless it is passed over.
-fn answer_line<C: Command, W: Write>(
+// Counts a line, and does it unless it is passed over.
+fn walk_line<C: Command, W: Write>(
     command: &mut C,
     number: &mut u64,
     line: &[u8],
@@ -226,7 +227,7 @@ fn answer_line<C: Command, W: Write>(
     if is_passed_over(line) {
         return Ok(());
     }
-    match command.answer(line, out) {
+    match command.run(line, out) {
         Ok(()) => Ok(()),
         Err(LineFault::Bad) => Err(ScriptFault::BadLine(*number)),
         Err(LineFault::Device) => Err(ScriptFault::Device),
@@ -259,7 +260,7 @@ fn keep(cut: &mut Vec<u8>, octets: &[u8]) -> Result<(), ScriptFault>
         .map_err(|_| ScriptFault::Memory)
 }
 
-// Hands what was written to the device, and answers how the walk ended.
+// Hands what was written to the device, and returns how the walk ended, unless that fails.
 fn hand_out<W: Write>(ended: Result<(), ScriptFault>, out: &mut W) -> Result<(), ScriptFault>
     ensures bytes { Keeps (W.contents out.old) (W.contents out.new) }
     ensures ended { KeepsFault ended result }

@@ -1,8 +1,10 @@
 //! Readers and writers that give and take in parts, or fail.
 
 use crate::scripts::{ANSWERS, SCRIPT, run};
+use crate::wants::wants;
 use lapd_commands::decode;
 use lapd_script::ScriptFault;
+use std::alloc::Global;
 use std::cell::Cell;
 use std::io;
 use std::io::{BufWriter, ErrorKind, Read, Write};
@@ -116,39 +118,41 @@ impl Read for Waiting<'_> {
     }
 }
 
+// The script is done, and prints the answers of `SCRIPT`.
+fn answers<R: Read>(alloc: Global, script: &mut R, row: &str) -> Result<(), Fail> {
+    let mut printed = Vec::new(alloc);
+    let ended = run(alloc, script, &mut printed);
+    wants(ended == Ok(()), row, "its end")?;
+    wants(printed.as_slice() == ANSWERS, row, "its text")
+}
+
 #[test]
 fn joins_octets(rt: HostRuntime) -> Result<(), Fail> {
-    let mut printed = Vec::new(rt.alloc());
-    let mut script = Octets { octets: SCRIPT };
-    run(&rt, &mut script, &mut printed)?;
-    assert_eq!(rt; printed.as_slice(), ANSWERS);
-    Ok(())
+    answers(rt.alloc(), &mut Octets { octets: SCRIPT }, "octets")
 }
+
+const A_LINE_AND_A_HALF: &[&[u8]] = &[b"frame 00817f\nframe 00", b"8", b"153\nframe", b" 008153"];
 
 #[test]
 fn joins_a_line_and_a_half(rt: HostRuntime) -> Result<(), Fail> {
-    let mut printed = Vec::new(rt.alloc());
-    let parts: [&[u8]; 4] = [b"frame 00817f\nframe 00", b"8", b"153\nframe", b" 008153"];
     let mut script = Parts {
-        parts: &parts,
+        parts: A_LINE_AND_A_HALF,
         fails: false,
     };
-    run(&rt, &mut script, &mut printed)?;
-    assert_eq!(rt; printed.as_slice(), ANSWERS);
-    Ok(())
+    answers(rt.alloc(), &mut script, "a line and a half")
 }
 
 #[test]
-fn reader_fails(rt: HostRuntime) {
+fn reader_fails(rt: HostRuntime) -> Result<(), Fail> {
     let mut printed = Vec::new(rt.alloc());
-    let parts: [&[u8]; 2] = [b"state\nframe 00", b"8153\nstate"];
     let mut script = Parts {
-        parts: &parts,
+        parts: &[b"state\nframe 00", b"8153\nstate"],
         fails: true,
     };
-    let ended = run(&rt, &mut script, &mut printed);
-    assert_eq!(rt; ended, Err(ScriptFault::Device));
-    assert_eq!(rt; printed.as_slice(), b"state 4\nsend 00811f\n".as_slice());
+    let ended = run(rt.alloc(), &mut script, &mut printed);
+    let text = printed.as_slice() == b"state 4\nsend 00811f\n".as_slice();
+    wants(ended == Err(ScriptFault::Device), "reader", "the fault")?;
+    wants(text, "reader", "the text before it")
 }
 
 #[test]
@@ -158,45 +162,56 @@ fn writer_takes_octets(rt: HostRuntime) -> Result<(), Fail> {
         room: 1000,
     };
     let mut script = SCRIPT;
-    run(&rt, &mut script, &mut out)?;
-    assert_eq!(rt; out.taken.as_slice(), ANSWERS);
-    Ok(())
+    let ended = run(rt.alloc(), &mut script, &mut out);
+    wants(ended == Ok(()), "writer", "the end")?;
+    wants(out.taken.as_slice() == ANSWERS, "writer", "the text")
 }
 
 // The device fails in the middle of each line: what was answered before is there.
 #[test]
-fn writer_fails(rt: HostRuntime) {
+fn writer_fails(rt: HostRuntime) -> Result<(), Fail> {
     for room in [0, 6, 15, 40, 70] {
-        let mut out = Narrow {
-            taken: Vec::new(rt.alloc()),
-            room,
-        };
-        let mut script = SCRIPT;
-        let ended = run(&rt, &mut script, &mut out);
-        assert_eq!(rt; ended, Err(ScriptFault::Device), "with room for {room}");
-        assert_eq!(rt; out.taken.len(), room);
-        assert!(rt; ANSWERS.starts_with(out.taken.as_slice()));
+        fails_with_room(rt.alloc(), room)?;
     }
+    Ok(())
 }
+
+fn fails_with_room(alloc: Global, room: usize) -> Result<(), Fail> {
+    let mut out = Narrow {
+        taken: Vec::new(alloc),
+        room,
+    };
+    let mut script = SCRIPT;
+    let ended = run(alloc, &mut script, &mut out);
+    wants(ended == Err(ScriptFault::Device), "writer", "the fault")?;
+    wants(is_front(&out, ANSWERS), "writer", "what it took")
+}
+
+// The device took as much of the text as it has room for.
+fn is_front(out: &Narrow, text: &[u8]) -> bool {
+    out.taken.len() == out.room && text.starts_with(out.taken.as_slice())
+}
+
+// Parts, and how many octets are to be printed before each is given.
+const PARTS: &[(&[u8], usize)] = &[
+    (b"state\n", 0),
+    (b"state\nsta", 8),
+    (b"te", 16),
+    (b"\n#\nstate\nst", 16),
+    (b"ate", 32),
+];
 
 #[test]
 fn answers_before_more_is_read(rt: HostRuntime) -> Result<(), Fail> {
     let count = Cell::new(0);
-    let parts: [(&[u8], usize); 5] = [
-        (b"state\n", 0),
-        (b"state\nsta", 8),
-        (b"te", 16),
-        (b"\n#\nstate\nst", 16),
-        (b"ate", 32),
-    ];
     let mut script = Waiting {
-        parts: &parts,
+        parts: PARTS,
         count: &count,
     };
     let mut out = BufWriter::new(rt.alloc(), Counted { count: &count })?;
-    run(&rt, &mut script, &mut out)?;
-    assert_eq!(rt; count.get(), 40);
-    Ok(())
+    let ended = run(rt.alloc(), &mut script, &mut out);
+    wants(ended == Ok(()), "parts", "the end")?;
+    wants(count.get() == 40, "parts", "how many octets are printed")
 }
 
 #[test]
@@ -208,87 +223,94 @@ fn long_lines(rt: HostRuntime) -> Result<(), Fail> {
     }
     script.extend_from_slice(b"\nstate\n")?;
     let mut printed = Vec::new(rt.alloc());
-    run(&rt, &mut script.as_slice(), &mut printed)?;
-    assert_eq!(rt; printed.as_slice(), b"not-mine\nstate 4\n".as_slice());
-    Ok(())
+    let ended = run(rt.alloc(), &mut script.as_slice(), &mut printed);
+    let text = printed.as_slice() == b"not-mine\nstate 4\n".as_slice();
+    wants(
+        ended == Ok(()) && text,
+        "a line of 20,000 octets",
+        "the text",
+    )
 }
 
 // With ample memory the script is done; where an allocation is refused, the lines before are there.
+fn keeps_whole_lines(
+    ended: Result<(), ScriptFault>,
+    text: &[u8],
+    whole: &[u8],
+    ends: &[usize],
+) -> bool {
+    match ended {
+        Ok(()) => text == whole,
+        Err(ScriptFault::Memory) => whole.starts_with(text) && ends.contains(&text.len()),
+        Err(_) => false,
+    }
+}
+
 #[test]
 fn memory_runs_out(rt: HostRuntime) -> Result<(), Fail> {
     let Ok(mut printed) = Vec::with_capacity(rt.alloc(), 128) else {
         return Ok(());
     };
-    let parts: [&[u8]; 3] = [b"state\nframe 00", b"8153\n", b"frame 008153"];
     let mut script = Parts {
-        parts: &parts,
+        parts: &[b"state\nframe 00", b"8153\n", b"frame 008153"],
         fails: false,
     };
-    let ended = run(&rt, &mut script, &mut printed);
-    let whole = b"state 4\nsend 00811f\nsend 00811f\n";
-    assert!(rt; ended == Ok(()) || ended == Err(ScriptFault::Memory));
-    if ended == Ok(()) {
-        assert_eq!(rt; printed.as_slice(), whole.as_slice());
-    } else {
-        assert!(rt; whole.starts_with(printed.as_slice()));
-        assert!(rt; [0, 8, 20].contains(&printed.len()));
-    }
-    Ok(())
+    let ended = run(rt.alloc(), &mut script, &mut printed);
+    let whole = b"state 4\nsend 00811f\nsend 00811f\n".as_slice();
+    let holds = keeps_whole_lines(ended, printed.as_slice(), whole, &[0, 8, 20]);
+    wants(holds, "memory", "the text")
 }
 
 // Two lines, the second in two parts, and a third that lacks its line feed.
-const SENT: [&[u8]; 3] = [b"user\nnet 0281", b"0101\n", b"user"];
+const SENT: &[&[u8]] = &[b"user\nnet 0281", b"0101\n", b"user"];
 
 const TRACE: &[u8] = b"U>N F1 TooShort\nN>U SAPI 0 TEI 64 C RR N(R)=0 P=1\nU>N F1 TooShort\n";
 
 #[test]
-fn decodes_until_the_reader_fails(rt: HostRuntime) {
+fn decodes_until_the_reader_fails(rt: HostRuntime) -> Result<(), Fail> {
     let mut printed = Vec::new(rt.alloc());
     let mut script = Parts {
-        parts: &SENT,
+        parts: SENT,
         fails: true,
     };
     let ended = decode(rt.alloc(), &mut script, &mut printed);
-    assert_eq!(rt; ended, Err(ScriptFault::Device));
-    assert_eq!(rt; printed.len(), 50);
-    assert!(rt; TRACE.starts_with(printed.as_slice()));
+    let text = printed.len() == 50 && TRACE.starts_with(printed.as_slice());
+    wants(ended == Err(ScriptFault::Device), "reader", "the fault")?;
+    wants(text, "reader", "the text before it")
 }
 
 #[test]
-fn decodes_until_the_writer_fails(rt: HostRuntime) {
+fn decodes_until_the_writer_fails(rt: HostRuntime) -> Result<(), Fail> {
     for room in [0, 15, 20, 49, 65] {
-        let mut out = Narrow {
-            taken: Vec::new(rt.alloc()),
-            room,
-        };
-        let mut script = Parts {
-            parts: &SENT,
-            fails: false,
-        };
-        let ended = decode(rt.alloc(), &mut script, &mut out);
-        assert_eq!(rt; ended, Err(ScriptFault::Device), "with room for {room}");
-        assert_eq!(rt; out.taken.len(), room);
-        assert!(rt; TRACE.starts_with(out.taken.as_slice()));
+        decodes_with_room(rt.alloc(), room)?;
     }
+    Ok(())
 }
 
-// With ample memory the script is done; where an allocation is refused, the lines before are there.
+fn decodes_with_room(alloc: Global, room: usize) -> Result<(), Fail> {
+    let mut out = Narrow {
+        taken: Vec::new(alloc),
+        room,
+    };
+    let mut script = Parts {
+        parts: SENT,
+        fails: false,
+    };
+    let ended = decode(alloc, &mut script, &mut out);
+    wants(ended == Err(ScriptFault::Device), "writer", "the fault")?;
+    wants(is_front(&out, TRACE), "writer", "what it took")
+}
+
 #[test]
 fn decodes_while_there_is_memory(rt: HostRuntime) -> Result<(), Fail> {
     let Ok(mut printed) = Vec::with_capacity(rt.alloc(), 128) else {
         return Ok(());
     };
     let mut script = Parts {
-        parts: &SENT,
+        parts: SENT,
         fails: false,
     };
     let ended = decode(rt.alloc(), &mut script, &mut printed);
-    assert!(rt; ended == Ok(()) || ended == Err(ScriptFault::Memory));
-    if ended == Ok(()) {
-        assert_eq!(rt; printed.as_slice(), TRACE);
-    } else {
-        assert!(rt; TRACE.starts_with(printed.as_slice()));
-        assert!(rt; [0, 16, 50].contains(&printed.len()));
-    }
-    Ok(())
+    let holds = keeps_whole_lines(ended, printed.as_slice(), TRACE, &[0, 16, 50]);
+    wants(holds, "memory", "the text")
 }

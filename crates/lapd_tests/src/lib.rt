@@ -1,5 +1,8 @@
-//! Tests of the crates below, which prove what their contracts say: of worked octets, printed text, devices that fail
-//! and memory that runs out.
+//! Tests of the crates below, as tables: scripts and octets in hexadecimal, and what they call for.
+//!
+//! They stand apart so that each crate is proved once. What a contract says is not tested again. A row shows that the
+//! definitions say what is meant, that a call can succeed, and what a value prints. `wants` fails a test with the row's
+//! name.
 #![tactic(auto)]
 
 #[cfg(test)]
@@ -10,3 +13,5 @@ mod decodes;
 mod devices;
 #[cfg(test)]
 mod scripts;
+#[cfg(test)]
+mod wants;

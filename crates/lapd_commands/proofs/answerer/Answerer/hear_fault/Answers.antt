@@ -2,7 +2,7 @@ use Rattle.std.proofs.Common.{◌≡◌, ◌∙◌}
 use Rattle.lapd_frame.specs.Fault.{fault_name}
 use Rattle.lapd_commands.specs.Session.{IsAnswerer}
 use Rattle.lapd_script.proofs.Printed.{printed}
-use Rattle.lapd_commands.proofs.answerer.Answerer.came_faulty.Goals as goal
+use Rattle.lapd_commands.proofs.answerer.Answerer.hear_fault.Goals as goal
 
 pub returns-in-None : goal.returns-in-None
 returns-in-None g c = λ s h same.

@@ -1,25 +1,26 @@
-//! Where a link's frames go, and the lines of what its steps give.
+//! The address of a link, and the lines of what its steps give.
 
 ghost use Rattle.std.specs.Prelude.{◌≡◌, ◌++◌, IsOkUnless, OnOk};
 ghost use Rattle.std.specs.Io.KnownBytes.{Appends};
 ghost use Rattle.hex.specs.Hex.{encode_lower};
-ghost use Rattle.lapd_commands.specs.Answer.{message_at};
+ghost use Rattle.lapd_commands.specs.Outputs.{message_at};
 
 use lapd_frame::{Address, Control, Role, Sapi, Side, Tei};
 use lapd_link::{IQueue, Out};
 use lapd_script::{LineFault, put_hex, put_line, put_number, put_octets};
 use std::io::Write;
 
-/// Where a link's frames go: its side and its address.
+/// The address of a data link: its side, its SAPI and its TEI (Q.921 3.3).
 #[derive(Clone, Copy, Debug)]
-pub struct Place {
+pub struct LinkAddress {
     pub side: Side,
     pub sapi: Sapi,
     pub tei: Tei,
 }
 
-impl Place {
-    ghost use Rattle.lapd_commands.specs.Answer.{send_line, out_line, outs_text, is_for};
+impl LinkAddress {
+    ghost use Rattle.lapd_commands.specs.Answer.{is_for};
+    ghost use Rattle.lapd_commands.specs.Outputs.{send_line, out_line, outs_text};
 
     /// Whether this address is the link's.
     pub fn is_for(&self, address: &Address) -> bool

@@ -2,7 +2,7 @@ use Rattle.std.proofs.Common.{◌++◌}
 use Rattle.std.proofs.KnownBytes.{Appends-trans}
 use Rattle.hex.specs.Hex.{encode_lower}
 use Rattle.lapd_script.proofs.HexText.{encode_lower-three}
-use Rattle.lapd_commands.proofs.place.put_parts.Goals as goal
+use Rattle.lapd_commands.proofs.link_address.put_parts.Goals as goal
 
 pub returns-clause-ok : goal.returns-clause-ok
 returns-clause-ok g c =

@@ -1,7 +1,7 @@
 use Rattle.std.proofs.Common.{ℕ, ◌+◌, ◌≤◌, ◌++◌, List, length}
 use Rattle.lapd_script.specs.Script.{lines_of}
 use Rattle.lapd_script.specs.Walked.{HasNoFeed, Walked}
-use Rattle.lapd_script.proofs.script.answer_part.Given as goal
+use Rattle.lapd_script.proofs.script.walk_part.Given as goal
 
 abbrev pub invariant-loop-line : goal.invariant-loop-line
 invariant-loop-line g l = record {

@@ -1,6 +1,6 @@
 use Rattle.std.proofs.Common.{◌*◌, ◌≤◌}
 use Rattle.lapd_script.specs.Walked.{HasNoFeed, Came}
-use Rattle.lapd_script.proofs.script.answer_script.Given as goal
+use Rattle.lapd_script.proofs.script.walk_script.Given as goal
 
 abbrev pub invariant-loop-read : goal.invariant-loop-read
 invariant-loop-read g l = record {
