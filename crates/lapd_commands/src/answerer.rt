@@ -24,7 +24,7 @@ struct Answerer {
 }
 
 /// Goes over a script as one link of SAPI 0 and TEI 64 on this side, made with these parameters, and writes what the
-/// script calls for.
+/// script calls for: a line for each output of each step, or of why there was none.
 ///
 /// # Errors
 ///
@@ -74,7 +74,7 @@ impl Answerer {
     ghost use Rattle.lapd_commands.specs.Outputs.{outs_text};
     ghost use Rattle.lapd_commands.specs.Session.{IsAnswerer};
 
-    /// What a word calls for, with the words behind it.
+    /// Does what a word calls for, with the words behind it.
     fn word<W: Write>(
         &mut self,
         word: &[u8],
@@ -107,7 +107,7 @@ impl Answerer {
         }
     }
 
-    /// A step of the link, for a word with nothing behind it.
+    /// Makes a step of the link, for a word with nothing behind it.
     fn alone<W: Write>(
         &mut self,
         behind: Words<'_>,
@@ -121,7 +121,7 @@ impl Answerer {
         self.step(event, &[], out)
     }
 
-    /// The line of the state.
+    /// Prints the state.
     fn put_state<W: Write>(&mut self, behind: Words<'_>, out: &mut W) -> Result<(), LineFault>
         ensures { (s : Session) → IsAnswerer self.old s
             → LineEndsAs IsAnswerer (alone behind.entry (state_line s.end, s)) result self.new (W.contents out.old) (W.contents out.new) }
@@ -141,7 +141,7 @@ impl Answerer {
         }
     }
 
-    /// What octets call for that the other side sent.
+    /// Takes the octets behind a word, which the other side sent.
     fn hear<W: Write>(&mut self, behind: Words<'_>, out: &mut W) -> Result<(), LineFault>
         ensures { (s : Session) → IsAnswerer self.old s
             → LineEndsAs IsAnswerer (with_octets behind.entry (hear s)) result self.new (W.contents out.old) (W.contents out.new) }
@@ -154,7 +154,7 @@ impl Answerer {
         }
     }
 
-    /// What a frame calls for.
+    /// Takes a frame, if it is for this link.
     fn hear_frame<W: Write>(
         &mut self,
         address: &LinkAddress,
@@ -171,7 +171,7 @@ impl Answerer {
         }
     }
 
-    /// What octets that are no frame call for.
+    /// Takes octets that are no frame, by their first fault.
     fn hear_fault<W: Write>(
         &mut self,
         address: &LinkAddress,
@@ -193,7 +193,7 @@ impl Answerer {
         }
     }
 
-    /// A step of the link, to which these octets are handed, and the lines of its outputs.
+    /// Makes a step of the link, to which these octets are handed, and prints its outputs.
     fn step<W: Write>(&mut self, event: Event, handed: &[u8], out: &mut W) -> Result<(), LineFault>
         ensures { (s : Session) → IsAnswerer self.old s
             → LineEndsAs IsAnswerer (Some (link_step s (happening_of event.entry) handed.now)) result self.new (W.contents out.old) (W.contents out.new) }
@@ -204,7 +204,7 @@ impl Answerer {
         }
     }
 
-    /// A message is given to the link, and the lines of the step's outputs.
+    /// Gives the octets behind a word to the link as a message, and prints the step's outputs.
     fn give<W: Write>(&mut self, behind: Words<'_>, out: &mut W) -> Result<(), LineFault>
         ensures { (s : Session) → IsAnswerer self.old s
             → LineEndsAs IsAnswerer (with_octets behind.entry (λ message. link_step s (Give message) [])) result self.new (W.contents out.old) (W.contents out.new) }
@@ -216,7 +216,7 @@ impl Answerer {
         }
     }
 
-    /// Unit data is sent, and the lines of the step's outputs.
+    /// Sends the octets behind a word as unit data.
     fn unit<W: Write>(&mut self, behind: Words<'_>, out: &mut W) -> Result<(), LineFault>
         ensures { (s : Session) → IsAnswerer self.old s
             → LineEndsAs IsAnswerer (with_octets behind.entry (λ octets. link_step s (UnitData (length octets)) octets)) result self.new (W.contents out.old) (W.contents out.new) }
@@ -225,7 +225,7 @@ impl Answerer {
         self.step(Event::Unit(octets.len()), octets.as_slice(), out)
     }
 
-    /// The lines of the outputs of the step that was just done, to which these octets were handed.
+    /// Prints the outputs of the step that was just done, to which these octets were handed.
     fn put_outs<W: Write>(&self, handed: &[u8], out: &mut W) -> Result<(), LineFault>
         ensures ok { (s : Session) → IsAnswerer self.now s
             → OnOk result (Appends (W.contents out.old) (W.contents out.new) (outs_text s.address (messages_of s.end) handed.now self.now.outs.items)) }
@@ -236,7 +236,7 @@ impl Answerer {
     }
 }
 
-/// The line of a request that the link refused.
+/// Prints why the link refused a request.
 fn put_refusal<W: Write>(fault: LinkFault, out: &mut W) -> Result<(), LineFault>
     ensures ok { OnOk result (Appends (W.contents out.old) (W.contents out.new) (refusal_line fault)) }
     ensures err { IsOkUnless result LineFault.Device }
@@ -244,7 +244,11 @@ fn put_refusal<W: Write>(fault: LinkFault, out: &mut W) -> Result<(), LineFault>
     put_line(b"refused ", fault.name().as_bytes(), out)
 }
 
-/// What happens to a link by `busy` with these words behind it.
+/// What happens to the link by `busy` with these words behind it.
+///
+/// # Errors
+///
+/// `Bad`, where they are none of `on` and `off`.
 fn busy_event(mut behind: Words<'_>) -> Result<Event<'_>, LineFault>
     ensures { Reads happening_of result (busy_of behind.entry) }
 {

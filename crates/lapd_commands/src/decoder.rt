@@ -15,7 +15,7 @@ struct Decoder {
     alloc: Global,
 }
 
-/// Goes over a script of octets and who sent them, and writes the trace line of each.
+/// Goes over a script of lines `user HEX` and `net HEX`, the octets and who sent them, and writes the trace line of each.
 ///
 /// # Errors
 ///
@@ -50,7 +50,7 @@ impl Command for Decoder {
 }
 
 impl Decoder {
-    /// The trace line of the octets behind, which this side sent.
+    /// Prints the trace line of the octets behind a word, which this side sent.
     fn trace<W: Write>(&self, from: Side, behind: Words<'_>, out: &mut W) -> Result<(), LineFault>
         ensures { LineEndsAs (λ state none. ⊤) (trace_of from behind.entry) result self.now (W.contents out.old) (W.contents out.new) }
     {

@@ -29,12 +29,11 @@ impl LinkAddress {
         self.sapi.value() == address.sapi.value() && self.tei.value() == address.tei.value()
     }
 
-    /// The lines of a step's outputs. After the step, the queue holds the messages that wait; these octets were handed to
-    /// it.
+    /// Prints a step's outputs. After the step, the queue holds the messages that wait; these octets were handed to it.
     ///
     /// # Errors
     ///
-    /// `Device`.
+    /// `Device`, where the writer fails.
     pub fn put_outs<W: Write>(
         &self,
         queue: &IQueue,
@@ -51,7 +50,7 @@ impl LinkAddress {
         Ok(())
     }
 
-    /// The line of one output.
+    /// Prints one output.
     fn put_out<W: Write>(
         &self,
         queue: &IQueue,
@@ -82,7 +81,7 @@ impl LinkAddress {
         }
     }
 
-    /// The line of a frame that goes out.
+    /// Prints a frame that goes out.
     fn put_send<W: Write>(
         &self,
         role: Role,
@@ -117,7 +116,7 @@ fn message_at(queue: &IQueue, at: u16) -> &[u8]
     if at < queue.len() { queue.at(at) } else { &[] }
 }
 
-/// Three parts of a frame in hexadecimal.
+/// Prints three parts of a frame in hexadecimal.
 fn put_parts<W: Write>(
     address: &[u8],
     control: &[u8],

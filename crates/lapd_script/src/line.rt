@@ -11,7 +11,8 @@ use std::marker::Model;
 
 /// The words of a line that are still to be read. Single spaces part them, so a word may be empty.
 ///
-/// Each method that reads to the end of the line consumes it.
+/// [`Words::next_word`] reads the next one. [`Words::nothing`] and [`Words::octets`] read to the end of the line, so each
+/// consumes the words.
 #[derive(Debug, Drop)]
 pub struct Words<'a> {
     rest: Option<&'a [u8]>,

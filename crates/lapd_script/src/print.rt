@@ -10,11 +10,11 @@ use crate::script::LineFault;
 use std::io;
 use std::io::Write;
 
-/// A line of two texts.
+/// Prints a line of two texts, one behind the other.
 ///
 /// # Errors
 ///
-/// `Device`, as all of these.
+/// `Device`, where the writer fails: the front of the line may be written then.
 pub fn put_line<W: Write>(front: &[u8], back: &[u8], out: &mut W) -> Result<(), LineFault>
     ensures ok { OnOk result (Appends (W.contents out.old) (W.contents out.new) (text_line (front.now ++ back.now))) }
     ensures err { IsOkUnless result LineFault.Device }
@@ -25,7 +25,11 @@ pub fn put_line<W: Write>(front: &[u8], back: &[u8], out: &mut W) -> Result<(), 
     Ok(())
 }
 
-/// A line of a text and a number in decimal digits.
+/// Prints a line of a text and, behind it, a number in decimal digits.
+///
+/// # Errors
+///
+/// `Device`, where the writer fails: the front of the line may be written then.
 pub fn put_number<W: Write>(front: &[u8], number: u16, out: &mut W) -> Result<(), LineFault>
     ensures ok { OnOk result (Appends (W.contents out.old) (W.contents out.new) (text_line (front.now ++ decimal number))) }
     ensures err { IsOkUnless result LineFault.Device }
@@ -35,7 +39,11 @@ pub fn put_number<W: Write>(front: &[u8], number: u16, out: &mut W) -> Result<()
     Ok(())
 }
 
-/// A line of a word and octets in hexadecimal, the word alone where there are none.
+/// Prints a line of a word, a space and octets in lower case hexadecimal, of the word alone where there are no octets.
+///
+/// # Errors
+///
+/// `Device`, where the writer fails: the front of the line may be written then.
 pub fn put_octets<W: Write>(word: &[u8], octets: &[u8], out: &mut W) -> Result<(), LineFault>
     ensures ok { OnOk result (Appends (W.contents out.old) (W.contents out.new) (text_line (word.now ++ digits_of octets.now))) }
     ensures err { IsOkUnless result LineFault.Device }
@@ -53,11 +61,11 @@ pub fn put_octets<W: Write>(word: &[u8], octets: &[u8], out: &mut W) -> Result<(
 /// How many octets are printed at a time.
 const CHUNK: usize = 64;
 
-/// Writes the octets in lower case hexadecimal, without spaces. No memory is taken.
+/// Prints octets in lower case hexadecimal, without spaces or a line's end. No memory is taken.
 ///
 /// # Errors
 ///
-/// Those of the writer, some digits may be written then.
+/// The writer's. Some digits may be written then.
 pub fn put_hex<W: Write>(octets: &[u8], out: &mut W) -> io::Result<()>
     ensures { OnOk result (Appends (W.contents out.old) (W.contents out.new) (encode_lower octets.now)) }
 {

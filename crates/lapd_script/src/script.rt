@@ -26,7 +26,7 @@ pub enum ScriptFault {
 }
 
 impl ScriptFault {
-    /// The program's exit status.
+    /// The exit status of a program whose script ends so: 1, 3 or 4.
     pub fn status(self) -> u8
         ensures { result ≡ status_of self }
     {
@@ -90,9 +90,9 @@ const PART: usize = 8192;
 ///
 /// # Errors
 ///
-/// `BadLine` at the first line that is no line of the command, and `Memory` where memory runs out:
-/// what came before is printed then, and nothing of that line. `Device`, where a read, a write or a
-/// flush fails, or a million reads do not reach the script's end.
+/// `BadLine` at the first line that is no line of the command, and `Memory` where memory runs out: what came before is
+/// printed then, and nothing of that line. `Device`, where a read, a write or a flush fails, or a million reads, each of
+/// at most 8,192 octets, do not reach the script's end.
 pub fn walk<C: Command, R: Read, W: Write>(
     alloc: Global,
     command: &mut C,
