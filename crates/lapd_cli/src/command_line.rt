@@ -2,7 +2,7 @@
 
 ghost use Rattle.std.specs.Prelude.{◌≡◌, ◌<◌, ◌^◌, SomeIff, length, Ok};
 ghost use Rattle.std.specs.Str.Parse.{digits_value, IsNumeral};
-ghost use Rattle.lapd_cli.specs.CommandLine.{default_numbers, numbers_written, AreWritten};
+ghost use Rattle.lapd_cli.specs.CommandLine.{default_numbers, numbers_written, AreWritten, IsNumberTo, IsRangeOf};
 
 mod number_option;
 mod words;
@@ -90,11 +90,15 @@ fn params_given<'a>(given: &ArgMatches<'a>) -> Result<Params, OutOfRange<'a>> {
     }
 }
 
-// The first of these numbers, one of which is not in its range, that is not.
-fn out_of_range<'a>(k: &'a str, n200: &'a str, room: &'a str) -> OutOfRange<'a> {
-    if !K.takes(number_of(k)) {
+// The fault of the first of these numbers that is not in the range of its option, where one is not.
+fn out_of_range<'a>(k: &'a str, n200: &'a str, room: &'a str) -> OutOfRange<'a>
+    requires { ¬ AreWritten k.now n200.now room.now }
+    ensures named { IsRangeOf k.now n200.now room.now result.option.most result.written.now }
+    ensures refused { ¬ IsNumberTo result.option.most result.written.now }
+{
+    if !K.takes(k) {
         K.refused(k)
-    } else if !N200.takes(number_of(n200)) {
+    } else if !N200.takes(n200) {
         N200.refused(n200)
     } else {
         ROOM.refused(room)

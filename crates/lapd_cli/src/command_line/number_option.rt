@@ -1,5 +1,9 @@
 //! The options that take a number.
 
+ghost use Rattle.std.specs.Prelude.{◌≡◌, ◌↔◌, IsTrue};
+ghost use Rattle.lapd_cli.specs.CommandLine.{IsNumberTo};
+
+use super::number_of;
 use clap::{Arg, ArgAction, ArgMatches};
 use std::alloc::Global;
 use thiserror::Error;
@@ -23,16 +27,16 @@ pub struct NumberOption {
 pub const K: NumberOption = NumberOption {
     name: "k",
     value_name: "FRAMES",
-    help: "The window k, 1 to 127 I frames",
+    help: "The most outstanding I frames, the window k, 1 to 127",
     default: "1",
     most: 127,
 };
 
-/// How often a frame is sent again (Q.921 5.9.2).
+/// N200, the most retransmissions of a frame (Q.921 5.9.2).
 pub const N200: NumberOption = NumberOption {
     name: "n200",
     value_name: "TIMES",
-    help: "N200, how often a frame is sent again, 1 to 100 times",
+    help: "The most retransmissions of a frame, N200, 1 to 100",
     default: "3",
     most: 100,
 };
@@ -41,7 +45,7 @@ pub const N200: NumberOption = NumberOption {
 pub const ROOM: NumberOption = NumberOption {
     name: "room",
     value_name: "MESSAGES",
-    help: "The room of the I queue, 1 to 1024 messages",
+    help: "The most messages in the I queue, 1 to 1024",
     default: "512",
     most: 1024,
 };
@@ -64,16 +68,20 @@ impl NumberOption {
         given.get_str(self.name).unwrap_or(self.default)
     }
 
-    /// Whether this number, where there is one, lies in the range.
-    pub fn takes(self, number: Option<u16>) -> bool {
-        match number {
+    /// Whether this is a number of its range, written in decimal digits alone.
+    pub fn takes(self, written: &str) -> bool
+        ensures { IsTrue result ↔ IsNumberTo self.most written.now }
+    {
+        match number_of(written) {
             Some(number) => 1 <= number && number <= self.most,
             None => false,
         }
     }
 
     /// The fault of what was written for it.
-    pub fn refused(self, written: &str) -> OutOfRange<'_> {
+    pub fn refused(self, written: &str) -> OutOfRange<'_>
+        ensures { result ≡ record { option = self; written = written.entry } }
+    {
         OutOfRange {
             option: self,
             written,
