@@ -62,10 +62,7 @@ const LINKS: &[(&[&str], Side, (u8, u8, u16))] = &[
 
 // Whether the words choose this.
 fn chooses(rt: &HostRuntime, words: &[&str], wanted: Chosen) -> bool {
-    match choose(rt.alloc(), words) {
-        Ok(chosen) => chosen == wanted,
-        Err(_) => false,
-    }
+    choose(rt.alloc(), words).is_ok_and(|chosen| chosen == wanted)
 }
 
 #[test]
@@ -251,8 +248,10 @@ fn words_are_text(rt: HostRuntime) -> Result<(), Fail> {
         words: &[b"lapd", b"", &long],
     };
     let read = words(rt.alloc(), &env)?;
-    wants(read.len() == 3, "not all words are read")?;
-    wants(read[2].as_bytes() == long.as_slice(), "a long word is cut")
+    match read.as_slice() {
+        [_, _, word] => wants(word.as_bytes() == long.as_slice(), "a long word is cut"),
+        _ => Err(Fail::new("not all words are read")),
+    }
 }
 
 #[test]
