@@ -13,7 +13,7 @@ pub const DECODE_ABOUT: &str = "Prints octets as trace lines";
 /// What both commands share.
 pub const PROGRAM: &str = "\
 `lapd` alone is `lapd answer --side net`. `lapd answer --help` and `lapd decode --help` list the lines
-of a script and what is printed for them.
+of a script, and what is printed for them.
 
 Scripts:
   A script comes on standard input. Each line is answered on standard output before the next one is
@@ -47,6 +47,8 @@ The text of 1 to 4 goes to standard error.";
 
 /// The lines of `answer`.
 pub const ANSWER: &str = "\
+`lapd --help` tells what scripts and HEX are, and has the faults F1 to F7 and the exit status.
+
 Lines of the script:
   frame HEX          the other side sent these octets
   t200, t203         the timer expires; if it does not run, nothing happens
@@ -74,7 +76,7 @@ What is printed for a line: nothing, or in this form each thing that it leads to
   refused L1 NotEstablished
                      the request is refused, by one of L1 to L5, and changes nothing
   discarded F1 TooShort
-                     the octets are discarded, by one of F1 to F3 (`lapd --help` lists F1 to F7)
+                     the octets are discarded, by one of F1 to F3
   not-mine           the octets have another SAPI or TEI than this link
   state N            the state is N
 
@@ -92,9 +94,9 @@ Error codes:
   D  an unsolicited UA with F=0
   E  a DM with F=0 in state 7 or 8
   F  re-establishment by the other side: a SABME in state 7 or 8
-  G  N200 retransmissions of SABME were not answered
-  H  N200 retransmissions of DISC were not answered
-  I  N200 enquiries of the other side's status were not answered
+  G  a SABME and its N200 retransmissions were not answered
+  H  a DISC and its N200 retransmissions were not answered
+  I  the enquiries of the other side's status were not answered
   J  an N(R) that is not valid
   K  a FRMR in state 7 or 8
   L  a control field that is not defined (F4)
@@ -155,20 +157,21 @@ The network side, `lapd answer --side net`, answers:
 
 /// The lines of `decode`.
 pub const DECODE: &str = "\
+`lapd --help` tells what scripts and HEX are, and has the faults F1 to F7 and the exit status.
+
 Lines of the script:
   SIDE HEX  these octets were sent by this side, user or net
 
-What is printed for a line, in this order:
-  U>N or N>U   the direction: from the user side or from the network side
-  SAPI n TEI n the address
-  C or R       command or response
-  I N(S)=n N(R)=n P=b
-  RR, RNR or REJ, N(R)=n P=b
-  SABME, DM, UI, DISC, UA, FRMR or XID, P=b
-               the frame; a response has F in place of P
-  info=HEX     the information field, if it has octets
-If the octets are no frame, their fault follows the direction, and HEX follows the fault. `lapd --help`
-lists the faults.
+What is printed for a frame, in one line:
+  U>N or N>U    it was sent by the user side, or by the network side
+  SAPI n TEI n  its address
+  C or R        it is a command, or a response
+  NAME          it is a SABME, DM, UI, DISC, UA, FRMR, XID, RR, RNR, REJ or I frame
+  N(S)=n        in an I frame
+  N(R)=n        in an I, RR, RNR or REJ frame
+  P=b or F=b    the P bit of a command, or the F bit of a response
+  info=HEX      the information field, if it has octets
+What is printed for other octets: U>N or N>U, the fault, as F1 TooShort, and HEX.
 
 Example. A line of the script stands behind <, and what is printed for it stands behind >.
   < user 00817f
