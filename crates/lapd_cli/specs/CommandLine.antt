@@ -1,19 +1,18 @@
 -- What the words of the command line choose.
-use Rattle.std.specs.Prelude.{ℕ, List}
+use Rattle.std.specs.Prelude.{◌≡◌, ℕ, ◌≤◌, List, ◌⊎◌}
 use Rattle.std.specs.Str.Parse.{digits_value, IsNumeral}
-use Rattle.lapd_link.specs.Numbers.{Numbers, AreInRange}
+use Rattle.lapd_link.specs.Numbers.{Numbers}
 
 -- the window of basic access for call control, its N200, and room for 512 messages
 abbrev pub default_numbers : Numbers
 default_numbers = record { k = 1; n200 = 3; room = 512 }
 
--- the numbers that these texts, which are decimal digits, write
-abbrev pub numbers_written : List ℕ → List ℕ → List ℕ → Numbers
-numbers_written k n200 room = record { k = digits_value 10 k; n200 = digits_value 10 n200; room = digits_value 10 room }
+-- one is written in decimal digits alone, and lies from 1 to `most`
+pub record IsNumberTo (most : ℕ) (text : List ℕ) : Type 0 where
+  pub digits : IsNumeral 10 text
+  pub low : 1 ≤ digits_value 10 text
+  pub high : digits_value 10 text ≤ most
 
--- all three are written in decimal digits alone, and in their ranges
-pub record AreWritten (k n200 room : List ℕ) : Type 0 where
-  pub k_digits : IsNumeral 10 k
-  pub n200_digits : IsNumeral 10 n200
-  pub room_digits : IsNumeral 10 room
-  pub in_range : AreInRange (numbers_written k n200 room)
+-- one of the three, and the last number of its range
+abbrev pub IsRangeOf : List ℕ → List ℕ → List ℕ → ℕ → List ℕ → Type 0
+IsRangeOf k n200 room most text = ((text ≡ k) × (most ≡ 127)) ⊎ ((text ≡ n200) × (most ≡ 100)) ⊎ ((text ≡ room) × (most ≡ 1024))

@@ -1,15 +1,21 @@
 //! The command line: what the program's words choose.
 
-ghost use Rattle.std.specs.Prelude.{◌≡◌, ◌<◌, ◌^◌, SomeIff, length, Ok};
-ghost use Rattle.std.specs.Str.Parse.{digits_value, IsNumeral};
-ghost use Rattle.lapd_cli.specs.CommandLine.{default_numbers, numbers_written, AreWritten};
+ghost use Rattle.std.specs.Prelude.{◌≡◌, ◌<◌, length, Ok};
+ghost use Rattle.lapd_cli.specs.CommandLine.{default_numbers, IsNumberTo, IsRangeOf};
+ghost use Rattle.lapd_commands.specs.Written.{AreWritten};
 
-use clap::error::ErrorKind;
-use clap::{Arg, ArgAction, ArgMatches, Command, Error, value_parser};
+mod number_option;
+mod words;
+
+use crate::help;
+use clap::{Arg, ArgAction, ArgMatches, Command, Error};
+use lapd_commands::params_of;
 use lapd_frame::{Sapi, Side};
 use lapd_link::Params;
-use std::alloc::Global;
+use number_option::{K, N200, OutOfRange, ROOM};
+use std::alloc::{AllocError, Global};
 use std::convert::AsStr;
+pub use words::{WordsFault, words};
 
 /// What the program is to do.
 #[derive(Clone, Copy, Debug, PartialEq, Eq)]
@@ -20,14 +26,28 @@ pub enum Chosen {
     Decode,
 }
 
+/// Why the program's words choose nothing.
+#[derive(Debug, Drop)]
+pub enum Unchosen<'a> {
+    /// The parser's text: help or the version, where it was asked for, a fault of the command line, or want of memory.
+    Told(Error),
+    /// A number that is not in the range of its option.
+    OutOfRange(OutOfRange<'a>),
+}
+
+impl From<Error> for Unchosen<'_> {
+    fn from(error: Error) -> Self {
+        Unchosen::Told(error)
+    }
+}
+
 /// Reads the program's words, the first of which is its name. No further word means
 /// `answer --side net`.
 ///
 /// # Errors
 ///
-/// The parser's, which has the text to print: help that was asked for, a fault of the command line,
-/// or want of memory.
-pub fn choose<'a, S: AsStr>(alloc: Global, words: &'a [S]) -> Result<Chosen, Error>
+/// `Told`, which has the parser's text, and `OutOfRange`.
+pub fn choose<'a, S: AsStr>(alloc: Global, words: &'a [S]) -> Result<Chosen, Unchosen<'a>>
     ensures { length words.now < 2 → result ≡ Ok (Chosen.Answer Side.Network default_numbers) }
 {
     if words.len() < 2 {
@@ -36,26 +56,23 @@ pub fn choose<'a, S: AsStr>(alloc: Global, words: &'a [S]) -> Result<Chosen, Err
             params: Params::basic(Sapi::Call),
         });
     }
-    let mut program: Command<'a> = program(alloc)?;
-    let matches = program.try_get_matches_from_mut(words)?;
+    let program: Command<'a> = program(alloc)?;
+    let matches = program.try_get_matches_from(words)?;
     // A word for a subcommand is required, and the parser takes those of `program` alone.
     match matches.subcommand() {
-        Some(("answer", given)) => answer_chosen(&mut program, given),
+        Some(("answer", given)) => answer_chosen(given),
         _ => Ok(Chosen::Decode),
     }
 }
 
-// What the options of `answer` choose. The parser has looked at their ranges, but it takes a sign.
-fn answer_chosen(program: &mut Command<'_>, given: &ArgMatches<'_>) -> Result<Chosen, Error> {
+// What the options of `answer` choose.
+fn answer_chosen<'a>(given: &ArgMatches<'a>) -> Result<Chosen, Unchosen<'a>> {
     match params_given(given) {
-        Some(params) => Ok(Chosen::Answer {
+        Ok(params) => Ok(Chosen::Answer {
             side: side_given(given),
             params,
         }),
-        None => Err(program.error(
-            ErrorKind::ValueValidation,
-            "the number of an option is written in decimal digits alone",
-        )?),
+        Err(fault) => Err(Unchosen::OutOfRange(fault)),
     }
 }
 
@@ -66,37 +83,39 @@ fn side_given(given: &ArgMatches<'_>) -> Side {
     }
 }
 
-fn params_given(given: &ArgMatches<'_>) -> Option<Params> {
-    params_of(
-        given.get_str("k")?,
-        given.get_str("n200")?,
-        given.get_str("room")?,
-    )
-}
-
-// The parameters with these numbers; `None` where one is not written in decimal digits alone or is out of its range.
-fn params_of(k: &str, n200: &str, room: &str) -> Option<Params>
-    ensures { SomeIff result (AreWritten k.now n200.now room.now) (numbers_written k.now n200.now room.now) }
-{
-    let k = u8::try_from(number_of(k)?).ok()?;
-    let n200 = u8::try_from(number_of(n200)?).ok()?;
-    Params::new(k, n200, number_of(room)?)
-}
-
-// The number that is written so, in decimal digits alone.
-fn number_of(digits: &str) -> Option<u16>
-    ensures { SomeIff result (IsNumeral 10 digits.now × (digits_value 10 digits.now < 2 ^ 16)) (digits_value 10 digits.now) }
-{
-    if digits.starts_with('+') {
-        return None;
+fn params_given<'a>(given: &ArgMatches<'a>) -> Result<Params, OutOfRange<'a>> {
+    let (k, n200, room) = (K.written(given), N200.written(given), ROOM.written(given));
+    match params_of(k, n200, room) {
+        Some(params) => Ok(params),
+        None => Err(out_of_range(k, n200, room)),
     }
-    digits.parse().ok()
 }
+
+// The fault of the first of these numbers that is not in the range of its option, where one is not.
+fn out_of_range<'a>(k: &'a str, n200: &'a str, room: &'a str) -> OutOfRange<'a>
+    requires { ¬ AreWritten k.now n200.now room.now }
+    ensures named { IsRangeOf k.now n200.now room.now result.option.most result.written.now }
+    ensures refused { ¬ IsNumberTo result.option.most result.written.now }
+{
+    if !K.takes(k) {
+        K.refused(k)
+    } else if !N200.takes(n200) {
+        N200.refused(n200)
+    } else {
+        ROOM.refused(room)
+    }
+}
+
+/// The version of the program.
+pub const VERSION: &str = "0.1.0";
 
 fn program<'a>(alloc: Global) -> Result<Command<'a>, Error> {
     let program = Command::new(alloc, "lapd")
         .bin_name("lapd")?
-        .about("The data link of the ISDN D channel, ITU-T Q.921")
+        .version(VERSION)
+        .about(help::ABOUT)
+        .override_usage("lapd [COMMAND]")
+        .after_help(help::PROGRAM)
         .subcommand_required(true)
         .disable_help_subcommand(true)
         .subcommand(answer_command(alloc)?)?
@@ -104,29 +123,20 @@ fn program<'a>(alloc: Global) -> Result<Command<'a>, Error> {
     Ok(program)
 }
 
-static ANSWER_LINES: &str = "Lines of the script:
-  frame HEX              the other side sent these octets
-  t200, t203             the timer expires, if it runs
-  establish, release     layer 3 asks for it
-  give HEX               a message of layer 3 is to be sent, at most 260 octets
-  unit HEX               unit data is to be sent, at most 260 octets
-  busy on, busy off      this end can take no more messages, or can again
-  state                  the number of the state is printed
-For no octets, HEX is left out with the space before it.";
-
-fn answer_command<'a>(alloc: Global) -> Result<Command<'a>, Error> {
-    let command = Command::new(alloc, "answer")
-        .about("Answers a script as one link of SAPI 0 and TEI 64")
-        .after_help(ANSWER_LINES)
+fn answer_command<'a>(alloc: Global) -> Result<Command<'a>, AllocError> {
+    Command::new(alloc, "answer")
+        .about(help::ANSWER_ABOUT)
+        .after_help(help::ANSWER)
         .arg(side_option(alloc))?
-        .arg(k_option(alloc))?
-        .arg(n200_option(alloc))?
-        .arg(room_option(alloc))?;
-    Ok(command)
+        .arg(K.arg(alloc))?
+        .arg(N200.arg(alloc))?
+        .arg(ROOM.arg(alloc))
 }
 
 fn decode_command<'a>(alloc: Global) -> Command<'a> {
-    Command::new(alloc, "decode").about("Prints octets as trace lines")
+    Command::new(alloc, "decode")
+        .about(help::DECODE_ABOUT)
+        .after_help(help::DECODE)
 }
 
 static SIDES: [&str; 2] = ["net", "user"];
@@ -135,38 +145,8 @@ fn side_option<'a>(alloc: Global) -> Arg<'a> {
     Arg::new(alloc, "side")
         .long("side")
         .value_name("SIDE")
-        .help("The link's side")
+        .help("The side of the link that answers")
         .action(ArgAction::Set)
         .value_parser(SIDES.as_slice())
         .default_value("net")
-}
-
-fn k_option<'a>(alloc: Global) -> Arg<'a> {
-    Arg::new(alloc, "k")
-        .long("k")
-        .value_name("FRAMES")
-        .help("The window k, from 1 to 127 I frames")
-        .action(ArgAction::Set)
-        .value_parser(value_parser!(u8).range(1..=127))
-        .default_value("1")
-}
-
-fn n200_option<'a>(alloc: Global) -> Arg<'a> {
-    Arg::new(alloc, "n200")
-        .long("n200")
-        .value_name("TIMES")
-        .help("How often a frame is sent again, from 1 to 100 times")
-        .action(ArgAction::Set)
-        .value_parser(value_parser!(u8).range(1..=100))
-        .default_value("3")
-}
-
-fn room_option<'a>(alloc: Global) -> Arg<'a> {
-    Arg::new(alloc, "room")
-        .long("room")
-        .value_name("MESSAGES")
-        .help("The room of the I queue, from 1 to 1024 messages")
-        .action(ArgAction::Set)
-        .value_parser(value_parser!(u16).range(1..=1024))
-        .default_value("512")
 }

@@ -2,56 +2,40 @@
 //! lines.
 //!
 //! Scripts come on standard input, a line for each thing that happens, and each line's answer goes
-//! to standard output before more is read. Begin with [`script::walk`], which every command shares.
+//! to standard output before more is read. The commands stand in `lapd_commands`, and the walk over a script in
+//! `lapd_script`.
 #![tactic(auto)]
 
-mod answer;
 mod command_line;
-mod decode;
-mod line;
-mod order;
-mod place;
-mod print;
-mod script;
+mod help;
 #[cfg(test)]
 mod tests;
 
-use answer::answer;
 use clap::error::ErrorKind;
-use command_line::{Chosen, choose};
-use decode::decode;
-use script::ScriptFault;
+use command_line::{Chosen, Unchosen, WordsFault, choose, words};
+use lapd_commands::{answer, decode};
+use lapd_script::ScriptFault;
+use std::fmt::Display;
 use std::io::BufWriter;
 use std::process::ExitCode;
-use std::{env, io};
 
 /// The exit status after a fault of the command line.
 const COMMAND_LINE: u8 = 2;
 
 fn main(rt: HostRuntime) -> ExitCode {
-    let words = match words(&rt) {
+    let words = match words(rt.alloc(), &rt) {
         Ok(words) => words,
-        Err(error) if error.kind() == io::ErrorKind::OutOfMemory => {
-            return stop(&rt, ScriptFault::Memory);
-        }
-        Err(error) => {
-            let _ = eprintln!(rt; "error: {error}");
-            return ExitCode::from(COMMAND_LINE);
-        }
+        Err(WordsFault::Memory) => return stop(&rt, ScriptFault::Memory),
+        Err(fault) => return refuse(&rt, &fault),
     };
     match choose(rt.alloc(), words.as_slice()) {
         Ok(chosen) => match run(&rt, chosen) {
             Ok(()) => ExitCode::SUCCESS,
             Err(fault) => stop(&rt, fault),
         },
-        Err(error) if error.kind() == ErrorKind::OutOfMemory => stop(&rt, ScriptFault::Memory),
-        Err(error) => show(&rt, &error),
+        Err(Unchosen::OutOfRange(fault)) => refuse(&rt, &fault),
+        Err(Unchosen::Told(error)) => show(&rt, &error),
     }
-}
-
-// The command line's words.
-fn words(rt: &HostRuntime) -> io::Result<Vec<String>> {
-    Ok(env::args(rt)?.collect(rt.alloc())?)
 }
 
 // Does what the words chose, over standard input and output.
@@ -75,13 +59,22 @@ fn stop(rt: &HostRuntime, fault: ScriptFault) -> ExitCode {
     ExitCode::from(fault.status())
 }
 
+// Says a fault of the command line.
+fn refuse<F: Display>(rt: &HostRuntime, fault: &F) -> ExitCode {
+    let _ = eprintln!(rt; "{fault}");
+    ExitCode::from(COMMAND_LINE)
+}
+
 // Prints the parser's text where it belongs.
 fn show(rt: &HostRuntime, error: &clap::Error) -> ExitCode {
+    if error.kind() == ErrorKind::OutOfMemory {
+        return stop(rt, ScriptFault::Memory);
+    }
     let printed = error.print(rt);
     if error.use_stderr() {
         ExitCode::from(COMMAND_LINE)
     } else if printed.is_err() {
-        ExitCode::from(ScriptFault::Device.status())
+        stop(rt, ScriptFault::Device)
     } else {
         ExitCode::SUCCESS
     }

@@ -1,4 +1,4 @@
-//! Tests of the crates below the link, as tables: octets of the standard in hexadecimal, and what they are.
+//! Tests of the crates below, as tables: scripts and octets in hexadecimal, and what they call for.
 //!
 //! They stand apart so that each crate is proved once. What a contract says is not tested again. A row shows that the
 //! definitions say what is meant, that a call can succeed, and what a value prints. `wants` fails a test with the row's
@@ -6,7 +6,13 @@
 #![tactic(auto)]
 
 #[cfg(test)]
+mod answers;
+#[cfg(test)]
 mod counters;
+#[cfg(test)]
+mod decodes;
+#[cfg(test)]
+mod devices;
 #[cfg(test)]
 mod fields;
 #[cfg(test)]
@@ -15,6 +21,8 @@ mod frames;
 mod queues;
 #[cfg(test)]
 mod reports;
+#[cfg(test)]
+mod scripts;
 #[cfg(test)]
 mod traces;
 #[cfg(test)]

@@ -1,13 +1,20 @@
-//! What the program's words choose.
+//! What the program's words choose, and the texts of the help.
 
-use crate::command_line::{Chosen, choose};
+use crate::command_line::{Chosen, Unchosen, WordsFault, choose, words};
+use crate::help;
 use clap::error::ErrorKind;
+use lapd_commands::{answer, decode};
 use lapd_frame::Side;
 use lapd_link::Params;
+use std::env::{Env, FillError};
 use std::test::Fail;
 
+fn wants(holds: bool, what: &'static str) -> Result<(), Fail> {
+    if holds { Ok(()) } else { Err(Fail::new(what)) }
+}
+
 // Words that choose a link: its side, its window, N200 and its room.
-const LINKS: [(&[&str], Side, (u8, u8, u16)); 9] = [
+const LINKS: &[(&[&str], Side, (u8, u8, u16))] = &[
     (&["lapd"], Side::Network, (1, 3, 512)),
     (&["lapd", "answer"], Side::Network, (1, 3, 512)),
     (
@@ -52,75 +59,264 @@ const LINKS: [(&[&str], Side, (u8, u8, u16)); 9] = [
     ),
 ];
 
-#[test]
-fn chooses(rt: HostRuntime) -> Result<(), Fail> {
-    for (words, side, (k, n200, room)) in LINKS {
-        let params = Params::new(k, n200, room).ok_or("the numbers are in range")?;
-        assert_eq!(rt; choose(rt.alloc(), words)?, Chosen::Answer { side, params });
-    }
-    assert_eq!(rt; choose(rt.alloc(), DECODE.as_slice())?, Chosen::Decode);
-    Ok(())
+// Whether the words choose this.
+fn chooses(rt: &HostRuntime, words: &[&str], wanted: Chosen) -> bool {
+    choose(rt.alloc(), words).is_ok_and(|chosen| chosen == wanted)
 }
 
-static DECODE: [&str; 2] = ["lapd", "decode"];
+#[test]
+fn words_choose(rt: HostRuntime) -> Result<(), Fail> {
+    for (words, side, (k, n200, room)) in LINKS {
+        let params = Params::new(*k, *n200, *room).ok_or("the numbers are in range")?;
+        let side = *side;
+        wants(
+            chooses(&rt, words, Chosen::Answer { side, params }),
+            "another link is chosen",
+        )?;
+    }
+    wants(
+        chooses(&rt, &["lapd", "decode"], Chosen::Decode),
+        "decode is not chosen",
+    )
+}
 
-// Words that choose nothing.
-const FAULTS: [&[&str]; 28] = [
+// Words that the parser does not take.
+const FAULTS: &[&[&str]] = &[
     &["lapd", "--side", "user"],
     &["lapd", "--k", "3"],
+    &["lapd", "--"],
+    &["lapd", ""],
     &["lapd", "answer", "--side", "user", "--side", "net"],
     &["lapd", "answer", "--side"],
     &["lapd", "answer", "--side", "other"],
     &["lapd", "answer", "more"],
+    &["lapd", "answer", "--version"],
     &["lapd", "decode", "--side", "user"],
     &["lapd", "decode", "--k", "3"],
     &["lapd", "decode", "more"],
     &["lapd", "other"],
+    &["lapd", "help"],
     &["lapd", "answer", "--k"],
-    &["lapd", "answer", "--k", "0"],
-    &["lapd", "answer", "--k", "128"],
-    &["lapd", "answer", "--k", "257"],
-    &["lapd", "answer", "--k", "three"],
-    &["lapd", "answer", "--k", ""],
-    &["lapd", "answer", "--k", "+3"],
-    &["lapd", "answer", "--k=-3"],
+    &["lapd", "answer", "--k", "--side", "user"],
     &["lapd", "answer", "--k", "3", "--k", "3"],
-    &["lapd", "answer", "--n200", "0"],
-    &["lapd", "answer", "--n200", "101"],
-    &["lapd", "answer", "--n200=+3"],
     &["lapd", "answer", "--n200", "3", "--n200", "4"],
-    &["lapd", "answer", "--room", "0"],
-    &["lapd", "answer", "--room", "1025"],
-    &["lapd", "answer", "--room", "1,024"],
-    &["lapd", "answer", "--room", "+512"],
     &["lapd", "answer", "--room", "2", "--room", "2"],
 ];
 
-#[test]
-fn refuses_words(rt: HostRuntime) {
-    for words in FAULTS {
-        match choose(rt.alloc(), words) {
-            Ok(_) => panic!(rt; "chosen"),
-            Err(error) => {
-                assert!(rt; error.kind() != ErrorKind::OutOfMemory && error.use_stderr());
-                assert_eq!(rt; error.exit_code(), 2);
-            }
+// Whether the parser told a text that goes to standard error, and has this status.
+fn is_told(rt: &HostRuntime, words: &[&str], on_error: bool, status: i32) -> bool {
+    match choose(rt.alloc(), words) {
+        Err(Unchosen::Told(error)) => {
+            error.kind() != ErrorKind::OutOfMemory
+                && error.use_stderr() == on_error
+                && error.exit_code() == status
         }
+        _ => false,
     }
 }
 
-const HELP: [&[&str]; 3] = [
+#[test]
+fn parser_refuses(rt: HostRuntime) -> Result<(), Fail> {
+    for words in FAULTS {
+        wants(is_told(&rt, words, true, 2), "words are not refused")?;
+    }
+    Ok(())
+}
+
+// Words that ask for a text.
+const ASKED: &[&[&str]] = &[
     &["lapd", "--help"],
+    &["lapd", "-h"],
     &["lapd", "answer", "--help"],
     &["lapd", "decode", "--help"],
+    &["lapd", "--version"],
+    &["lapd", "-V"],
 ];
 
 #[test]
-fn shows_help(rt: HostRuntime) {
-    for words in HELP {
-        match choose(rt.alloc(), words) {
-            Ok(_) => panic!(rt; "chosen"),
-            Err(error) => assert_eq!(rt; error.exit_code(), 0),
+fn help_and_version_are_shown(rt: HostRuntime) -> Result<(), Fail> {
+    for words in ASKED {
+        wants(is_told(&rt, words, false, 0), "a text is not shown")?;
+    }
+    Ok(())
+}
+
+// Words with a number that is none of its option's range, and what is said.
+const NUMBERS: &[(&[&str], &str)] = &[
+    (
+        &["lapd", "answer", "--k", "0"],
+        "error: invalid value '0' for '--k <FRAMES>': not a number from 1 to 127 in decimal digits",
+    ),
+    (
+        &["lapd", "answer", "--k", "128"],
+        "error: invalid value '128' for '--k <FRAMES>': not a number from 1 to 127 in decimal digits",
+    ),
+    (
+        &["lapd", "answer", "--k", "257"],
+        "error: invalid value '257' for '--k <FRAMES>': not a number from 1 to 127 in decimal digits",
+    ),
+    (
+        &["lapd", "answer", "--k", ""],
+        "error: invalid value '' for '--k <FRAMES>': not a number from 1 to 127 in decimal digits",
+    ),
+    (
+        &["lapd", "answer", "--k", "+3"],
+        "error: invalid value '+3' for '--k <FRAMES>': not a number from 1 to 127 in decimal digits",
+    ),
+    (
+        &["lapd", "answer", "--k", "-3"],
+        "error: invalid value '-3' for '--k <FRAMES>': not a number from 1 to 127 in decimal digits",
+    ),
+    (
+        &["lapd", "answer", "--k=three\n"],
+        "error: invalid value 'three\\n' for '--k <FRAMES>': not a number from 1 to 127 in decimal digits",
+    ),
+    (
+        &["lapd", "answer", "--n200", "0"],
+        "error: invalid value '0' for '--n200 <TIMES>': not a number from 1 to 100 in decimal digits",
+    ),
+    (
+        &["lapd", "answer", "--n200", "101", "--k", "127"],
+        "error: invalid value '101' for '--n200 <TIMES>': not a number from 1 to 100 in decimal digits",
+    ),
+    (
+        &["lapd", "answer", "--room", "0"],
+        "error: invalid value '0' for '--room <MESSAGES>': not a number from 1 to 1024 in decimal digits",
+    ),
+    (
+        &["lapd", "answer", "--room", "1025", "--n200", "100"],
+        "error: invalid value '1025' for '--room <MESSAGES>': not a number from 1 to 1024 in decimal digits",
+    ),
+    (
+        &["lapd", "answer", "--room", "1,024"],
+        "error: invalid value '1,024' for '--room <MESSAGES>': not a number from 1 to 1024 in decimal digits",
+    ),
+    (
+        &["lapd", "answer", "--room", "18446744073709551617"],
+        "error: invalid value '18446744073709551617' for '--room <MESSAGES>': not a number from 1 to 1024 in decimal digits",
+    ),
+];
+
+// Whether the words have a number that is out of its range, of which this is said.
+fn says(rt: &HostRuntime, words: &[&str], text: &str) -> Result<bool, Fail> {
+    match choose(rt.alloc(), words) {
+        Err(Unchosen::OutOfRange(fault)) => Ok(fault.to_string(rt.alloc())?.as_str() == text),
+        _ => Ok(false),
+    }
+}
+
+#[test]
+fn numbers_out_of_range(rt: HostRuntime) -> Result<(), Fail> {
+    for (words, text) in NUMBERS {
+        wants(says(&rt, words, text)?, "another fault is told")?;
+    }
+    Ok(())
+}
+
+// A system that hands over these words.
+#[derive(Drop)]
+struct Words<'a> {
+    words: &'a [&'a [u8]],
+}
+
+impl Env for Words<'_> {
+    fn arg(&self, i: usize, buf: &mut [u8]) -> Result<usize, FillError> {
+        let Some(word) = self.words.get(i) else {
+            return Err(FillError::NotPresent);
+        };
+        if buf.len() < word.len() {
+            return Err(FillError::TooLong);
+        }
+        buf[..word.len()].copy_from_slice(word);
+        Ok(word.len())
+    }
+
+    fn var(&self, _name: &str, _buf: &mut [u8]) -> Result<usize, FillError> {
+        Err(FillError::NotPresent)
+    }
+
+    fn var_at(&self, _i: usize, _buf: &mut [u8]) -> Result<usize, FillError> {
+        Err(FillError::NotPresent)
+    }
+}
+
+#[test]
+fn words_are_text(rt: HostRuntime) -> Result<(), Fail> {
+    let long = [b'1'; 1000];
+    let env = Words {
+        words: &[b"lapd", b"", &long],
+    };
+    let read = words(rt.alloc(), &env)?;
+    match read.as_slice() {
+        [_, _, word] => wants(word.as_bytes() == long.as_slice(), "a long word is cut"),
+        _ => Err(Fail::new("not all words are read")),
+    }
+}
+
+#[test]
+fn words_that_are_no_text(rt: HostRuntime) -> Result<(), Fail> {
+    let env = Words {
+        words: &[b"lapd", b"answer", b"--k=\xff"],
+    };
+    let Err(fault) = words(rt.alloc(), &env) else {
+        return Err(Fail::new("octets are taken for text"));
+    };
+    let text = fault.to_string(rt.alloc())?;
+    wants(fault == WordsFault::NotText(2), "another word is named")?;
+    wants(
+        text.as_str() == "error: argument 2 is not valid UTF-8",
+        "the text is another one",
+    )
+}
+
+// The lines of an example that stand behind this mark.
+fn lines_behind(rt: &HostRuntime, example: &str, mark: &str) -> Result<Vec<u8>, Fail> {
+    let mut lines = Vec::new(rt.alloc());
+    for line in example.lines() {
+        if let Some(line) = line.strip_prefix(mark) {
+            lines.extend_from_slice(line.as_bytes())?;
+            lines.push(b'\n')?;
         }
     }
+    Ok(lines)
+}
+
+// Whether what was printed is what the example prints.
+fn prints(rt: &HostRuntime, example: &str, printed: &[u8]) -> Result<(), Fail> {
+    let wanted = lines_behind(rt, example, "  > ")?;
+    wants(
+        !printed.is_empty() && printed == wanted.as_slice(),
+        "an example of the help prints something else",
+    )
+}
+
+fn example_of_answer(rt: &HostRuntime, side: Side, example: &str) -> Result<(), Fail> {
+    let script = lines_behind(rt, example, "  < ")?;
+    let params = Params::new(1, 3, 512).ok_or("the numbers are in range")?;
+    let mut printed = Vec::new(rt.alloc());
+    answer(
+        rt.alloc(),
+        &mut script.as_slice(),
+        &mut printed,
+        side,
+        params,
+    )?;
+    prints(rt, example, printed.as_slice())
+}
+
+#[test]
+fn examples_of_answer(rt: HostRuntime) -> Result<(), Fail> {
+    let Some((user, network)) = help::ANSWER.split_once("The network side, ") else {
+        return Err(Fail::new("the help has no example of the network side"));
+    };
+    example_of_answer(&rt, Side::User, user)?;
+    example_of_answer(&rt, Side::Network, network)
+}
+
+#[test]
+fn examples_of_decode(rt: HostRuntime) -> Result<(), Fail> {
+    let script = lines_behind(&rt, help::DECODE, "  < ")?;
+    let mut printed = Vec::new(rt.alloc());
+    decode(rt.alloc(), &mut script.as_slice(), &mut printed)?;
+    prints(&rt, help::DECODE, printed.as_slice())
 }

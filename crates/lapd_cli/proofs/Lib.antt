@@ -1,4 +1,0 @@
-pub mod HexText
-pub mod Walks
-pub mod WordsOf
-pub mod Printed

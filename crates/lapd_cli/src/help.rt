@@ -1,0 +1,188 @@
+//! The texts of the help. The parser puts the usage, the commands and the options between a command's first line and
+//! the text that follows them.
+
+/// What the program is.
+pub const ABOUT: &str = "LAPD, the data link layer of the ISDN D channel (ITU-T Q.921)";
+
+/// What the command `answer` does.
+pub const ANSWER_ABOUT: &str = "Answers a script as one end of a link with SAPI 0 and TEI 64";
+
+/// What the command `decode` does.
+pub const DECODE_ABOUT: &str = "Prints octets as trace lines";
+
+/// What both commands share.
+pub const PROGRAM: &str = "\
+`lapd` alone is `lapd answer --side net`. `lapd answer --help` and `lapd decode --help` list the lines
+of a script, and what is printed for them.
+
+Scripts:
+  A script comes on standard input. Each line is answered on standard output before the next one is
+  waited for. A line ends with a line feed, which the last one may lack. Words are separated by one
+  space. Empty lines and lines that begin with # are passed over, but counted.
+
+  HEX stands for octets, with two hexadecimal digits each, in upper or lower case. The octets of a
+  frame are those between its flags, without the frame check sequence. If there are no octets, HEX is
+  left out together with the space before it, in what is read and in what is printed.
+
+Faults of octets that are no frame:
+  F1 TooShort          there are fewer than 3 octets, or the second control octet is missing
+  F2 BadAddress        the EA bit of the first octet is 1, or that of the second octet is 0
+  F3 SapiNotServed     the SAPI is not 0, 16 or 63
+  F4 Undefined         the control field is not defined, or not for this command or response
+  F5 InfoNotPermitted  a SABME, DISC, DM or UA has an information field
+  F6 WrongSize         an RR, RNR or REJ has more than 4 octets, or the information field of a FRMR
+                       does not have 5
+  F7 InfoTooLong       the information field of an I, UI or XID has more than 260 octets (N201)
+If there are several, the first is told, in this order: fewer than 3 octets (F1), F2, the missing
+control octet (F1), F3, F4, F5, F6, F7.
+
+Exit status:
+  0  the script was answered to its end
+  1  `line N: bad command`: line N, counted from 1, is not one of the command's lines; the lines
+     before it were answered
+  2  a fault of the command line
+  3  `device fault`: a read or a write failed, or 1,000,000 reads did not reach the script's end
+  4  `out of memory`
+The text of 1 to 4 goes to standard error.";
+
+/// The lines of `answer`.
+pub const ANSWER: &str = "\
+`lapd --help` tells what scripts and HEX are, and has the faults F1 to F7 and the exit status.
+
+Lines of the script:
+  frame HEX          the other side sent these octets
+  t200, t203         the timer expires; if it does not run, nothing happens
+  establish          layer 3 asks for the link to be established (DL-ESTABLISH request)
+  release            layer 3 asks for the link to be released (DL-RELEASE request)
+  give HEX           layer 3 gives a message of at most 260 octets (DL-DATA request)
+  unit HEX           layer 3 gives unit data of at most 260 octets (DL-UNIT DATA request)
+  busy on, busy off  this end becomes unable, or able again, to take messages (own receiver busy)
+  state              the state is asked for
+There is no clock: a timer that was started expires where the script says so.
+
+What is printed for a line: nothing, or in this form each thing that it leads to, in order:
+  send HEX           this frame is sent to the other side
+  start T200         the timer T200, or T203, is started anew
+  stop T200          the timer T200, or T203, which was running, is stopped
+  established        the link is established (DL-ESTABLISH indication)
+  confirmed          the link is established, as layer 3 asked (DL-ESTABLISH confirm)
+  released           the link is released (DL-RELEASE indication)
+  release-confirmed  the link is released, as layer 3 asked (DL-RELEASE confirm)
+  data HEX           layer 3 gets the message of the I frame (DL-DATA indication)
+  unit HEX           layer 3 gets the unit data of the UI frame (DL-UNIT DATA indication)
+  acknowledged N     the other side has acknowledged N messages
+  dropped N          N messages that were not acknowledged are discarded
+  report X           management gets error code X (MDL-ERROR indication)
+  refused L1 NotEstablished
+                     the request is refused, by one of L1 to L5, and changes nothing
+  discarded F1 TooShort
+                     the octets are discarded, by one of F1 to F3
+  not-mine           the octets have another SAPI or TEI than this link
+  state N            the state is N
+
+States:
+  4  TEI assigned: the link is released
+  5  awaiting establishment: a SABME was sent
+  6  awaiting release: a DISC was sent
+  7  multiple frame established
+  8  timer recovery: the link is established, and the status of the other side was enquired
+
+Error codes:
+  A  an unsolicited RR, RNR or REJ response with F=1
+  B  an unsolicited DM with F=1
+  C  an unsolicited UA with F=1
+  D  an unsolicited UA with F=0
+  E  a DM with F=0 in state 7 or 8
+  F  re-establishment by the other side: a SABME in state 7 or 8
+  G  a SABME and its N200 retransmissions were not answered
+  H  a DISC and its N200 retransmissions were not answered
+  I  the enquiries of the other side's status were not answered
+  J  an N(R) that is not valid
+  K  a FRMR in state 7 or 8
+  L  a control field that is not defined (F4)
+  M  an information field that is not permitted (F5)
+  N  a frame of the wrong size (F6)
+  O  an information field longer than N201 (F7)
+
+Refusals:
+  L1 NotEstablished          a message in state 4
+  L2 QueueFull               a message while the I queue holds as many as --room allows
+  L3 TooLong                 a message or unit data of more than 260 octets (N201)
+  L4 Releasing               a message or `establish` while the link is being released
+  L5 LayerThreeEstablishing  a message while the link is being established for layer 3
+
+A frame of this link begins with 0081 if it is a command of the user side or a response of the network
+side, and with 0281 otherwise. The control field and the information field follow. In hexadecimal:
+  SABME 6f, DM 0f, UI 03, DISC 43, UA 63, FRMR 87, XID af; 10 more for P=1 or F=1
+  RR 01, RNR 05, REJ 09, and a second octet of 2 * N(R); 1 more for P=1 or F=1
+  I 2 * N(S), and a second octet of 2 * N(R); 1 more for P=1
+
+Examples. A line of the script stands behind <, and what is printed for it stands behind >.
+
+The user side, `lapd answer --side user`, establishes the link and gives a message:
+  < establish
+  > send 00817f
+  > start T200
+  < # the network side answers with UA, F=1
+  < frame 008173
+  > confirmed
+  > stop T200
+  > start T203
+  < give 0801
+  > send 008100000801
+  > stop T203
+  > start T200
+  < # the network side acknowledges with RR, N(R)=1
+  < frame 00810102
+  > acknowledged 1
+  > stop T200
+  > start T203
+
+The network side, `lapd answer --side net`, answers:
+  < # the user side establishes the link with SABME, P=1
+  < frame 00817f
+  > send 008173
+  > established
+  > start T203
+  < # it sends a message in an I frame, N(S)=0, N(R)=0
+  < frame 008100000801
+  > data 0801
+  > start T203
+  > send 00810102
+  < # it releases the link with DISC, P=1
+  < frame 008153
+  > send 008173
+  > released
+  > stop T203";
+
+/// The lines of `decode`.
+pub const DECODE: &str = "\
+`lapd --help` tells what scripts and HEX are, and has the faults F1 to F7 and the exit status.
+
+Lines of the script:
+  SIDE HEX  these octets were sent by this side, user or net
+
+What is printed for a frame, in one line:
+  U>N or N>U    it was sent by the user side, or by the network side
+  SAPI n TEI n  its address
+  C or R        it is a command, or a response
+  NAME          it is a SABME, DM, UI, DISC, UA, FRMR, XID, RR, RNR, REJ or I frame
+  N(S)=n        in an I frame
+  N(R)=n        in an I, RR, RNR or REJ frame
+  P=b or F=b    the P bit of a command, or the F bit of a response
+  info=HEX      the information field, if it has octets
+What is printed for other octets: U>N or N>U, the fault, as F1 TooShort, and HEX.
+
+Example. A line of the script stands behind <, and what is printed for it stands behind >.
+  < user 00817f
+  > U>N SAPI 0 TEI 64 C SABME P=1
+  < net 008173
+  > N>U SAPI 0 TEI 64 R UA F=1
+  < user 008100000801
+  > U>N SAPI 0 TEI 64 C I N(S)=0 N(R)=0 P=0 info=0801
+  < net 00810102
+  > N>U SAPI 0 TEI 64 R RR N(R)=1 F=0
+  < net 06817f
+  > N>U F3 SapiNotServed 06817f
+  < user
+  > U>N F1 TooShort";

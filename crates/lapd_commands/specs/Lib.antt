@@ -1,0 +1,5 @@
+pub mod Answer
+pub mod Decode
+pub mod Outputs
+pub mod Session
+pub mod Written

@@ -1,0 +1,274 @@
+//! The command `answer`: one link that answers a script.
+
+ghost use Rattle.std.specs.Prelude.{◌≡◌, [], length, IfSome, IsOkUnless, OnOk, Some};
+ghost use Rattle.std.specs.Io.KnownBytes.{Appends};
+ghost use Rattle.lapd_commands.specs.Answer.{answer_address, answer_step, busy_of, new_session, other_side};
+ghost use Rattle.lapd_link.specs.Event.{happening_of};
+ghost use Rattle.lapd_commands.specs.Outputs.{refusal_line};
+ghost use Rattle.lapd_script.specs.Line.{Reads};
+ghost use Rattle.lapd_script.specs.Script.{EndsAs, LineEndsAs, lines_of};
+
+use crate::link_address::LinkAddress;
+use lapd_frame::{Frame, FrameFault, Sapi, Side, Tei};
+use lapd_link::{Event, Link, LinkFault, Outs, Params};
+use lapd_script::{Command, LineFault, ScriptFault, Words, put_line, put_number, walk};
+use std::alloc::Global;
+use std::io::{Read, Write};
+
+/// A link that answers a script, with room for the outputs of one step.
+#[derive(Drop)]
+struct Answerer {
+    alloc: Global,
+    link: Link,
+    outs: Outs,
+}
+
+/// Goes over a script as one link of SAPI 0 and TEI 64 on this side, made with these parameters, and writes what the
+/// script calls for: a line for each output of each step, or of why there was none.
+///
+/// # Errors
+///
+/// `BadLine` at the first line that is none of the command's, `Device` where a read or a write fails, and `Memory`.
+pub fn answer<R: Read, W: Write>(
+    alloc: Global,
+    script: &mut R,
+    out: &mut W,
+    side: Side,
+    params: Params,
+) -> Result<(), ScriptFault>
+    ensures { IfSome (R.remaining script.old) (λ octets. EndsAs answer_step (new_session (answer_address side) params) result
+        (lines_of octets) (W.contents out.old) (W.contents out.new)) }
+{
+    let tei = Tei::new(64).unwrap();
+    let link = match Link::new(alloc, side, Sapi::Call, tei, params) {
+        Ok(link) => link,
+        Err(_) => return Err(ScriptFault::Memory),
+    };
+    let outs = Outs::new();
+    let mut answerer = Answerer { alloc, link, outs };
+    walk(alloc, &mut answerer, script, out)
+}
+
+impl Command for Answerer {
+    ghost use Rattle.lapd_commands.specs.Answer.{Session, answer_step};
+    ghost use Rattle.lapd_commands.specs.Session.{IsAnswerer};
+
+    ghost State = { Session };
+
+    ghost step = { answer_step };
+
+    ghost stands_for = { IsAnswerer };
+
+    fn run<W: Write>(&mut self, line: &[u8], out: &mut W) -> Result<(), LineFault> {
+        let mut words = Words::of(line);
+        match words.next_word() {
+            Some(word) => self.word(word, words, out),
+            None => Err(LineFault::Bad),
+        }
+    }
+}
+
+impl Answerer {
+    ghost use Rattle.lapd_link.specs.Event.{Give, UnitData};
+    ghost use Rattle.lapd_commands.specs.Answer.{Session, alone, with_octets, answer_word, hear, hear_frame, hear_fault, link_step, state_line, messages_of};
+    ghost use Rattle.lapd_commands.specs.Outputs.{outs_text};
+    ghost use Rattle.lapd_commands.specs.Session.{IsAnswerer};
+
+    /// Does what a word calls for, with the words behind it.
+    fn word<W: Write>(
+        &mut self,
+        word: &[u8],
+        behind: Words<'_>,
+        out: &mut W,
+    ) -> Result<(), LineFault>
+        ensures { (s : Session) → IsAnswerer self.old s
+            → LineEndsAs IsAnswerer (answer_word s word.now behind.entry) result self.new (W.contents out.old) (W.contents out.new) }
+    {
+        if word == b"frame".as_slice() {
+            self.hear(behind, out)
+        } else if word == b"t200".as_slice() {
+            self.alone(behind, Event::T200, out)
+        } else if word == b"t203".as_slice() {
+            self.alone(behind, Event::T203, out)
+        } else if word == b"establish".as_slice() {
+            self.alone(behind, Event::Establish, out)
+        } else if word == b"release".as_slice() {
+            self.alone(behind, Event::Release, out)
+        } else if word == b"give".as_slice() {
+            self.give(behind, out)
+        } else if word == b"unit".as_slice() {
+            self.unit(behind, out)
+        } else if word == b"busy".as_slice() {
+            self.step(busy_event(behind)?, &[], out)
+        } else if word == b"state".as_slice() {
+            self.put_state(behind, out)
+        } else {
+            Err(LineFault::Bad)
+        }
+    }
+
+    /// Makes a step of the link, for a word with nothing behind it.
+    fn alone<W: Write>(
+        &mut self,
+        behind: Words<'_>,
+        event: Event,
+        out: &mut W,
+    ) -> Result<(), LineFault>
+        ensures { (s : Session) → IsAnswerer self.old s
+            → LineEndsAs IsAnswerer (alone behind.entry (link_step s (happening_of event.entry) [])) result self.new (W.contents out.old) (W.contents out.new) }
+    {
+        behind.nothing()?;
+        self.step(event, &[], out)
+    }
+
+    /// Prints the state.
+    fn put_state<W: Write>(&mut self, behind: Words<'_>, out: &mut W) -> Result<(), LineFault>
+        ensures { (s : Session) → IsAnswerer self.old s
+            → LineEndsAs IsAnswerer (alone behind.entry (state_line s.end, s)) result self.new (W.contents out.old) (W.contents out.new) }
+    {
+        behind.nothing()?;
+        put_number(b"state ", u16::from(self.link.state()), out)
+    }
+
+    /// Its address.
+    fn address(&self) -> LinkAddress
+        ensures { (s : Session) → IsAnswerer self.now s → result ≡ s.address }
+    {
+        LinkAddress {
+            side: self.link.side(),
+            sapi: self.link.sapi(),
+            tei: self.link.tei(),
+        }
+    }
+
+    /// Takes the octets behind a word, which the other side sent.
+    fn hear<W: Write>(&mut self, behind: Words<'_>, out: &mut W) -> Result<(), LineFault>
+        ensures { (s : Session) → IsAnswerer self.old s
+            → LineEndsAs IsAnswerer (with_octets behind.entry (hear s)) result self.new (W.contents out.old) (W.contents out.new) }
+    {
+        let octets = behind.octets(self.alloc)?;
+        let address = self.address();
+        match lapd_frame::read(octets.as_slice(), other_side(address.side)) {
+            Ok(frame) => self.hear_frame(&address, &frame, out),
+            Err(fault) => self.hear_fault(&address, &fault, out),
+        }
+    }
+
+    /// Takes a frame, if it is for this link.
+    fn hear_frame<W: Write>(
+        &mut self,
+        address: &LinkAddress,
+        frame: &Frame<'_>,
+        out: &mut W,
+    ) -> Result<(), LineFault>
+        ensures { (s : Session) → IsAnswerer self.old s → address.now ≡ s.address
+            → LineEndsAs IsAnswerer (Some (hear_frame s frame.now)) result self.new (W.contents out.old) (W.contents out.new) }
+    {
+        if address.is_for(&frame.address()) {
+            self.step(Event::Heard(frame), frame.info(), out)
+        } else {
+            put_line(b"not-mine", &[], out)
+        }
+    }
+
+    /// Takes octets that are no frame, by their first fault.
+    fn hear_fault<W: Write>(
+        &mut self,
+        address: &LinkAddress,
+        fault: &FrameFault,
+        out: &mut W,
+    ) -> Result<(), LineFault>
+        ensures { (s : Session) → IsAnswerer self.old s → address.now ≡ s.address
+            → LineEndsAs IsAnswerer (Some (hear_fault s fault.now.kind fault.now.address)) result self.new (W.contents out.old) (W.contents out.new) }
+    {
+        match &fault.address {
+            None => put_line(b"discarded ", fault.kind.name().as_bytes(), out),
+            Some(named) => {
+                if address.is_for(named) {
+                    self.step(Event::Fault(fault.kind), &[], out)
+                } else {
+                    put_line(b"not-mine", &[], out)
+                }
+            }
+        }
+    }
+
+    /// Makes a step of the link, to which these octets are handed, and prints its outputs.
+    fn step<W: Write>(&mut self, event: Event, handed: &[u8], out: &mut W) -> Result<(), LineFault>
+        ensures { (s : Session) → IsAnswerer self.old s
+            → LineEndsAs IsAnswerer (Some (link_step s (happening_of event.entry) handed.now)) result self.new (W.contents out.old) (W.contents out.new) }
+    {
+        match self.link.handle_into(event, &mut self.outs) {
+            Ok(()) => self.put_outs(handed, out),
+            Err(fault) => put_refusal(fault, out),
+        }
+    }
+
+    /// Gives the octets behind a word to the link as a message, and prints the step's outputs.
+    fn give<W: Write>(&mut self, behind: Words<'_>, out: &mut W) -> Result<(), LineFault>
+        ensures { (s : Session) → IsAnswerer self.old s
+            → LineEndsAs IsAnswerer (with_octets behind.entry (λ message. link_step s (Give message) [])) result self.new (W.contents out.old) (W.contents out.new) }
+    {
+        let message = behind.octets(self.alloc)?;
+        match self.link.give_into(message, &mut self.outs) {
+            Ok(()) => self.put_outs(&[], out),
+            Err(refused) => put_refusal(refused.fault, out),
+        }
+    }
+
+    /// Sends the octets behind a word as unit data.
+    fn unit<W: Write>(&mut self, behind: Words<'_>, out: &mut W) -> Result<(), LineFault>
+        ensures { (s : Session) → IsAnswerer self.old s
+            → LineEndsAs IsAnswerer (with_octets behind.entry (λ octets. link_step s (UnitData (length octets)) octets)) result self.new (W.contents out.old) (W.contents out.new) }
+    {
+        let octets = behind.octets(self.alloc)?;
+        self.step(Event::Unit(octets.len()), octets.as_slice(), out)
+    }
+
+    /// Prints the outputs of the step that was just done, to which these octets were handed.
+    fn put_outs<W: Write>(&self, handed: &[u8], out: &mut W) -> Result<(), LineFault>
+        ensures ok { (s : Session) → IsAnswerer self.now s
+            → OnOk result (Appends (W.contents out.old) (W.contents out.new) (outs_text s.address (messages_of s.end) handed.now self.now.outs.items)) }
+        ensures err { IsOkUnless result LineFault.Device }
+    {
+        self.address()
+            .put_outs(self.link.queue(), handed, self.outs.as_slice(), out)
+    }
+}
+
+/// Prints why the link refused a request.
+fn put_refusal<W: Write>(fault: LinkFault, out: &mut W) -> Result<(), LineFault>
+    ensures ok { OnOk result (Appends (W.contents out.old) (W.contents out.new) (refusal_line fault)) }
+    ensures err { IsOkUnless result LineFault.Device }
+{
+    put_line(b"refused ", fault.name().as_bytes(), out)
+}
+
+/// What happens to the link by `busy` with these words behind it.
+///
+/// # Errors
+///
+/// `Bad`, where they are none of `on` and `off`.
+fn busy_event(mut behind: Words<'_>) -> Result<Event<'_>, LineFault>
+    ensures { Reads happening_of result (busy_of behind.entry) }
+{
+    let Some(word) = behind.next_word() else {
+        return Err(LineFault::Bad);
+    };
+    behind.nothing()?;
+    match word {
+        b"on" => Ok(Event::BusyOn),
+        b"off" => Ok(Event::BusyOff),
+        _ => Err(LineFault::Bad),
+    }
+}
+
+/// The side that sends what this one hears.
+fn other_side(side: Side) -> Side
+    ensures { result ≡ other_side side }
+{
+    match side {
+        Side::Network => Side::User,
+        Side::User => Side::Network,
+    }
+}

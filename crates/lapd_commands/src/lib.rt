@@ -1,0 +1,15 @@
+//! The commands of the program `lapd`, over any reader and writer.
+//!
+//! [`answer`] goes over a script as one end of a data link of the ISDN D channel (ITU-T Q.921), and prints what each line
+//! calls for: begin with the definition `answer_word` in specs/Answer.antt, which has a row for each word. [`decode`]
+//! prints octets as trace lines. Both end as a script of `lapd_script` ends. [`params_of`] reads what a link is made with.
+#![tactic(auto)]
+
+mod answerer;
+mod decoder;
+mod link_address;
+mod numbers;
+
+pub use answerer::answer;
+pub use decoder::decode;
+pub use numbers::{number_of, params_of};

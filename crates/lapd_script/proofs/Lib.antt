@@ -1,0 +1,4 @@
+pub mod HexText
+pub mod Printed
+pub mod Walks
+pub mod WordsOf

@@ -1,0 +1,115 @@
+//! The words of a script's line.
+
+ghost use Rattle.std.specs.Prelude.{◌≡◌, ◌∷◌, ◌++◌, MatchOption, [], ⊤};
+ghost use Rattle.lapd_script.specs.Line.{HasNoSpace, Reads, nothing_of, octets_behind, octets_of, words_of};
+
+use crate::script::LineFault;
+use hex::FromHexError;
+use memchr::memchr;
+use std::alloc::Global;
+use std::marker::Model;
+
+/// The words of a line that are still to be read. Single spaces part them, so a word may be empty.
+///
+/// [`Words::next_word`] reads the next one. [`Words::nothing`] and [`Words::octets`] read to the end of the line, so each
+/// consumes the words.
+#[derive(Debug, Drop)]
+pub struct Words<'a> {
+    rest: Option<&'a [u8]>,
+}
+
+impl<'a> Model for Words<'a> {
+    ghost use Rattle.std.specs.Prelude.{ℕ, List, option_map};
+    ghost use Rattle.lapd_script.specs.Line.{words_left};
+
+    ghost Value = { List (List ℕ) };
+
+    ghost view = { λ w. words_left (option_map (λ rest. rest.now) w.rest) };
+}
+
+impl<'a> Words<'a> {
+    /// The words of a line, which comes without its line feed. There is always one.
+    pub fn of(line: &'a [u8]) -> Words<'a>
+        ensures { result ≡ words_of line.now }
+    {
+        Words { rest: Some(line) }
+    }
+
+    /// Reads the next word. `None` where the line has no more.
+    pub fn next_word(&mut self) -> Option<&'a [u8]>
+        ensures { MatchOption result (self.old ≡ []) (λ word. self.old ≡ word.now ∷ self.new) }
+    {
+        let (word, rest) = first_word(self.rest?);
+        self.rest = rest;
+        Some(word)
+    }
+
+    /// Reads the end of the line.
+    ///
+    /// # Errors
+    ///
+    /// `Bad` where a word is left.
+    pub fn nothing(mut self) -> Result<(), LineFault>
+        ensures { Reads (λ done. done) result (nothing_of self.entry) }
+    {
+        match self.next_word() {
+            None => Ok(()),
+            Some(_) => Err(LineFault::Bad),
+        }
+    }
+
+    /// Reads the octets that the last word writes in hexadecimal digits of either case, at least two digits. Where no
+    /// word is left, there are no octets.
+    ///
+    /// # Errors
+    ///
+    /// `Bad` where the word writes no octets, or is not the last one, and `Memory`.
+    pub fn octets(mut self, alloc: Global) -> Result<Vec<u8>, LineFault>
+        ensures { Reads (λ v. v.items) result (octets_behind self.entry) }
+    {
+        match self.next_word() {
+            None => Ok(Vec::new(alloc)),
+            Some(digits) => {
+                self.nothing()?;
+                octets_of(alloc, digits)
+            }
+        }
+    }
+}
+
+/// The first word, and what stands behind its space, where there is one.
+#[tactic(auto, using(crate::proofs::WordsOf::words_behind, crate::proofs::WordsOf::one_word))]
+fn first_word(line: &[u8]) -> (&[u8], Option<&[u8]>)
+    ensures { MatchOption result.1 (words_of line.now ≡ result.0.now ∷ []) (λ rest. words_of line.now ≡ result.0.now ∷ words_of rest.now) }
+{
+    cut_at_space(line)
+}
+
+/// The octets before the first space, and those behind it.
+fn cut_at_space(line: &[u8]) -> (&[u8], Option<&[u8]>)
+    ensures word { HasNoSpace result.0.now }
+    ensures parts { MatchOption result.1 (line.now ≡ result.0.now) (λ rest. line.now ≡ result.0.now ++ 32 ∷ rest.now) }
+{
+    match memchr(b' ', line) {
+        None => (line, None),
+        Some(end) => (&line[..end], Some(&line[end + 1..])),
+    }
+}
+
+/// The octets that are written in hexadecimal digits of either case, at least two of them.
+///
+/// # Errors
+///
+/// `Bad` where they are not, and `Memory`.
+fn octets_of(alloc: Global, digits: &[u8]) -> Result<Vec<u8>, LineFault>
+    ensures { Reads (λ v. v.items) result (octets_of digits.now) }
+{
+    if digits.is_empty() {
+        return Err(LineFault::Bad);
+    }
+    match hex::decode(alloc, digits) {
+        Ok(octets) => Ok(octets),
+        Err(FromHexError::OutOfMemory) => Err(LineFault::Memory),
+        Err(_) => Err(LineFault::Bad),
+    }
+}

@@ -1,0 +1,474 @@
+//! The command `answer`: scripts, and what they call for.
+
+use crate::scripts::{ANSWERS, SCRIPT, params, run};
+use crate::wants::wants;
+use lapd_commands::answer;
+use lapd_frame::Side;
+use lapd_link::Params;
+use lapd_script::ScriptFault;
+use std::alloc::Global;
+use std::test::Fail;
+
+const DONE: Result<(), ScriptFault> = Ok(());
+
+// A name, the side, the script, how it ends, and what it calls for.
+type Script = (
+    &'static str,
+    Side,
+    &'static [u8],
+    Result<(), ScriptFault>,
+    &'static [u8],
+);
+
+const SCRIPTS: &[Script] = &[
+    ("nothing", Side::Network, b"", DONE, b""),
+    (
+        "a link comes and goes",
+        Side::Network,
+        SCRIPT,
+        DONE,
+        ANSWERS,
+    ),
+    (
+        "a release in state 4, with no line feed",
+        Side::Network,
+        b"frame 008153",
+        DONE,
+        b"send 00811f\n",
+    ),
+    (
+        "established twice",
+        Side::Network,
+        b"frame 00817f\nframe 00817f\nstate\n",
+        DONE,
+        b"send 008173\nestablished\nstart T203\nsend 008173\nreport F\nstart T203\nstate 7\n",
+    ),
+    (
+        "the user side is established",
+        Side::User,
+        b"frame 02817f\n",
+        DONE,
+        b"send 028173\nestablished\nstart T203\n",
+    ),
+    (
+        "frames that are none, and one of another link",
+        Side::Network,
+        b"frame\nframe 04817f\nframe 00837f\nframe 00817f00\nstate\n",
+        DONE,
+        b"discarded F1 TooShort\ndiscarded F3 SapiNotServed\nnot-mine\nreport M\nstate 4\n",
+    ),
+    (
+        "faults of this link and of another",
+        Side::Network,
+        b"frame 008177\nframe 00837700\n",
+        DONE,
+        b"report L\nnot-mine\n",
+    ),
+    (
+        "a bad address, and a report",
+        Side::Network,
+        b"frame 01817F\nframe 02817f",
+        DONE,
+        b"discarded F2 BadAddress\nreport L\n",
+    ),
+    (
+        "responses in state 4",
+        Side::Network,
+        b"frame 028173\nframe 028163",
+        DONE,
+        b"report C\nreport D\n",
+    ),
+    (
+        "lines that are passed over",
+        Side::Network,
+        b"\n# note\n\n#\xff\nstate\n#",
+        DONE,
+        b"state 4\n",
+    ),
+    (
+        "an odd number of digits",
+        Side::Network,
+        b"state\nframe 0",
+        Err(ScriptFault::BadLine(2)),
+        b"state 4\n",
+    ),
+    (
+        "a space behind a word",
+        Side::Network,
+        b"\nstate\n#\nstate \nstate\n",
+        Err(ScriptFault::BadLine(4)),
+        b"state 4\n",
+    ),
+    (
+        "a busy that is neither on nor off",
+        Side::Network,
+        b"t200\nbusy on\n\nbusy maybe\nstate\n",
+        Err(ScriptFault::BadLine(4)),
+        b"",
+    ),
+];
+
+#[test]
+fn answers_scripts(rt: HostRuntime) -> Result<(), Fail> {
+    for script in SCRIPTS {
+        answers_so(rt.alloc(), script)?;
+    }
+    Ok(())
+}
+
+fn answers_so(alloc: Global, script: &Script) -> Result<(), Fail> {
+    let (row, side, octets, end, text) = *script;
+    let mut printed = Vec::new(alloc);
+    let mut rest = octets;
+    let ended = answer(alloc, &mut rest, &mut printed, side, params());
+    wants(ended == end, row, "its end")?;
+    wants(printed.as_slice() == text, row, "its text")
+}
+
+// Lines that are none of the command's.
+const BAD_LINES: &[&str] = &[
+    "frame ",
+    "frame 0",
+    "frame 00 81",
+    "frame  00817f",
+    "frame 00817g",
+    "frames",
+    "Frame 00817f",
+    " state",
+    "state ",
+    "state  ",
+    "state 1",
+    "state\r",
+    "t200 1",
+    "t203 1",
+    "t201",
+    "t202",
+    "T200",
+    "establish user",
+    "release user",
+    "give 0",
+    "give ",
+    "give 01 02",
+    "give user 01",
+    "unit 0",
+    "unit 0x",
+    "unit 01 02",
+    "busy",
+    "busy ",
+    "busy maybe",
+    "busy On",
+    "busy on off",
+    "busy  off",
+    "settle",
+];
+
+#[test]
+fn bad_commands(rt: HostRuntime) -> Result<(), Fail> {
+    for line in BAD_LINES {
+        is_bad(rt.alloc(), line)?;
+    }
+    Ok(())
+}
+
+fn is_bad(alloc: Global, line: &str) -> Result<(), Fail> {
+    let mut printed = Vec::new(alloc);
+    let ended = run(alloc, &mut line.as_bytes(), &mut printed);
+    wants(ended == Err(ScriptFault::BadLine(1)), line, "a bad line")?;
+    wants(printed.is_empty(), line, "it prints nothing")
+}
+
+// A name, lines, and what each calls for.
+type Play = (&'static str, &'static [(&'static str, &'static str)]);
+
+// A user side with a window of three frames, N200 = 3 and room for two messages.
+const USER_PLAYS: &[Play] = &[
+    (
+        "two messages, an enquiry, and both are sent again",
+        &[
+            ("establish", "send 00817f\nstart T200\n"),
+            ("frame 008173", "confirmed\nstop T200\nstart T203\n"),
+            ("give 01", "send 0081000001\nstop T203\nstart T200\n"),
+            ("give 02", "send 0081020002\n"),
+            ("t200", "send 00810101\nstart T200\n"),
+            ("state", "state 8\n"),
+            ("frame 00810900", ""),
+            (
+                "frame 00810101",
+                "stop T200\nstart T203\nsend 0081000001\nstop T203\nstart T200\nsend 0081020002\n",
+            ),
+        ],
+    ),
+    (
+        "N(R) is not valid",
+        &[
+            ("establish", "send 00817f\nstart T200\n"),
+            ("frame 008173", "confirmed\nstop T200\nstart T203\n"),
+            (
+                "frame 00810104",
+                "report J\nsend 00817f\nstop T203\nstart T200\n",
+            ),
+        ],
+    ),
+    (
+        "no answer to an enquiry",
+        &[
+            ("establish", "send 00817f\nstart T200\n"),
+            ("frame 008173", "confirmed\nstop T200\nstart T203\n"),
+            ("t203", "send 00810101\nstart T200\n"),
+            ("t200", "send 00810101\nstart T200\n"),
+            ("t200", "send 00810101\nstart T200\n"),
+            ("t200", "send 00810101\nstart T200\n"),
+            ("t200", "report I\nsend 00817f\nstart T200\n"),
+        ],
+    ),
+    (
+        "unit data passes in state 4",
+        &[
+            ("unit 0a", "send 0081030a\n"),
+            ("frame 02810305", "unit 05\n"),
+            ("unit", "send 008103\n"),
+            ("frame 028103", "unit\n"),
+            ("state", "state 4\n"),
+        ],
+    ),
+    (
+        "the release waits for the answer to the SABME",
+        &[
+            ("establish", "send 00817f\nstart T200\n"),
+            ("release", ""),
+            ("frame 008173", "send 008153\nstart T200\n"),
+            ("frame 008173", "stop T200\nrelease-confirmed\n"),
+        ],
+    ),
+    (
+        "no answer to the SABME",
+        &[
+            ("establish", "send 00817f\nstart T200\n"),
+            ("t200", "send 00817f\nstart T200\n"),
+            ("t200", "send 00817f\nstart T200\n"),
+            ("t200", "send 00817f\nstart T200\n"),
+            ("t200", "report G\nreleased\n"),
+            ("state", "state 4\n"),
+            ("t200", ""),
+        ],
+    ),
+    (
+        "the peer is busy, and a third message finds no room",
+        &[
+            ("establish", "send 00817f\nstart T200\n"),
+            ("frame 008173", "confirmed\nstop T200\nstart T203\n"),
+            ("frame 00810500", "stop T203\nstart T200\n"),
+            ("give 01", ""),
+            ("give", ""),
+            ("give 03", "refused L2 QueueFull\n"),
+            (
+                "frame 00810100",
+                "stop T200\nstart T203\nsend 0081000001\nstop T203\nstart T200\nsend 00810200\n",
+            ),
+        ],
+    ),
+    (
+        "a message of no octets comes",
+        &[
+            ("frame 02817f", "send 028173\nestablished\nstart T203\n"),
+            ("frame 02810000", "data\nstart T203\nsend 02810102\n"),
+            ("frame 02810200aB", "data ab\nstart T203\nsend 02810104\n"),
+        ],
+    ),
+];
+
+#[test]
+fn user_answers(rt: HostRuntime) -> Result<(), Fail> {
+    for play in USER_PLAYS {
+        plays_so(rt.alloc(), Side::User, Params::new(3, 3, 2).unwrap(), play)?;
+    }
+    Ok(())
+}
+
+// A network side with a window of one frame, N200 = 1 and room for 512 messages.
+const NETWORK_PLAYS: &[Play] = &[
+    (
+        "what state 4 refuses, and what state 5 does",
+        &[
+            ("give 01", "refused L1 NotEstablished\n"),
+            ("release", "release-confirmed\n"),
+            ("t203", ""),
+            ("busy on", ""),
+            ("establish", "send 02817f\nstart T200\n"),
+            ("give 01", "refused L5 LayerThreeEstablishing\n"),
+            ("release", ""),
+            ("give 01", "refused L4 Releasing\n"),
+            ("establish", "refused L4 Releasing\n"),
+            ("state", "state 5\n"),
+        ],
+    ),
+    (
+        "the second message goes out when the first is acknowledged",
+        &[
+            ("frame 00817f", "send 008173\nestablished\nstart T203\n"),
+            ("give 0a", "send 028100000a\nstop T203\nstart T200\n"),
+            ("give 0B0C", ""),
+            (
+                "frame 02810102",
+                "acknowledged 1\nstop T200\nstart T203\nsend 028102000b0c\nstop T203\nstart T200\n",
+            ),
+        ],
+    ),
+    (
+        "a message is dropped by the release",
+        &[
+            ("frame 00817f", "send 008173\nestablished\nstart T203\n"),
+            ("give 0a", "send 028100000a\nstop T203\nstart T200\n"),
+            ("release", "dropped 1\nsend 028153\nstart T200\n"),
+            ("establish", "refused L4 Releasing\n"),
+            ("state", "state 6\n"),
+            ("frame 028173", "stop T200\nrelease-confirmed\n"),
+        ],
+    ),
+    (
+        "this end is busy",
+        &[
+            ("frame 00817f", "send 008173\nestablished\nstart T203\n"),
+            ("busy on", "send 00810500\n"),
+            ("busy on", ""),
+            ("frame 00810001aa", "send 00810501\nstart T203\n"),
+            ("busy off", "send 00810100\n"),
+            ("busy off", ""),
+        ],
+    ),
+    (
+        "the SABME is sent again once",
+        &[
+            ("establish", "send 02817f\nstart T200\n"),
+            ("t200", "send 02817f\nstart T200\n"),
+            ("t200", "report G\nreleased\n"),
+        ],
+    ),
+];
+
+#[test]
+fn network_answers(rt: HostRuntime) -> Result<(), Fail> {
+    for play in NETWORK_PLAYS {
+        plays_so(
+            rt.alloc(),
+            Side::Network,
+            Params::new(1, 1, 512).unwrap(),
+            play,
+        )?;
+    }
+    Ok(())
+}
+
+fn plays_so(alloc: Global, side: Side, params: Params, play: &Play) -> Result<(), Fail> {
+    let (row, lines) = play;
+    let mut script = String::new(alloc);
+    let mut want = String::new(alloc);
+    for (line, text) in *lines {
+        script.push_str(line)?;
+        script.push_str("\n")?;
+        want.push_str(text)?;
+    }
+    let text = printed(alloc, side, params, script.as_str())?;
+    wants(text.as_str() == want.as_str(), row, "its text")
+}
+
+// What a script, all lines of which are good, calls for.
+fn printed(alloc: Global, side: Side, params: Params, script: &str) -> Result<String, Fail> {
+    let mut printed = Vec::new(alloc);
+    answer(alloc, &mut script.as_bytes(), &mut printed, side, params)?;
+    Ok(String::from_utf8(printed).map_err(|_| "text")?)
+}
+
+// This many octets AA, in hexadecimal.
+fn octets(alloc: Global, count: usize) -> Result<String, Fail> {
+    Ok("aa".repeat(alloc, count)?)
+}
+
+// 260 octets of information pass, and one more is reported.
+#[test]
+fn long_frames(rt: HostRuntime) -> Result<(), Fail> {
+    let most = octets(rt.alloc(), 260)?;
+    let script = format!(in rt.alloc();
+        "frame 00817f\nframe 00810000{most}\nframe 00810200{most}aa\nstate\n"
+    )?;
+    let text = printed(rt.alloc(), Side::Network, params(), script.as_str())?;
+    let want = format!(in rt.alloc();
+        "send 008173\nestablished\nstart T203\ndata {most}\nstart T203\nsend 00810102\nreport O\nsend 02817f\nstop T203\nstart T200\nstate 5\n"
+    )?;
+    wants(text.as_str() == want.as_str(), "long frames", "their text")
+}
+
+// What leads a network side to each state, and what it and `state` call for.
+const TO_STATES: &[(&str, &str, &str)] = &[
+    ("", "", "state 4"),
+    ("establish\n", "send 02817f\nstart T200\n", "state 5"),
+    (
+        "establish\nrelease\nframe 028173\n",
+        "send 02817f\nstart T200\nsend 028153\nstart T200\n",
+        "state 6",
+    ),
+    (
+        "frame 00817f\n",
+        "send 008173\nestablished\nstart T203\n",
+        "state 7",
+    ),
+    (
+        "frame 00817f\nt203\n",
+        "send 008173\nestablished\nstart T203\nsend 02810101\nstart T200\n",
+        "state 8",
+    ),
+];
+
+// 261 octets are refused in every state, and 260 of unit data go out.
+#[test]
+fn long_requests(rt: HostRuntime) -> Result<(), Fail> {
+    let most = octets(rt.alloc(), 260)?;
+    for (lead, told, state) in TO_STATES {
+        refuses_long_requests(rt.alloc(), most.as_str(), lead, told, state)?;
+    }
+    Ok(())
+}
+
+fn refuses_long_requests(
+    alloc: Global,
+    most: &str,
+    lead: &str,
+    told: &str,
+    state: &str,
+) -> Result<(), Fail> {
+    let script = format!(in alloc; "{lead}give {most}aa\nunit {most}aa\nunit {most}\nstate\n")?;
+    let text = printed(alloc, Side::Network, params(), script.as_str())?;
+    let want = format!(in alloc;
+        "{told}refused L3 TooLong\nrefused L3 TooLong\nsend 028103{most}\n{state}\n"
+    )?;
+    wants(text.as_str() == want.as_str(), state, "its text")
+}
+
+// Where an allocation is refused, the lines before are answered, and nothing of that line.
+#[test]
+fn requests_while_there_is_memory(rt: HostRuntime) -> Result<(), Fail> {
+    let Ok(mut printed) = Vec::with_capacity(rt.alloc(), 256) else {
+        return Ok(());
+    };
+    let script = "establish\nframe 008173\ngive 0102\nunit 03\ngive 0405\nstate\n";
+    let ended = answer(
+        rt.alloc(),
+        &mut script.as_bytes(),
+        &mut printed,
+        Side::User,
+        Params::new(3, 3, 2).unwrap(),
+    );
+    let whole =
+        "send 00817f\nstart T200\nconfirmed\nstop T200\nstart T203\nsend 008100000102\nstop T203\nstart T200\nsend 00810303\nsend 008102000405\nstate 7\n";
+    let text = printed.as_slice();
+    if ended == Ok(()) {
+        return wants(text == whole.as_bytes(), "all memory", "the text");
+    }
+    let at_a_line = [0, 23, 54, 93, 107, 125].contains(&text.len());
+    wants(ended == Err(ScriptFault::Memory), "no memory", "the fault")?;
+    wants(
+        at_a_line && whole.as_bytes().starts_with(text),
+        "no memory",
+        "the text",
+    )
+}

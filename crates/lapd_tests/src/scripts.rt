@@ -1,0 +1,52 @@
+//! Scripts that several tests share, and how their faults read.
+
+use crate::wants::wants;
+use lapd_commands::answer;
+use lapd_frame::Side;
+use lapd_link::Params;
+use lapd_script::ScriptFault;
+use std::alloc::Global;
+use std::io::{Read, Write};
+use std::test::Fail;
+
+/// Goes over a script as the network side, with a window of one frame.
+pub(crate) fn run<R: Read, W: Write>(
+    alloc: Global,
+    script: &mut R,
+    out: &mut W,
+) -> Result<(), ScriptFault> {
+    answer(alloc, script, out, Side::Network, params())
+}
+
+/// What the command line chooses where no option is given.
+pub(crate) fn params() -> Params {
+    Params::new(1, 3, 512).unwrap()
+}
+
+/// The octets of an establishment, of its release and of a release in state 4.
+pub(crate) const SCRIPT: &[u8] = b"frame 00817f\nframe 008153\nframe 008153\n";
+
+/// What they call for.
+pub(crate) const ANSWERS: &[u8] =
+    b"send 008173\nestablished\nstart T203\nsend 008173\nreleased\nstop T203\nsend 00811f\n";
+
+// Faults, their texts and the exit statuses.
+const FAULTS: &[(ScriptFault, &str, u8)] = &[
+    (ScriptFault::BadLine(7), "line 7: bad command", 1),
+    (ScriptFault::Device, "device fault", 3),
+    (ScriptFault::Memory, "out of memory", 4),
+];
+
+fn reads_so(alloc: Global, fault: ScriptFault, text: &str, status: u8) -> Result<(), Fail> {
+    let shown = fault.to_string(alloc)?;
+    wants(shown.as_str() == text, text, "it reads so")?;
+    wants(fault.status() == status, text, "its exit status")
+}
+
+#[test]
+fn faults_read(rt: HostRuntime) -> Result<(), Fail> {
+    for (fault, text, status) in FAULTS {
+        reads_so(rt.alloc(), *fault, text, *status)?;
+    }
+    Ok(())
+}
