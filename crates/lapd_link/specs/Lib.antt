@@ -13,6 +13,7 @@ pub mod Link
 pub mod Numbers
 pub mod Out
 pub mod Refusal
+pub mod SentFrame
 pub mod Sound
 pub mod Stands
 pub mod State

@@ -12,6 +12,7 @@ mod link;
 mod machine;
 mod out;
 mod params;
+mod sent_frame;
 mod state;
 #[cfg(test)]
 mod tests;
