@@ -1,0 +1,75 @@
+//! The octets that are under way from one end to the other.
+
+use crate::bench_fault::BenchFault;
+use lapd_frame::{Frame, MOST_OCTETS, Side, write};
+
+/// How many frames are under way at most: as many as a window of primary rate access has.
+const FRAMES: usize = 7;
+
+/// The octets of one frame.
+#[derive(Clone, Copy)]
+pub struct Slot {
+    octets: [u8; MOST_OCTETS],
+    len: usize,
+}
+
+impl Slot {
+    /// The octets, none where no frame was written.
+    pub fn octets(&self) -> &[u8] {
+        self.octets.get(..self.len).unwrap_or(&[])
+    }
+}
+
+/// One direction of the line: the frames that one side has sent and the other has not taken.
+#[derive(Drop)]
+pub struct Line {
+    from: Side,
+    slots: [Slot; FRAMES],
+    used: usize,
+}
+
+impl Line {
+    /// An empty line on which this side sends.
+    pub fn new(from: Side) -> Line {
+        let empty = Slot {
+            octets: [0; MOST_OCTETS],
+            len: 0,
+        };
+        Line {
+            from,
+            slots: [empty; FRAMES],
+            used: 0,
+        }
+    }
+
+    /// The side that sends on it.
+    pub fn from(&self) -> Side {
+        self.from
+    }
+
+    /// Writes a frame behind those that are under way.
+    ///
+    /// # Errors
+    ///
+    /// `LineFull` where seven are.
+    pub fn send(&mut self, frame: &Frame<'_>) -> Result<(), BenchFault> {
+        if self.used < FRAMES {
+            let slot = &mut self.slots[self.used];
+            slot.len = write(frame, self.from, &mut slot.octets);
+            self.used += 1;
+            Ok(())
+        } else {
+            Err(BenchFault::LineFull)
+        }
+    }
+
+    /// The octets of the frames that are under way, in the order in which they were sent.
+    pub fn under_way(&self) -> &[Slot] {
+        self.slots.get(..self.used).unwrap_or(&[])
+    }
+
+    /// All frames were taken.
+    pub fn clear(&mut self) {
+        self.used = 0;
+    }
+}
