@@ -52,7 +52,7 @@ impl End {
     /// `Refused` by the link, or `LineFull`.
     pub fn give(&mut self, message: Vec<u8>, to: &mut Line) -> Result<(), BenchFault> {
         self.link.give_into(message, &mut self.outs)?;
-        self.given = self.given.saturating_add(1);
+        self.given = self.given.wrapping_add(1);
         self.answer(to)
     }
 
@@ -72,12 +72,13 @@ impl End {
     }
 
     /// Sends what its last step calls for, and counts the messages that it speaks of.
+    #[inline(always)]
     fn answer(&mut self, to: &mut Line) -> Result<(), BenchFault> {
         for out in &self.outs {
             match out {
-                Out::Up => self.received = self.received.saturating_add(1),
+                Out::Up => self.received = self.received.wrapping_add(1),
                 Out::Acknowledged(count) => {
-                    self.acknowledged = self.acknowledged.saturating_add(u64::from(*count));
+                    self.acknowledged = self.acknowledged.wrapping_add(u64::from(*count));
                 }
                 _ => {
                     if let Some(frame) = self.link.frame(out, &[]) {

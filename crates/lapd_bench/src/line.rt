@@ -1,5 +1,7 @@
 //! The octets that are under way from one end to the other.
 
+ghost use Rattle.std.specs.Prelude.{◌≤◌};
+
 use crate::bench_fault::BenchFault;
 use lapd_frame::{Frame, MOST_OCTETS, Side, write};
 
@@ -11,12 +13,26 @@ const FRAMES: usize = 7;
 pub struct Slot {
     octets: [u8; MOST_OCTETS],
     len: usize,
+    ghost fits: { len ≤ 264 },
 }
 
 impl Slot {
-    /// The octets, none where no frame was written.
+    /// No octets.
+    fn empty() -> Slot {
+        Slot {
+            octets: [0; MOST_OCTETS],
+            len: 0,
+        }
+    }
+
+    /// Writes a frame over what was there.
+    fn write(&mut self, frame: &Frame<'_>, from: Side) {
+        self.len = write(frame, from, &mut self.octets);
+    }
+
+    /// The octets of the frame.
     pub fn octets(&self) -> &[u8] {
-        self.octets.get(..self.len).unwrap_or(&[])
+        &self.octets[..self.len]
     }
 }
 
@@ -31,13 +47,9 @@ pub struct Line {
 impl Line {
     /// An empty line on which this side sends.
     pub fn new(from: Side) -> Line {
-        let empty = Slot {
-            octets: [0; MOST_OCTETS],
-            len: 0,
-        };
         Line {
             from,
-            slots: [empty; FRAMES],
+            slots: [Slot::empty(); FRAMES],
             used: 0,
         }
     }
@@ -52,10 +64,10 @@ impl Line {
     /// # Errors
     ///
     /// `LineFull` where seven are.
+    #[inline(always)]
     pub fn send(&mut self, frame: &Frame<'_>) -> Result<(), BenchFault> {
         if self.used < FRAMES {
-            let slot = &mut self.slots[self.used];
-            slot.len = write(frame, self.from, &mut slot.octets);
+            self.slots[self.used].write(frame, self.from);
             self.used += 1;
             Ok(())
         } else {

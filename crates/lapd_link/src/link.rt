@@ -96,6 +96,7 @@ impl Link {
     /// # Errors
     ///
     /// As [`Link::handle`].
+    #[inline(always)]
     pub fn handle_into(&mut self, event: Event, outs: &mut Outs) -> Result<(), LinkFault>
         ensures ok { OnOk result ((e : End) → IsEnd self.old e
             → (s : Doing) × (step Tagged self.old.params (happening_of event.entry) e ≡ Ok s) × (s.outs ≡ outs.new.items) × IsEnd self.new s.at) }

@@ -19,6 +19,7 @@ impl Link {
     ///
     /// `None` for an output that is no frame, and for parts that are no frame of the control table (Q.921 Table 5): the
     /// wrong role, more than 260 octets, a place where no message is.
+    #[inline(always)]
     pub fn frame<'a>(&'a self, out: &Out, handed: &'a [u8]) -> Option<Frame<'a>>
         ensures { (e : End) → IsEnd self.now e → result ≡ sent_frame (made_of self.now) (drop e.first e.given) handed.now out.now }
     {
@@ -31,6 +32,7 @@ impl Link {
     }
 
     /// The I command with the message at this place of the queue.
+    #[inline(always)]
     fn message_frame(&self, place: u16, control: Control) -> Option<Frame<'_>>
         ensures { (e : End) → IsEnd self.now e → result ≡ message_frame (made_of self.now) control (slice_get (drop e.first e.given) place) }
     {
@@ -43,6 +45,7 @@ impl Link {
     }
 
     /// The frame with the link's address and these parts.
+    #[inline(always)]
     fn frame_with<'a>(&self, role: Role, control: Control, info: &'a [u8]) -> Option<Frame<'a>>
         ensures { result ≡ link_frame (made_of self.now) role control info.now }
     {

@@ -140,6 +140,7 @@ impl Machine {
     }
 
     /// A step that is not refused: its row, and what ends it.
+    #[inline(always)]
     pub fn step(&mut self, k: u8, n200: u8, event: Event, outs: &mut Outs)
         requires low { 1 ≤ k }
         requires high { k ≤ 127 }

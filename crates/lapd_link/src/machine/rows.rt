@@ -40,6 +40,7 @@ impl Machine {
     ghost use Rattle.lapd_link.specs.Stands.{StandsFor};
 
     /// An event.
+    #[inline(always)]
     pub fn row(&mut self, n200: u8, event: Event, outs: &mut Outs)
         requires room { array_vec_len outs.old + 6 ≤ 136 }
         requires settled { IsSettled self.old }
@@ -60,6 +61,7 @@ impl Machine {
     }
 
     /// A frame.
+    #[inline(always)]
     fn hears(&mut self, control: Control, role: Role, outs: &mut Outs)
         requires room { array_vec_len outs.old + 6 ≤ 136 }
         requires settled { IsSettled self.old }
@@ -74,6 +76,7 @@ impl Machine {
     }
 
     /// A frame that is not UI.
+    #[inline(never)]
     fn hears_by_state(&mut self, control: Control, role: Role, outs: &mut Outs)
         requires room { array_vec_len outs.old + 6 ≤ 136 }
         requires settled { IsSettled self.old }
@@ -90,6 +93,7 @@ impl Machine {
     }
 
     /// A fault in a frame is reported, and breaks an established link.
+    #[inline(never)]
     fn reports_fault(&mut self, kind: FaultKind, outs: &mut Outs)
         requires room { array_vec_len outs.old + 6 ≤ 136 }
         ensures step { (n200 : ℕ) (s : Doing) → StandsFor self.old outs.old.items s → StandsFor self.new outs.new.items (row Tagged n200 self.old.state (Faulty kind) s) }
@@ -108,6 +112,7 @@ impl Machine {
     }
 
     /// T200 expires, where it runs.
+    #[inline(never)]
     fn t200_expires(&mut self, n200: u8, outs: &mut Outs)
         requires room { array_vec_len outs.old + 6 ≤ 136 }
         ensures step { (s : Doing) → StandsFor self.old outs.old.items s → StandsFor self.new outs.new.items (row Tagged n200 self.old.state (Expires Timer.T200) s) }
@@ -134,6 +139,7 @@ impl Machine {
     }
 
     /// T203 expires, where it runs.
+    #[inline(never)]
     fn t203_expires(&mut self, outs: &mut Outs)
         requires room { array_vec_len outs.old + 6 ≤ 136 }
         ensures step { (n200 : ℕ) (s : Doing) → StandsFor self.old outs.old.items s → StandsFor self.new outs.new.items (row Tagged n200 self.old.state (Expires Timer.T203) s) }
@@ -160,6 +166,7 @@ impl Machine {
     }
 
     /// DL-ESTABLISH request, not refused.
+    #[inline(never)]
     fn layer3_establishes(&mut self, outs: &mut Outs)
         requires room { array_vec_len outs.old + 6 ≤ 136 }
         ensures step { (n200 : ℕ) (s : Doing) → StandsFor self.old outs.old.items s → StandsFor self.new outs.new.items (row Tagged n200 self.old.state Establish s) }
@@ -174,6 +181,7 @@ impl Machine {
     }
 
     /// DL-RELEASE request.
+    #[inline(never)]
     fn layer3_releases(&mut self, outs: &mut Outs)
         requires room { array_vec_len outs.old + 6 ≤ 136 }
         ensures step { (n200 : ℕ) (s : Doing) → StandsFor self.old outs.old.items s → StandsFor self.new outs.new.items (row Tagged n200 self.old.state Release s) }
@@ -188,6 +196,7 @@ impl Machine {
     }
 
     /// Own receiver busy.
+    #[inline(never)]
     fn turns_busy(&mut self, outs: &mut Outs)
         requires room { array_vec_len outs.old + 6 ≤ 136 }
         ensures step { (n200 : ℕ) (s : Doing) → StandsFor self.old outs.old.items s → StandsFor self.new outs.new.items (row Tagged n200 self.old.state BusyOn s) }
@@ -200,6 +209,7 @@ impl Machine {
     }
 
     /// Own receiver no longer busy.
+    #[inline(never)]
     fn turns_free(&mut self, outs: &mut Outs)
         requires room { array_vec_len outs.old + 6 ≤ 136 }
         ensures step { (n200 : ℕ) (s : Doing) → StandsFor self.old outs.old.items s → StandsFor self.new outs.new.items (row Tagged n200 self.old.state BusyOff s) }
