@@ -49,7 +49,7 @@ impl Machine {
         ensures open { result ≡ true → may_send Tagged k self.now.window ≡ true }
         ensures unsent { result ≡ true → self.now.queue.sent < length self.now.queue.messages }
     {
-        self.is_established() && self.window.may_send(k) && self.queue.sent() < self.queue.len()
+        self.queue.sent() < self.queue.len() && self.is_established() && self.window.may_send(k)
     }
 
     /// The acknowledgement that is pending goes out.
