@@ -42,7 +42,7 @@ impl End {
     /// As [`End::give`].
     pub fn establish(&mut self, to: &mut Line) -> Result<(), BenchFault> {
         self.link.handle_into(Event::Establish, &mut self.outs)?;
-        self.answer(to)
+        self.carry_out(to)
     }
 
     /// Takes a message, and sends it where the window is open.
@@ -53,7 +53,7 @@ impl End {
     pub fn give(&mut self, message: Vec<u8>, to: &mut Line) -> Result<(), BenchFault> {
         self.link.give_into(message, &mut self.outs)?;
         self.given = self.given.wrapping_add(1);
-        self.answer(to)
+        self.carry_out(to)
     }
 
     /// Takes all frames that are under way to it, and sends what they call for.
@@ -63,9 +63,9 @@ impl End {
     /// `NoFrame` for octets that are none, `Refused` by the link, or `LineFull`.
     pub fn hear(&mut self, from: &mut Line, to: &mut Line) -> Result<(), BenchFault> {
         for slot in from.under_way() {
-            let frame = read(slot.octets(), from.from())?;
+            let frame = read(slot.octets(), from.sender())?;
             self.link.handle_into(Event::Heard(&frame), &mut self.outs)?;
-            self.answer(to)?;
+            self.carry_out(to)?;
         }
         from.clear();
         Ok(())
@@ -73,7 +73,7 @@ impl End {
 
     /// Sends what its last step calls for, and counts the messages that it speaks of.
     #[inline(always)]
-    fn answer(&mut self, to: &mut Line) -> Result<(), BenchFault> {
+    fn carry_out(&mut self, to: &mut Line) -> Result<(), BenchFault> {
         for out in &self.outs {
             match out {
                 Out::Up => self.received = self.received.wrapping_add(1),

@@ -5,7 +5,7 @@ ghost use Rattle.std.specs.Prelude.{◌≤◌};
 use crate::bench_fault::BenchFault;
 use lapd_frame::{Frame, MOST_OCTETS, Side, write};
 
-/// How many frames are under way at most: as many as a window of primary rate access has.
+/// How many frames are under way at most: a window of primary rate access, or the answers to one.
 const FRAMES: usize = 7;
 
 /// The octets of one frame.
@@ -25,9 +25,9 @@ impl Slot {
         }
     }
 
-    /// Writes a frame over what was there.
-    fn write(&mut self, frame: &Frame<'_>, from: Side) {
-        self.len = write(frame, from, &mut self.octets);
+    /// Writes a frame, as this side sends it, over what was there.
+    fn write(&mut self, frame: &Frame<'_>, sender: Side) {
+        self.len = write(frame, sender, &mut self.octets);
     }
 
     /// The octets of the frame.
@@ -39,24 +39,24 @@ impl Slot {
 /// One direction of the line: the frames that one side has sent and the other has not taken.
 #[derive(Drop)]
 pub struct Line {
-    from: Side,
+    sender: Side,
     slots: [Slot; FRAMES],
     used: usize,
 }
 
 impl Line {
     /// An empty line on which this side sends.
-    pub fn new(from: Side) -> Line {
+    pub fn new(sender: Side) -> Line {
         Line {
-            from,
+            sender,
             slots: [Slot::empty(); FRAMES],
             used: 0,
         }
     }
 
     /// The side that sends on it.
-    pub fn from(&self) -> Side {
-        self.from
+    pub fn sender(&self) -> Side {
+        self.sender
     }
 
     /// Writes a frame behind those that are under way.
@@ -67,7 +67,7 @@ impl Line {
     #[inline(always)]
     pub fn send(&mut self, frame: &Frame<'_>) -> Result<(), BenchFault> {
         if self.used < FRAMES {
-            self.slots[self.used].write(frame, self.from);
+            self.slots[self.used].write(frame, self.sender);
             self.used += 1;
             Ok(())
         } else {
