@@ -1,3 +1,4 @@
+pub mod Acknowledging
 pub mod Guards
 pub mod Rows
 pub mod Sending

@@ -32,7 +32,7 @@ impl Machine {
     }
 
     /// It acknowledges nothing new.
-    fn is_old(&self, nr: Number) -> bool
+    pub fn is_old(&self, nr: Number) -> bool
         ensures { result ≡ (nr == self.now.window.va) }
     {
         nr.value() == self.window.va().value()

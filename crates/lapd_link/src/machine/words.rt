@@ -249,7 +249,22 @@ impl Machine {
     }
 
     /// ACK: what lies before a valid N(R) is acknowledged and leaves the queue.
+    #[inline(always)]
+    #[tactic(auto, using(crate::proofs::Acknowledging::old_number))]
     pub fn acknowledge(&mut self, nr: Number, outs: &mut Outs)
+        requires room { array_vec_len outs.old + 1 ≤ 136 }
+        requires valid { is_valid Tagged nr self.old.window ≡ true }
+        requires counted { IsCounted self.old }
+        ensures step { (s : Doing) → StandsFor self.old outs.old.items s → StandsFor self.new outs.new.items (acknowledge Tagged nr s) }
+        ensures len { array_vec_len outs.new ≤ array_vec_len outs.old + 1 }
+    {
+        if !self.is_old(nr) {
+            self.acknowledge_new(nr, outs);
+        }
+    }
+
+    /// ACK of an N(R) that acknowledges something new.
+    fn acknowledge_new(&mut self, nr: Number, outs: &mut Outs)
         requires room { array_vec_len outs.old + 1 ≤ 136 }
         requires valid { is_valid Tagged nr self.old.window ≡ true }
         requires counted { IsCounted self.old }

@@ -5,7 +5,7 @@ use Rattle.lapd_supervision.specs.Marks.{acknowledged, acknowledged_count}
 use Rattle.lapd_link.specs.declared.out.Out.TheVariants.{Acknowledged}
 use Rattle.lapd_link.specs.Words.{acknowledge}
 use Rattle.lapd_link.proofs.Tails.{tail_acknowledged, counted_above, counted_none}
-use Rattle.lapd_link.proofs.machine.Machine.acknowledge.Goals as goal
+use Rattle.lapd_link.proofs.machine.Machine.acknowledge_new.Goals as goal
 use Rattle.lapd_queue.specs.Waiting.{without_first}
 
 pub returns-then-count-gt0-clause-step : goal.returns-then-count-gt0-clause-step
