@@ -76,7 +76,6 @@ impl Machine {
     }
 
     /// A frame that is not UI.
-    #[inline(never)]
     fn hears_by_state(&mut self, control: Control, role: Role, outs: &mut Outs)
         requires room { array_vec_len outs.old + 6 ≤ 136 }
         requires settled { IsSettled self.old }
@@ -93,7 +92,6 @@ impl Machine {
     }
 
     /// A fault in a frame is reported, and breaks an established link.
-    #[inline(never)]
     fn reports_fault(&mut self, kind: FaultKind, outs: &mut Outs)
         requires room { array_vec_len outs.old + 6 ≤ 136 }
         ensures step { (n200 : ℕ) (s : Doing) → StandsFor self.old outs.old.items s → StandsFor self.new outs.new.items (row Tagged n200 self.old.state (Faulty kind) s) }
@@ -112,7 +110,6 @@ impl Machine {
     }
 
     /// T200 expires, where it runs.
-    #[inline(never)]
     fn t200_expires(&mut self, n200: u8, outs: &mut Outs)
         requires room { array_vec_len outs.old + 6 ≤ 136 }
         ensures step { (s : Doing) → StandsFor self.old outs.old.items s → StandsFor self.new outs.new.items (row Tagged n200 self.old.state (Expires Timer.T200) s) }
@@ -139,7 +136,6 @@ impl Machine {
     }
 
     /// T203 expires, where it runs.
-    #[inline(never)]
     fn t203_expires(&mut self, outs: &mut Outs)
         requires room { array_vec_len outs.old + 6 ≤ 136 }
         ensures step { (n200 : ℕ) (s : Doing) → StandsFor self.old outs.old.items s → StandsFor self.new outs.new.items (row Tagged n200 self.old.state (Expires Timer.T203) s) }
@@ -166,7 +162,6 @@ impl Machine {
     }
 
     /// DL-ESTABLISH request, not refused.
-    #[inline(never)]
     fn layer3_establishes(&mut self, outs: &mut Outs)
         requires room { array_vec_len outs.old + 6 ≤ 136 }
         ensures step { (n200 : ℕ) (s : Doing) → StandsFor self.old outs.old.items s → StandsFor self.new outs.new.items (row Tagged n200 self.old.state Establish s) }
@@ -181,7 +176,6 @@ impl Machine {
     }
 
     /// DL-RELEASE request.
-    #[inline(never)]
     fn layer3_releases(&mut self, outs: &mut Outs)
         requires room { array_vec_len outs.old + 6 ≤ 136 }
         ensures step { (n200 : ℕ) (s : Doing) → StandsFor self.old outs.old.items s → StandsFor self.new outs.new.items (row Tagged n200 self.old.state Release s) }
@@ -196,7 +190,6 @@ impl Machine {
     }
 
     /// Own receiver busy.
-    #[inline(never)]
     fn turns_busy(&mut self, outs: &mut Outs)
         requires room { array_vec_len outs.old + 6 ≤ 136 }
         ensures step { (n200 : ℕ) (s : Doing) → StandsFor self.old outs.old.items s → StandsFor self.new outs.new.items (row Tagged n200 self.old.state BusyOn s) }
@@ -209,7 +202,6 @@ impl Machine {
     }
 
     /// Own receiver no longer busy.
-    #[inline(never)]
     fn turns_free(&mut self, outs: &mut Outs)
         requires room { array_vec_len outs.old + 6 ≤ 136 }
         ensures step { (n200 : ℕ) (s : Doing) → StandsFor self.old outs.old.items s → StandsFor self.new outs.new.items (row Tagged n200 self.old.state BusyOff s) }
