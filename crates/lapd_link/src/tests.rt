@@ -6,6 +6,7 @@ mod bench;
 mod established;
 mod every_state;
 mod scripts;
+mod sent_frame;
 mod tei_assigned;
 mod timer_recovery;
 mod transfer;
