@@ -1,4 +1,4 @@
-use lapd_frame::FaultKind;
+use lapd_frame::{FaultKind, FrameFault};
 use lapd_link::{LinkFault, Refused};
 use std::alloc::AllocError;
 use thiserror::Error;
@@ -15,12 +15,12 @@ pub enum BenchFault {
     /// A request was refused.
     #[error("refused: {0}")]
     Refused(LinkFault),
-    /// What was to be sent is no frame.
+    /// What came over the line is no frame.
     #[error("no frame: {0:?}")]
     NoFrame(FaultKind),
-    /// An end was to send a frame and sent none.
-    #[error("nothing was sent")]
-    NothingSent,
+    /// More frames were sent than the line holds.
+    #[error("the line is full")]
+    LineFull,
 }
 
 impl From<AllocError> for BenchFault {
@@ -41,8 +41,8 @@ impl From<Refused> for BenchFault {
     }
 }
 
-impl From<FaultKind> for BenchFault {
-    fn from(kind: FaultKind) -> BenchFault {
-        BenchFault::NoFrame(kind)
+impl From<FrameFault> for BenchFault {
+    fn from(fault: FrameFault) -> BenchFault {
+        BenchFault::NoFrame(fault.kind)
     }
 }

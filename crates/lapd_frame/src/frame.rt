@@ -1,5 +1,6 @@
 ghost use Rattle.std.specs.Prelude.{◌≡◌, ◌++◌, ◌+◌, ◌≤◌, length, take, drop, IfOk, IfErr, Ok, Err, Some, None, option_map, ℕ};
 ghost use Rattle.std.specs.Result.{result_err};
+ghost use Rattle.lapd_field.specs.Control.{control_octets};
 ghost use Rattle.lapd_frame.specs.Frame.{Fields, IsFrame, content_fault, frame_of, spelling};
 ghost use Rattle.lapd_frame.specs.Reading.{frame_at, first_fault, frame_of_fields, address_of};
 
@@ -89,14 +90,27 @@ pub fn read(octets: &[u8], from: Side) -> Result<Frame<'_>, FrameFault>
 pub fn write(frame: &Frame<'_>, from: Side, out: &mut [u8; MOST_OCTETS]) -> usize
     ensures written { out.new ≡ spelling from frame.now ++ drop result out.old }
     ensures len { result ≡ length (spelling from frame.now) }
+    ensures at_most { result ≤ 264 }
 {
     let address = frame.address.write(from);
-    let control = frame.control.write();
     put(out, 0, &address);
-    put(out, 2, control.as_slice());
-    let behind = 2 + control.len();
+    let behind = 2 + put_control(out, &frame.control);
     put(out, behind, frame.info);
     behind + frame.info.len()
+}
+
+/// Writes a control field at the third octet of `out`, and tells its length in octets.
+fn put_control(out: &mut [u8; 264], control: &Control) -> usize
+    ensures written { out.new ≡ take 2 out.old ++ control_octets control.now ++ drop (2 + result) out.old }
+    ensures len { result ≡ length (control_octets control.now) }
+    ensures at_most { result ≤ 2 }
+{
+    let octets = control.write();
+    match octets.as_slice() {
+        [first, second] => put(out, 2, &[*first, *second]),
+        other => put(out, 2, other),
+    }
+    octets.len()
 }
 
 /// The frame of these octets.
@@ -167,7 +181,9 @@ fn put(out: &mut [u8; MOST_OCTETS], at: usize, octets: &[u8])
     requires { at + length octets.now ≤ 264 }
     ensures { out.new ≡ take at out.old ++ octets.now ++ drop (at + length octets.now) out.old }
 {
-    out[at..at + octets.len()].copy_from_slice(octets);
+    if !octets.is_empty() {
+        out[at..at + octets.len()].copy_from_slice(octets);
+    }
 }
 
 /// What the control table refuses of such a frame, with `len` octets of information.

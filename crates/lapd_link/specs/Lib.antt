@@ -19,5 +19,6 @@ pub use Rattle.lapd_supervision.specs.StateVariables
 pub use Rattle.lapd_timers.specs.Timer
 pub mod Link
 pub mod Sent
+pub mod SentFrame
 pub mod StandsFor
 pub mod Tail

@@ -8,8 +8,7 @@
 
 mod link;
 mod machine;
-#[cfg(test)]
-mod tests;
+mod sent_frame;
 
 pub use lapd_frame::{
     Address, Control, FaultKind, Frame, FrameFault, Number, Role, Sapi, Side, Tei,

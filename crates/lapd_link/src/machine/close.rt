@@ -44,9 +44,9 @@ impl Machine {
         ensures few { result ≡ true → outstanding Tagged self.now.window < 127 }
         ensures unsent { result ≡ true → self.now.queue.sent < length self.now.queue.messages }
     {
-        self.is_established()
+        self.queue.sent() < self.queue.len()
+            && self.is_established()
             && self.window.may_send(self.params.k())
-            && self.queue.sent() < self.queue.len()
     }
 
     /// The acknowledgement that is pending goes out.

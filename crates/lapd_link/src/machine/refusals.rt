@@ -6,10 +6,8 @@ ghost use Rattle.lapd_states.specs.Input.{Give, input_of};
 ghost use Rattle.lapd_states.specs.Refusal.{give_refused, refused_when_full, refused_when_long, establish_refused, refused};
 
 use crate::machine::Machine;
+use lapd_frame::N201;
 use lapd_states::{Event, LinkFault, State};
-
-/// The most octets that a frame carries (N201, Q.921 5.9.3).
-const N201: usize = 260;
 
 /// Why a message is refused whether or not the queue is full, by the state, whether a release waits, and whether layer 3
 /// initiated the establishment.

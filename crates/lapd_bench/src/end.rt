@@ -1,0 +1,92 @@
+//! One end of the link, between messages and octets.
+
+use crate::bench_fault::BenchFault;
+use crate::line::Line;
+use lapd_frame::{Sapi, Side, Tei, read};
+use lapd_link::{Event, Link, Out, Outs, Params};
+use std::alloc::Global;
+
+/// One end of the link, what its last step calls for, and how many messages it has given, taken and seen acknowledged.
+#[derive(Drop)]
+pub struct End {
+    link: Link,
+    outs: Outs,
+    pub given: u64,
+    pub received: u64,
+    pub acknowledged: u64,
+}
+
+impl End {
+    /// An end of this side, not yet established, of service access point 0 and terminal endpoint 64, with the parameters
+    /// of primary rate access.
+    ///
+    /// # Errors
+    ///
+    /// `Memory`.
+    pub fn new(alloc: Global, side: Side) -> Result<End, BenchFault> {
+        let tei = Tei::new(64).unwrap();
+        let link = Link::new(alloc, side, Sapi::Call, tei, Params::primary())?;
+        Ok(End {
+            link,
+            outs: Outs::new(),
+            given: 0,
+            received: 0,
+            acknowledged: 0,
+        })
+    }
+
+    /// Asks for the link to be established.
+    ///
+    /// # Errors
+    ///
+    /// As [`End::give`].
+    pub fn establish(&mut self, to: &mut Line) -> Result<(), BenchFault> {
+        self.link.handle_into(Event::Establish, &mut self.outs)?;
+        self.carry_out(to)
+    }
+
+    /// Takes a message, and sends it where the window is open.
+    ///
+    /// # Errors
+    ///
+    /// `Refused` by the link, or `LineFull`.
+    pub fn give(&mut self, message: Vec<u8>, to: &mut Line) -> Result<(), BenchFault> {
+        self.link.give_into(message, &mut self.outs)?;
+        self.given = self.given.wrapping_add(1);
+        self.carry_out(to)
+    }
+
+    /// Takes all frames that are under way to it, and sends what they call for.
+    ///
+    /// # Errors
+    ///
+    /// `NoFrame` for octets that are none, `Refused` by the link, or `LineFull`.
+    pub fn hear(&mut self, from: &mut Line, to: &mut Line) -> Result<(), BenchFault> {
+        for slot in from.under_way() {
+            let frame = read(slot.octets(), from.sender())?;
+            self.link.handle_into(Event::Heard(&frame), &mut self.outs)?;
+            self.carry_out(to)?;
+        }
+        from.clear();
+        Ok(())
+    }
+
+    /// Sends what its last step calls for, and counts the messages that it speaks of.
+    #[inline(always)]
+    fn carry_out(&mut self, to: &mut Line) -> Result<(), BenchFault> {
+        for out in &self.outs {
+            match out {
+                Out::Up => self.received = self.received.wrapping_add(1),
+                Out::Acknowledged(count) => {
+                    self.acknowledged = self.acknowledged.wrapping_add(u64::from(*count));
+                }
+                _ => {
+                    if let Some(frame) = self.link.frame(out, &[]) {
+                        to.send(&frame)?;
+                    }
+                }
+            }
+        }
+        Ok(())
+    }
+}

@@ -1,0 +1,55 @@
+//! What an output puts on the line.
+
+ghost use Rattle.std.specs.Prelude.{◌≡◌, drop, slice_get};
+ghost use Rattle.lapd_states.specs.End.{End};
+ghost use Rattle.lapd_link.specs.Link.{LinkStandsFor, setup_of};
+ghost use Rattle.lapd_link.specs.SentFrame.{link_frame, message_frame, sent_frame};
+
+use crate::Link;
+use lapd_frame::{Address, Control, Frame, Role};
+use lapd_states::Out;
+
+impl Link {
+    /// The frame that an output of the last step puts on the line, to be written by [`lapd_frame::write`] as this side
+    /// sends it. `handed` are the octets of the unit data that was handed in (no octets for any other event). It borrows
+    /// its information, and nothing is copied.
+    ///
+    /// - `Send`: of this role and control field, without information.
+    /// - `SendMessage`: the I command with the message at this place of the queue (Q.921 5.6.1).
+    /// - `SendUnit`: the UI command with P=0 and the octets handed in (Q.921 5.2).
+    ///
+    /// `None` for an output that is no frame, and for parts that are no frame of the control table (Q.921 Table 5): the
+    /// wrong role, more than 260 octets, a place where no message is.
+    #[inline(always)]
+    pub fn frame<'a>(&'a self, out: &Out, handed: &'a [u8]) -> Option<Frame<'a>>
+        ensures { (e : End) → LinkStandsFor self.now e → result ≡ sent_frame (setup_of self.now) (drop e.first e.given) handed.now out.now }
+    {
+        match out {
+            Out::Send(role, control) => self.frame_with(*role, *control, &[]),
+            Out::SendMessage(place, control) => self.message_frame(*place, *control),
+            Out::SendUnit => self.frame_with(Role::Command, Control::Ui { p: false }, handed),
+            _ => None,
+        }
+    }
+
+    /// The I command with the message at this place of the queue.
+    #[inline(always)]
+    fn message_frame(&self, place: u16, control: Control) -> Option<Frame<'_>>
+        ensures { (e : End) → LinkStandsFor self.now e → result ≡ message_frame (setup_of self.now) control (slice_get (drop e.first e.given) place) }
+    {
+        self.frame_with(Role::Command, control, self.queue().get(place)?)
+    }
+
+    /// The frame with the link's address and these parts.
+    #[inline(always)]
+    fn frame_with<'a>(&self, role: Role, control: Control, info: &'a [u8]) -> Option<Frame<'a>>
+        ensures { result ≡ link_frame (setup_of self.now) role control info.now }
+    {
+        let address = Address {
+            sapi: self.sapi(),
+            tei: self.tei(),
+            role,
+        };
+        Frame::new(address, control, info).ok()
+    }
+}
