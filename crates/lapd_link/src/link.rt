@@ -94,6 +94,7 @@ impl Link {
     /// # Errors
     ///
     /// As [`Link::handle`].
+    #[inline(always)]
     pub fn handle_into(&mut self, event: Event, outs: &mut Outs) -> Result<(), LinkFault>
         requires for_link { IsForLink self.old event }
         ensures ok { OnOk result (Steps self.old self.new (input_of event.entry) outs.new.items) }
