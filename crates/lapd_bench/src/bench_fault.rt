@@ -18,6 +18,9 @@ pub enum BenchFault {
     /// What came over the line is no frame.
     #[error("no frame: {0:?}")]
     NoFrame(FaultKind),
+    /// A frame came over the line that is for another link.
+    #[error("a frame for another link")]
+    NotForLink,
     /// More frames were sent than the line holds.
     #[error("the line is full")]
     LineFull,

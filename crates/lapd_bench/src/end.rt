@@ -60,10 +60,13 @@ impl End {
     ///
     /// # Errors
     ///
-    /// `NoFrame` for octets that are none, `Refused` by the link, or `LineFull`.
+    /// `NoFrame` for octets that are none, `NotForLink`, `Refused` by the link, or `LineFull`.
     pub fn hear(&mut self, from: &mut Line, to: &mut Line) -> Result<(), BenchFault> {
         for slot in from.under_way() {
             let frame = read(slot.octets(), from.sender())?;
+            if !self.link.is_for(&frame.address()) {
+                return Err(BenchFault::NotForLink);
+            }
             self.link.handle_into(Event::Heard(&frame), &mut self.outs)?;
             self.carry_out(to)?;
         }

@@ -1,7 +1,7 @@
 //! The command line: what the program's words choose.
 
 ghost use Rattle.std.specs.Prelude.{◌≡◌, ◌<◌, length, Ok};
-ghost use Rattle.lapd_cli.specs.CommandLine.{default_numbers, IsNumberTo, IsRangeOf};
+ghost use Rattle.lapd_cli.specs.CommandLine.{default_parameters, IsNumberTo, IsRangeOf};
 ghost use Rattle.lapd_commands.specs.Written.{AreWritten};
 
 mod number_option;
@@ -48,7 +48,7 @@ impl From<Error> for Unchosen<'_> {
 ///
 /// `Told`, which has the parser's text, and `OutOfRange`.
 pub fn choose<'a, S: AsStr>(alloc: Global, words: &'a [S]) -> Result<Chosen, Unchosen<'a>>
-    ensures { length words.now < 2 → result ≡ Ok (Chosen.Answer Side.Network default_numbers) }
+    ensures { length words.now < 2 → result ≡ Ok (Chosen.Answer Side.Network default_parameters) }
 {
     if words.len() < 2 {
         return Ok(Chosen::Answer {

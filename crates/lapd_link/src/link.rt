@@ -94,6 +94,7 @@ impl Link {
     /// # Errors
     ///
     /// As [`Link::handle`].
+    #[inline(always)]
     pub fn handle_into(&mut self, event: Event, outs: &mut Outs) -> Result<(), LinkFault>
         requires for_link { IsForLink self.old event }
         ensures ok { OnOk result (Steps self.old self.new (input_of event.entry) outs.new.items) }
@@ -182,14 +183,15 @@ impl Link {
         self.machine.state.number()
     }
 
-    /// V(S), V(A), V(R) and the marks.
+    /// V(S), V(A), V(R) and the conditions.
     pub fn window(&self) -> Window
         ensures { (e : End) → LinkStandsFor self.now e → result ≡ e.window }
     {
         self.machine.window
     }
 
-    /// RC: how often the last command was sent again.
+    /// RC: in states 5 and 6, how often the SABME or DISC was sent again; in state 8, how often T200 has expired since
+    /// the last answer, with an enquiry each time. 0 to N200.
     pub fn rc(&self) -> u8
         ensures { (e : End) → LinkStandsFor self.now e → result ≡ e.rc }
     {

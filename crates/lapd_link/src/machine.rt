@@ -25,7 +25,7 @@ mod timer_recovery;
 pub struct Machine {
     pub params: Params,
     pub state: State,
-    /// RC, how often the last command was sent again (in state 8, how many enquiries were sent).
+    /// RC: in states 5 and 6, how often the SABME or DISC was sent again; in state 8, how often T200 has expired.
     pub rc: u8,
     /// V(S), V(A), V(R) and the conditions.
     pub window: Window,

@@ -64,12 +64,6 @@ unfolding after
 after_is_number Whole n h = tt
 after_is_number Tagged n h = omega arith
 
--- numbers with the same next number are the same
-pub after_is_injective : (r : Reading) (a b : ℕ) → IsNumber r a → IsNumber r b → after r a ≡ after r b → a ≡ b
-unfolding after
-after_is_injective Whole a b ha hb same = omega arith
-after_is_injective Tagged a b ha hb same = omega arith
-
 -- the subtraction is the number of steps
 pub steps_are_counted : (r : Reading) (a b : ℕ) → IsNumber r a → IsNumber r b → reaches r a b ≡ true → AreSteps r (steps r a b) a b
 unfolding steps
@@ -98,11 +92,6 @@ unfolding steps
 no_steps_is_same Whole a b ha hb h none = omega (arith, reaches_tells a b h)
 no_steps_is_same Tagged a b ha hb h none = omega arith
 
--- at most 127 steps lead from one tag to another
-pub tagged_steps_are_below : (a b : ℕ) → steps Tagged a b < 128
-unfolding steps
-tagged_steps_are_below a b = omega arith
-
 -- the steps to a number between add up
 pub steps_add_up : (r : Reading) (a x b : ℕ) → lies_within r a x b ≡ true → steps r a x + steps r x b ≡ steps r a b
 unfolding steps
@@ -112,10 +101,6 @@ steps_add_up Tagged a x b h = omega (arith, tagged_within_tells a x b h)
 -- a number between is reached in no more steps
 pub steps_to_between : (r : Reading) (a x b : ℕ) → lies_within r a x b ≡ true → steps r a x ≤ steps r a b
 steps_to_between r a x b h = omega (arith, steps_add_up r a x b h)
-
--- from a number between no more steps are left
-pub steps_from_between : (r : Reading) (a x b : ℕ) → lies_within r a x b ≡ true → steps r x b ≤ steps r a b
-steps_from_between r a x b h = omega (arith, steps_add_up r a x b h)
 
 -- a number that lies between two others is reached from the first, and reaches the second
 pub reaches_between : (r : Reading) (a x b : ℕ) → lies_within r a x b ≡ true → (reaches r a x ≡ true) × (reaches r x b ≡ true) × (reaches r a b ≡ true)
@@ -145,12 +130,6 @@ pub steps_stay : (r : Reading) (a b : ℕ) → steps r (after r a) (after r b) �
 unfolding steps after
 steps_stay Whole a b = omega arith
 steps_stay Tagged a b = omega arith
-
--- as many steps lead to where some steps lead
-pub steps_to_number_after : (r : Reading) (n a : ℕ) → IsNumber r a → n < 128 → steps r a (number_after r n a) ≡ n
-unfolding steps
-steps_to_number_after Whole n a ha less = omega (arith, number_after_whole n a)
-steps_to_number_after Tagged n a ha less = omega (arith, number_after_tagged n a ha)
 
 -- the first of two numbers lies within them
 pub first_lies_within : (r : Reading) (a b : ℕ) → reaches r a b ≡ true → lies_within r a a b ≡ true

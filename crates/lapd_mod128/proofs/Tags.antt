@@ -1,5 +1,5 @@
 -- Laws that relate the two readings: they agree where whole numbers lie within 127 of each other.
-use Rattle.std.proofs.Common.{◌≡◌, ℕ, zero, suc, ◌+◌, ◌%◌, ◌<◌, ◌≤◌, ◌==◌, nat_le, refl, arith}
+use Rattle.std.proofs.Common.{◌≡◌, ℕ, zero, suc, ◌+◌, ◌%◌, ◌≤◌, ◌==◌, nat_le, refl, arith}
 use Rattle.std.proofs.lemmas.Bool.Decides.{nat_tests}
 use Rattle.lapd_mod128.specs.Counting.{Whole, Tagged, tag, after, number_after, steps, lies_within, AreNear}
 use Rattle.lapd_mod128.proofs.Steps.{number_after_tagged}
@@ -8,16 +8,6 @@ use Rattle.lapd_mod128.proofs.Steps.{number_after_tagged}
 pub tag_is_remainder : (n : ℕ) → tag n ≡ n % 128
 unfolding tag
 tag_is_remainder n = refl
-
--- a tag is below 128
-pub tag_is_below : (n : ℕ) → tag n < 128
-unfolding tag
-tag_is_below n = omega arith
-
--- a number below 128 is its own tag
-pub tag_of_tag : (n : ℕ) → n < 128 → tag n ≡ n
-unfolding tag
-tag_of_tag n h = omega arith
 
 -- counting on tags from 0 leads to the tag
 pub tag_is_counted : (n : ℕ) → number_after Tagged n 0 ≡ tag n
@@ -28,11 +18,6 @@ tag_is_counted n = omega (arith, number_after_tagged n 0)
 pub tag_of_after : (n : ℕ) → tag (after Whole n) ≡ after Tagged (tag n)
 unfolding tag after
 tag_of_after n = omega arith
-
--- one step on looks at the tag alone
-pub after_tag : (n : ℕ) → after Tagged (tag n) ≡ after Tagged n
-unfolding tag after
-after_tag n = omega arith
 
 -- the tag of where some steps lead is where they lead from the tag
 pub tag_of_number_after : (n a : ℕ) → tag (number_after Whole n a) ≡ number_after Tagged n (tag a)
@@ -55,19 +40,9 @@ pub steps_on_tags : (a b : ℕ) → a ≤ b → b ≤ a + 127 → steps Tagged (
 unfolding tag steps
 steps_on_tags a b low high = omega arith
 
--- counting steps looks at the tags alone
-pub steps_of_tags : (a b : ℕ) → steps Tagged (tag a) (tag b) ≡ steps Tagged a b
-unfolding tag steps
-steps_of_tags a b = omega arith
-
 order_of_steps : (low x y : ℕ) → low ≤ x → low ≤ y → nat_le (steps Whole low x) (steps Whole low y) ≡ nat_le x y
 unfolding steps
 order_of_steps low x y x_low y_low = grind (arith, nat_tests)
-
--- so does the order of tags by counting
-pub lies_within_of_tags : (a x b : ℕ) → lies_within Tagged (tag a) (tag x) (tag b) ≡ lies_within Tagged a x b
-unfolding lies_within
-lies_within_of_tags a x b = rw (steps_of_tags a x, steps_of_tags a b)
 
 -- the order of two numbers from `low` to `low + 127` is the order of the steps from its tag
 pub order_on_tags : (low x y : ℕ) → low ≤ x → x ≤ low + 127 → low ≤ y → y ≤ low + 127 → nat_le (steps Tagged (tag low) (tag x)) (steps Tagged (tag low) (tag y)) ≡ nat_le x y

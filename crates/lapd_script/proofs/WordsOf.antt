@@ -1,7 +1,6 @@
 -- The words of a line that is cut at its first space.
-use Rattle.std.proofs.Common.{◌≡◌, ℕ, List, [], ◌∷◌, ◌++◌, ◌==◌, if◌then◌else◌, Bool, true, false, refl}
+use Rattle.std.proofs.Common.{◌≡◌, ℕ, List, [], ◌∷◌, ◌++◌, refl}
 use Rattle.std.proofs.lemmas.Bool.{ne_eqb}
-use Rattle.lapd_script.specs.Script.{with_first}
 use Rattle.lapd_script.specs.Line.{words_of, HasNoSpace}
 
 pub one_word : (word : List ℕ) → HasNoSpace word → words_of word ≡ word ∷ []

@@ -48,7 +48,8 @@ pub enum LinkFault {
 }
 
 /// A message that was refused, handed back as it came.
-#[derive(Drop)]
+#[derive(Debug, Drop, Error)]
+#[error("{fault}")]
 pub struct Refused {
     /// Why.
     pub fault: LinkFault,

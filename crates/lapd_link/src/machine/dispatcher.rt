@@ -39,6 +39,7 @@ impl Machine {
     ghost use Rattle.lapd_link.specs.StandsFor.{Does, HasRoom, Grows};
 
     /// An event.
+    #[inline(always)]
     pub fn row(&mut self, event: Event, outs: &mut Outs)
         requires room { HasRoom 6 outs.old }
         requires between { IsBetweenSteps self.old }
@@ -59,6 +60,7 @@ impl Machine {
     }
 
     /// A frame.
+    #[inline(always)]
     fn heard(&mut self, control: Control, role: Role, outs: &mut Outs)
         requires room { HasRoom 6 outs.old }
         requires between { IsBetweenSteps self.old }

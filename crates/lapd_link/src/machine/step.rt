@@ -39,6 +39,7 @@ impl Machine {
     }
 
     /// A step that is not refused: its row, and what ends it.
+    #[inline(always)]
     pub fn step(&mut self, event: Event, outs: &mut Outs)
         requires empty { outs.old.items ≡ [] }
         requires between { IsBetweenSteps self.old }
