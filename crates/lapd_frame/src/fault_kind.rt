@@ -1,5 +1,5 @@
 ghost use Rattle.std.specs.Prelude.{◌≡◌, Some};
-ghost use Rattle.lapd_frame.specs.Fault.{fault_name, kind_of};
+ghost use Rattle.lapd_frame.specs.Fault.{fault_name, is_for_link, kind_of};
 
 use lapd_field::FieldFault;
 use std::error::Error;
@@ -26,6 +26,20 @@ pub enum FaultKind {
 }
 
 impl FaultKind {
+    /// Whether octets with this fault are for a link (F4 to F7), which reports it. Octets with the others are discarded
+    /// (Q.921 2.9, 5.8.5).
+    pub fn is_for_link(self) -> bool
+        ensures { result ≡ is_for_link self }
+    {
+        match self {
+            FaultKind::TooShort | FaultKind::BadAddress | FaultKind::SapiNotServed => false,
+            FaultKind::Undefined
+            | FaultKind::InfoNotPermitted
+            | FaultKind::WrongSize
+            | FaultKind::InfoTooLong => true,
+        }
+    }
+
     /// Its number and name, as in `F1 TooShort`.
     pub fn name(self) -> &'static str
         ensures { result.now ≡ fault_name self }

@@ -1,4 +1,4 @@
--- The I queue stays the tail of what was given, under each word that moves a place or a message.
+-- The I queue stays the tail of what was given, under each action that moves a place or a message.
 use Rattle.std.proofs.Common.{◌≡◌, ℕ, ◌+◌, ◌-◌, ◌<◌, ◌≤◌, nat_lt, true, false, List, [], ◌∷◌, ◌++◌, length, drop, Result, Ok, Err, OnOk, refl, sym, ap, ◌∙◌, arith}
 use Rattle.std.proofs.lemmas.List.{length-drop, length-append, drop-append-le, drop-drop}
 use Rattle.std.proofs.Math.Seq.{drop-length}

@@ -1,4 +1,4 @@
-//! What a link keeps, and what each word and row of the state table does to it.
+//! What a link keeps, and what each action and row of the state table does to it.
 
 ghost use Rattle.std.specs.Prelude.{◌≡◌, ◌<◌, ◌+◌, [], ◌∷◌, ◌++◌};
 ghost use Rattle.arrayvec.specs.ArrayVec.{array_vec_len};

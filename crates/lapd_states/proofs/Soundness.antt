@@ -38,7 +38,7 @@ either : (r : Reading) (test : Bool) (x y : StepState) → (test ≡ true → So
 either r true x y one other = one refl
 either r false x y one other = other refl
 
--- ---- What the places are after a word.
+-- ---- What the places are after an action.
 
 zero_is_reached : (r : Reading) → reaches r 0 0 ≡ true
 unfolding reaches
@@ -203,7 +203,7 @@ wrong : (r : Reading) (s : StepState) → Opened r s → SoundAfter r (nr_error_
 unfolding nr_error_recovery put
 wrong r s o = again r (s ▷ put (Report letter.J)) o
 
--- a word that moves no place and no counter
+-- an action that moves no place and no counter
 stays : (r : Reading) (s t : StepState) → Opened r s → (Opened r s → Opened r t) → SoundAfter r t
 stays r s t o f = opened r t (f o)
 

@@ -72,7 +72,7 @@ pub record StepState : Type 0 where
 unfoldable pub begin : End → StepState
 begin e = record { end = e; outs = [] }
 
--- one word after another
+-- one action after another
 infixl 10 ◌▷◌
 abbrev pub ◌▷◌ : StepState → (StepState → StepState) → StepState
-s ▷ word = word s
+s ▷ action = action s

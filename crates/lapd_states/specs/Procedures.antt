@@ -1,7 +1,7 @@
--- The words in which the state table speaks of an end (Q.921 Annex B; its procedures are those of Figure B.9).
+-- The actions in which the state table speaks of an end (Q.921 Annex B; its procedures are those of Figure B.9).
 --
--- Numbers are counted and compared by `after`, `steps` and `lies_within` alone, so that each word is read in two ways:
--- whole, with unbounded numbers also in frames, and tagged, with the numbers 0 to 127. Each word is one record, with
+-- Numbers are counted and compared by `after`, `steps` and `lies_within` alone, so that each action is read in two ways:
+-- whole, with unbounded numbers also in frames, and tagged, with the numbers 0 to 127. Each action is one record, with
 -- what depends on a test inside its fields.
 use Rattle.std.specs.Prelude.{ℕ, ◌+◌, ◌-◌, ◌==◌, ◌&&◌, nat_lt, if◌then◌else◌, Bool, true, false, List, [], ◌∷◌, ◌++◌, length, Option, Some, None}
 use Rattle.lapd_timers.specs.declared.timer.Timer.{Timer}
@@ -37,7 +37,7 @@ response_of (Some control) = Send Answer control ∷ []
 unfoldable pub put : Out → StepState → StepState
 put out s = record { end = s.end; outs = s.outs ++ out ∷ [] }
 
--- ---- Words that set one thing.
+-- ---- Actions that set one thing.
 
 unfoldable pub state_to : State → StepState → StepState
 state_to state s = record { end = record (s.end) { state = state }; outs = s.outs }

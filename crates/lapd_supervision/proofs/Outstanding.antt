@@ -1,4 +1,4 @@
--- How many I frames are outstanding, from V(A) to V(S), after each word; in both readings.
+-- How many I frames are outstanding, from V(A) to V(S), after each action; in both readings.
 use Rattle.std.proofs.Common.{◌≡◌, ℕ, ◌+◌, ◌%◌, ◌<◌, ◌≤◌, Bool, true, false, refl, arith}
 use Rattle.std.proofs.lemmas.Bool.Decides.{nat_tests}
 use Rattle.std.proofs.lemmas.Grind.{common_steps}
@@ -71,7 +71,7 @@ pub is_valid_nr_after_sending : (r : Reading) (nr : ℕ) (m : StateVariables) �
 unfolding is_valid_nr after_sending
 is_valid_nr_after_sending r nr m valid room = within_one_more r m.va nr m.vs valid room
 
--- ---- The other words
+-- ---- The other actions
 
 pub outstanding_initially : (r : Reading) → outstanding r initial_variables ≡ 0
 unfolding initial_variables

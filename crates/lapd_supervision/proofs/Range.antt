@@ -1,4 +1,4 @@
--- Each word gives tags where it is given tags.
+-- Each action gives tags where it is given tags.
 use Rattle.std.proofs.Common.{ℕ, ◌<◌, Bool, true, false, if◌then◌else◌, arith}
 use Rattle.lapd_mod128.specs.Counting.{Tagged, after}
 use Rattle.lapd_mod128.proofs.Steps.{after_is_number}

@@ -1,4 +1,4 @@
--- On tags each word does what it does on numbers without a bound, as long as the numbers lie near each other.
+-- On tags each action does what it does on numbers without a bound, as long as the numbers lie near each other.
 use Rattle.std.proofs.Common.{◌≡◌, ℕ, ◌+◌, ◌≤◌, Bool, true, false, if◌then◌else◌, Option, Some, option_map, refl, ap, arith}
 use Rattle.lapd_field.specs.declared.control.Control.{Control}
 use Rattle.lapd_field.specs.declared.control.Control.TheVariants.{Rr, Rnr, Rej}
@@ -7,7 +7,7 @@ use Rattle.lapd_mod128.proofs.Tags.{tag_of_after, equality_on_tags, steps_on_tag
 use Rattle.lapd_supervision.specs.StateVariables.{StateVariables, initial_variables, without_exceptions, with_zero_counters, status_frame, acknowledgement, without_ack_pending, poll_response, is_accepted, is_rejected, after_i_frame, i_frame_response, is_valid_nr, with_va, acknowledged_count, acknowledges_all, with_vs, outstanding, may_send, next_i_frame, after_sending, with_own_busy, with_peer_busy}
 use Rattle.lapd_supervision.specs.Tags.{tag_variables, tag_control, IsWindow, IsNearWindow}
 
--- ---- Words that count nothing
+-- ---- Actions that count nothing
 
 pub initial_variables_on_tags : tag_variables initial_variables ≡ initial_variables
 unfolding tag_variables initial_variables tag

@@ -1,6 +1,6 @@
--- The words of multiple frame operation that speak of counters and conditions alone (Q.921 5.5.1, 5.6, 5.8, Annex B).
--- Each word that gives new variables changes the fields that it names and no other. Where a number is counted or compared,
--- the word takes the reading: numbers without a bound, or tags from 0 to 127.
+-- The actions of multiple frame operation that speak of counters and conditions alone (Q.921 5.5.1, 5.6, 5.8, Annex B).
+-- Each action that gives new variables changes the fields that it names and no other. Where a number is counted or
+-- compared, the action takes the reading: numbers without a bound, or tags from 0 to 127.
 use Rattle.std.specs.Prelude.{◌≡◌, ℕ, ◌<◌, ◌==◌, nat_lt, Bool, true, false, not, ◌&&◌, ◌||◌, if◌then◌else◌, Option, Some, None}
 use Rattle.lapd_field.specs.declared.control.Control.{Control}
 use Rattle.lapd_field.specs.declared.control.Control.TheVariants.{I, Rr, Rnr, Rej}

@@ -1,4 +1,4 @@
-//! Laws of the words, in both readings. Each is the contract of a function that does nothing.
+//! Laws of the actions, in both readings. Each is the contract of a function that does nothing.
 
 ghost use Rattle.std.specs.Prelude.{◌≡◌, ◌≢◌, ℕ, ◌+◌, ◌<◌, ◌≤◌, ◌&&◌, Bool, true, false, not, if◌then◌else◌, Some, None, option_map};
 ghost use Rattle.lapd_field.specs.declared.control.Control.TheVariants.{Rr, Rnr, Rej};

@@ -6,7 +6,7 @@
 //! [`Receipt`] for an I frame that comes, an [`Advance`] for an N(R) that comes, or the control field of the frame to
 //! send. No call takes memory, and none knows of timers, of messages or of the state of the link.
 //!
-//! What each call gives is a word of `specs/StateVariables.antt`, which reads numbers without a bound and tags from 0 to 127
+//! What each call gives is an action of `specs/StateVariables.antt`, which reads numbers without a bound and tags from 0 to 127
 //! alike; here they are tags.
 #![tactic(auto)]
 

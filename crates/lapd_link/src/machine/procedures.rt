@@ -1,5 +1,5 @@
-//! The words of the state table, and the procedures of Q.921 Figure B.9, each a method that does to a machine what the
-//! word does to an end.
+//! The actions of the state table, and the procedures of Q.921 Figure B.9, each a method that does to a machine what the
+//! action does to an end.
 
 ghost use Rattle.std.specs.Prelude.{◌≡◌, ◌≤◌, ◌<◌, ◌+◌, ◌==◌, length, if◌then◌else◌, true, OnOk, OnErr, IfErr, is_err};
 ghost use Rattle.arrayvec.specs.ArrayVec.{array_vec_len};
@@ -15,7 +15,7 @@ use lapd_states::{Letter, Out, State};
 use lapd_supervision::{Advance, Window};
 use lapd_timers::Timer;
 
-/// Words that set one thing.
+/// Actions that set one thing.
 #[tactic(auto, unfolding(lapd_states::specs::Procedures::put, lapd_states::specs::Procedures::state_to, lapd_states::specs::Procedures::rc_to, lapd_states::specs::Procedures::increment_rc, lapd_states::specs::Procedures::layer3_initiated_to, lapd_states::specs::Procedures::release_pending_to, lapd_states::specs::Procedures::start, lapd_states::specs::Procedures::stop, lapd_states::specs::Procedures::expired))]
 impl Machine {
     ghost use Rattle.lapd_link.specs.Sent.{SentAreOutstanding, IsTaken};
@@ -129,7 +129,7 @@ impl Machine {
     }
 }
 
-/// Words of the state variables and conditions.
+/// Actions of the state variables and conditions.
 #[tactic(auto, unfolding(lapd_states::specs::Procedures::clear_exception_conditions, lapd_states::specs::Procedures::zero_state_variables, lapd_states::specs::Procedures::set_peer_busy, lapd_states::specs::Procedures::set_own_busy, lapd_states::specs::Procedures::enquiry_response, lapd_states::specs::Procedures::transmit_enquiry, lapd_states::specs::Procedures::transmit_rr, lapd_states::specs::Procedures::i_frame_ns))]
 impl Machine {
     ghost use Rattle.lapd_link.specs.Sent.{SentAreOutstanding, IsTaken};
@@ -222,7 +222,7 @@ impl Machine {
     }
 }
 
-/// Words of the I queue.
+/// Actions of the I queue.
 #[tactic(auto, using(crate::proofs::Tails::tail_waiting, crate::proofs::Tails::tail_place, crate::proofs::Tails::tail_emptied, crate::proofs::Tails::tail_acknowledged, crate::proofs::Tails::tail_gone_back, crate::proofs::Tails::tail_sent, crate::proofs::Tails::tail_given, crate::proofs::Tails::room_sent, crate::proofs::Tails::room_gone_back), unfolding(lapd_states::specs::Procedures::queue_up, lapd_states::specs::Procedures::discard_i_queue, lapd_states::specs::Procedures::acknowledge, lapd_states::specs::Procedures::invoke_retransmission, lapd_states::specs::Procedures::discard_unacknowledged, lapd_states::specs::Procedures::transmit_i_frame))]
 impl Machine {
     ghost use Rattle.lapd_link.specs.Sent.{SentAreOutstanding, IsTaken};
