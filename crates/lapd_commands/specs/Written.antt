@@ -1,15 +1,15 @@
 -- The numbers of a link, written as text.
 use Rattle.std.specs.Prelude.{ℕ, List}
 use Rattle.std.specs.Str.Parse.{digits_value, IsNumeral}
-use Rattle.lapd_link.specs.Numbers.{Numbers, AreInRange}
+use Rattle.lapd_link.specs.Parameters.{Parameters, AreInRange}
 
 -- the numbers that these texts, which are decimal digits, write
-abbrev pub numbers_written : List ℕ → List ℕ → List ℕ → Numbers
-numbers_written k n200 room = record { k = digits_value 10 k; n200 = digits_value 10 n200; room = digits_value 10 room }
+abbrev pub parameters_written : List ℕ → List ℕ → List ℕ → Parameters
+parameters_written k n200 room = record { k = digits_value 10 k; n200 = digits_value 10 n200; room = digits_value 10 room }
 
 -- all three are written in decimal digits alone, and in their ranges
 pub record AreWritten (k n200 room : List ℕ) : Type 0 where
   pub k_digits : IsNumeral 10 k
   pub n200_digits : IsNumeral 10 n200
   pub room_digits : IsNumeral 10 room
-  pub in_range : AreInRange (numbers_written k n200 room)
+  pub in_range : AreInRange (parameters_written k n200 room)

@@ -1,14 +1,12 @@
 //! The command `answer`: one link that answers a script.
 
-ghost use Rattle.std.specs.Prelude.{◌≡◌, [], length, IfSome, IsOkUnless, OnOk, Some};
+ghost use Rattle.std.specs.Prelude.{◌≡◌, ◌&&◌, [], length, true, IfSome, IsOkUnless, OnOk, Some};
 ghost use Rattle.std.specs.Io.KnownBytes.{Appends};
-ghost use Rattle.lapd_commands.specs.Answer.{answer_address, answer_step, busy_of, new_session, other_side};
-ghost use Rattle.lapd_link.specs.Event.{happening_of};
+ghost use Rattle.lapd_commands.specs.Answer.{answer_step, new_session};
 ghost use Rattle.lapd_commands.specs.Outputs.{refusal_line};
-ghost use Rattle.lapd_script.specs.Line.{Reads};
 ghost use Rattle.lapd_script.specs.Script.{EndsAs, LineEndsAs, lines_of};
 
-use crate::link_address::LinkAddress;
+use crate::outputs::put_outs;
 use lapd_frame::{Frame, FrameFault, Sapi, Side, Tei};
 use lapd_link::{Event, Link, LinkFault, Outs, Params};
 use lapd_script::{Command, LineFault, ScriptFault, Words, put_line, put_number, walk};
@@ -36,7 +34,7 @@ pub fn answer<R: Read, W: Write>(
     side: Side,
     params: Params,
 ) -> Result<(), ScriptFault>
-    ensures { IfSome (R.remaining script.old) (λ octets. EndsAs answer_step (new_session (answer_address side) params) result
+    ensures { IfSome (R.remaining script.old) (λ octets. EndsAs answer_step (new_session side params) result
         (lines_of octets) (W.contents out.old) (W.contents out.new)) }
 {
     let tei = Tei::new(64).unwrap();
@@ -69,8 +67,11 @@ impl Command for Answerer {
 }
 
 impl Answerer {
-    ghost use Rattle.lapd_link.specs.Event.{Give, UnitData};
-    ghost use Rattle.lapd_commands.specs.Answer.{Session, alone, with_octets, answer_word, hear, hear_frame, hear_fault, link_step, state_line, messages_of};
+    ghost use Rattle.lapd_link.specs.Fault.{is_for_link};
+    ghost use Rattle.lapd_link.specs.Input.{Give, UnitData, input_of};
+    ghost use Rattle.lapd_link.specs.Link.{IsForLink, is_address_of, setup_of};
+    ghost use Rattle.lapd_frame.specs.declared.Address.{Address};
+    ghost use Rattle.lapd_commands.specs.Answer.{Session, alone, with_octets, answer_word, hear, hear_frame, hear_fault, busy, link_step, state_line, messages_of};
     ghost use Rattle.lapd_commands.specs.Outputs.{outs_text};
     ghost use Rattle.lapd_commands.specs.Session.{IsAnswerer};
 
@@ -99,7 +100,7 @@ impl Answerer {
         } else if word == b"unit".as_slice() {
             self.unit(behind, out)
         } else if word == b"busy".as_slice() {
-            self.step(busy_event(behind)?, &[], out)
+            self.busy(behind, out)
         } else if word == b"state".as_slice() {
             self.put_state(behind, out)
         } else {
@@ -114,8 +115,9 @@ impl Answerer {
         event: Event,
         out: &mut W,
     ) -> Result<(), LineFault>
+        requires for_link { IsForLink self.old.link event }
         ensures { (s : Session) → IsAnswerer self.old s
-            → LineEndsAs IsAnswerer (alone behind.entry (link_step s (happening_of event.entry) [])) result self.new (W.contents out.old) (W.contents out.new) }
+            → LineEndsAs IsAnswerer (alone behind.entry (link_step s (input_of event.entry) [])) result self.new (W.contents out.old) (W.contents out.new) }
     {
         behind.nothing()?;
         self.step(event, &[], out)
@@ -130,14 +132,15 @@ impl Answerer {
         put_number(b"state ", u16::from(self.link.state()), out)
     }
 
-    /// Its address.
-    fn address(&self) -> LinkAddress
-        ensures { (s : Session) → IsAnswerer self.now s → result ≡ s.address }
+    /// Begins or ends the own receiver busy condition.
+    fn busy<W: Write>(&mut self, mut behind: Words<'_>, out: &mut W) -> Result<(), LineFault>
+        ensures { (s : Session) → IsAnswerer self.old s
+            → LineEndsAs IsAnswerer (busy s behind.entry) result self.new (W.contents out.old) (W.contents out.new) }
     {
-        LinkAddress {
-            side: self.link.side(),
-            sapi: self.link.sapi(),
-            tei: self.link.tei(),
+        match behind.next_word() {
+            Some(b"on") => self.alone(behind, Event::BusyOn, out),
+            Some(b"off") => self.alone(behind, Event::BusyOff, out),
+            _ => Err(LineFault::Bad),
         }
     }
 
@@ -147,24 +150,18 @@ impl Answerer {
             → LineEndsAs IsAnswerer (with_octets behind.entry (hear s)) result self.new (W.contents out.old) (W.contents out.new) }
     {
         let octets = behind.octets(self.alloc)?;
-        let address = self.address();
-        match lapd_frame::read(octets.as_slice(), other_side(address.side)) {
-            Ok(frame) => self.hear_frame(&address, &frame, out),
-            Err(fault) => self.hear_fault(&address, &fault, out),
+        match lapd_frame::read(octets.as_slice(), self.link.side().other()) {
+            Ok(frame) => self.hear_frame(&frame, out),
+            Err(fault) => self.hear_fault(&fault, out),
         }
     }
 
     /// Takes a frame, if it is for this link.
-    fn hear_frame<W: Write>(
-        &mut self,
-        address: &LinkAddress,
-        frame: &Frame<'_>,
-        out: &mut W,
-    ) -> Result<(), LineFault>
-        ensures { (s : Session) → IsAnswerer self.old s → address.now ≡ s.address
+    fn hear_frame<W: Write>(&mut self, frame: &Frame<'_>, out: &mut W) -> Result<(), LineFault>
+        ensures { (s : Session) → IsAnswerer self.old s
             → LineEndsAs IsAnswerer (Some (hear_frame s frame.now)) result self.new (W.contents out.old) (W.contents out.new) }
     {
-        if address.is_for(&frame.address()) {
+        if self.link.is_for(&frame.address()) {
             self.step(Event::Heard(frame), frame.info(), out)
         } else {
             put_line(b"not-mine", &[], out)
@@ -172,19 +169,15 @@ impl Answerer {
     }
 
     /// Takes octets that are no frame, by their first fault.
-    fn hear_fault<W: Write>(
-        &mut self,
-        address: &LinkAddress,
-        fault: &FrameFault,
-        out: &mut W,
-    ) -> Result<(), LineFault>
-        ensures { (s : Session) → IsAnswerer self.old s → address.now ≡ s.address
+    fn hear_fault<W: Write>(&mut self, fault: &FrameFault, out: &mut W) -> Result<(), LineFault>
+        requires for_link { (a : Address) → fault.now.address ≡ Some a → is_for_link fault.now.kind ≡ true }
+        ensures { (s : Session) → IsAnswerer self.old s
             → LineEndsAs IsAnswerer (Some (hear_fault s fault.now.kind fault.now.address)) result self.new (W.contents out.old) (W.contents out.new) }
     {
         match &fault.address {
             None => put_line(b"discarded ", fault.kind.name().as_bytes(), out),
-            Some(named) => {
-                if address.is_for(named) {
+            Some(address) => {
+                if self.link.is_for(address) {
                     self.step(Event::Fault(fault.kind), &[], out)
                 } else {
                     put_line(b"not-mine", &[], out)
@@ -195,8 +188,9 @@ impl Answerer {
 
     /// Makes a step of the link, to which these octets are handed, and prints its outputs.
     fn step<W: Write>(&mut self, event: Event, handed: &[u8], out: &mut W) -> Result<(), LineFault>
+        requires for_link { IsForLink self.old.link event }
         ensures { (s : Session) → IsAnswerer self.old s
-            → LineEndsAs IsAnswerer (Some (link_step s (happening_of event.entry) handed.now)) result self.new (W.contents out.old) (W.contents out.new) }
+            → LineEndsAs IsAnswerer (Some (link_step s (input_of event.entry) handed.now)) result self.new (W.contents out.old) (W.contents out.new) }
     {
         match self.link.handle_into(event, &mut self.outs) {
             Ok(()) => self.put_outs(handed, out),
@@ -228,11 +222,10 @@ impl Answerer {
     /// Prints the outputs of the step that was just done, to which these octets were handed.
     fn put_outs<W: Write>(&self, handed: &[u8], out: &mut W) -> Result<(), LineFault>
         ensures ok { (s : Session) → IsAnswerer self.now s
-            → OnOk result (Appends (W.contents out.old) (W.contents out.new) (outs_text s.address (messages_of s.end) handed.now self.now.outs.items)) }
+            → OnOk result (Appends (W.contents out.old) (W.contents out.new) (outs_text s.setup (messages_of s.end) handed.now self.now.outs.items)) }
         ensures err { IsOkUnless result LineFault.Device }
     {
-        self.address()
-            .put_outs(self.link.queue(), handed, self.outs.as_slice(), out)
+        put_outs(&self.link, handed, self.outs.as_slice(), out)
     }
 }
 
@@ -242,33 +235,4 @@ fn put_refusal<W: Write>(fault: LinkFault, out: &mut W) -> Result<(), LineFault>
     ensures err { IsOkUnless result LineFault.Device }
 {
     put_line(b"refused ", fault.name().as_bytes(), out)
-}
-
-/// What happens to the link by `busy` with these words behind it.
-///
-/// # Errors
-///
-/// `Bad`, where they are none of `on` and `off`.
-fn busy_event(mut behind: Words<'_>) -> Result<Event<'_>, LineFault>
-    ensures { Reads happening_of result (busy_of behind.entry) }
-{
-    let Some(word) = behind.next_word() else {
-        return Err(LineFault::Bad);
-    };
-    behind.nothing()?;
-    match word {
-        b"on" => Ok(Event::BusyOn),
-        b"off" => Ok(Event::BusyOff),
-        _ => Err(LineFault::Bad),
-    }
-}
-
-/// The side that sends what this one hears.
-fn other_side(side: Side) -> Side
-    ensures { result ≡ other_side side }
-{
-    match side {
-        Side::Network => Side::User,
-        Side::User => Side::Network,
-    }
 }

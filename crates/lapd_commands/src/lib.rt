@@ -7,8 +7,8 @@
 
 mod answerer;
 mod decoder;
-mod link_address;
 mod numbers;
+mod outputs;
 
 pub use answerer::answer;
 pub use decoder::decode;

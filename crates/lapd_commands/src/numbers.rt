@@ -2,7 +2,7 @@
 
 ghost use Rattle.std.specs.Prelude.{◌≡◌, ◌<◌, ◌^◌, SomeIff};
 ghost use Rattle.std.specs.Str.Parse.{digits_value, IsNumeral};
-ghost use Rattle.lapd_commands.specs.Written.{numbers_written, AreWritten};
+ghost use Rattle.lapd_commands.specs.Written.{parameters_written, AreWritten};
 
 use lapd_link::Params;
 
@@ -10,7 +10,7 @@ use lapd_link::Params;
 /// to 100 times, and the room of its I queue, 1 to 1,024 messages. `None` where a text is not written so, or its number
 /// is out of its range.
 pub fn params_of(k: &str, n200: &str, room: &str) -> Option<Params>
-    ensures { SomeIff result (AreWritten k.now n200.now room.now) (numbers_written k.now n200.now room.now) }
+    ensures { SomeIff result (AreWritten k.now n200.now room.now) (parameters_written k.now n200.now room.now) }
 {
     let k = u8::try_from(number_of(k)?).ok()?;
     let n200 = u8::try_from(number_of(n200)?).ok()?;

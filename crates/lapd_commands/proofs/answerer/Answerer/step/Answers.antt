@@ -1,4 +1,4 @@
-use Rattle.std.proofs.Common.{◌≡◌, ap, ◌∙◌}
+use Rattle.std.proofs.Common.{[], ◌∙◌}
 use Rattle.lapd_commands.specs.Answer.{Session, messages_of}
 use Rattle.lapd_commands.specs.Outputs.{outs_text}
 use Rattle.lapd_commands.specs.Session.{IsAnswerer}
@@ -7,10 +7,8 @@ use Rattle.lapd_commands.proofs.answerer.Answerer.step.Goals as goal
 
 pub returns-in-Ok : goal.returns-in-Ok
 returns-in-Ok g c = λ s h.
-    let made : c.args.self.now.link.params ≡ s.numbers = ap (λ m. m.params) h.made in
     let done = c.in-Ok.ensures.ok s.end h.end in
-    let next : Session = record { address = s.address; numbers = s.numbers; end = done.0.at } in
+    let next : Session = record { setup = s.setup; end = done.0.end } in
     let stands : IsAnswerer (record { alloc = c.args.self.now.alloc; link = c.handle_into.new.self; outs = c.handle_into.new.outs }) next =
-    record { made = c.in-Ok.ensures.made ∙ h.made; end = done.3 } in
-    let ran = rw made at done.1 in
-    rw ran (printed IsAnswerer (outs_text s.address (messages_of done.0.at) c.args.handed.now done.0.outs) next c.put_outs.result _ _ _ stands (rw done.2 (c.put_outs.ensures.ok next stands)) c.put_outs.ensures.err)
+    record { setup = c.in-Ok.ensures.setup ∙ h.setup; end = done.3 } in
+    rw (done.1) (printed IsAnswerer (outs_text s.setup (messages_of done.0.end) c.args.handed.now done.0.outs) next c.put_outs.result _ _ _ stands (rw done.2 (c.put_outs.ensures.ok next stands)) c.put_outs.ensures.err)
