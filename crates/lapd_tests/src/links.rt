@@ -1,7 +1,7 @@
 //! A link that is made and led on by its own calls, what it is made with, and how its refusals read.
 
 use crate::wants::wants;
-use lapd_frame::{Control, Number, Role, Sapi, Side, Tei};
+use lapd_frame::{Control, Role, Sapi, Side, Tei};
 use lapd_link::{Event, Link, LinkFault, Out, Params, Timer};
 use std::alloc::Global;
 use std::test::Fail;
@@ -91,25 +91,27 @@ fn established(alloc: Global) -> Result<Link, Fail> {
     Ok(link)
 }
 
-/// Whether a message goes out at once, as the I frame with this N(S), from this place of the queue.
-fn goes_out(alloc: Global, link: &mut Link, place: u16, ns: Number) -> Result<bool, Fail> {
-    let nr = Number::new(0).ok_or("0 is a number")?;
-    let sent = Out::SendMessage(place, Control::I { ns, nr, p: false });
-    match link.give(b"3".to_vec(alloc)?) {
-        Ok(outs) => Ok(outs.as_slice().first() == Some(&sent)),
-        Err(_) => Ok(false),
-    }
+/// Whether the link takes a message.
+fn takes(alloc: Global, link: &mut Link, message: &[u8]) -> Result<bool, Fail> {
+    Ok(link.give(message.to_vec(alloc)?).is_ok())
+}
+
+/// Whether the two first messages are sent, and wait with others to be acknowledged.
+fn holds(link: &Link, first: &[u8], second: &[u8]) -> bool {
+    let queue = link.queue();
+    queue.get(0) == Some(first) && queue.get(1) == Some(second) && queue.sent() == queue.len()
 }
 
 #[test]
-fn an_i_frame_by_its_place(rt: HostRuntime) -> Result<(), Fail> {
+fn messages_stand_in_the_queue(rt: HostRuntime) -> Result<(), Fail> {
     let mut link = established(rt.alloc())?;
-    for number in 0..3u8 {
-        let ns = Number::new(number).ok_or("seven bits")?;
-        let sent = goes_out(rt.alloc(), &mut link, u16::from(number), ns)?;
-        wants(sent, "a message", "another frame")?;
+    wants(link.state() == 7, "a SABME came", "not established")?;
+    for message in [[8, 1], [8, 2]] {
+        let taken = takes(rt.alloc(), &mut link, &message)?;
+        wants(taken, "a message", "refused")?;
     }
-    Ok(())
+    wants(holds(&link, &[8, 1], &[8, 2]), "two messages", "not sent")?;
+    wants(link.running(Timer::T200), "two messages", "no T200")
 }
 
 /// k, N200 and room, and whether they are in range.
