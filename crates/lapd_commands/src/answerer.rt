@@ -1,6 +1,6 @@
 //! The command `answer`: one link that answers a script.
 
-ghost use Rattle.std.specs.Prelude.{◌≡◌, ◌&&◌, [], length, true, IfSome, IsOkUnless, OnOk, Some};
+ghost use Rattle.std.specs.Prelude.{◌≡◌, ◌&&◌, [], length, true, IfOk, IfSome, IsOkUnless, OnOk, Some};
 ghost use Rattle.std.specs.Io.KnownBytes.{Appends};
 ghost use Rattle.lapd_commands.specs.Answer.{answer_step, new_session};
 ghost use Rattle.lapd_commands.specs.Outputs.{refusal_line};
@@ -10,12 +10,12 @@ use crate::outputs::put_outs;
 use lapd_frame::{Frame, FrameFault, Sapi, Side, Tei};
 use lapd_link::{Event, Link, LinkFault, Outs, Params};
 use lapd_script::{Command, LineFault, ScriptFault, Words, put_line, put_number, walk};
-use std::alloc::Global;
+use std::alloc::{AllocError, Global};
 use std::io::{Read, Write};
 
-/// A link that answers a script, with room for the outputs of one step.
+/// A link that answers a script line by line, by [`Command::run`], with room for the outputs of one step.
 #[derive(Drop)]
-struct Answerer {
+pub struct Answerer {
     alloc: Global,
     link: Link,
     outs: Outs,
@@ -37,14 +37,38 @@ pub fn answer<R: Read, W: Write>(
     ensures { IfSome (R.remaining script.old) (λ octets. EndsAs answer_step (new_session side params) result
         (lines_of octets) (W.contents out.old) (W.contents out.new)) }
 {
-    let tei = Tei::new(64).unwrap();
-    let link = match Link::new(alloc, side, Sapi::Call, tei, params) {
-        Ok(link) => link,
+    let mut answerer = match Answerer::new(alloc, side, params) {
+        Ok(answerer) => answerer,
         Err(_) => return Err(ScriptFault::Memory),
     };
-    let outs = Outs::new();
-    let mut answerer = Answerer { alloc, link, outs };
     walk(alloc, &mut answerer, script, out)
+}
+
+impl Answerer {
+    ghost use Rattle.lapd_commands.specs.Answer.{Session};
+    ghost use Rattle.lapd_commands.specs.Session.{IsAnswerer};
+    ghost use Rattle.lapd_link.specs.Link.{LinkStandsFor};
+
+    /// A new link of SAPI 0 and TEI 64 on this side, made with these parameters.
+    ///
+    /// # Errors
+    ///
+    /// `AllocError` where the memory of its I queue was refused.
+    pub fn new(alloc: Global, side: Side, params: Params) -> Result<Answerer, AllocError>
+        ensures { IfOk result (λ answerer. IsAnswerer answerer (new_session side params)) }
+    {
+        let tei = Tei::new(64).unwrap();
+        let link = Link::new(alloc, side, Sapi::Call, tei, params)?;
+        let outs = Outs::new();
+        Ok(Answerer { alloc, link, outs })
+    }
+
+    /// The link as the lines so far left it.
+    pub fn link(&self) -> &Link
+        ensures { (s : Session) → IsAnswerer self.now s → LinkStandsFor result.now s.end }
+    {
+        &self.link
+    }
 }
 
 impl Command for Answerer {

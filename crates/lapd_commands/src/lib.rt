@@ -10,6 +10,6 @@ mod decoder;
 mod numbers;
 mod outputs;
 
-pub use answerer::answer;
+pub use answerer::{Answerer, answer};
 pub use decoder::decode;
 pub use numbers::{number_of, params_of};

@@ -18,9 +18,13 @@ mod fields;
 #[cfg(test)]
 mod frames;
 #[cfg(test)]
+mod links;
+#[cfg(test)]
 mod queues;
 #[cfg(test)]
 mod reports;
+#[cfg(test)]
+mod rows;
 #[cfg(test)]
 mod scripts;
 #[cfg(test)]
