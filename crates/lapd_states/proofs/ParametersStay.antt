@@ -14,10 +14,10 @@ use Rattle.lapd_states.specs.AwaitingEstablishment.{end_establishment, confirm_o
 use Rattle.lapd_states.specs.AwaitingRelease.{confirm_release, awaiting_release_t200, awaiting_release}
 use Rattle.lapd_states.specs.Close.{may_send_next, send_next, send_all, is_7_or_8, acknowledge_pending, close}
 use Rattle.lapd_states.specs.End.{End, StepState, unsent, runs, begin}
-use Rattle.lapd_states.specs.Established.{acknowledge_with_timers, i_frame_nr, poll_or_final, rr_nr, rej_nr, rnr_nr, busy_on, busy_off, in_7_and_8, multiple_frame_established}
+use Rattle.lapd_states.specs.Established.{acknowledge_with_timers, i_frame_nr, poll_or_final, rr_nr, rej_nr, rnr_nr, busy_on, busy_off, in_7_and_8, sends_last, established_t200, multiple_frame_established}
 use Rattle.lapd_states.specs.Input.{Input, Heard, Faulty, Expiry, Establish, Release, BusyOn, BusyOff, UnitData}
 use Rattle.lapd_states.specs.Parameters.{Parameters}
-use Rattle.lapd_states.specs.Procedures.{put, state_to, rc_to, increment_rc, layer3_initiated_to, release_pending_to, start, stop, expired, clear_exception_conditions, zero_state_variables, set_peer_busy, set_own_busy, enquiry_response, transmit_enquiry, queue_up, discard_i_queue, acknowledge, invoke_retransmission, discard_unacknowledged, i_frame_ns, transmit_i_frame, ensure_t200, transmit_rr, establish_data_link, reestablish_data_link, nr_error_recovery}
+use Rattle.lapd_states.specs.Procedures.{put, state_to, rc_to, increment_rc, layer3_initiated_to, release_pending_to, start, stop, expired, clear_exception_conditions, zero_state_variables, set_peer_busy, set_own_busy, enquiry_response, transmit_enquiry, queue_up, discard_i_queue, acknowledge, invoke_retransmission, discard_unacknowledged, i_frame_ns, transmit_i_frame, retransmit_last_i_frame, ensure_t200, transmit_rr, establish_data_link, reestablish_data_link, nr_error_recovery}
 use Rattle.lapd_states.specs.Refusal.{refused}
 use Rattle.lapd_states.specs.Table.{by_state, report_fault, row, is_unit_data, unless, step}
 use Rattle.lapd_states.specs.TeiAssigned.{tei_assigned}
@@ -124,6 +124,10 @@ polled Answer true s = refl
 polled Command false s = refl
 polled Answer false s = refl
 
+expiry_7 : (r : Reading) (s : StepState) → Keeps s (established_t200 r s)
+unfolding established_t200 retransmit_last_i_frame expired transmit_enquiry rc_to state_to
+expiry_7 r s = either s (sends_last s.end.parameters.recovery s.end.window) _ _ refl refl
+
 in_7 : (r : Reading) (input : Input) (s : StepState) → Keeps s (multiple_frame_established r input s)
 unfolding multiple_frame_established begin put state_to rc_to increment_rc layer3_initiated_to release_pending_to start stop expired clear_exception_conditions zero_state_variables set_peer_busy set_own_busy enquiry_response transmit_enquiry queue_up discard_i_queue acknowledge invoke_retransmission discard_unacknowledged i_frame_ns transmit_i_frame ensure_t200 transmit_rr establish_data_link reestablish_data_link nr_error_recovery
 in_7 r (Heard (I ns nr p) Command) s = i_frame r nr (i_frame_ns r ns p s)
@@ -131,7 +135,7 @@ in_7 r (Heard (Rr nr pf) role) s = rr r nr _ ∙ polled role pf (set_peer_busy f
 in_7 r (Heard (Rej nr pf) role) s = rej r nr _ ∙ polled role pf (set_peer_busy false s)
 in_7 r (Heard (Rnr nr pf) role) s = rnr r nr _ ∙ polled role pf (set_peer_busy true s)
 in_7 r (Heard (Dm true) Answer) s = refl
-in_7 r (Expiry T200) s = refl
+in_7 r (Expiry T200) s = expiry_7 r s
 in_7 r (Expiry T203) s = refl
 in_7 r input s = in_both input s
 

@@ -10,6 +10,7 @@ mod event;
 mod laws;
 mod out;
 mod params;
+mod recovery;
 mod state;
 
 pub use event::{Event, LinkFault, Refused};
@@ -20,4 +21,5 @@ pub use lapd_timers::Timer;
 pub use laws::{all_sent_are_outstanding, parameters_stay};
 pub use out::{Letter, Out};
 pub use params::Params;
+pub use recovery::Recovery;
 pub use state::State;
