@@ -20,7 +20,7 @@ use lapd_script::Command;
 use std::alloc::Global;
 use std::test::Fail;
 
-/// A new link of this side, with a window of `k` frames, N200 of 2 or 3 and room for so many messages.
+/// A new link of this side, with a window of `k` frames, this N200 and room for so many messages.
 fn new_link(alloc: Global, side: Side, k: u8, n200: u8, room: u16) -> Result<Answerer, Fail> {
     let params = Params::new(k, n200, room).ok_or("a number is out of range")?;
     Ok(Answerer::new(alloc, side, params)?)
