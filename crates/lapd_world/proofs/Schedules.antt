@@ -1,5 +1,6 @@
--- The worked schedule, computed in both readings.
-use Rattle.std.proofs.Common.{◌≡◌, ℕ, zero, suc, ◌+◌, List, [], ◌∷◌, true, false, Option, Some, None, Result, Ok, Err, refl}
+-- The worked schedule and its refusals, computed in both readings.
+use Rattle.std.proofs.Common.{◌≡◌, List, [], ◌∷◌, ◌++◌, Err, refl}
+use Rattle.lapd_frame.specs.declared.Side.TheVariants as side
 use Rattle.lapd_mod128.specs.Counting.{Reading, Whole, Tagged, after, steps, lies_within}
 use Rattle.lapd_supervision.specs.StateVariables.{initial_variables, without_exceptions, with_zero_counters, status_frame, acknowledgement, without_ack_pending, poll_response, is_accepted, is_rejected, after_i_frame, i_frame_response, is_valid_nr, with_va, acknowledged_count, acknowledges_all, with_vs, may_send, next_i_frame, after_sending, with_own_busy, with_peer_busy}
 use Rattle.lapd_states.specs.AwaitingEstablishment.{end_establishment, confirm_or_indicate, ua_final, awaiting_establishment_t200, awaiting_establishment}
@@ -11,15 +12,106 @@ use Rattle.lapd_states.specs.Procedures.{put, state_to, rc_to, increment_rc, lay
 use Rattle.lapd_states.specs.Table.{by_state, report_fault, row, step}
 use Rattle.lapd_states.specs.TeiAssigned.{tei_assigned}
 use Rattle.lapd_states.specs.TimerRecovery.{i_frame_nr_in_recovery, poll, rr_nr_in_recovery, rnr_nr_in_recovery, timer_recovery_t200, timer_recovery}
-use Rattle.lapd_states.specs.declared.state.State.TheVariants.{MultipleFrameEstablished}
-use Rattle.lapd_world.specs.Move.{view_after, hears, takes, delivers, loses, expires_200, expires_203, restarts, acts}
+use Rattle.lapd_states.specs.declared.event.LinkFault.TheVariants.{NotEstablished}
+use Rattle.lapd_world.specs.Move.{Move, Refusal, Give, Deliver, Lose, Expire200, Expire203, UnitData, NothingThere, NotRunning, NotYet, Refused, view_after, hears, takes, delivers, loses, expires_200, expires_203, restarts, acts}
+use Rattle.lapd_world.specs.Safe.{AreSafe}
 use Rattle.lapd_world.specs.Schedule as worked
-use Rattle.lapd_world.specs.Schedule.{Figures, figures, schedule, receipt}
-use Rattle.lapd_world.specs.World.{World, happens, run}
+use Rattle.lapd_world.specs.Schedule.{figures, of_user, of_network, establishing, losing, schedule, restarting}
+use Rattle.lapd_world.specs.World.{World, happens, run, left}
+use Rattle.lapd_world.proofs.Safety.{user_is_safe, network_is_safe}
 
-abbrev user_figures : Figures
-user_figures = record { state = MultipleFrameEstablished; vs = 1; va = 1; vr = 0; received = receipt 0 1 (5 ∷ []) ∷ []; acked = 0 ∷ 2 ∷ []; dropped = 1 ∷ []; begun = 0 ∷ 1 ∷ []; sent_in = Some 1 ∷ Some 1 ∷ Some 2 ∷ None ∷ [] }
-
-whole_user : figures (run Whole schedule worked.start).user ≡ user_figures
+-- the enquiry is on its way
+pub recovering_user : (r : Reading) → figures (run r (establishing ++ losing) worked.start).user ≡ worked.user_in_recovery
 unfolding view_after hears takes delivers loses expires_200 expires_203 restarts acts happens begin put state_to rc_to increment_rc layer3_initiated_to release_pending_to start stop expired clear_exception_conditions zero_state_variables set_peer_busy set_own_busy enquiry_response transmit_enquiry queue_up discard_i_queue acknowledge invoke_retransmission i_frame_ns discard_unacknowledged transmit_i_frame ensure_t200 transmit_rr establish_data_link reestablish_data_link end_establishment tei_assigned confirm_or_indicate ua_final awaiting_establishment_t200 awaiting_establishment confirm_release awaiting_release_t200 awaiting_release acknowledge_with_timers nr_error_recovery i_frame_nr i_frame_nr_in_recovery poll_or_final poll rr_nr rej_nr rnr_nr rr_nr_in_recovery rnr_nr_in_recovery timer_recovery_t200 busy_on busy_off in_7_and_8 multiple_frame_established timer_recovery by_state report_fault row send_all acknowledge_pending close step initial_variables without_exceptions with_zero_counters status_frame acknowledgement without_ack_pending poll_response is_accepted is_rejected after_i_frame i_frame_response is_valid_nr with_va acknowledged_count acknowledges_all with_vs may_send next_i_frame after_sending with_own_busy with_peer_busy after steps lies_within
-whole_user = refl
+recovering_user Whole = refl
+recovering_user Tagged = refl
+
+-- the schedule is over
+pub ending_user : (r : Reading) → figures (run r schedule worked.start).user ≡ worked.user_at_end
+unfolding view_after hears takes delivers loses expires_200 expires_203 restarts acts happens begin put state_to rc_to increment_rc layer3_initiated_to release_pending_to start stop expired clear_exception_conditions zero_state_variables set_peer_busy set_own_busy enquiry_response transmit_enquiry queue_up discard_i_queue acknowledge invoke_retransmission i_frame_ns discard_unacknowledged transmit_i_frame ensure_t200 transmit_rr establish_data_link reestablish_data_link end_establishment tei_assigned confirm_or_indicate ua_final awaiting_establishment_t200 awaiting_establishment confirm_release awaiting_release_t200 awaiting_release acknowledge_with_timers nr_error_recovery i_frame_nr i_frame_nr_in_recovery poll_or_final poll rr_nr rej_nr rnr_nr rr_nr_in_recovery rnr_nr_in_recovery timer_recovery_t200 busy_on busy_off in_7_and_8 multiple_frame_established timer_recovery by_state report_fault row send_all acknowledge_pending close step initial_variables without_exceptions with_zero_counters status_frame acknowledgement without_ack_pending poll_response is_accepted is_rejected after_i_frame i_frame_response is_valid_nr with_va acknowledged_count acknowledges_all with_vs may_send next_i_frame after_sending with_own_busy with_peer_busy after steps lies_within
+ending_user Whole = refl
+ending_user Tagged = refl
+
+-- likewise
+pub ending_network : (r : Reading) → figures (run r schedule worked.start).network ≡ worked.network_at_end
+unfolding view_after hears takes delivers loses expires_200 expires_203 restarts acts happens begin put state_to rc_to increment_rc layer3_initiated_to release_pending_to start stop expired clear_exception_conditions zero_state_variables set_peer_busy set_own_busy enquiry_response transmit_enquiry queue_up discard_i_queue acknowledge invoke_retransmission i_frame_ns discard_unacknowledged transmit_i_frame ensure_t200 transmit_rr establish_data_link reestablish_data_link end_establishment tei_assigned confirm_or_indicate ua_final awaiting_establishment_t200 awaiting_establishment confirm_release awaiting_release_t200 awaiting_release acknowledge_with_timers nr_error_recovery i_frame_nr i_frame_nr_in_recovery poll_or_final poll rr_nr rej_nr rnr_nr rr_nr_in_recovery rnr_nr_in_recovery timer_recovery_t200 busy_on busy_off in_7_and_8 multiple_frame_established timer_recovery by_state report_fault row send_all acknowledge_pending close step initial_variables without_exceptions with_zero_counters status_frame acknowledgement without_ack_pending poll_response is_accepted is_rejected after_i_frame i_frame_response is_valid_nr with_va acknowledged_count acknowledges_all with_vs may_send next_i_frame after_sending with_own_busy with_peer_busy after steps lies_within
+ending_network Whole = refl
+ending_network Tagged = refl
+
+-- nothing is on the line
+pub ending_lines : (r : Reading) → (run r schedule worked.start).to_user ++ (run r schedule worked.start).to_network ≡ []
+unfolding view_after hears takes delivers loses expires_200 expires_203 restarts acts happens begin put state_to rc_to increment_rc layer3_initiated_to release_pending_to start stop expired clear_exception_conditions zero_state_variables set_peer_busy set_own_busy enquiry_response transmit_enquiry queue_up discard_i_queue acknowledge invoke_retransmission i_frame_ns discard_unacknowledged transmit_i_frame ensure_t200 transmit_rr establish_data_link reestablish_data_link end_establishment tei_assigned confirm_or_indicate ua_final awaiting_establishment_t200 awaiting_establishment confirm_release awaiting_release_t200 awaiting_release acknowledge_with_timers nr_error_recovery i_frame_nr i_frame_nr_in_recovery poll_or_final poll rr_nr rej_nr rnr_nr rr_nr_in_recovery rnr_nr_in_recovery timer_recovery_t200 busy_on busy_off in_7_and_8 multiple_frame_established timer_recovery by_state report_fault row send_all acknowledge_pending close step initial_variables without_exceptions with_zero_counters status_frame acknowledgement without_ack_pending poll_response is_accepted is_rejected after_i_frame i_frame_response is_valid_nr with_va acknowledged_count acknowledges_all with_vs may_send next_i_frame after_sending with_own_busy with_peer_busy after steps lies_within
+ending_lines Whole = refl
+ending_lines Tagged = refl
+
+-- and no message is left
+pub ending_left : (r : Reading) → left (run r schedule worked.start) ≡ 0
+unfolding view_after hears takes delivers loses expires_200 expires_203 restarts acts happens begin put state_to rc_to increment_rc layer3_initiated_to release_pending_to start stop expired clear_exception_conditions zero_state_variables set_peer_busy set_own_busy enquiry_response transmit_enquiry queue_up discard_i_queue acknowledge invoke_retransmission i_frame_ns discard_unacknowledged transmit_i_frame ensure_t200 transmit_rr establish_data_link reestablish_data_link end_establishment tei_assigned confirm_or_indicate ua_final awaiting_establishment_t200 awaiting_establishment confirm_release awaiting_release_t200 awaiting_release acknowledge_with_timers nr_error_recovery i_frame_nr i_frame_nr_in_recovery poll_or_final poll rr_nr rej_nr rnr_nr rr_nr_in_recovery rnr_nr_in_recovery timer_recovery_t200 busy_on busy_off in_7_and_8 multiple_frame_established timer_recovery by_state report_fault row send_all acknowledge_pending close step initial_variables without_exceptions with_zero_counters status_frame acknowledgement without_ack_pending poll_response is_accepted is_rejected after_i_frame i_frame_response is_valid_nr with_va acknowledged_count acknowledges_all with_vs may_send next_i_frame after_sending with_own_busy with_peer_busy after steps lies_within
+ending_left Whole = refl
+ending_left Tagged = refl
+
+-- a restart
+pub restarted_user : (r : Reading) → figures (run r restarting worked.start).user ≡ worked.user_restarted
+unfolding view_after hears takes delivers loses expires_200 expires_203 restarts acts happens begin put state_to rc_to increment_rc layer3_initiated_to release_pending_to start stop expired clear_exception_conditions zero_state_variables set_peer_busy set_own_busy enquiry_response transmit_enquiry queue_up discard_i_queue acknowledge invoke_retransmission i_frame_ns discard_unacknowledged transmit_i_frame ensure_t200 transmit_rr establish_data_link reestablish_data_link end_establishment tei_assigned confirm_or_indicate ua_final awaiting_establishment_t200 awaiting_establishment confirm_release awaiting_release_t200 awaiting_release acknowledge_with_timers nr_error_recovery i_frame_nr i_frame_nr_in_recovery poll_or_final poll rr_nr rej_nr rnr_nr rr_nr_in_recovery rnr_nr_in_recovery timer_recovery_t200 busy_on busy_off in_7_and_8 multiple_frame_established timer_recovery by_state report_fault row send_all acknowledge_pending close step initial_variables without_exceptions with_zero_counters status_frame acknowledgement without_ack_pending poll_response is_accepted is_rejected after_i_frame i_frame_response is_valid_nr with_va acknowledged_count acknowledges_all with_vs may_send next_i_frame after_sending with_own_busy with_peer_busy after steps lies_within
+restarted_user Whole = refl
+restarted_user Tagged = refl
+
+-- which empties the line
+pub restarted_lines : (r : Reading) → (run r restarting worked.start).to_user ++ (run r restarting worked.start).to_network ≡ []
+unfolding view_after hears takes delivers loses expires_200 expires_203 restarts acts happens begin put state_to rc_to increment_rc layer3_initiated_to release_pending_to start stop expired clear_exception_conditions zero_state_variables set_peer_busy set_own_busy enquiry_response transmit_enquiry queue_up discard_i_queue acknowledge invoke_retransmission i_frame_ns discard_unacknowledged transmit_i_frame ensure_t200 transmit_rr establish_data_link reestablish_data_link end_establishment tei_assigned confirm_or_indicate ua_final awaiting_establishment_t200 awaiting_establishment confirm_release awaiting_release_t200 awaiting_release acknowledge_with_timers nr_error_recovery i_frame_nr i_frame_nr_in_recovery poll_or_final poll rr_nr rej_nr rnr_nr rr_nr_in_recovery rnr_nr_in_recovery timer_recovery_t200 busy_on busy_off in_7_and_8 multiple_frame_established timer_recovery by_state report_fault row send_all acknowledge_pending close step initial_variables without_exceptions with_zero_counters status_frame acknowledgement without_ack_pending poll_response is_accepted is_rejected after_i_frame i_frame_response is_valid_nr with_va acknowledged_count acknowledges_all with_vs may_send next_i_frame after_sending with_own_busy with_peer_busy after steps lies_within
+restarted_lines Whole = refl
+restarted_lines Tagged = refl
+
+-- unit data, in state 4
+pub units_pass : (r : Reading) → (run r (of_user (UnitData (9 ∷ [])) ∷ of_network Deliver ∷ []) worked.start).network.history.units ≡ (9 ∷ []) ∷ []
+unfolding view_after hears takes delivers loses expires_200 expires_203 restarts acts happens begin put state_to rc_to increment_rc layer3_initiated_to release_pending_to start stop expired clear_exception_conditions zero_state_variables set_peer_busy set_own_busy enquiry_response transmit_enquiry queue_up discard_i_queue acknowledge invoke_retransmission i_frame_ns discard_unacknowledged transmit_i_frame ensure_t200 transmit_rr establish_data_link reestablish_data_link end_establishment tei_assigned confirm_or_indicate ua_final awaiting_establishment_t200 awaiting_establishment confirm_release awaiting_release_t200 awaiting_release acknowledge_with_timers nr_error_recovery i_frame_nr i_frame_nr_in_recovery poll_or_final poll rr_nr rej_nr rnr_nr rr_nr_in_recovery rnr_nr_in_recovery timer_recovery_t200 busy_on busy_off in_7_and_8 multiple_frame_established timer_recovery by_state report_fault row send_all acknowledge_pending close step initial_variables without_exceptions with_zero_counters status_frame acknowledgement without_ack_pending poll_response is_accepted is_rejected after_i_frame i_frame_response is_valid_nr with_va acknowledged_count acknowledges_all with_vs may_send next_i_frame after_sending with_own_busy with_peer_busy after steps lies_within
+units_pass Whole = refl
+units_pass Tagged = refl
+
+-- P1
+pub nothing_to_deliver : (r : Reading) → happens r (of_user Deliver) worked.start ≡ Err NothingThere
+unfolding view_after hears takes delivers loses expires_200 expires_203 restarts acts happens begin put state_to rc_to increment_rc layer3_initiated_to release_pending_to start stop expired clear_exception_conditions zero_state_variables set_peer_busy set_own_busy enquiry_response transmit_enquiry queue_up discard_i_queue acknowledge invoke_retransmission i_frame_ns discard_unacknowledged transmit_i_frame ensure_t200 transmit_rr establish_data_link reestablish_data_link end_establishment tei_assigned confirm_or_indicate ua_final awaiting_establishment_t200 awaiting_establishment confirm_release awaiting_release_t200 awaiting_release acknowledge_with_timers nr_error_recovery i_frame_nr i_frame_nr_in_recovery poll_or_final poll rr_nr rej_nr rnr_nr rr_nr_in_recovery rnr_nr_in_recovery timer_recovery_t200 busy_on busy_off in_7_and_8 multiple_frame_established timer_recovery by_state report_fault row send_all acknowledge_pending close step initial_variables without_exceptions with_zero_counters status_frame acknowledgement without_ack_pending poll_response is_accepted is_rejected after_i_frame i_frame_response is_valid_nr with_va acknowledged_count acknowledges_all with_vs may_send next_i_frame after_sending with_own_busy with_peer_busy after steps lies_within
+nothing_to_deliver Whole = refl
+nothing_to_deliver Tagged = refl
+
+-- P1
+pub nothing_to_lose : (r : Reading) → happens r (of_user (Lose 0)) worked.start ≡ Err NothingThere
+unfolding view_after hears takes delivers loses expires_200 expires_203 restarts acts happens begin put state_to rc_to increment_rc layer3_initiated_to release_pending_to start stop expired clear_exception_conditions zero_state_variables set_peer_busy set_own_busy enquiry_response transmit_enquiry queue_up discard_i_queue acknowledge invoke_retransmission i_frame_ns discard_unacknowledged transmit_i_frame ensure_t200 transmit_rr establish_data_link reestablish_data_link end_establishment tei_assigned confirm_or_indicate ua_final awaiting_establishment_t200 awaiting_establishment confirm_release awaiting_release_t200 awaiting_release acknowledge_with_timers nr_error_recovery i_frame_nr i_frame_nr_in_recovery poll_or_final poll rr_nr rej_nr rnr_nr rr_nr_in_recovery rnr_nr_in_recovery timer_recovery_t200 busy_on busy_off in_7_and_8 multiple_frame_established timer_recovery by_state report_fault row send_all acknowledge_pending close step initial_variables without_exceptions with_zero_counters status_frame acknowledgement without_ack_pending poll_response is_accepted is_rejected after_i_frame i_frame_response is_valid_nr with_va acknowledged_count acknowledges_all with_vs may_send next_i_frame after_sending with_own_busy with_peer_busy after steps lies_within
+nothing_to_lose Whole = refl
+nothing_to_lose Tagged = refl
+
+-- P2
+pub t200_stands : (r : Reading) → happens r (of_user Expire200) worked.start ≡ Err NotRunning
+unfolding view_after hears takes delivers loses expires_200 expires_203 restarts acts happens begin put state_to rc_to increment_rc layer3_initiated_to release_pending_to start stop expired clear_exception_conditions zero_state_variables set_peer_busy set_own_busy enquiry_response transmit_enquiry queue_up discard_i_queue acknowledge invoke_retransmission i_frame_ns discard_unacknowledged transmit_i_frame ensure_t200 transmit_rr establish_data_link reestablish_data_link end_establishment tei_assigned confirm_or_indicate ua_final awaiting_establishment_t200 awaiting_establishment confirm_release awaiting_release_t200 awaiting_release acknowledge_with_timers nr_error_recovery i_frame_nr i_frame_nr_in_recovery poll_or_final poll rr_nr rej_nr rnr_nr rr_nr_in_recovery rnr_nr_in_recovery timer_recovery_t200 busy_on busy_off in_7_and_8 multiple_frame_established timer_recovery by_state report_fault row send_all acknowledge_pending close step initial_variables without_exceptions with_zero_counters status_frame acknowledgement without_ack_pending poll_response is_accepted is_rejected after_i_frame i_frame_response is_valid_nr with_va acknowledged_count acknowledges_all with_vs may_send next_i_frame after_sending with_own_busy with_peer_busy after steps lies_within
+t200_stands Whole = refl
+t200_stands Tagged = refl
+
+-- P2
+pub t203_stands : (r : Reading) → happens r (of_user Expire203) worked.start ≡ Err NotRunning
+unfolding view_after hears takes delivers loses expires_200 expires_203 restarts acts happens begin put state_to rc_to increment_rc layer3_initiated_to release_pending_to start stop expired clear_exception_conditions zero_state_variables set_peer_busy set_own_busy enquiry_response transmit_enquiry queue_up discard_i_queue acknowledge invoke_retransmission i_frame_ns discard_unacknowledged transmit_i_frame ensure_t200 transmit_rr establish_data_link reestablish_data_link end_establishment tei_assigned confirm_or_indicate ua_final awaiting_establishment_t200 awaiting_establishment confirm_release awaiting_release_t200 awaiting_release acknowledge_with_timers nr_error_recovery i_frame_nr i_frame_nr_in_recovery poll_or_final poll rr_nr rej_nr rnr_nr rr_nr_in_recovery rnr_nr_in_recovery timer_recovery_t200 busy_on busy_off in_7_and_8 multiple_frame_established timer_recovery by_state report_fault row send_all acknowledge_pending close step initial_variables without_exceptions with_zero_counters status_frame acknowledgement without_ack_pending poll_response is_accepted is_rejected after_i_frame i_frame_response is_valid_nr with_va acknowledged_count acknowledges_all with_vs may_send next_i_frame after_sending with_own_busy with_peer_busy after steps lies_within
+t203_stands Whole = refl
+t203_stands Tagged = refl
+
+-- P3, by the enquiry
+pub enquiry_under_way : (r : Reading) → happens r (of_user Expire200) (run r (establishing ++ losing) worked.start) ≡ Err (NotYet side.Network 0)
+unfolding view_after hears takes delivers loses expires_200 expires_203 restarts acts happens begin put state_to rc_to increment_rc layer3_initiated_to release_pending_to start stop expired clear_exception_conditions zero_state_variables set_peer_busy set_own_busy enquiry_response transmit_enquiry queue_up discard_i_queue acknowledge invoke_retransmission i_frame_ns discard_unacknowledged transmit_i_frame ensure_t200 transmit_rr establish_data_link reestablish_data_link end_establishment tei_assigned confirm_or_indicate ua_final awaiting_establishment_t200 awaiting_establishment confirm_release awaiting_release_t200 awaiting_release acknowledge_with_timers nr_error_recovery i_frame_nr i_frame_nr_in_recovery poll_or_final poll rr_nr rej_nr rnr_nr rr_nr_in_recovery rnr_nr_in_recovery timer_recovery_t200 busy_on busy_off in_7_and_8 multiple_frame_established timer_recovery by_state report_fault row send_all acknowledge_pending close step initial_variables without_exceptions with_zero_counters status_frame acknowledgement without_ack_pending poll_response is_accepted is_rejected after_i_frame i_frame_response is_valid_nr with_va acknowledged_count acknowledges_all with_vs may_send next_i_frame after_sending with_own_busy with_peer_busy after steps lies_within
+enquiry_under_way Whole = refl
+enquiry_under_way Tagged = refl
+
+-- P3, by its answer
+pub answer_under_way : (r : Reading) → happens r (of_user Expire200) (run r (establishing ++ losing ++ of_network Deliver ∷ []) worked.start) ≡ Err (NotYet side.User 0)
+unfolding view_after hears takes delivers loses expires_200 expires_203 restarts acts happens begin put state_to rc_to increment_rc layer3_initiated_to release_pending_to start stop expired clear_exception_conditions zero_state_variables set_peer_busy set_own_busy enquiry_response transmit_enquiry queue_up discard_i_queue acknowledge invoke_retransmission i_frame_ns discard_unacknowledged transmit_i_frame ensure_t200 transmit_rr establish_data_link reestablish_data_link end_establishment tei_assigned confirm_or_indicate ua_final awaiting_establishment_t200 awaiting_establishment confirm_release awaiting_release_t200 awaiting_release acknowledge_with_timers nr_error_recovery i_frame_nr i_frame_nr_in_recovery poll_or_final poll rr_nr rej_nr rnr_nr rr_nr_in_recovery rnr_nr_in_recovery timer_recovery_t200 busy_on busy_off in_7_and_8 multiple_frame_established timer_recovery by_state report_fault row send_all acknowledge_pending close step initial_variables without_exceptions with_zero_counters status_frame acknowledgement without_ack_pending poll_response is_accepted is_rejected after_i_frame i_frame_response is_valid_nr with_va acknowledged_count acknowledges_all with_vs may_send next_i_frame after_sending with_own_busy with_peer_busy after steps lies_within
+answer_under_way Whole = refl
+answer_under_way Tagged = refl
+
+-- P4
+pub not_established : (r : Reading) → happens r (of_user (Give (1 ∷ []))) worked.start ≡ Err (Refused NotEstablished)
+unfolding view_after hears takes delivers loses expires_200 expires_203 restarts acts happens begin put state_to rc_to increment_rc layer3_initiated_to release_pending_to start stop expired clear_exception_conditions zero_state_variables set_peer_busy set_own_busy enquiry_response transmit_enquiry queue_up discard_i_queue acknowledge invoke_retransmission i_frame_ns discard_unacknowledged transmit_i_frame ensure_t200 transmit_rr establish_data_link reestablish_data_link end_establishment tei_assigned confirm_or_indicate ua_final awaiting_establishment_t200 awaiting_establishment confirm_release awaiting_release_t200 awaiting_release acknowledge_with_timers nr_error_recovery i_frame_nr i_frame_nr_in_recovery poll_or_final poll rr_nr rej_nr rnr_nr rr_nr_in_recovery rnr_nr_in_recovery timer_recovery_t200 busy_on busy_off in_7_and_8 multiple_frame_established timer_recovery by_state report_fault row send_all acknowledge_pending close step initial_variables without_exceptions with_zero_counters status_frame acknowledgement without_ack_pending poll_response is_accepted is_rejected after_i_frame i_frame_response is_valid_nr with_va acknowledged_count acknowledges_all with_vs may_send next_i_frame after_sending with_own_busy with_peer_busy after steps lies_within
+not_established Whole = refl
+not_established Tagged = refl
+
+-- the histories are safe
+pub ending_safe : (r : Reading) → AreSafe (run r schedule worked.start)
+unfolding view_after hears takes delivers loses expires_200 expires_203 restarts acts happens begin put state_to rc_to increment_rc layer3_initiated_to release_pending_to start stop expired clear_exception_conditions zero_state_variables set_peer_busy set_own_busy enquiry_response transmit_enquiry queue_up discard_i_queue acknowledge invoke_retransmission i_frame_ns discard_unacknowledged transmit_i_frame ensure_t200 transmit_rr establish_data_link reestablish_data_link end_establishment tei_assigned confirm_or_indicate ua_final awaiting_establishment_t200 awaiting_establishment confirm_release awaiting_release_t200 awaiting_release acknowledge_with_timers nr_error_recovery i_frame_nr i_frame_nr_in_recovery poll_or_final poll rr_nr rej_nr rnr_nr rr_nr_in_recovery rnr_nr_in_recovery timer_recovery_t200 busy_on busy_off in_7_and_8 multiple_frame_established timer_recovery by_state report_fault row send_all acknowledge_pending close step initial_variables without_exceptions with_zero_counters status_frame acknowledgement without_ack_pending poll_response is_accepted is_rejected after_i_frame i_frame_response is_valid_nr with_va acknowledged_count acknowledges_all with_vs may_send next_i_frame after_sending with_own_busy with_peer_busy after steps lies_within
+ending_safe Whole = (user_is_safe, network_is_safe)
+ending_safe Tagged = (user_is_safe, network_is_safe)

@@ -1,10 +1,11 @@
 -- A worked schedule of moves, and histories that are not safe, by which the definitions are tried.
-use Rattle.std.specs.Prelude.{ℕ, ◌==◌, if◌then◌else◌, true, List, [], ◌∷◌, ◌++◌, Option, Some, None}
+use Rattle.std.specs.Prelude.{ℕ, ◌==◌, if◌then◌else◌, List, [], ◌∷◌, ◌++◌, Option, Some, None}
 use Rattle.lapd_frame.specs.declared.Side.TheVariants as side
 use Rattle.lapd_states.specs.declared.state.State.{State}
+use Rattle.lapd_states.specs.declared.state.State.TheVariants.{TeiAssigned, MultipleFrameEstablished, TimerRecovery}
 use Rattle.lapd_states.specs.Parameters.{Parameters}
 use Rattle.lapd_world.specs.Histories.{Receipt}
-use Rattle.lapd_world.specs.Move.{Deed, Move, Station, Give, Establish, Deliver, Lose, Expire200}
+use Rattle.lapd_world.specs.Move.{Deed, Move, Station, Give, Establish, Deliver, Lose, Expire200, Restart}
 use Rattle.lapd_world.specs.World.{World, new_world}
 
 abbrev pub of_user : Deed → Move
@@ -76,6 +77,40 @@ figures s = record {
 abbrev pub receipt : ℕ → ℕ → List ℕ → Receipt
 receipt place establishment octets = record { octets = octets; establishment = establishment; place = place }
 
+-- one message, two, and three, of one octet each
+abbrev pub one_message : List (List ℕ)
+one_message = (1 ∷ []) ∷ []
+
+abbrev pub two_messages : List (List ℕ)
+two_messages = (1 ∷ []) ∷ (2 ∷ []) ∷ []
+
+abbrev pub three_messages : List (List ℕ)
+three_messages = (1 ∷ []) ∷ (2 ∷ []) ∷ (3 ∷ []) ∷ []
+
+-- all but this place were sent in the sender's first establishment, and it was never sent
+abbrev pub in_first_but : ℕ → ℕ → Option ℕ
+in_first_but unsent place = if place == unsent then None else Some 1
+
 -- all messages were sent in the sender's first establishment
 abbrev pub in_first : ℕ → Option ℕ
 in_first place = Some 1
+
+-- ---- What the schedule comes to.
+
+-- while the enquiry is on its way
+abbrev pub user_in_recovery : Figures
+user_in_recovery = record { state = TimerRecovery; vs = 1; va = 0; vr = 0; received = []; acked = []; dropped = []; begun = 0 ∷ []; sent_in = Some 1 ∷ None ∷ None ∷ None ∷ [] }
+
+-- at the end
+abbrev pub user_at_end : Figures
+user_at_end = record { state = MultipleFrameEstablished; vs = 1; va = 1; vr = 0; received = receipt 0 1 (5 ∷ []) ∷ []; acked = 0 ∷ 2 ∷ []; dropped = 1 ∷ []; begun = 0 ∷ 1 ∷ []; sent_in = Some 1 ∷ Some 1 ∷ Some 2 ∷ None ∷ [] }
+
+abbrev pub network_at_end : Figures
+network_at_end = record { state = MultipleFrameEstablished; vs = 0; va = 0; vr = 1; received = receipt 0 1 (8 ∷ 1 ∷ []) ∷ receipt 2 2 (8 ∷ 3 ∷ []) ∷ []; acked = 0 ∷ []; dropped = []; begun = 0 ∷ 1 ∷ []; sent_in = Some 1 ∷ None ∷ None ∷ None ∷ [] }
+
+-- the user starts anew while its message is on the way
+abbrev pub restarting : List Move
+restarting = establishing ++ of_user (Give (8 ∷ 1 ∷ [])) ∷ of_user Restart ∷ []
+
+abbrev pub user_restarted : Figures
+user_restarted = record { state = TeiAssigned; vs = 0; va = 0; vr = 0; received = []; acked = []; dropped = 0 ∷ []; begun = 0 ∷ []; sent_in = Some 1 ∷ None ∷ None ∷ None ∷ [] }
