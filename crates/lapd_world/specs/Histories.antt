@@ -1,7 +1,7 @@
 -- What is written down of a side while the two ends run: which messages it received, which of its own were acknowledged or
 -- dropped, in which establishment each was sent, and when its establishments began. It is fixed by what the moves put out
 -- and by the number of establishments alone; no state, timer or counter of the link is read.
-use Rattle.std.specs.Prelude.{ℕ, ◌+◌, ◌==◌, if◌then◌else◌, false, List, [], ◌∷◌, ◌++◌, length, get_or, Option, Some, None}
+use Rattle.std.specs.Prelude.{ℕ, ◌+◌, ◌-◌, ◌==◌, if◌then◌else◌, false, List, [], ◌∷◌, ◌++◌, length, get_or, Option, Some, None}
 use Rattle.std.specs.List.{range_with_len}
 use Rattle.lapd_frame.specs.declared.Role.TheVariants.{Command}
 use Rattle.lapd_frame.specs.declared.Control.{Control}
@@ -48,6 +48,10 @@ with_acked n h = record h { acked = h.acked ++ range_with_len h.passed n; passed
 -- the next n places are dropped
 abbrev pub with_dropped : ℕ → History → History
 with_dropped n h = record h { dropped = h.dropped ++ range_with_len h.passed n; passed = h.passed + n }
+
+-- of so many messages given, all that were neither acknowledged nor dropped are dropped
+abbrev pub with_rest_dropped : ℕ → History → History
+with_rest_dropped given h = with_dropped (given - h.passed) h
 
 -- a message came
 abbrev pub with_receipt : Receipt → History → History

@@ -6,11 +6,11 @@ use Rattle.lapd_frame.specs.declared.Side.{Side}
 use Rattle.lapd_mod128.specs.Counting.{Reading}
 use Rattle.lapd_states.specs.declared.out.Out.{Out}
 use Rattle.lapd_states.specs.declared.event.LinkFault.{LinkFault}
-use Rattle.lapd_states.specs.End.{End, StepState, new_end, waiting}
+use Rattle.lapd_states.specs.End.{End, StepState, new_end}
 use Rattle.lapd_states.specs.Input as input
 use Rattle.lapd_states.specs.Input.{Input}
 use Rattle.lapd_states.specs.Table.{step}
-use Rattle.lapd_world.specs.Histories.{History, Story, with_dropped, with_beginning, told}
+use Rattle.lapd_world.specs.Histories.{History, Story, with_rest_dropped, with_beginning, told}
 use Rattle.lapd_world.specs.Line.{Flight, without_lost, first_poll, first_final}
 
 -- What a side does, or what happens to it: its layer 3 gives a message, asks for the link to be established or released, or
@@ -53,8 +53,8 @@ pub record View : Type 0 where
   pub incoming : List Flight
   pub outgoing : List Flight
 
--- what an admitted move leaves, and what it puts out
-pub record Seen : Type 0 where
+-- what an admitted deed of a side leaves for it to see, and what it puts out
+pub record Acted : Type 0 where
   pub view : View
   pub outs : List Out
 
@@ -68,47 +68,47 @@ view_after octets place v s =
         (record { line = v.outgoing; history = with_beginning v.station.end.establishments s.end.establishments v.station.history }) in
     record { station = record { end = s.end; history = story.history }; incoming = v.incoming; outgoing = story.line }
 
-abbrev pub stepped : List ℕ → ℕ → View → Result StepState LinkFault → Result Seen Refusal
+abbrev pub stepped : List ℕ → ℕ → View → Result StepState LinkFault → Result Acted Refusal
 stepped octets place v (Ok s) = Ok (record { view = view_after octets place v s; outs = s.outs })
 stepped octets place v (Err fault) = Err (Refused fault)
 
 -- one step, of a frame that has just been delivered
-unfoldable pub hears : Reading → Flight → View → Result Seen Refusal
+unfoldable pub hears : Reading → Flight → View → Result Acted Refusal
 hears r frame v = stepped frame.info frame.place v (step r (input.Heard frame.control frame.role) v.station.end)
 
 -- one step, of a request or an expiry
-unfoldable pub takes : Reading → Input → List ℕ → View → Result Seen Refusal
+unfoldable pub takes : Reading → Input → List ℕ → View → Result Acted Refusal
 takes r input octets v = stepped octets 0 v (step r input v.station.end)
 
 -- ---- What else a move changes, and when it is admitted.
 
 -- nothing is put out
-abbrev pub quietly : View → Result Seen Refusal
+abbrev pub quietly : View → Result Acted Refusal
 quietly v = Ok (record { view = v; outs = [] })
 
 -- the first frame is taken off the line
-unfoldable pub delivers : Reading → List Flight → View → Result Seen Refusal
+unfoldable pub delivers : Reading → List Flight → View → Result Acted Refusal
 delivers r [] v = Err NothingThere
 delivers r (frame ∷ rest) v = hears r frame (record v { incoming = rest })
 
 -- this one is
-unfoldable pub loses : ℕ → View → Result Seen Refusal
+unfoldable pub loses : ℕ → View → Result Acted Refusal
 loses at v = if nat_lt at (length v.incoming) then quietly (record v { incoming = without_lost at v.incoming }) else Err NothingThere
 
 -- T200 expires where no command of this side with P=1 is on its way to the other side, and no response with F=1 on its way
 -- to this one.
-abbrev pub unless_under_way : Side → Option ℕ → Option ℕ → Result Seen Refusal → Result Seen Refusal
+abbrev pub unless_under_way : Side → Option ℕ → Option ℕ → Result Acted Refusal → Result Acted Refusal
 unless_under_way side (Some at) final outcome = Err (NotYet (other_side side) at)
 unless_under_way side None (Some at) outcome = Err (NotYet side at)
 unless_under_way side None None outcome = outcome
 
-unfoldable pub expires_200 : Reading → Side → View → Result Seen Refusal
+unfoldable pub expires_200 : Reading → Side → View → Result Acted Refusal
 expires_200 r side v =
     if v.station.end.t200
     then unless_under_way side (first_poll v.outgoing) (first_final v.incoming) (takes r (input.Expiry T200) [] v)
     else Err NotRunning
 
-unfoldable pub expires_203 : Reading → View → Result Seen Refusal
+unfoldable pub expires_203 : Reading → View → Result Acted Refusal
 expires_203 r v = if v.station.end.t203 then takes r (input.Expiry T203) [] v else Err NotRunning
 
 -- in state 4 as new; its number of establishments goes on, and what was left of its messages is dropped
@@ -118,7 +118,7 @@ restarted e = record (new_end e.parameters) { establishments = e.establishments;
 -- a side starts anew, and what is on the line is dropped in both directions
 unfoldable pub restarts : View → View
 restarts v = record {
-  station = record { end = restarted v.station.end; history = with_dropped (waiting v.station.end) v.station.history };
+  station = record { end = restarted v.station.end; history = with_rest_dropped (length v.station.end.given) v.station.history };
   incoming = [];
   outgoing = [];
 }
@@ -128,7 +128,7 @@ busy_input true = input.BusyOn
 busy_input false = input.BusyOff
 
 -- what each deed of a side comes to
-unfoldable pub acts : Reading → Side → Deed → View → Result Seen Refusal
+unfoldable pub acts : Reading → Side → Deed → View → Result Acted Refusal
 acts r side (Give message) v = takes r (input.Give message) [] v
 acts r side Establish v = takes r input.Establish [] v
 acts r side Release v = takes r input.Release [] v

@@ -9,7 +9,7 @@ use Rattle.lapd_states.specs.End.{new_end}
 use Rattle.lapd_states.specs.Parameters.{Parameters}
 use Rattle.lapd_world.specs.Histories.{new_history}
 use Rattle.lapd_world.specs.Line.{Flight}
-use Rattle.lapd_world.specs.Move.{Move, Refusal, Station, View, Seen, acts}
+use Rattle.lapd_world.specs.Move.{Move, Refusal, Station, View, Acted, acts}
 
 pub record World : Type 0 where
   pub user : Station
@@ -39,8 +39,8 @@ pub record Happened : Type 0 where
   pub world : World
   pub outs : List Out
 
-abbrev pub in_world : Side → World → Result Seen Refusal → Result Happened Refusal
-in_world who w (Ok seen) = Ok (record { world = with_view who seen.view w; outs = seen.outs })
+abbrev pub in_world : Side → World → Result Acted Refusal → Result Happened Refusal
+in_world who w (Ok acted) = Ok (record { world = with_view who acted.view w; outs = acted.outs })
 in_world who w (Err refusal) = Err refusal
 
 -- one move: it is admitted, and changes what its side sees, or it is refused
