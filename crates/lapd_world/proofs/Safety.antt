@@ -1,7 +1,6 @@
 -- Histories that are safe, and histories that are not.
-use Rattle.std.proofs.Common.{◌≡◌, ◌⊎◌, inl, inr, ℕ, zero, suc, ◌+◌, ◌<◌, ◌==◌, if◌then◌else◌, List, [], ◌∷◌, map, slice_get, Option, Some, None, refl, sym, subst, arith}
+use Rattle.std.proofs.Common.{◌≡◌, inl, inr, ℕ, zero, suc, ◌+◌, ◌<◌, ◌==◌, if◌then◌else◌, List, [], ◌∷◌, map, slice_get, Option, Some, None, refl, sym, subst, arith}
 use Rattle.lapd_states.specs.Parameters.{Parameters}
-use Rattle.lapd_world.specs.Histories.{Receipt}
 use Rattle.lapd_world.specs.Safe.{RiseFrom, IsAmong, AreNeighbours, IsSafe, AreSafe}
 use Rattle.lapd_world.specs.Schedule.{receipt, one_message, two_messages, three_messages, in_first, in_first_but}
 use Rattle.lapd_world.specs.World.{new_world}

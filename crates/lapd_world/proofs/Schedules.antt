@@ -1,5 +1,5 @@
 -- The worked schedule and its refusals, computed in both readings.
-use Rattle.std.proofs.Common.{◌≡◌, List, [], ◌∷◌, ◌++◌, Err, refl}
+use Rattle.std.proofs.Common.{◌≡◌, [], ◌∷◌, ◌++◌, Err, refl}
 use Rattle.lapd_frame.specs.declared.Side.TheVariants as side
 use Rattle.lapd_mod128.specs.Counting.{Reading, Whole, Tagged, after, steps, lies_within}
 use Rattle.lapd_supervision.specs.StateVariables.{initial_variables, without_exceptions, with_zero_counters, status_frame, acknowledgement, without_ack_pending, poll_response, is_accepted, is_rejected, after_i_frame, i_frame_response, is_valid_nr, with_va, acknowledged_count, acknowledges_all, with_vs, may_send, next_i_frame, after_sending, with_own_busy, with_peer_busy}
@@ -13,11 +13,11 @@ use Rattle.lapd_states.specs.Table.{by_state, report_fault, row, step}
 use Rattle.lapd_states.specs.TeiAssigned.{tei_assigned}
 use Rattle.lapd_states.specs.TimerRecovery.{i_frame_nr_in_recovery, poll, rr_nr_in_recovery, rnr_nr_in_recovery, timer_recovery_t200, timer_recovery}
 use Rattle.lapd_states.specs.declared.event.LinkFault.TheVariants.{NotEstablished}
-use Rattle.lapd_world.specs.Move.{Move, Refusal, Give, Deliver, Lose, Expire200, Expire203, UnitData, NothingThere, NotRunning, NotYet, Refused, view_after, hears, takes, delivers, loses, expires_200, expires_203, restarts, acts}
+use Rattle.lapd_world.specs.Move.{Give, Deliver, Lose, Expire200, Expire203, UnitData, NothingThere, NotRunning, NotYet, Refused, view_after, hears, takes, delivers, loses, expires_200, expires_203, restarts, acts}
 use Rattle.lapd_world.specs.Safe.{AreSafe}
 use Rattle.lapd_world.specs.Schedule as worked
 use Rattle.lapd_world.specs.Schedule.{figures, of_user, of_network, establishing, losing, schedule, restarting}
-use Rattle.lapd_world.specs.World.{World, happens, run, left}
+use Rattle.lapd_world.specs.World.{happens, run, left}
 use Rattle.lapd_world.proofs.Safety.{user_is_safe, network_is_safe}
 
 -- the enquiry is on its way

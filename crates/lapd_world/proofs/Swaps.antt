@@ -8,11 +8,8 @@ use Rattle.lapd_states.specs.declared.out.Out.{Out}
 use Rattle.lapd_states.specs.Input as input
 use Rattle.lapd_world.specs.Histories.{Occasion, Story, tell, told}
 use Rattle.lapd_world.specs.Line.{first_poll, first_final}
-use Rattle.lapd_world.specs.Move.{Deed, Move, Give, Establish, Release, Deliver, Lose, Expire200, Expire203, Busy, UnitData, Restart, View, Acted, Refusal, unless_under_way, takes, expires_200, acts}
-use Rattle.lapd_world.specs.World.{World, view_of, with_view, in_world, world_after, happens}
-
-abbrev pub swapped : World → World
-swapped w = record { user = w.network; network = w.user; to_user = w.to_network; to_network = w.to_user }
+use Rattle.lapd_world.specs.Move.{Deed, Expire200, View, Acted, Refusal, unless_under_way, takes, expires_200, acts}
+use Rattle.lapd_world.specs.World.{World, swapped, view_of, with_view, in_world, world_after, happens}
 
 -- what a side sees after its deed
 abbrev pub view_left : View → Result Acted Refusal → View
@@ -48,11 +45,11 @@ pub network_alike : (r : Reading) (deed : Deed) (w : World)
 unfolding happens
 network_alike r deed w =
     let here : world_after w (in_world side.Network w (acts r side.Network deed (view_of side.Network w))) ≡ with_view side.Network (view_left (view_of side.Network w) (acts r side.Network deed (view_of side.Network w))) w
-        = after_by_view side.Network w (acts r side.Network deed (view_of side.Network w)) in
+    = after_by_view side.Network w (acts r side.Network deed (view_of side.Network w)) in
     let there : world_after (swapped w) (in_world side.User (swapped w) (acts r side.User deed (view_of side.User (swapped w)))) ≡ with_view side.User (view_left (view_of side.User (swapped w)) (acts r side.User deed (view_of side.User (swapped w)))) (swapped w)
-        = after_by_view side.User (swapped w) (acts r side.User deed (view_of side.User (swapped w))) in
+    = after_by_view side.User (swapped w) (acts r side.User deed (view_of side.User (swapped w))) in
     let alike : view_left (view_of side.Network w) (acts r side.Network deed (view_of side.Network w)) ≡ view_left (view_of side.Network w) (acts r side.User deed (view_of side.Network w))
-        = acts_alike r deed (view_of side.Network w) in
+    = acts_alike r deed (view_of side.Network w) in
     rw (here, there, alike) refl
 
 -- outputs are told one part after another

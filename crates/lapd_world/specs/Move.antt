@@ -65,7 +65,7 @@ pub record Acted : Type 0 where
 unfoldable pub view_after : List ℕ → ℕ → View → StepState → View
 view_after octets place v s =
     let story : Story = told (record { given = s.end.given; establishment = s.end.establishments; octets = octets; place = place }) s.outs
-        (record { line = v.outgoing; history = with_beginning v.station.end.establishments s.end.establishments v.station.history }) in
+    (record { line = v.outgoing; history = with_beginning v.station.end.establishments s.end.establishments v.station.history }) in
     record { station = record { end = s.end; history = story.history }; incoming = v.incoming; outgoing = story.line }
 
 abbrev pub stepped : List ℕ → ℕ → View → Result StepState LinkFault → Result Acted Refusal

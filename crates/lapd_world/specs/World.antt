@@ -24,6 +24,10 @@ new_station parameters = record { end = new_end parameters; history = new_histor
 abbrev pub new_world : Parameters → Parameters → World
 new_world user_parameters network_parameters = record { user = new_station user_parameters; network = new_station network_parameters; to_user = []; to_network = [] }
 
+-- the two sides exchanged
+abbrev pub swapped : World → World
+swapped w = record { user = w.network; network = w.user; to_user = w.to_network; to_network = w.to_user }
+
 -- what a side sees of it
 abbrev pub view_of : Side → World → View
 view_of side.User w = record { station = w.user; incoming = w.to_user; outgoing = w.to_network }

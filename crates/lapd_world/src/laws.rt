@@ -5,10 +5,10 @@ ghost use Rattle.lapd_frame.specs.declared.Side.TheVariants as side;
 ghost use Rattle.lapd_mod128.specs.Counting.{Reading};
 ghost use Rattle.lapd_states.specs.declared.event.LinkFault.TheVariants.{NotEstablished};
 ghost use Rattle.lapd_states.specs.Parameters.{Parameters};
-ghost use Rattle.lapd_world.specs.Move.{Give, Deliver, Lose, Expire200, Expire203, UnitData, NothingThere, NotRunning, NotYet, Refused};
+ghost use Rattle.lapd_world.specs.Move.{Deed, Give, Deliver, Lose, Expire200, Expire203, UnitData, NothingThere, NotRunning, NotYet, Refused};
 ghost use Rattle.lapd_world.specs.Safe.{IsSafe, AreSafe};
 ghost use Rattle.lapd_world.specs.Schedule.{figures, of_user, of_network, start, establishing, losing, schedule, restarting, user_in_recovery, user_at_end, network_at_end, user_restarted, receipt, one_message, two_messages, three_messages, in_first, in_first_but};
-ghost use Rattle.lapd_world.specs.World.{happens, left, new_world, run};
+ghost use Rattle.lapd_world.specs.World.{World, swapped, happens, world_after, left, new_world, run};
 
 /// On whole numbers and on tags: a message is lost, T200 expires, the enquiry is answered, and the message is sent again;
 /// a second is lost, and dropped by a second establishment; a third is received. What was received, acknowledged, dropped
@@ -35,6 +35,11 @@ pub fn refusals_are_computed()
     ensures enquiry_under_way { (r : Reading) → happens r (of_user Expire200) (run r (establishing ++ losing) start) ≡ Err (NotYet side.Network 0) }
     ensures answer_under_way { (r : Reading) → happens r (of_user Expire200) (run r (establishing ++ losing ++ of_network Deliver ∷ []) start) ≡ Err (NotYet side.User 0) }
     ensures not_established { (r : Reading) → happens r (of_user (Give (1 ∷ []))) start ≡ Err (Refused NotEstablished) }
+{}
+
+/// The two sides are alike: a move of the network is that move of the user, with the sides exchanged before and after.
+pub fn sides_are_alike()
+    ensures { (r : Reading) (deed : Deed) (w : World) → world_after w (happens r (of_network deed) w) ≡ swapped (world_after (swapped w) (happens r (of_user deed) (swapped w))) }
 {}
 
 /// The histories of the worked schedule are safe, on whole numbers and on tags.

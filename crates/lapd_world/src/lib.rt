@@ -11,5 +11,5 @@ mod laws;
 
 pub use laws::{
     new_worlds_are_safe, refusals_are_computed, schedule_is_computed, schedule_is_safe,
-    wrong_histories_are_not_safe,
+    sides_are_alike, wrong_histories_are_not_safe,
 };
