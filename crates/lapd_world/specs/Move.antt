@@ -60,14 +60,23 @@ pub record Acted : Type 0 where
 
 -- ---- A step of the state table.
 
--- The end is the one after the step, the frames of its outputs are behind those that are on their way, and its history is
--- told. `octets` and `place` are those of the frame just delivered; of a request, `octets` are its unit data.
-unfoldable pub view_after : List ℕ → ℕ → View → StepState → View
-view_after octets place v s =
-    let story : Story = told (record { given = s.end.given; establishment = s.end.establishments; octets = octets; place = place }) s.outs
-    (record { line = v.outgoing; history = with_beginning v.station.end.establishments s.end.establishments v.station.history }) in
-    record { station = record { end = s.end; history = story.history }; incoming = v.incoming; outgoing = story.line }
+-- What is told after a step, from the line and the history before it: `octets` and `place` are those of the frame just
+-- delivered; of a request, `octets` are its unit data.
+unfoldable pub story_after : List ℕ → ℕ → View → StepState → Story
+story_after octets place v s = told
+    (record { given = s.end.given; establishment = s.end.establishments; octets = octets; place = place })
+    s.outs
+    (record { line = v.outgoing; history = with_beginning v.station.end.establishments s.end.establishments v.station.history })
 
+-- the end is the one after the step, with the history so told, and the frames of its outputs are behind those on their way
+unfoldable pub view_after : List ℕ → ℕ → View → StepState → View
+view_after octets place v s = record {
+  station = record { end = s.end; history = (story_after octets place v s).history };
+  incoming = v.incoming;
+  outgoing = (story_after octets place v s).line;
+}
+
+-- what the state table refuses is not admitted
 abbrev pub stepped : List ℕ → ℕ → View → Result StepState LinkFault → Result Acted Refusal
 stepped octets place v (Ok s) = Ok (record { view = view_after octets place v s; outs = s.outs })
 stepped octets place v (Err fault) = Err (Refused fault)
@@ -82,32 +91,34 @@ takes r input octets v = stepped octets 0 v (step r input v.station.end)
 
 -- ---- What else a move changes, and when it is admitted.
 
--- nothing is put out
+-- the view is changed to this, and nothing is put out
 abbrev pub quietly : View → Result Acted Refusal
 quietly v = Ok (record { view = v; outs = [] })
 
--- the first frame is taken off the line
+-- the first frame is taken off the line, and heard
 unfoldable pub delivers : Reading → List Flight → View → Result Acted Refusal
 delivers r [] v = Err NothingThere
 delivers r (frame ∷ rest) v = hears r frame (record v { incoming = rest })
 
--- this one is
+-- the frame at this position is taken off the line, and no one hears it
 unfoldable pub loses : ℕ → View → Result Acted Refusal
 loses at v = if nat_lt at (length v.incoming) then quietly (record v { incoming = without_lost at v.incoming }) else Err NothingThere
 
--- T200 expires where no command of this side with P=1 is on its way to the other side, and no response with F=1 on its way
--- to this one.
+-- No command of this side with P=1 is on its way to the other side, and no response with F=1 on its way to this one; by the
+-- position of the first of each. Else the move is refused with the first such frame, the commands looked at first.
 abbrev pub unless_under_way : Side → Option ℕ → Option ℕ → Result Acted Refusal → Result Acted Refusal
 unless_under_way side (Some at) final outcome = Err (NotYet (other_side side) at)
 unless_under_way side None (Some at) outcome = Err (NotYet side at)
 unless_under_way side None None outcome = outcome
 
+-- T200 expires where it runs, and nothing that it waits for is still on its way
 unfoldable pub expires_200 : Reading → Side → View → Result Acted Refusal
 expires_200 r side v =
     if v.station.end.t200
     then unless_under_way side (first_poll v.outgoing) (first_final v.incoming) (takes r (input.Expiry T200) [] v)
     else Err NotRunning
 
+-- T203 expires where it runs
 unfoldable pub expires_203 : Reading → View → Result Acted Refusal
 expires_203 r v = if v.station.end.t203 then takes r (input.Expiry T203) [] v else Err NotRunning
 
@@ -123,6 +134,7 @@ restarts v = record {
   outgoing = [];
 }
 
+-- own receiver busy begins or ends (Q.921 5.6.6)
 abbrev pub busy_input : Bool → Input
 busy_input true = input.BusyOn
 busy_input false = input.BusyOff
