@@ -1,11 +1,15 @@
 //! Laws by which the definitions are tried. They do nothing when they are called.
 
-ghost use Rattle.std.specs.Prelude.{◌≡◌, [], ◌∷◌, ◌++◌, Err};
+ghost use Rattle.std.specs.Prelude.{◌≡◌, true, false, [], ◌∷◌, ◌++◌, Err};
 ghost use Rattle.lapd_frame.specs.declared.Side.TheVariants as side;
+ghost use Rattle.lapd_frame.specs.declared.Role.TheVariants.{Command, Answer};
+ghost use Rattle.lapd_frame.specs.declared.Control.TheVariants.{I, Rr, Rnr, Disc};
 ghost use Rattle.lapd_mod128.specs.Counting.{Reading};
 ghost use Rattle.lapd_states.specs.declared.event.LinkFault.TheVariants.{NotEstablished};
 ghost use Rattle.lapd_states.specs.Parameters.{Parameters};
-ghost use Rattle.lapd_world.specs.Move.{Deed, Give, Deliver, Lose, Expire200, Expire203, UnitData, NothingThere, NotRunning, NotYet, Refused};
+ghost use Rattle.lapd_world.specs.Histories.{unit_frame};
+ghost use Rattle.lapd_world.specs.Line.{without_info};
+ghost use Rattle.lapd_world.specs.Move.{Deed, Give, Release, Deliver, Lose, Expire200, Expire203, Busy, UnitData, NothingThere, NotRunning, NotYet, Refused};
 ghost use Rattle.lapd_world.specs.Safe.{IsSafe, AreSafe};
 ghost use Rattle.lapd_world.specs.Schedule.{figures, of_user, of_network, start, establishing, losing, schedule, restarting, user_in_recovery, user_at_end, network_at_end, user_restarted, receipt, one_message, two_messages, three_messages, in_first, in_first_but};
 ghost use Rattle.lapd_world.specs.World.{World, swapped, happens, world_after, left, new_world, run};
@@ -20,9 +24,22 @@ pub fn schedule_is_computed()
     ensures network { (r : Reading) → figures (run r schedule start).network ≡ network_at_end }
     ensures lines { (r : Reading) → (run r schedule start).to_user ++ (run r schedule start).to_network ≡ [] }
     ensures nothing_left { (r : Reading) → left (run r schedule start) ≡ 0 }
+    ensures one_left { (r : Reading) → left (run r (establishing ++ losing) start) ≡ 1 }
     ensures restarted { (r : Reading) → figures (run r restarting start).user ≡ user_restarted }
     ensures restarted_lines { (r : Reading) → (run r restarting start).to_user ++ (run r restarting start).to_network ≡ [] }
     ensures units { (r : Reading) → (run r (of_user (UnitData (9 ∷ [])) ∷ of_network Deliver ∷ []) start).network.history.units ≡ (9 ∷ []) ∷ [] }
+{}
+
+/// What each move puts on the line, on whole numbers and on tags: a message goes out with its place, and the first of two is
+/// lost; a release sends a DISC, T203 an enquiry, a busy condition an RNR and its end an RR, and unit data goes in a UI.
+pub fn moves_are_computed()
+    ensures given { (r : Reading) → (run r (establishing ++ of_user (Give (8 ∷ 1 ∷ [])) ∷ []) start).to_network ≡ record { role = Command; control = I 0 0 false; info = 8 ∷ 1 ∷ []; place = 0 } ∷ [] }
+    ensures lost { (r : Reading) → (run r (establishing ++ of_user (Give (8 ∷ 1 ∷ [])) ∷ of_user (Give (8 ∷ 2 ∷ [])) ∷ of_network (Lose 0) ∷ []) start).to_network ≡ record { role = Command; control = I 1 0 false; info = 8 ∷ 2 ∷ []; place = 1 } ∷ [] }
+    ensures release { (r : Reading) → (run r (establishing ++ of_user Release ∷ []) start).to_network ≡ without_info Command (Disc true) ∷ [] }
+    ensures t203 { (r : Reading) → (run r (establishing ++ of_user Expire203 ∷ []) start).to_network ≡ without_info Command (Rr 0 true) ∷ [] }
+    ensures busy { (r : Reading) → (run r (establishing ++ of_user (Busy true) ∷ []) start).to_network ≡ without_info Answer (Rnr 0 false) ∷ [] }
+    ensures busy_no_longer { (r : Reading) → (run r (establishing ++ of_user (Busy true) ∷ of_user (Busy false) ∷ []) start).to_network ≡ without_info Answer (Rnr 0 false) ∷ without_info Answer (Rr 0 false) ∷ [] }
+    ensures unit { (r : Reading) → (run r (of_user (UnitData (9 ∷ [])) ∷ []) start).to_network ≡ unit_frame (9 ∷ []) ∷ [] }
 {}
 
 /// A move is refused where no frame is there, the timer does not run, the enquiry or its answer is on the line, or the
@@ -33,6 +50,7 @@ pub fn refusals_are_computed()
     ensures t200_stands { (r : Reading) → happens r (of_user Expire200) start ≡ Err NotRunning }
     ensures t203_stands { (r : Reading) → happens r (of_user Expire203) start ≡ Err NotRunning }
     ensures enquiry_under_way { (r : Reading) → happens r (of_user Expire200) (run r (establishing ++ losing) start) ≡ Err (NotYet side.Network 0) }
+    ensures enquiry_behind_message { (r : Reading) → happens r (of_user Expire200) (run r (establishing ++ of_user (Give (8 ∷ 1 ∷ [])) ∷ of_user Expire200 ∷ []) start) ≡ Err (NotYet side.Network 1) }
     ensures answer_under_way { (r : Reading) → happens r (of_user Expire200) (run r (establishing ++ losing ++ of_network Deliver ∷ []) start) ≡ Err (NotYet side.User 0) }
     ensures not_established { (r : Reading) → happens r (of_user (Give (1 ∷ []))) start ≡ Err (Refused NotEstablished) }
 {}

@@ -10,6 +10,6 @@
 mod laws;
 
 pub use laws::{
-    new_worlds_are_safe, refusals_are_computed, schedule_is_computed, schedule_is_safe,
-    sides_are_alike, wrong_histories_are_not_safe,
+    moves_are_computed, new_worlds_are_safe, refusals_are_computed, schedule_is_computed,
+    schedule_is_safe, sides_are_alike, wrong_histories_are_not_safe,
 };

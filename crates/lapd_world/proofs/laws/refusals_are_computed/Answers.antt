@@ -8,6 +8,7 @@ returns c = record {
   t200_stands = schedules.t200_stands;
   t203_stands = schedules.t203_stands;
   enquiry_under_way = schedules.enquiry_under_way;
+  enquiry_behind_message = schedules.enquiry_behind_message;
   answer_under_way = schedules.answer_under_way;
   not_established = schedules.not_established;
 }
