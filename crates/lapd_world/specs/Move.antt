@@ -1,7 +1,7 @@
 -- The moves: what one side does or what happens to it, when a move is admitted, and what it then changes.
 use Rattle.std.specs.Prelude.{ℕ, nat_lt, if◌then◌else◌, Bool, true, false, List, [], ◌∷◌, length, Option, Some, None, Result, Ok, Err}
 use Rattle.lapd_timers.specs.declared.timer.Timer.TheVariants.{T200, T203}
-use Rattle.lapd_field.specs.Address.{other_side}
+use Rattle.lapd_frame.specs.Address.{other_side}
 use Rattle.lapd_frame.specs.declared.Side.{Side}
 use Rattle.lapd_mod128.specs.Counting.{Reading}
 use Rattle.lapd_states.specs.declared.out.Out.{Out}
