@@ -1,6 +1,7 @@
 -- A worked schedule of moves, and histories that are not safe, by which the definitions are tried.
 use Rattle.std.specs.Prelude.{ℕ, ◌==◌, if◌then◌else◌, List, [], ◌∷◌, ◌++◌, Option, Some, None}
 use Rattle.lapd_frame.specs.declared.Side.TheVariants as side
+use Rattle.lapd_states.specs.declared.recovery.Recovery.TheVariants.{Enquiry}
 use Rattle.lapd_states.specs.declared.state.State.{State}
 use Rattle.lapd_states.specs.declared.state.State.TheVariants.{TeiAssigned, MultipleFrameEstablished, TimerRecovery}
 use Rattle.lapd_states.specs.Parameters.{Parameters}
@@ -16,7 +17,7 @@ of_network deed = record { side = side.Network; deed = deed }
 
 -- a window of two, N200 of three, and room for four messages, on both sides
 abbrev pub parameters : Parameters
-parameters = record { k = 2; n200 = 3; room = 4 }
+parameters = record { k = 2; n200 = 3; room = 4; recovery = Enquiry }
 
 abbrev pub start : World
 start = new_world parameters parameters
