@@ -5,6 +5,7 @@ pub use Rattle.lapd_frame.specs.Frame
 pub use Rattle.lapd_frame.specs.Reading
 pub use Rattle.lapd_mod128.specs.Counting
 pub use Rattle.lapd_supervision.specs.StateVariables
+pub use Rattle.lapd_supervision.specs.Tags
 pub use Rattle.lapd_timers.specs.Timer
 pub mod AwaitingEstablishment
 pub mod AwaitingRelease
@@ -19,5 +20,6 @@ pub mod Refusal
 pub mod Sound
 pub mod State
 pub mod Table
+pub mod Tagging
 pub mod TeiAssigned
 pub mod TimerRecovery

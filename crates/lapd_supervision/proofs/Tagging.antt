@@ -56,17 +56,17 @@ pub after_sending_on_tags : (m : StateVariables) → tag_variables (after_sendin
 unfolding tag_variables after_sending
 after_sending_on_tags m = rw (tag_of_after m.vs) refl
 
-pub outstanding_on_tags : (m : StateVariables) → IsWindow m → outstanding Tagged (tag_variables m) ≡ outstanding Whole m
+pub outstanding_on_tags : (m : StateVariables) → IsWindow m.va m.vs → outstanding Tagged (tag_variables m) ≡ outstanding Whole m
 unfolding tag_variables
 outstanding_on_tags m window = steps_on_tags m.va m.vs window.in_order window.at_most
 
-pub may_send_on_tags : (k : ℕ) (m : StateVariables) → IsWindow m → may_send Tagged k (tag_variables m) ≡ may_send Whole k m
+pub may_send_on_tags : (k : ℕ) (m : StateVariables) → IsWindow m.va m.vs → may_send Tagged k (tag_variables m) ≡ may_send Whole k m
 unfolding tag_variables may_send
 may_send_on_tags k m window = rw (outstanding_on_tags m window) refl
 
 -- ---- An N(R) comes
 
-pub is_valid_nr_on_tags : (nr : ℕ) (m : StateVariables) → IsWindow m → IsNearWindow nr m → is_valid_nr Tagged (tag nr) (tag_variables m) ≡ is_valid_nr Whole nr m
+pub is_valid_nr_on_tags : (nr : ℕ) (m : StateVariables) → IsWindow m.va m.vs → IsNearWindow nr m.va m.vs → is_valid_nr Tagged (tag nr) (tag_variables m) ≡ is_valid_nr Whole nr m
 unfolding tag_variables is_valid_nr
 is_valid_nr_on_tags nr m window near =
     lies_within_on_tags m.va nr m.vs window.in_order (record { above = omega (arith, window.in_order); below = omega (arith, window.at_most) }) near.near_va near.near_vs
