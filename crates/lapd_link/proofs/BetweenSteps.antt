@@ -19,7 +19,7 @@ use Rattle.lapd_states.specs.Refusal.{give_refused, refused_when_full, refused}
 use Rattle.lapd_states.specs.Sound.{AreAwaiting, IsSound, IsSoundIn}
 use Rattle.lapd_states.specs.Table.{row, by_state, step}
 use Rattle.lapd_states.specs.TimerRecovery.{timer_recovery}
-use Rattle.lapd_states.proofs.ParametersStay.{step_keeps_parameters}
+use Rattle.lapd_states.proofs.KeptByStep.{step_keeps_parameters}
 use Rattle.lapd_states.proofs.Soundness.{sound_step}
 use Rattle.lapd_link.specs.declared.machine.Machine.{Machine}
 use Rattle.lapd_link.specs.Sent.{sent_in_state, IsBetweenSteps}

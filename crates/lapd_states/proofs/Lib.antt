@@ -1,6 +1,7 @@
 pub mod ActionsOnTags
+pub mod EachAction
+pub mod KeptByStep
 pub mod OpenRowsOnTags
-pub mod ParametersStay
 pub mod RowsOnTags
 pub mod Sending
 pub mod Soundness

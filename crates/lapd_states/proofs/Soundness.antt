@@ -12,7 +12,7 @@ use Rattle.lapd_states.specs.declared.state.State.{State}
 use Rattle.lapd_states.specs.declared.state.State.TheVariants.{TeiAssigned, AwaitingEstablishment, AwaitingRelease, MultipleFrameEstablished, TimerRecovery}
 use Rattle.lapd_frame.specs.declared.fault_kind.FaultKind.{FaultKind}
 use Rattle.lapd_states.specs.declared.event.LinkFault.{LinkFault}
-use Rattle.lapd_states.proofs.ParametersStay.{row_keeps_parameters}
+use Rattle.lapd_states.proofs.KeptByStep.{row_keeps_parameters}
 use Rattle.lapd_states.proofs.Sending.{both_true, below}
 use Rattle.lapd_states.specs.Parameters.{Parameters}
 use Rattle.lapd_states.specs.declared.out.Letter.TheVariants as letter
@@ -417,7 +417,7 @@ pub sound_step : (r : Reading) (input : Input) (e : End) (s : StepState) → e.p
 unfolding step begin
 sound_step r input e s small sound done =
     let F : StepState → Type 0 = λ d. SoundAfter r d in
-    let small_then : (row r e.state input (begin e)).end.parameters.k ≤ 127 = rw (row_keeps_parameters r e.state input (begin e)) small in
+    let small_then : (row r e.state input (begin e)).end.parameters.k ≤ 127 = rw (row_keeps_parameters r input e) small in
     subst F (taken (refused input e) _ s done) (sound_close r (row r e.state input (begin e)) small_then (sound_row r e.state input (begin e) refl sound))
 
 pub sound_new : (r : Reading) (p : Parameters) → IsSound r (new_end p)

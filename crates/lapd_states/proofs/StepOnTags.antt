@@ -21,7 +21,7 @@ use Rattle.lapd_states.specs.Table.{by_state, report_fault, is_unit_data, row, u
 use Rattle.lapd_states.specs.Tagging.{tag_input, tag_end, tag_step_state, tag_result, IsHeardNear, IsNear}
 use Rattle.lapd_states.proofs.ActionsOnTags.{actions, procedures, put_on_tags, runs_on_tags, transmit_rr_on_tags}
 use Rattle.lapd_states.proofs.OpenRowsOnTags.{multiple_frame_established_on_tags, timer_recovery_on_tags}
-use Rattle.lapd_states.proofs.ParametersStay.{row_keeps_parameters}
+use Rattle.lapd_states.proofs.KeptByStep.{row_keeps_parameters}
 use Rattle.lapd_states.proofs.RowsOnTags.{by_test, window_of, tei_assigned_on_tags, awaiting_establishment_on_tags, awaiting_release_on_tags}
 use Rattle.lapd_states.proofs.Soundness.{sound_row, sound_send_next}
 
@@ -125,7 +125,7 @@ done_on_tags : (input : Input) (e : End) → IsNear input e
     → tag_step_state (close Whole (row Whole e.state input (begin e))) ≡ close Tagged (row Tagged e.state (tag_input input) (begin (tag_end e)))
 unfolding begin
 done_on_tags input e near =
-    let small : (row Whole e.state input (begin e)).end.parameters.k ≤ 127 = rw (row_keeps_parameters Whole e.state input (begin e)) near.window in
+    let small : (row Whole e.state input (begin e)).end.parameters.k ≤ 127 = rw (row_keeps_parameters Whole input e) near.window in
     close_on_tags (row Whole e.state input (begin e)) small (sound_row Whole e.state input (begin e) refl near.sound)
     ∙ ap (λ t. close Tagged t) (row_on_tags e.state input (begin e) near.sound near.heard ∙ ap (λ t. row Tagged e.state (tag_input input) t) (begin_on_tags e))
 

@@ -9,7 +9,9 @@ pub use Rattle.lapd_supervision.specs.Tags
 pub use Rattle.lapd_timers.specs.Timer
 pub mod AwaitingEstablishment
 pub mod AwaitingRelease
+pub mod Begins
 pub mod Close
+pub mod Counts
 pub mod End
 pub mod Established
 pub mod Input
@@ -18,6 +20,7 @@ pub mod Parameters
 pub mod Procedures
 pub mod Refusal
 pub mod Sound
+pub mod Spoken
 pub mod State
 pub mod Table
 pub mod Tagging

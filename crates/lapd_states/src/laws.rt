@@ -6,6 +6,7 @@ ghost use Rattle.lapd_states.specs.End.{End, StepState, new_end};
 ghost use Rattle.lapd_states.specs.Input.{Input};
 ghost use Rattle.lapd_states.specs.Parameters.{Parameters};
 ghost use Rattle.lapd_states.specs.Sound.{IsSound};
+ghost use Rattle.lapd_states.specs.Spoken.{AreSpoken, AreShort};
 ghost use Rattle.lapd_states.specs.Table.{step};
 ghost use Rattle.lapd_states.specs.Tagging.{tag_input, tag_end, tag_result, IsNear};
 
@@ -30,4 +31,12 @@ pub fn parameters_stay()
 /// of V(S) (Q.921 3.5.2, 5.9.5).
 pub fn tags_decide()
     ensures { (input : Input) (e : End) → IsNear input e → step Tagged (tag_input input) (tag_end e) ≡ tag_result (step Whole input e) }
+{}
+
+/// What a step sends is in the grammar of frames: each frame without information, and each I command with any message of
+/// up to 260 octets. And messages stay so short: where all given ones are, all are after a step (Q.921 Table 5, 5.9.3).
+/// That numbers are below 128 is left to tags.
+pub fn sent_frames_are_in_the_grammar()
+    ensures sent { (r : Reading) (input : Input) (e : End) (s : StepState) → step r input e ≡ Ok s → AreSpoken s.outs }
+    ensures short { (r : Reading) (input : Input) (e : End) (s : StepState) → AreShort e.given → step r input e ≡ Ok s → AreShort s.end.given }
 {}
