@@ -1,7 +1,7 @@
 -- A machine between two steps: how many messages are sent follows from the law of the table, at the end whose messages
 -- are just those of the queue.
 use Rattle.std.proofs.Common.{◌≡◌, ◌≤◌, ◌+◌, ℕ, Bool, true, false, List, [], length, Option, Some, None, Ok, Err, if◌then◌else◌, refl, sym, subst, ◌∙◌, arith}
-use Rattle.lapd_mod128.specs.Counting.{Tagged, reaches}
+use Rattle.lapd_mod128.specs.Counting.{Tagged, reaches, steps}
 use Rattle.lapd_supervision.specs.StateVariables.{StateVariables}
 use Rattle.lapd_states.specs.declared.state.State.{State}
 use Rattle.lapd_states.specs.declared.state.State.TheVariants.{TeiAssigned, AwaitingEstablishment, AwaitingRelease, MultipleFrameEstablished, TimerRecovery}
@@ -19,7 +19,7 @@ use Rattle.lapd_states.specs.Refusal.{give_refused, refused_when_full, refused}
 use Rattle.lapd_states.specs.Sound.{AreAwaiting, IsSound, IsSoundIn}
 use Rattle.lapd_states.specs.Table.{row, by_state, step}
 use Rattle.lapd_states.specs.TimerRecovery.{timer_recovery}
-use Rattle.lapd_states.proofs.ParametersStay.{step_keeps_parameters}
+use Rattle.lapd_states.proofs.KeptByStep.{step_keeps_parameters}
 use Rattle.lapd_states.proofs.Soundness.{sound_step}
 use Rattle.lapd_link.specs.declared.machine.Machine.{Machine}
 use Rattle.lapd_link.specs.Sent.{sent_in_state, IsBetweenSteps}
@@ -77,20 +77,24 @@ settles m outs s h = record {
 
 -- ---- The places of an end and the number that are sent say the same.
 
+few_steps : (a b : ℕ) → steps Tagged a b ≤ 127
+unfolding steps
+few_steps a b = omega arith
+
 awaiting_from : (asked leaving : Bool) (first next given : ℕ) (m : StateVariables) → next ≡ first + sent_in_state AwaitingEstablishment asked leaving m → next ≤ given
     → AreAwaiting Tagged asked leaving first next given m.va m.vs
 unfolding reaches
 awaiting_from true leaving first next given m q h = record { places = omega (arith, q); within = h }
 awaiting_from false true first next given m q h = record { places = omega (arith, q); within = h }
-awaiting_from false false first next given m q h = record { places = q; within = h; reached = refl }
+awaiting_from false false first next given m q h = record { places = q; within = h; reached = refl; at_most = few_steps _ _ }
 
 sound_from : (state : State) (e : End) → e.next ≡ e.first + sent_in_state state e.layer3_initiated e.release_pending e.window → e.next ≤ length e.given → IsSoundIn Tagged state e
 unfolding reaches
 sound_from TeiAssigned e q h = record { places = omega (arith, q); within = h }
 sound_from AwaitingEstablishment e q h = awaiting_from e.layer3_initiated e.release_pending e.first e.next (length e.given) e.window q h
 sound_from AwaitingRelease e q h = record { places = omega (arith, q); within = h }
-sound_from MultipleFrameEstablished e q h = record { places = q; within = h; reached = refl }
-sound_from TimerRecovery e q h = record { places = q; within = h; reached = refl }
+sound_from MultipleFrameEstablished e q h = record { places = q; within = h; reached = refl; at_most = few_steps _ _ }
+sound_from TimerRecovery e q h = record { places = q; within = h; reached = refl; at_most = few_steps _ _ }
 
 awaiting_to : (asked leaving : Bool) (first next given : ℕ) (m : StateVariables) → AreAwaiting Tagged asked leaving first next given m.va m.vs
     → next ≡ first + sent_in_state AwaitingEstablishment asked leaving m

@@ -1,4 +1,9 @@
-pub mod ParametersStay
+pub mod ActionsOnTags
+pub mod EachAction
+pub mod KeptByStep
+pub mod OpenRowsOnTags
+pub mod RowsOnTags
 pub mod Sending
 pub mod Soundness
+pub mod StepOnTags
 pub mod WorkedRows

@@ -12,7 +12,7 @@ use Rattle.lapd_states.specs.declared.state.State.{State}
 use Rattle.lapd_states.specs.declared.state.State.TheVariants.{TeiAssigned, AwaitingEstablishment, AwaitingRelease, MultipleFrameEstablished, TimerRecovery}
 use Rattle.lapd_frame.specs.declared.fault_kind.FaultKind.{FaultKind}
 use Rattle.lapd_states.specs.declared.event.LinkFault.{LinkFault}
-use Rattle.lapd_states.proofs.ParametersStay.{row_keeps_parameters}
+use Rattle.lapd_states.proofs.KeptByStep.{row_keeps_parameters}
 use Rattle.lapd_states.proofs.Sending.{both_true, below}
 use Rattle.lapd_states.specs.Parameters.{Parameters}
 use Rattle.lapd_states.specs.declared.out.Letter.TheVariants as letter
@@ -47,7 +47,7 @@ zero_is_reached Tagged = refl
 
 -- an establishment begins with nothing sent
 begun : (r : Reading) (first next given : ℕ) → AreUnsent first next given → AreOutstanding r first next given 0 0
-begun r first next given h = record { places = omega (arith, no_steps r 0, h.places); within = h.within; reached = zero_is_reached r }
+begun r first next given h = record { places = omega (arith, no_steps r 0, h.places); within = h.within; reached = zero_is_reached r; at_most = omega (arith, no_steps r 0) }
 
 -- all that was given is dropped
 dropped : (given : ℕ) → AreUnsent given given given
@@ -66,7 +66,7 @@ given_unsent first next given message h = record { places = h.places; within = o
 
 given_outstanding : (r : Reading) (first next : ℕ) (given : List (List ℕ)) (message : List ℕ) (va vs : ℕ) → AreOutstanding r first next (length given) va vs
     → AreOutstanding r first next (length (given ++ message ∷ [])) va vs
-given_outstanding r first next given message va vs h = record { places = h.places; within = omega (arith, length-append given (message ∷ []), h.within); reached = h.reached }
+given_outstanding r first next given message va vs h = record { places = h.places; within = omega (arith, length-append given (message ∷ []), h.within); reached = h.reached; at_most = h.at_most }
 
 given_awaiting : (r : Reading) (asked leaving : Bool) (first next : ℕ) (given : List (List ℕ)) (message : List ℕ) (va vs : ℕ) → AreAwaiting r asked leaving first next (length given) va vs
     → AreAwaiting r asked leaving first next (length (given ++ message ∷ [])) va vs
@@ -178,6 +178,7 @@ acked r nr s valid o = (
     places = omega (arith, o.1.places, outstanding_with_va r nr s.end.window valid);
     within = o.1.within;
     reached = reaches_with_va r nr s.end.window valid;
+    at_most = omega (arith, o.1.at_most, outstanding_with_va r nr s.end.window valid);
   },
 )
 
@@ -191,6 +192,7 @@ backed r nr s valid o =
         places = omega (arith, outstanding_with_vs r nr s.end.window);
         within = omega (arith, o.1.places, o.1.within, some);
         reached = reaches_with_vs r nr s.end.window;
+        at_most = omega (arith, outstanding_with_vs r nr s.end.window);
       },
     )
 
@@ -341,7 +343,7 @@ fault_sound r TimerRecovery kind s q sound = again r (put (Report (fault_letter 
 in_state : (r : Reading) (state : State) (s : StepState) → s.end.state ≡ state → IsSoundIn r state s.end → SoundAfter r s
 in_state r state s q sound = let F : State → Type 0 = λ st. IsSoundIn r st s.end in subst F (sym q) sound
 
-sound_row : (r : Reading) (state : State) (h : Input) (s : StepState) → s.end.state ≡ state → IsSoundIn r state s.end → SoundAfter r (row r state h s)
+pub sound_row : (r : Reading) (state : State) (h : Input) (s : StepState) → s.end.state ≡ state → IsSoundIn r state s.end → SoundAfter r (row r state h s)
 unfolding row put
 sound_row r state (Heard control role) s q sound = either r (is_unit_data control role) (s ▷ put UnitUp) (s ▷ by_state r state (Heard control role)) (λ _. in_state r state s q sound) (λ _. sound_by_state r state (Heard control role) s q sound)
 sound_row r state (Faulty kind) s q sound = fault_sound r state kind s q sound
@@ -365,7 +367,7 @@ established_is AwaitingRelease h = cc
 established_is MultipleFrameEstablished h = refl
 established_is TimerRecovery h = cc
 
-sound_send_next : (r : Reading) (s : StepState) → s.end.parameters.k ≤ 127 → may_send_next r s ≡ true → SoundAfter r s → SoundAfter r (send_next r s)
+pub sound_send_next : (r : Reading) (s : StepState) → s.end.parameters.k ≤ 127 → may_send_next r s ≡ true → SoundAfter r s → SoundAfter r (send_next r s)
 unfolding transmit_i_frame ensure_t200
 sound_send_next r s small go sound =
     let one = both_true _ _ go in
@@ -378,6 +380,7 @@ sound_send_next r s small go sound =
       places = omega (arith, o.places, outstanding_after_sending r s.end.window o.reached (omega arith));
       within = omega arith;
       reached = reaches_after_sending r s.end.window o.reached;
+      at_most = omega (arith, outstanding_after_sending r s.end.window o.reached (omega arith));
     })
 
 sound_send_all : (r : Reading) (n : ℕ) (s : StepState) → s.end.parameters.k ≤ 127 → SoundAfter r s → SoundAfter r (send_all r n s)
@@ -418,7 +421,7 @@ pub sound_step : (r : Reading) (input : Input) (e : End) (s : StepState) → e.p
 unfolding step begin
 sound_step r input e s small sound done =
     let F : StepState → Type 0 = λ d. SoundAfter r d in
-    let small_then : (row r e.state input (begin e)).end.parameters.k ≤ 127 = rw (row_keeps_parameters r e.state input (begin e)) small in
+    let small_then : (row r e.state input (begin e)).end.parameters.k ≤ 127 = rw (row_keeps_parameters r input e) small in
     subst F (taken (refused input e) _ s done) (sound_close r (row r e.state input (begin e)) small_then (sound_row r e.state input (begin e) refl sound))
 
 pub sound_new : (r : Reading) (p : Parameters) → IsSound r (new_end p)

@@ -5,10 +5,13 @@ pub use Rattle.lapd_frame.specs.Frame
 pub use Rattle.lapd_frame.specs.Reading
 pub use Rattle.lapd_mod128.specs.Counting
 pub use Rattle.lapd_supervision.specs.StateVariables
+pub use Rattle.lapd_supervision.specs.Tags
 pub use Rattle.lapd_timers.specs.Timer
 pub mod AwaitingEstablishment
 pub mod AwaitingRelease
+pub mod Begins
 pub mod Close
+pub mod Counts
 pub mod End
 pub mod Established
 pub mod Input
@@ -17,7 +20,9 @@ pub mod Parameters
 pub mod Procedures
 pub mod Refusal
 pub mod Sound
+pub mod Spoken
 pub mod State
 pub mod Table
+pub mod Tagging
 pub mod TeiAssigned
 pub mod TimerRecovery

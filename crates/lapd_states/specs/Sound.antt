@@ -6,11 +6,12 @@ use Rattle.lapd_states.specs.declared.state.State.{State}
 use Rattle.lapd_states.specs.declared.state.State.TheVariants.{TeiAssigned, AwaitingEstablishment, AwaitingRelease, MultipleFrameEstablished, TimerRecovery}
 use Rattle.lapd_states.specs.End.{End}
 
--- all that is sent is outstanding: as many messages as steps lead from V(A) to V(S)
+-- all that is sent is outstanding: as many messages as steps lead from V(A) to V(S), at most 127 (Q.921 5.9.5)
 pub record AreOutstanding (r : Reading) (first next given va vs : ℕ) : Type 0 where
   pub places : next ≡ first + steps r va vs
   pub within : next ≤ given
   pub reached : reaches r va vs ≡ true
+  pub at_most : steps r va vs ≤ 127
 
 -- nothing is sent
 pub record AreUnsent (first next given : ℕ) : Type 0 where

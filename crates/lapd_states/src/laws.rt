@@ -1,12 +1,14 @@
 //! Laws of the whole state table, over its definitions. They do nothing when they are called.
 
 ghost use Rattle.std.specs.Prelude.{◌≡◌, ◌≤◌, ℕ, Ok};
-ghost use Rattle.lapd_mod128.specs.Counting.{Reading};
+ghost use Rattle.lapd_mod128.specs.Counting.{Reading, Whole, Tagged};
 ghost use Rattle.lapd_states.specs.End.{End, StepState, new_end};
 ghost use Rattle.lapd_states.specs.Input.{Input};
 ghost use Rattle.lapd_states.specs.Parameters.{Parameters};
 ghost use Rattle.lapd_states.specs.Sound.{IsSound};
+ghost use Rattle.lapd_states.specs.Spoken.{AreSpoken, AreShort};
 ghost use Rattle.lapd_states.specs.Table.{step};
+ghost use Rattle.lapd_states.specs.Tagging.{tag_input, tag_end, tag_result, IsNear};
 
 /// Over every list of events, from a new end on, all messages that are sent and neither acknowledged nor dropped are
 /// outstanding: in states 7 and 8, as many as steps lead from V(A) to V(S), so that message number n of the present
@@ -21,4 +23,20 @@ pub fn all_sent_are_outstanding()
 /// No step changes the parameters of an end.
 pub fn parameters_stay()
     ensures { (r : Reading) (input : Input) (e : End) (s : StepState) → step r input e ≡ Ok s → s.end.parameters ≡ e.parameters }
+{}
+
+/// A step on tags is the tag of the step on whole numbers: refused for the same reason, or with the same outputs and the
+/// same end, each number in its tag. So it is where the numbers lie near each other: in a window of up to 127, with all
+/// sent messages outstanding, and in states 7 and 8 with an N(S) within 127 of V(R) and an N(R) within 127 of V(A) and
+/// of V(S) (Q.921 3.5.2, 5.9.5).
+pub fn tags_decide()
+    ensures { (input : Input) (e : End) → IsNear input e → step Tagged (tag_input input) (tag_end e) ≡ tag_result (step Whole input e) }
+{}
+
+/// What a step sends is in the grammar of frames: each frame without information, and each I command with any message of
+/// up to 260 octets. And messages stay so short: where all given ones are, all are after a step (Q.921 Table 5, 5.9.3).
+/// That numbers are below 128 is left to tags.
+pub fn sent_frames_are_in_the_grammar()
+    ensures sent { (r : Reading) (input : Input) (e : End) (s : StepState) → step r input e ≡ Ok s → AreSpoken s.outs }
+    ensures short { (r : Reading) (input : Input) (e : End) (s : StepState) → AreShort e.given → step r input e ≡ Ok s → AreShort s.end.given }
 {}

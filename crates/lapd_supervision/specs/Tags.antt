@@ -23,12 +23,12 @@ tag_control (Ua f) = Ua f
 tag_control (Frmr f) = Frmr f
 tag_control (Xid pf) = Xid pf
 
--- at most 127 I frames are outstanding (Q.921 5.9.5)
-pub record IsWindow (m : StateVariables) : Type 0 where
-  pub in_order : m.va ≤ m.vs
-  pub at_most : m.vs ≤ m.va + 127
+-- at most 127 I frames are outstanding from V(A) to V(S) (Q.921 5.9.5)
+pub record IsWindow (va vs : ℕ) : Type 0 where
+  pub in_order : va ≤ vs
+  pub at_most : vs ≤ va + 127
 
 -- an N(R) lies within 127 of V(A) and of V(S)
-pub record IsNearWindow (nr : ℕ) (m : StateVariables) : Type 0 where
-  pub near_va : AreNear m.va nr
-  pub near_vs : AreNear nr m.vs
+pub record IsNearWindow (nr va vs : ℕ) : Type 0 where
+  pub near_va : AreNear va nr
+  pub near_vs : AreNear nr vs

@@ -63,7 +63,7 @@ pub fn receiving_on_tags()
 /// An N(R) is taken on tags as on whole numbers, where at most 127 I frames are outstanding and it lies within 127 of
 /// V(A) and V(S).
 pub fn acknowledging_on_tags()
-    ensures valid { (nr : ℕ) (m : StateVariables) → IsWindow m → IsNearWindow nr m →
+    ensures valid { (nr : ℕ) (m : StateVariables) → IsWindow m.va m.vs → IsNearWindow nr m.va m.vs →
         is_valid_nr Tagged (tag nr) (tag_variables m) ≡ is_valid_nr Whole nr m }
     ensures count { (nr : ℕ) (m : StateVariables) → m.va ≤ nr → nr ≤ m.va + 127 →
         acknowledged_count Tagged (tag nr) (tag_variables m) ≡ acknowledged_count Whole nr m }
@@ -72,6 +72,6 @@ pub fn acknowledging_on_tags()
 
 /// I frames go out on tags as on whole numbers, where at most 127 are outstanding.
 pub fn sending_on_tags()
-    ensures allowed { (k : ℕ) (m : StateVariables) → IsWindow m → may_send Tagged k (tag_variables m) ≡ may_send Whole k m }
+    ensures allowed { (k : ℕ) (m : StateVariables) → IsWindow m.va m.vs → may_send Tagged k (tag_variables m) ≡ may_send Whole k m }
     ensures variables { (m : StateVariables) → tag_variables (after_sending Whole m) ≡ after_sending Tagged (tag_variables m) }
 {}

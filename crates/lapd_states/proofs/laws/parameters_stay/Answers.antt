@@ -1,4 +1,4 @@
-use Rattle.lapd_states.proofs.ParametersStay.{step_keeps_parameters}
+use Rattle.lapd_states.proofs.KeptByStep.{step_keeps_parameters}
 use Rattle.lapd_states.proofs.laws.parameters_stay.Goals as goal
 
 pub returns : goal.returns

@@ -1,0 +1,33 @@
+-- What the outputs of a step count, and what they are to agree with.
+use Rattle.std.specs.Prelude.{ℕ, ◌+◌, ◌&&◌, Bool, true, false, List, [], ◌∷◌}
+use Rattle.lapd_frame.specs.declared.Role.TheVariants.{Command}
+use Rattle.lapd_frame.specs.declared.Control.TheVariants.{I}
+use Rattle.lapd_supervision.specs.StateVariables.{is_accepted}
+use Rattle.lapd_states.specs.declared.out.Out.{Out}
+use Rattle.lapd_states.specs.declared.out.Out.TheVariants.{Up, Acknowledged, Dropped}
+use Rattle.lapd_states.specs.Close.{is_7_or_8}
+use Rattle.lapd_states.specs.End.{End}
+use Rattle.lapd_states.specs.Input.{Input, Heard, Give}
+
+-- how often the information of an I frame goes to layer 3
+abbrev pub ups : List Out → ℕ
+ups [] = 0
+ups (Up ∷ outs) = ups outs + 1
+ups (out ∷ outs) = ups outs
+
+-- how many messages are told to be acknowledged or dropped
+abbrev pub leaving : List Out → ℕ
+leaving [] = 0
+leaving (Acknowledged n ∷ outs) = n + leaving outs
+leaving (Dropped n ∷ outs) = n + leaving outs
+leaving (out ∷ outs) = leaving outs
+
+-- the message of an input, where it is one
+abbrev pub messages_of : Input → List (List ℕ)
+messages_of (Give message) = message ∷ []
+messages_of input = []
+
+-- an I frame that states 7 and 8 accept
+abbrev pub accepts : Input → End → Bool
+accepts (Heard (I ns nr p) Command) e = is_7_or_8 e.state && is_accepted ns e.window
+accepts input e = false
