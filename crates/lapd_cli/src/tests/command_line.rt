@@ -4,8 +4,8 @@ use crate::command_line::{Chosen, Unchosen, WordsFault, choose, words};
 use crate::help;
 use clap::error::ErrorKind;
 use lapd_commands::{answer, decode};
-use lapd_frame::Side;
-use lapd_link::Params;
+use lapd_frame::{Sapi, Side};
+use lapd_link::{Params, Recovery};
 use std::env::{Env, FillError};
 use std::test::Fail;
 
@@ -80,6 +80,17 @@ fn words_choose(rt: HostRuntime) -> Result<(), Fail> {
     )
 }
 
+#[test]
+fn a_recovery_is_chosen(rt: HostRuntime) -> Result<(), Fail> {
+    let params = Params::basic(Sapi::Call).with_recovery(Recovery::LastMessage);
+    let side = Side::Network;
+    let words = ["lapd", "answer", "--recovery", "last"];
+    wants(
+        chooses(&rt, &words, Chosen::Answer { side, params }),
+        "another recovery is chosen",
+    )
+}
+
 // Words that the parser does not take.
 const FAULTS: &[&[&str]] = &[
     &["lapd", "--side", "user"],
@@ -89,6 +100,7 @@ const FAULTS: &[&[&str]] = &[
     &["lapd", "answer", "--side", "user", "--side", "net"],
     &["lapd", "answer", "--side"],
     &["lapd", "answer", "--side", "other"],
+    &["lapd", "answer", "--recovery", "other"],
     &["lapd", "answer", "more"],
     &["lapd", "answer", "--version"],
     &["lapd", "decode", "--side", "user"],

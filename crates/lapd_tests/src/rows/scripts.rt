@@ -4,6 +4,7 @@ use crate::rows::{called_for, gives, is_in, lead, new_link};
 use crate::wants::wants;
 use lapd_commands::Answerer;
 use lapd_frame::Side;
+use lapd_link::{Params, Recovery};
 use std::alloc::Global;
 use std::test::Fail;
 
@@ -30,6 +31,28 @@ const RECOVERY: &[(&str, &str)] = &[
         "frame 00810101",
         "stop T200; start T203; send 0081000001; stop T203; start T200; send 0081020002",
     ),
+];
+
+/// The other recovery: the last message goes out again with P=1, V(S) stays, and a REJ with F=1 ends the recovery.
+const LAST_MESSAGE: &[(&str, &str)] = &[
+    ("establish", "send 00817f; start T200"),
+    ("frame 008173", "confirmed; stop T200; start T203"),
+    ("give 01", "send 0081000001; stop T203; start T200"),
+    ("give 02", "send 0081020002"),
+    ("t200", "send 0081020102; start T200"),
+    ("state", "state 8"),
+    ("t200", "send 00810101; start T200"),
+    ("frame 00810905", "acknowledged 2; stop T200; start T203"),
+    ("give 03", "send 0081040003; stop T203; start T200"),
+];
+
+/// With the peer busy, or nothing outstanding, it is an enquiry.
+const LAST_MESSAGE_WITHHELD: &[(&str, &str)] = &[
+    ("establish", "send 00817f; start T200"),
+    ("frame 008173", "confirmed; stop T200; start T203"),
+    ("give 01", "send 0081000001; stop T203; start T200"),
+    ("frame 00810500", "start T200"),
+    ("t200", "send 00810101; start T200"),
 ];
 
 /// A number that was never sent breaks a new link.
@@ -224,4 +247,26 @@ fn the_numbers_of_received_messages_go_round(rt: HostRuntime) -> Result<(), Fail
         takes_message(rt.alloc(), &mut link, number)?;
     }
     is_in(rt.alloc(), &link, "7 V(R)=2 T203")
+}
+
+#[test]
+fn the_last_message_goes_out_again(rt: HostRuntime) -> Result<(), Fail> {
+    let params = Params::new(3, 3, 512).ok_or("a number is out of range")?;
+    let last = params.with_recovery(Recovery::LastMessage);
+    let alloc = rt.alloc();
+    let again = Answerer::new(alloc, Side::User, last)?;
+    plays(
+        alloc,
+        again,
+        &(LAST_MESSAGE, "7 L3I RC=2 V(S)=3 V(A)=2 T200 sent 03"),
+    )?;
+    let withheld = Answerer::new(alloc, Side::User, last)?;
+    plays(
+        alloc,
+        withheld,
+        &(
+            LAST_MESSAGE_WITHHELD,
+            "8 L3I RC=1 V(S)=1 peer-busy T200 sent 01",
+        ),
+    )
 }
