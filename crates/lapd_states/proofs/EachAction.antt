@@ -2,32 +2,29 @@
 --
 -- Before an N(R) is acknowledged a fact P is kept, and from then on a fact Q that follows from it. Three actions need a
 -- premise of their own: M of a message that joins the queue, B where an establishment begins, T where an I frame is taken.
-use Rattle.std.proofs.Common.{◌≡◌, ℕ, zero, suc, ◌==◌, ◌&&◌, not, nat_lt, Bool, true, false, if◌then◌else◌, List, Option, Some, None, Result, Ok, refl, subst}
+use Rattle.std.proofs.Common.{◌≡◌, ℕ, zero, suc, ◌==◌, ◌&&◌, not, nat_lt, Bool, true, false, if◌then◌else◌, List, None, refl}
 use Rattle.lapd_timers.specs.declared.timer.Timer.{Timer}
 use Rattle.lapd_timers.specs.declared.timer.Timer.TheVariants.{T200, T203}
 use Rattle.lapd_frame.specs.declared.Role.{Role}
 use Rattle.lapd_frame.specs.declared.Role.TheVariants.{Command, Answer}
-use Rattle.lapd_frame.specs.declared.Control.{Control}
 use Rattle.lapd_frame.specs.declared.Control.TheVariants.{I, Rr, Rnr, Rej, Sabme, Dm, Disc, Ua, Frmr}
 use Rattle.lapd_frame.specs.declared.fault_kind.FaultKind.{FaultKind}
 use Rattle.lapd_frame.specs.Frame.{content_fault}
 use Rattle.lapd_mod128.specs.Counting.{Reading}
-use Rattle.lapd_supervision.specs.StateVariables.{is_valid_nr, acknowledges_all, after_i_frame, without_ack_pending, with_peer_busy}
-use Rattle.lapd_states.specs.declared.event.LinkFault.{LinkFault}
+use Rattle.lapd_supervision.specs.StateVariables.{is_valid_nr, acknowledges_all}
 use Rattle.lapd_states.specs.declared.state.State.{State}
 use Rattle.lapd_states.specs.declared.state.State.TheVariants.{TeiAssigned, AwaitingEstablishment, AwaitingRelease, MultipleFrameEstablished, TimerRecovery}
 use Rattle.lapd_states.specs.declared.out.Out.{Out}
-use Rattle.lapd_states.specs.declared.out.Out.TheVariants.{Send, SendMessage, SendUnit, Up, UnitUp, Established, Confirmed, Released, ReleaseConfirm, Report}
+use Rattle.lapd_states.specs.declared.out.Out.TheVariants.{Send, SendUnit, UnitUp, Established, Confirmed, Released, ReleaseConfirm, Report}
 use Rattle.lapd_states.specs.AwaitingEstablishment.{release_primitive, end_establishment, confirm_or_indicate, ua_final, awaiting_establishment_t200, awaiting_establishment}
 use Rattle.lapd_states.specs.AwaitingRelease.{confirm_release, awaiting_release_t200, awaiting_release}
 use Rattle.lapd_states.specs.Begins.{is_sabme, is_final_ua, begins}
-use Rattle.lapd_states.specs.Close.{is_7_or_8, may_send_next, send_next, send_all, acknowledge_pending, close}
-use Rattle.lapd_states.specs.End.{End, StepState, ◌▷◌, begin, runs, unsent}
+use Rattle.lapd_states.specs.Close.{is_7_or_8, may_send_next, send_all, acknowledge_pending, close}
+use Rattle.lapd_states.specs.End.{StepState, ◌▷◌, runs, unsent}
 use Rattle.lapd_states.specs.Established.{busy_on, busy_off, in_7_and_8, poll_or_final, acknowledge_with_timers, i_frame_nr, rr_nr, rej_nr, rnr_nr, multiple_frame_established}
 use Rattle.lapd_states.specs.Input.{Input, Heard, Faulty, Expiry, Establish, Release, BusyOn, BusyOff, UnitData, Give}
 use Rattle.lapd_states.specs.Procedures.{put, state_to, rc_to, increment_rc, layer3_initiated_to, release_pending_to, start, stop, expired, clear_exception_conditions, zero_state_variables, set_peer_busy, set_own_busy, enquiry_response, transmit_enquiry, transmit_rr, queue_up, discard_i_queue, acknowledge, invoke_retransmission, discard_unacknowledged, i_frame_ns, transmit_i_frame, ensure_t200, establish_data_link, reestablish_data_link, nr_error_recovery}
-use Rattle.lapd_states.specs.Refusal.{refused}
-use Rattle.lapd_states.specs.Table.{by_state, report_fault, is_unit_data, row, unless, step}
+use Rattle.lapd_states.specs.Table.{by_state, report_fault, is_unit_data, row}
 use Rattle.lapd_states.specs.TeiAssigned.{tei_assigned}
 use Rattle.lapd_states.specs.TimerRecovery.{poll, is_final, i_frame_nr_in_recovery, rr_nr_in_recovery, rnr_nr_in_recovery, timer_recovery_t200, timer_recovery}
 

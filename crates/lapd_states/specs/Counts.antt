@@ -1,5 +1,5 @@
 -- What the outputs of a step count, and what they are to agree with.
-use Rattle.std.specs.Prelude.{ℕ, ◌+◌, ◌&&◌, Bool, true, false, List, [], ◌∷◌}
+use Rattle.std.specs.Prelude.{ℕ, ◌+◌, ◌&&◌, Bool, false, List, [], ◌∷◌}
 use Rattle.lapd_frame.specs.declared.Role.TheVariants.{Command}
 use Rattle.lapd_frame.specs.declared.Control.TheVariants.{I}
 use Rattle.lapd_supervision.specs.StateVariables.{is_accepted}
