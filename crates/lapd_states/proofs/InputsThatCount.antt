@@ -1,10 +1,10 @@
 -- The inputs that count: where an establishment begins, a message is given, and an I frame is accepted.
-use Rattle.std.proofs.Common.{◌≡◌, ℕ, ◌+◌, ◌==◌, ◌&&◌, not, nat_lt, length, Bool, true, false, if◌then◌else◌, List, [], ◌∷◌, ◌++◌, Option, Some, None, Ok, refl, sym, ◌∙◌, ap, arith}
+use Rattle.std.proofs.Common.{◌≡◌, ℕ, zero, suc, ◌+◌, ◌==◌, ◌&&◌, not, nat_lt, length, Bool, true, false, if◌then◌else◌, List, [], ◌∷◌, ◌++◌, Option, Some, None, Ok, refl, sym, subst, ◌∙◌, ap, arith}
 use Rattle.std.proofs.lemmas.List.{append-nil}
 use Rattle.lapd_frame.specs.declared.Role.TheVariants.{Command, Answer}
 use Rattle.lapd_frame.specs.declared.Control.TheVariants.{I, Rr, Rnr, Rej, Sabme, Dm, Ui, Disc, Ua, Frmr, Xid}
 use Rattle.lapd_mod128.specs.Counting.{Reading}
-use Rattle.lapd_supervision.specs.StateVariables.{is_accepted, i_frame_response}
+use Rattle.lapd_supervision.specs.StateVariables.{with_zero_counters, without_ack_pending, after_sending, is_accepted, i_frame_response}
 use Rattle.lapd_states.specs.declared.event.LinkFault.{LinkFault}
 use Rattle.lapd_states.specs.declared.event.LinkFault.TheVariants.{TooLong}
 use Rattle.lapd_states.specs.declared.state.State.{State}
@@ -12,10 +12,10 @@ use Rattle.lapd_states.specs.declared.state.State.TheVariants.{TeiAssigned, Awai
 use Rattle.lapd_states.specs.declared.out.Out.{Out}
 use Rattle.lapd_states.specs.declared.out.Out.TheVariants.{Up}
 use Rattle.lapd_states.specs.AwaitingEstablishment.{confirm_or_indicate, ua_final, awaiting_establishment}
-use Rattle.lapd_states.specs.Begins.{begins}
-use Rattle.lapd_states.specs.Close.{is_7_or_8, close}
+use Rattle.lapd_states.specs.Begins.{begins, HasBegun}
+use Rattle.lapd_states.specs.Close.{is_7_or_8, may_send_next, send_next, send_all, acknowledge_pending, close}
 use Rattle.lapd_states.specs.Counts.{ups, messages_of, accepts}
-use Rattle.lapd_states.specs.End.{End, StepState, begin, waiting}
+use Rattle.lapd_states.specs.End.{End, StepState, begin, unsent, waiting}
 use Rattle.lapd_states.specs.Established.{in_7_and_8, multiple_frame_established}
 use Rattle.lapd_states.specs.Input.{Input, Heard, Faulty, Expiry, Establish, Release, BusyOn, BusyOff, UnitData, Give}
 use Rattle.lapd_states.specs.Procedures.{out_where, response_of, put, state_to, rc_to, increment_rc, layer3_initiated_to, release_pending_to, start, stop, expired, clear_exception_conditions, zero_state_variables, set_peer_busy, set_own_busy, enquiry_response, transmit_enquiry, transmit_rr, queue_up, discard_i_queue, acknowledge, invoke_retransmission, discard_unacknowledged, i_frame_ns, transmit_i_frame, ensure_t200}
@@ -33,9 +33,9 @@ either_count : (test : Bool) (x y : StepState) (n : ℕ) → x.end.establishment
 either_count true x y n one other = one
 either_count false x y n one other = other
 
-other_counts : (test : Bool) (x y : StepState) (n : ℕ) → test ≡ false → y.end.establishments ≡ n → (if test then x else y).end.establishments ≡ n
-other_counts true x y n chosen other = cc
-other_counts false x y n chosen other = other
+other_begins : (before : End) (test : Bool) (x y : StepState) → test ≡ false → HasBegun before y.end → HasBegun before (if test then x else y).end
+other_begins before true x y chosen other = cc
+other_begins before false x y chosen other = other
 
 confirming_counts_none : (s : StepState) → (confirm_or_indicate s).end.establishments ≡ s.end.establishments
 unfolding confirm_or_indicate put discard_unacknowledged
@@ -45,34 +45,39 @@ stays_of : (leaving : Bool) → (true && not leaving) ≡ true → leaving ≡ f
 stays_of true h = cc
 stays_of false h = refl
 
-ua_begins : (s : StepState) → s.end.release_pending ≡ false → (ua_final s).end.establishments ≡ s.end.establishments + 1
-unfolding ua_final release_pending_to rc_to put start stop state_to zero_state_variables
-ua_begins s stays = other_counts s.end.release_pending _ _ _ stays (ap (λ n. n + 1) (confirming_counts_none s))
+ua_begins : (s : StepState) → s.end.release_pending ≡ false → HasBegun s.end (ua_final s).end
+unfolding ua_final release_pending_to rc_to put start stop state_to zero_state_variables with_zero_counters
+ua_begins s stays = other_begins s.end s.end.release_pending _ _ stays
+    (record { counted = ap (λ n. n + 1) (confirming_counts_none s); established = refl; none_acknowledged = refl; none_received = refl })
 
-begun_4 : (input : Input) (s : StepState) → begins TeiAssigned s.end.release_pending input ≡ true → (tei_assigned input s).end.establishments ≡ s.end.establishments + 1
-unfolding tei_assigned put state_to rc_to increment_rc layer3_initiated_to release_pending_to start stop expired clear_exception_conditions zero_state_variables set_peer_busy set_own_busy enquiry_response transmit_enquiry transmit_rr queue_up discard_i_queue acknowledge invoke_retransmission discard_unacknowledged i_frame_ns transmit_i_frame ensure_t200
-begun_4 (Heard (Sabme p) Command) s h = refl
+begun_4 : (input : Input) (s : StepState) → begins TeiAssigned s.end.release_pending input ≡ true → HasBegun s.end (tei_assigned input s).end
+unfolding tei_assigned put state_to rc_to increment_rc layer3_initiated_to release_pending_to start stop expired clear_exception_conditions zero_state_variables set_peer_busy set_own_busy enquiry_response transmit_enquiry transmit_rr queue_up discard_i_queue acknowledge invoke_retransmission discard_unacknowledged i_frame_ns transmit_i_frame ensure_t200 with_zero_counters
+begun_4 (Heard (Sabme p) Command) s h = record { counted = refl; established = refl; none_acknowledged = refl; none_received = refl }
 begun_4 (Heard (Disc p) Command) s h = cc
 begun_4 (Heard (Ua f) Answer) s h = cc
 begun_4 input s h = cc
 
-begun_5 : (input : Input) (s : StepState) → begins AwaitingEstablishment s.end.release_pending input ≡ true → (awaiting_establishment input s).end.establishments ≡ s.end.establishments + 1
+begun_5 : (input : Input) (s : StepState) → begins AwaitingEstablishment s.end.release_pending input ≡ true → HasBegun s.end (awaiting_establishment input s).end
 unfolding awaiting_establishment
 begun_5 (Heard (Ua true) Answer) s h = ua_begins s (stays_of s.end.release_pending h)
 begun_5 (Heard (Ua false) Answer) s h = cc
 begun_5 input s h = cc
 
-begun_7 : (r : Reading) (input : Input) (s : StepState) → begins MultipleFrameEstablished s.end.release_pending input ≡ true → (multiple_frame_established r input s).end.establishments ≡ s.end.establishments + 1
-unfolding multiple_frame_established in_7_and_8 put state_to rc_to increment_rc layer3_initiated_to release_pending_to start stop expired clear_exception_conditions zero_state_variables set_peer_busy set_own_busy enquiry_response transmit_enquiry transmit_rr queue_up discard_i_queue acknowledge invoke_retransmission discard_unacknowledged i_frame_ns transmit_i_frame ensure_t200
-begun_7 r (Heard (Sabme p) Command) s h = refl
+begun_7_and_8 : (p : Bool) (s : StepState) → HasBegun s.end (in_7_and_8 (Heard (Sabme p) Command) s).end
+unfolding in_7_and_8 put state_to rc_to increment_rc layer3_initiated_to release_pending_to start stop expired clear_exception_conditions zero_state_variables set_peer_busy set_own_busy enquiry_response transmit_enquiry transmit_rr queue_up discard_i_queue acknowledge invoke_retransmission discard_unacknowledged i_frame_ns transmit_i_frame ensure_t200 with_zero_counters
+begun_7_and_8 p s = record { counted = refl; established = refl; none_acknowledged = refl; none_received = refl }
+
+begun_7 : (r : Reading) (input : Input) (s : StepState) → begins MultipleFrameEstablished s.end.release_pending input ≡ true → HasBegun s.end (multiple_frame_established r input s).end
+unfolding multiple_frame_established
+begun_7 r (Heard (Sabme p) Command) s h = begun_7_and_8 p s
 begun_7 r input s h = cc
 
-begun_8 : (r : Reading) (input : Input) (s : StepState) → begins TimerRecovery s.end.release_pending input ≡ true → (timer_recovery r input s).end.establishments ≡ s.end.establishments + 1
-unfolding timer_recovery in_7_and_8 put state_to rc_to increment_rc layer3_initiated_to release_pending_to start stop expired clear_exception_conditions zero_state_variables set_peer_busy set_own_busy enquiry_response transmit_enquiry transmit_rr queue_up discard_i_queue acknowledge invoke_retransmission discard_unacknowledged i_frame_ns transmit_i_frame ensure_t200
-begun_8 r (Heard (Sabme p) Command) s h = refl
+begun_8 : (r : Reading) (input : Input) (s : StepState) → begins TimerRecovery s.end.release_pending input ≡ true → HasBegun s.end (timer_recovery r input s).end
+unfolding timer_recovery
+begun_8 r (Heard (Sabme p) Command) s h = begun_7_and_8 p s
 begun_8 r input s h = cc
 
-begun_in : (r : Reading) (state : State) (input : Input) (s : StepState) → begins state s.end.release_pending input ≡ true → (by_state r state input s).end.establishments ≡ s.end.establishments + 1
+begun_in : (r : Reading) (state : State) (input : Input) (s : StepState) → begins state s.end.release_pending input ≡ true → HasBegun s.end (by_state r state input s).end
 unfolding by_state
 begun_in r TeiAssigned input s h = begun_4 input s h
 begun_in r AwaitingEstablishment input s h = begun_5 input s h
@@ -93,23 +98,38 @@ by_state_alone r MultipleFrameEstablished input s h = cc
 by_state_alone r TimerRecovery (Heard (Sabme p) Command) s h = refl
 by_state_alone r TimerRecovery input s h = cc
 
-begun_by_row : (r : Reading) (input : Input) (e : End) → begins e.state e.release_pending input ≡ true → (row r e.state input (begin e)).end.establishments ≡ e.establishments + 1
+begun_by_row : (r : Reading) (input : Input) (e : End) → begins e.state e.release_pending input ≡ true → HasBegun e (row r e.state input (begin e)).end
 unfolding begin
-begun_by_row r input e h = ap (λ (s : StepState). s.end.establishments) (by_state_alone r e.state input (begin e) h) ∙ begun_in r e.state input (begin e) h
+begun_by_row r input e h =
+    let F : StepState → Type 0 = λ s. HasBegun e s.end in
+    subst F (sym (by_state_alone r e.state input (begin e) h)) (begun_in r e.state input (begin e) h)
 
-counted_by : (begun : Bool) (before now : ℕ) → (begun ≡ true → now ≡ before + 1) → (begun ≡ false → now ≡ before) → now ≡ (if begun then before + 1 else before)
-counted_by true before now one other = one refl
-counted_by false before now one other = other refl
+-- what goes out at the end of a step leaves it so
+either_begins : (before : End) (test : Bool) (x y : StepState) → HasBegun before x.end → HasBegun before y.end → HasBegun before (if test then x else y).end
+either_begins before true x y one other = one
+either_begins before false x y one other = other
 
-pub establishments_after : (r : Reading) (input : Input) (e : End) (s : StepState) → step r input e ≡ Ok s
-    → s.end.establishments ≡ (if begins e.state e.release_pending input then e.establishments + 1 else e.establishments)
-unfolding step
-establishments_after r input e s done =
-    let is = (taken (refused input e) (close r (row r e.state input (begin e))) s done).1 in
-    let F : StepState → ℕ = λ t. t.end.establishments in
-    counted_by (begins e.state e.release_pending input) e.establishments s.end.establishments
-    (λ h. sym (ap F is) ∙ (closed r (row r e.state input (begin e)) (kept_by_row r input e).spoken).same_establishment refl ∙ begun_by_row r input e h)
-    (λ h. (kept_by_step r input e s done).same_establishment h)
+begun_then_sent : (r : Reading) (before : End) (n : ℕ) (s : StepState) → HasBegun before s.end → HasBegun before (send_all r n s).end
+unfolding send_all transmit_i_frame after_sending ensure_t200
+begun_then_sent r before zero s h = h
+begun_then_sent r before (suc n) s h = either_begins before (may_send_next r s) (send_all r n (send_next r s)) s
+    (begun_then_sent r before n (send_next r s) (record { counted = h.counted; established = h.established; none_acknowledged = h.none_acknowledged; none_received = h.none_received })) h
+
+begun_then_told : (before : End) (s : StepState) → HasBegun before s.end → HasBegun before (acknowledge_pending s).end
+unfolding acknowledge_pending transmit_rr without_ack_pending
+begun_then_told before s h = either_begins before (is_7_or_8 s.end.state && s.end.window.ack_pending) (transmit_rr s) s
+    (record { counted = h.counted; established = h.established; none_acknowledged = h.none_acknowledged; none_received = h.none_received }) h
+
+pub begun_by_step : (r : Reading) (input : Input) (e : End) (s : StepState) → begins e.state e.release_pending input ≡ true → step r input e ≡ Ok s → HasBegun e s.end
+unfolding step close
+begun_by_step r input e s h done =
+    let F : StepState → Type 0 = λ t. HasBegun e t.end in
+    let there = row r e.state input (begin e) in
+    subst F (taken (refused input e) (close r there) s done).1
+    (begun_then_told e (send_all r (unsent there.end) there) (begun_then_sent r e (unsent there.end) there (begun_by_row r input e h)))
+
+pub begun_by_no_step : (r : Reading) (input : Input) (e : End) (s : StepState) → begins e.state e.release_pending input ≡ false → step r input e ≡ Ok s → s.end.establishments ≡ e.establishments
+begun_by_no_step r input e s h done = (kept_by_step r input e s done).same_establishment h
 
 -- ---- A message is given.
 

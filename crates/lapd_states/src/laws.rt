@@ -1,8 +1,8 @@
 //! Laws of the whole state table, over its definitions. They do nothing when they are called.
 
-ghost use Rattle.std.specs.Prelude.{◌≡◌, ◌≤◌, ◌+◌, ◌++◌, ℕ, if◌then◌else◌, length, Ok};
+ghost use Rattle.std.specs.Prelude.{◌≡◌, ◌≤◌, ◌+◌, ◌++◌, true, false, ℕ, if◌then◌else◌, length, Ok};
 ghost use Rattle.lapd_mod128.specs.Counting.{Reading, Whole, Tagged};
-ghost use Rattle.lapd_states.specs.Begins.{begins};
+ghost use Rattle.lapd_states.specs.Begins.{begins, HasBegun};
 ghost use Rattle.lapd_states.specs.Counts.{ups, leaving, messages_of, accepts};
 ghost use Rattle.lapd_states.specs.End.{End, StepState, new_end};
 ghost use Rattle.lapd_states.specs.Input.{Input};
@@ -44,10 +44,12 @@ pub fn sent_frames_are_in_the_grammar()
 {}
 
 /// A step begins one establishment or none: one by a SABME command in states 4, 7 and 8, and by a UA with F=1 in state 5
-/// where no release waits for it (Q.921 5.5.1.2).
+/// where no release waits for it (Q.921 5.5.1.2). Then the end is in state 7 with V(A) and V(R) at 0.
 pub fn establishments_are_counted()
-    ensures { (r : Reading) (input : Input) (e : End) (s : StepState) → step r input e ≡ Ok s
-        → s.end.establishments ≡ (if begins e.state e.release_pending input then e.establishments + 1 else e.establishments) }
+    ensures begun { (r : Reading) (input : Input) (e : End) (s : StepState) → begins e.state e.release_pending input ≡ true
+        → step r input e ≡ Ok s → HasBegun e s.end }
+    ensures none { (r : Reading) (input : Input) (e : End) (s : StepState) → begins e.state e.release_pending input ≡ false
+        → step r input e ≡ Ok s → s.end.establishments ≡ e.establishments }
 {}
 
 /// Messages are told of rightly. Those given stay, and one that is accepted comes behind them; the place of the first
