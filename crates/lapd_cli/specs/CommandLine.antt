@@ -1,11 +1,12 @@
 -- What the words of the command line choose.
 use Rattle.std.specs.Prelude.{◌≡◌, ℕ, ◌≤◌, List, ◌⊎◌}
 use Rattle.std.specs.Str.Parse.{digits_value, IsNumeral}
+use Rattle.lapd_link.specs.declared.Recovery.TheVariants.{Enquiry}
 use Rattle.lapd_link.specs.Parameters.{Parameters}
 
 -- the window of basic access for call control, its N200, and room for 512 messages
 abbrev pub default_parameters : Parameters
-default_parameters = record { k = 1; n200 = 3; room = 512 }
+default_parameters = record { k = 1; n200 = 3; room = 512; recovery = Enquiry }
 
 -- one is written in decimal digits alone, and lies from 1 to `most`
 pub record IsNumberTo (most : ℕ) (text : List ℕ) : Type 0 where

@@ -11,7 +11,7 @@ use crate::help;
 use clap::{Arg, ArgAction, ArgMatches, Command, Error};
 use lapd_commands::params_of;
 use lapd_frame::{Sapi, Side};
-use lapd_link::Params;
+use lapd_link::{Params, Recovery};
 use number_option::{K, N200, OutOfRange, ROOM};
 use std::alloc::{AllocError, Global};
 use std::convert::AsStr;
@@ -70,7 +70,7 @@ fn answer_chosen<'a>(given: &ArgMatches<'a>) -> Result<Chosen, Unchosen<'a>> {
     match params_given(given) {
         Ok(params) => Ok(Chosen::Answer {
             side: side_given(given),
-            params,
+            params: params.with_recovery(recovery_given(given)),
         }),
         Err(fault) => Err(Unchosen::OutOfRange(fault)),
     }
@@ -80,6 +80,13 @@ fn side_given(given: &ArgMatches<'_>) -> Side {
     match given.get_str("side") {
         Some("user") => Side::User,
         _ => Side::Network,
+    }
+}
+
+fn recovery_given(given: &ArgMatches<'_>) -> Recovery {
+    match given.get_str("recovery") {
+        Some("last") => Recovery::LastMessage,
+        _ => Recovery::Enquiry,
     }
 }
 
@@ -130,7 +137,8 @@ fn answer_command<'a>(alloc: Global) -> Result<Command<'a>, AllocError> {
         .arg(side_option(alloc))?
         .arg(K.arg(alloc))?
         .arg(N200.arg(alloc))?
-        .arg(ROOM.arg(alloc))
+        .arg(ROOM.arg(alloc))?
+        .arg(recovery_option(alloc))
 }
 
 fn decode_command<'a>(alloc: Global) -> Command<'a> {
@@ -149,4 +157,16 @@ fn side_option<'a>(alloc: Global) -> Arg<'a> {
         .action(ArgAction::Set)
         .value_parser(SIDES.as_slice())
         .default_value("net")
+}
+
+static RECOVERIES: [&str; 2] = ["enquiry", "last"];
+
+fn recovery_option<'a>(alloc: Global) -> Arg<'a> {
+    Arg::new(alloc, "recovery")
+        .long("recovery")
+        .value_name("RECOVERY")
+        .help("What T200 sends in state 7: an enquiry, or the last message again")
+        .action(ArgAction::Set)
+        .value_parser(RECOVERIES.as_slice())
+        .default_value("enquiry")
 }

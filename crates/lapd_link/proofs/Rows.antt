@@ -5,6 +5,8 @@ use Rattle.lapd_states.specs.declared.out.Out.{Out}
 use Rattle.lapd_link.specs.declared.machine.Machine.{Machine}
 use Rattle.lapd_link.specs.StandsFor.{StandsFor}
 use Rattle.lapd_states.specs.End.{StepState}
+use Rattle.lapd_supervision.specs.StateVariables.{StateVariables}
+use Rattle.lapd_states.specs.Established.{sends_last}
 use Rattle.lapd_states.specs.Parameters.{Parameters}
 
 pub then_row : (m : Machine) (outs : List Out) (test : Bool) (x y : StepState) → test ≡ true → StandsFor m outs x → StandsFor m outs (if test then x else y)
@@ -25,3 +27,7 @@ is_not_below rc_there rc n200_there n200 p q h = let test : nat_lt rc n200 ≡ f
 -- N200 of an end
 pub n200_of : (p q : Parameters) (n : ℕ) → p ≡ q → n ≡ q.n200 → p.n200 ≡ n
 n200_of p q n h k = let N200 : Parameters → ℕ = λ r. r.n200 in ap N200 h ∙ sym k
+
+-- what T200 sends in state 7, as the machine shows it
+pub sends_last_of : (p q : Parameters) (v w : StateVariables) (b : Bool) → p ≡ q → v ≡ w → sends_last q.recovery w ≡ b → sends_last p.recovery v ≡ b
+sends_last_of p q v w b same alike h = rw (same, alike) h

@@ -68,3 +68,7 @@ room_gone_back room q h = h
 pub on_ok : {X Y : Type 0} (r : Result X Y) (P Q : Type 0) → OnOk r P → (P → Q) → OnOk r Q
 on_ok (Ok x) P Q h f = f h
 on_ok (Err y) P Q h f = h
+
+-- the place of the last sent one
+pub tail_last_place : (given : List (List ℕ)) (first next : ℕ) (q : Waiting) → IsTail given first next q → next - 1 - first ≡ q.sent - 1
+tail_last_place given first next q t = omega (arith, t.next_is)

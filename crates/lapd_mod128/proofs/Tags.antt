@@ -1,7 +1,7 @@
 -- Laws that relate the two readings: they agree where whole numbers lie within 127 of each other.
-use Rattle.std.proofs.Common.{◌≡◌, ℕ, zero, suc, ◌+◌, ◌%◌, ◌≤◌, ◌==◌, nat_le, refl, arith}
+use Rattle.std.proofs.Common.{◌≡◌, ◌<◌, ℕ, zero, suc, ◌+◌, ◌%◌, ◌≤◌, ◌==◌, nat_le, refl, arith}
 use Rattle.std.proofs.lemmas.Bool.Decides.{nat_tests}
-use Rattle.lapd_mod128.specs.Counting.{Whole, Tagged, tag, after, number_after, steps, lies_within, AreNear}
+use Rattle.lapd_mod128.specs.Counting.{Whole, Tagged, tag, after, before, number_after, steps, lies_within, AreNear}
 use Rattle.lapd_mod128.proofs.Steps.{number_after_tagged}
 
 -- the tag is the remainder
@@ -18,6 +18,11 @@ tag_is_counted n = omega (arith, number_after_tagged n 0)
 pub tag_of_after : (n : ℕ) → tag (after Whole n) ≡ after Tagged (tag n)
 unfolding tag after
 tag_of_after n = omega arith
+
+-- one step back
+pub tag_of_before : (n : ℕ) → 0 < n → tag (before Whole n) ≡ before Tagged (tag n)
+unfolding tag before
+tag_of_before n h = omega arith
 
 -- the tag of where some steps lead is where they lead from the tag
 pub tag_of_number_after : (n a : ℕ) → tag (number_after Whole n a) ≡ number_after Tagged n (tag a)

@@ -21,6 +21,11 @@ unfoldable pub after : Reading → ℕ → ℕ
 after Whole n = n + 1
 after Tagged n = (n + 1) % 128
 
+-- one step back: the tag before 0 is 127
+unfoldable pub before : Reading → ℕ → ℕ
+before Whole n = n - 1
+before Tagged n = (n + 127) % 128
+
 -- where `n` steps of one lead from `a`
 unfoldable pub number_after : Reading → ℕ → ℕ → ℕ
 number_after r zero a = a

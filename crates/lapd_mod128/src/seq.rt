@@ -1,5 +1,5 @@
 ghost use Rattle.std.specs.Prelude.{◌≡◌, ◌<◌, ◌≤◌, ◌↔◌, IsTrue, IfSome, is_some, nat_lt};
-ghost use Rattle.lapd_mod128.specs.Counting.{Tagged, after, number_after, steps, lies_within, AreSteps, LiesFrom, InFewerSteps};
+ghost use Rattle.lapd_mod128.specs.Counting.{Tagged, after, before, number_after, steps, lies_within, AreSteps, LiesFrom, InFewerSteps};
 
 use std::marker::Model;
 
@@ -24,7 +24,7 @@ impl Model for Seq {
     ghost inverse = { λ n. record { value = n } };
 }
 
-#[tactic(auto, using(crate::proofs::Steps::steps_are_counted), unfolding(crate::specs::Counting::after, crate::specs::Counting::steps, crate::specs::Counting::reaches, crate::specs::Counting::lies_within))]
+#[tactic(auto, using(crate::proofs::Steps::steps_are_counted), unfolding(crate::specs::Counting::after, crate::specs::Counting::before, crate::specs::Counting::steps, crate::specs::Counting::reaches, crate::specs::Counting::lies_within))]
 impl Seq {
     /// The counter of this value, or `None` where it is above 127.
     pub fn new(value: u8) -> Option<Seq>
@@ -58,6 +58,7 @@ impl Seq {
 
     /// One step back: the counter whose next one is this.
     pub fn back(self) -> Seq
+        ensures one_back { result ≡ before Tagged self }
         ensures undone { after Tagged result ≡ self }
         ensures in_range { result < 128 }
     {

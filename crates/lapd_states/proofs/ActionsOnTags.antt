@@ -1,5 +1,5 @@
 -- Each action on tags does what it does on numbers without a bound.
-use Rattle.std.proofs.Common.{◌≡◌, ℕ, ◌+◌, ◌-◌, ◌≤◌, ◌==◌, nat_lt, Bool, true, false, if◌then◌else◌, List, [], ◌∷◌, ◌++◌, map, Option, Some, None, option_map, refl}
+use Rattle.std.proofs.Common.{◌≡◌, ◌<◌, ℕ, ◌+◌, ◌-◌, ◌≤◌, ◌==◌, nat_lt, Bool, true, false, if◌then◌else◌, List, [], ◌∷◌, ◌++◌, map, Option, Some, None, option_map, refl}
 use Rattle.std.proofs.lemmas.List.{map-append}
 use Rattle.lapd_timers.specs.declared.timer.Timer.{Timer}
 use Rattle.lapd_timers.specs.declared.timer.Timer.TheVariants.{T200, T201, T202, T203}
@@ -7,14 +7,14 @@ use Rattle.lapd_frame.specs.declared.Role.TheVariants.{Command, Answer}
 use Rattle.lapd_frame.specs.declared.Control.{Control}
 use Rattle.lapd_mod128.specs.Counting.{Whole, Tagged, tag, AreNear}
 use Rattle.lapd_mod128.proofs.Tags.{equality_on_tags}
-use Rattle.lapd_supervision.specs.StateVariables.{status_frame, acknowledgement, is_accepted, i_frame_response, acknowledged_count, next_i_frame, with_own_busy}
+use Rattle.lapd_supervision.specs.StateVariables.{status_frame, acknowledgement, is_accepted, i_frame_response, acknowledged_count, next_i_frame, last_i_frame, with_own_busy}
 use Rattle.lapd_supervision.specs.Tags.{tag_variables, tag_control}
-use Rattle.lapd_supervision.proofs.Tagging.{without_exceptions_on_tags, with_zero_counters_on_tags, without_ack_pending_on_tags, own_busy_on_tags, peer_busy_on_tags, status_frame_on_tags, acknowledgement_on_tags, next_i_frame_on_tags, after_sending_on_tags, with_va_on_tags, acknowledged_count_on_tags, with_vs_on_tags, is_accepted_on_tags, after_i_frame_on_tags, i_frame_response_on_tags}
+use Rattle.lapd_supervision.proofs.Tagging.{without_exceptions_on_tags, with_zero_counters_on_tags, without_ack_pending_on_tags, own_busy_on_tags, peer_busy_on_tags, status_frame_on_tags, acknowledgement_on_tags, next_i_frame_on_tags, last_i_frame_on_tags, after_sending_on_tags, with_va_on_tags, acknowledged_count_on_tags, with_vs_on_tags, is_accepted_on_tags, after_i_frame_on_tags, i_frame_response_on_tags}
 use Rattle.lapd_states.specs.declared.state.State.{State}
 use Rattle.lapd_states.specs.declared.out.Out.{Out}
 use Rattle.lapd_states.specs.declared.out.Out.TheVariants.{Send, SendMessage, Up, Established, Acknowledged, Dropped, Start, Stop}
 use Rattle.lapd_states.specs.End.{End, StepState, waiting, runs, with_timer}
-use Rattle.lapd_states.specs.Procedures.{out_where, counted, response_of, put, state_to, rc_to, increment_rc, layer3_initiated_to, release_pending_to, start, stop, expired, clear_exception_conditions, zero_state_variables, set_peer_busy, set_own_busy, enquiry_response, transmit_enquiry, transmit_rr, queue_up, discard_i_queue, acknowledge, invoke_retransmission, discard_unacknowledged, i_frame_ns, transmit_i_frame, ensure_t200, establish_data_link, reestablish_data_link, nr_error_recovery}
+use Rattle.lapd_states.specs.Procedures.{out_where, counted, response_of, put, state_to, rc_to, increment_rc, layer3_initiated_to, release_pending_to, start, stop, expired, clear_exception_conditions, zero_state_variables, set_peer_busy, set_own_busy, enquiry_response, transmit_enquiry, transmit_rr, queue_up, discard_i_queue, acknowledge, invoke_retransmission, discard_unacknowledged, i_frame_ns, transmit_i_frame, retransmit_last_i_frame, ensure_t200, establish_data_link, reestablish_data_link, nr_error_recovery}
 use Rattle.lapd_states.specs.Tagging.{tag_out, tag_end, tag_step_state}
 
 -- ---- Outputs.
@@ -170,6 +170,11 @@ pub transmit_i_frame_on_tags : (s : StepState) → tag_step_state (transmit_i_fr
 unfolding tag_step_state transmit_i_frame
 transmit_i_frame_on_tags s =
     rw (map-append tag_out s.outs (SendMessage (s.end.next - s.end.first) (next_i_frame s.end.window) ∷ []), next_i_frame_on_tags s.end.window, after_sending_on_tags s.end.window) refl
+
+pub retransmit_last_i_frame_on_tags : (s : StepState) → 0 < s.end.window.vs → tag_step_state (retransmit_last_i_frame Whole s) ≡ retransmit_last_i_frame Tagged (tag_step_state s)
+unfolding tag_step_state retransmit_last_i_frame
+retransmit_last_i_frame_on_tags s h =
+    rw (map-append tag_out s.outs (SendMessage (s.end.next - 1 - s.end.first) (last_i_frame Whole s.end.window) ∷ Start T200 ∷ []), last_i_frame_on_tags s.end.window h, without_ack_pending_on_tags s.end.window) refl
 
 stopped_on_tags : (on : Bool) (out : List Out) → map tag_out out ≡ out → map tag_out (if on then [] else out) ≡ (if on then [] else out)
 stopped_on_tags true out same = refl

@@ -1,6 +1,6 @@
 -- What a step keeps that depends on no state: parameters, the grammar of what is sent, and short messages; and but for
 -- the inputs that say otherwise, the messages given, the number of establishments, and nothing for layer 3.
-use Rattle.std.proofs.Common.{◌≡◌, ℕ, ◌+◌, ◌≤◌, ◌==◌, nat_lt, Bool, true, false, if◌then◌else◌, List, [], ◌∷◌, ◌++◌, length, Option, Some, None, Result, Ok, refl, subst, arith}
+use Rattle.std.proofs.Common.{◌≡◌, ◌-◌, ℕ, ◌+◌, ◌≤◌, ◌==◌, nat_lt, Bool, true, false, if◌then◌else◌, List, [], ◌∷◌, ◌++◌, length, Option, Some, None, Result, Ok, refl, subst, arith}
 use Rattle.std.proofs.lemmas.Bool.Decides.{nat_tests}
 use Rattle.lapd_timers.specs.declared.timer.Timer.{Timer}
 use Rattle.lapd_timers.specs.declared.timer.Timer.TheVariants.{T200, T201, T202, T203}
@@ -10,7 +10,7 @@ use Rattle.lapd_frame.specs.declared.Control.{Control}
 use Rattle.lapd_frame.specs.declared.Control.TheVariants.{I, Rr, Rnr, Rej}
 use Rattle.lapd_frame.specs.Frame.{n201, at_most_n201, content_fault}
 use Rattle.lapd_mod128.specs.Counting.{Reading}
-use Rattle.lapd_supervision.specs.StateVariables.{StateVariables, status_frame, acknowledgement, poll_response, is_accepted, is_rejected, after_i_frame, i_frame_response, acknowledged_count, next_i_frame, with_own_busy}
+use Rattle.lapd_supervision.specs.StateVariables.{StateVariables, status_frame, acknowledgement, poll_response, is_accepted, is_rejected, after_i_frame, i_frame_response, acknowledged_count, next_i_frame, last_i_frame, with_own_busy}
 use Rattle.lapd_states.specs.declared.event.LinkFault.{LinkFault}
 use Rattle.lapd_states.specs.declared.event.LinkFault.TheVariants.{TooLong}
 use Rattle.lapd_states.specs.declared.state.State.{State}
@@ -22,7 +22,7 @@ use Rattle.lapd_states.specs.Counts.{ups}
 use Rattle.lapd_states.specs.End.{End, StepState, begin, waiting, runs, with_timer}
 use Rattle.lapd_states.specs.Input.{Input, Heard, Give}
 use Rattle.lapd_states.specs.Parameters.{Parameters}
-use Rattle.lapd_states.specs.Procedures.{out_where, counted, response_of, put, state_to, rc_to, increment_rc, layer3_initiated_to, release_pending_to, start, stop, expired, clear_exception_conditions, zero_state_variables, set_peer_busy, set_own_busy, enquiry_response, transmit_enquiry, transmit_rr, queue_up, discard_i_queue, acknowledge, invoke_retransmission, discard_unacknowledged, i_frame_ns, transmit_i_frame, ensure_t200}
+use Rattle.lapd_states.specs.Procedures.{retransmit_last_i_frame, out_where, counted, response_of, put, state_to, rc_to, increment_rc, layer3_initiated_to, release_pending_to, start, stop, expired, clear_exception_conditions, zero_state_variables, set_peer_busy, set_own_busy, enquiry_response, transmit_enquiry, transmit_rr, queue_up, discard_i_queue, acknowledge, invoke_retransmission, discard_unacknowledged, i_frame_ns, transmit_i_frame, ensure_t200}
 use Rattle.lapd_states.specs.Refusal.{refused}
 use Rattle.lapd_states.specs.Spoken.{AreSpoken, AreShort}
 use Rattle.lapd_states.specs.Table.{row, unless, step}
@@ -111,6 +111,10 @@ up_is_spoken false = tt
 fits : (len : ℕ) → len ≤ n201 → at_most_n201 len ≡ None
 fits len h = let no : nat_lt 260 len ≡ false = grind (arith, nat_tests) in rw no refl
 
+last_i_frame_is_spoken : (r : Reading) (m : StateVariables) (len : ℕ) → len ≤ n201 → content_fault Command (last_i_frame r m) len ≡ None
+unfolding last_i_frame
+last_i_frame_is_spoken r m len h = fits len h
+
 i_frame_is_spoken : (m : StateVariables) (len : ℕ) → len ≤ n201 → content_fault Command (next_i_frame m) len ≡ None
 unfolding next_i_frame
 i_frame_is_spoken m len h = fits len h
@@ -159,7 +163,7 @@ module _ (r : Reading) (e : End) (n : ℕ) (gives begins takes : Bool) (Fits : T
   timed T203 on s h = h
 
   pub kept : KeptByActions r IsKept IsKept (λ message. (gives ≡ true) × (Fits → length message ≤ n201)) (begins ≡ true) (takes ≡ true)
-  unfolding put state_to rc_to increment_rc layer3_initiated_to release_pending_to start stop expired clear_exception_conditions zero_state_variables set_peer_busy set_own_busy enquiry_response transmit_enquiry transmit_rr queue_up discard_i_queue acknowledge invoke_retransmission discard_unacknowledged i_frame_ns transmit_i_frame ensure_t200
+  unfolding put state_to rc_to increment_rc layer3_initiated_to release_pending_to start stop expired clear_exception_conditions zero_state_variables set_peer_busy set_own_busy enquiry_response transmit_enquiry retransmit_last_i_frame transmit_rr queue_up discard_i_queue acknowledge invoke_retransmission discard_unacknowledged i_frame_ns transmit_i_frame ensure_t200
   kept = record {
     puts = λ out s ok h. added (out ∷ []) (put_is_quiet out ok) h;
     states = λ state s h. h;
@@ -176,6 +180,7 @@ module _ (r : Reading) (e : End) (n : ℕ) (gives begins takes : Bool) (Fits : T
     owns = λ on s h. added (Send Answer (status_frame false (with_own_busy on s.end.window)) ∷ []) ((status_is_spoken Answer false (with_own_busy on s.end.window), tt), refl) h;
     responds = λ s h. added (Send Answer (status_frame true s.end.window) ∷ []) ((status_is_spoken Answer true s.end.window, tt), refl) h;
     enquires = λ s h. added (Send Command (status_frame true s.end.window) ∷ Start T200 ∷ []) ((status_is_spoken Command true s.end.window, (tt, tt)), refl) h;
+    repeats = λ s h. added (SendMessage (s.end.next - 1 - s.end.first) (last_i_frame r s.end.window) ∷ Start T200 ∷ []) ((last_i_frame_is_spoken r s.end.window, (tt, tt)), refl) h;
     queues = λ message s given h. record {
       same_parameters = h.same_parameters;
       same_given = λ no. let yes = given.0 in cc;

@@ -1,5 +1,6 @@
 -- Each row of states 7 and 8 on tags does what it does on numbers without a bound, as long as these lie near each other.
-use Rattle.std.proofs.Common.{◌≡◌, ℕ, ◌==◌, nat_lt, Bool, true, false, if◌then◌else◌, refl, arith}
+use Rattle.std.proofs.Common.{◌≡◌, ℕ, ◌<◌, ◌≤◌, ◌==◌, ◌&&◌, not, nat_lt, Bool, true, false, if◌then◌else◌, refl, arith}
+use Rattle.std.proofs.lemmas.Bool.Decides.{nat_tests}
 use Rattle.lapd_timers.specs.declared.timer.Timer.TheVariants.{T200, T203}
 use Rattle.lapd_frame.specs.declared.Role.{Role}
 use Rattle.lapd_frame.specs.declared.Role.TheVariants.{Command, Answer}
@@ -7,18 +8,21 @@ use Rattle.lapd_frame.specs.declared.Control.TheVariants.{I, Rr, Rnr, Rej, Sabme
 use Rattle.lapd_mod128.specs.Counting.{Whole, Tagged, tag, AreNear}
 use Rattle.lapd_mod128.proofs.Steps.{whole_within_tells}
 use Rattle.lapd_mod128.proofs.Tags.{equality_on_tags}
-use Rattle.lapd_supervision.specs.StateVariables.{is_valid_nr, acknowledges_all, after_i_frame, without_ack_pending, with_peer_busy, without_exceptions}
+use Rattle.lapd_supervision.specs.StateVariables.{StateVariables, is_valid_nr, acknowledges_all, after_i_frame, without_ack_pending, with_peer_busy, without_exceptions}
 use Rattle.lapd_supervision.specs.Tags.{tag_variables, tag_control, IsWindow, IsNearWindow}
 use Rattle.lapd_supervision.proofs.Tagging.{is_valid_nr_on_tags, acknowledges_all_on_tags}
+use Rattle.lapd_states.specs.declared.recovery.Recovery.{Recovery}
+use Rattle.lapd_states.specs.declared.recovery.Recovery.TheVariants.{Enquiry, LastMessage}
+use Rattle.lapd_states.specs.declared.state.State.TheVariants.{TimerRecovery}
 use Rattle.lapd_states.specs.declared.out.Letter.TheVariants as letter
 use Rattle.lapd_states.specs.declared.out.Out.TheVariants.{Send, Report}
 use Rattle.lapd_states.specs.End.{StepState, ◌▷◌}
-use Rattle.lapd_states.specs.Established.{busy_on, busy_off, in_7_and_8, poll_or_final, acknowledge_with_timers, i_frame_nr, rr_nr, rej_nr, rnr_nr, multiple_frame_established}
+use Rattle.lapd_states.specs.Established.{busy_on, busy_off, in_7_and_8, sends_last, established_t200, poll_or_final, acknowledge_with_timers, i_frame_nr, rr_nr, rej_nr, rnr_nr, multiple_frame_established}
 use Rattle.lapd_states.specs.Input.{Input, Heard, Expiry, Establish, Release, BusyOn, BusyOff, Give}
-use Rattle.lapd_states.specs.Procedures.{put, clear_exception_conditions, set_peer_busy, enquiry_response, acknowledge, discard_unacknowledged, i_frame_ns, nr_error_recovery}
+use Rattle.lapd_states.specs.Procedures.{put, expired, rc_to, state_to, transmit_enquiry, retransmit_last_i_frame, clear_exception_conditions, set_peer_busy, enquiry_response, acknowledge, discard_unacknowledged, i_frame_ns, nr_error_recovery}
 use Rattle.lapd_states.specs.Tagging.{tag_input, tag_step_state, IsHeardNear}
 use Rattle.lapd_states.specs.TimerRecovery.{poll, is_final, i_frame_nr_in_recovery, rr_nr_in_recovery, rnr_nr_in_recovery, timer_recovery_t200, timer_recovery}
-use Rattle.lapd_states.proofs.ActionsOnTags.{actions, procedures, set_peer_busy_on_tags, set_own_busy_on_tags, enquiry_response_on_tags, put_on_tags, acknowledge_on_tags, discard_unacknowledged_on_tags, i_frame_ns_on_tags, nr_error_recovery_on_tags}
+use Rattle.lapd_states.proofs.ActionsOnTags.{actions, retransmit_last_i_frame_on_tags, procedures, set_peer_busy_on_tags, set_own_busy_on_tags, enquiry_response_on_tags, put_on_tags, acknowledge_on_tags, discard_unacknowledged_on_tags, i_frame_ns_on_tags, nr_error_recovery_on_tags}
 use Rattle.lapd_states.proofs.RowsOnTags.{by_test, window_is_near}
 
 -- ---- The rows that states 7 and 8 have in common.
@@ -119,6 +123,42 @@ message_numbered : (nr ns : ℕ) (p : Bool) (s : StepState) → IsNumbered nr s 
 unfolding i_frame_ns after_i_frame
 message_numbered nr ns p s n = n
 
+-- T200 expires: whether the last message goes out again is decided alike
+sends_last_on_tags : (recovery : Recovery) (v : StateVariables) → IsWindow v.va v.vs → sends_last recovery (tag_variables v) ≡ sends_last recovery v
+unfolding tag_variables
+sends_last_on_tags Enquiry v w = refl
+sends_last_on_tags LastMessage v w = rw (equality_on_tags v.vs v.va (window_is_near v.va v.vs w)) refl
+
+differs : (busy : Bool) (vs va : ℕ) → (not busy && not (vs == va)) ≡ true → va ≤ vs → 0 < vs
+differs true vs va h low = cc
+differs false vs va h low = grind (arith, nat_tests, h, low)
+
+some_sent : (recovery : Recovery) (v : StateVariables) → IsWindow v.va v.vs → sends_last recovery v ≡ true → 0 < v.vs
+some_sent Enquiry v w h = cc
+some_sent LastMessage v w h = differs v.peer_busy v.vs v.va h w.in_order
+
+expired_keeps : (s : StepState) → 0 < s.end.window.vs → 0 < (expired T200 s).end.window.vs
+unfolding expired
+expired_keeps s h = h
+
+last_on_tags : (s : StepState) → 0 < s.end.window.vs
+    → tag_step_state (s ▷ expired T200 ▷ retransmit_last_i_frame Whole ▷ rc_to 1 ▷ state_to TimerRecovery) ≡ (tag_step_state s ▷ expired T200 ▷ retransmit_last_i_frame Tagged ▷ rc_to 1 ▷ state_to TimerRecovery)
+last_on_tags s h = simp (actions, retransmit_last_i_frame_on_tags (expired T200 s) (expired_keeps s h))
+
+enquiry_on_tags : (s : StepState)
+    → tag_step_state (s ▷ expired T200 ▷ transmit_enquiry ▷ rc_to 1 ▷ state_to TimerRecovery) ≡ (tag_step_state s ▷ expired T200 ▷ transmit_enquiry ▷ rc_to 1 ▷ state_to TimerRecovery)
+enquiry_on_tags s = simp actions
+
+shown_on_tags : (s : StepState) → IsWindow s.end.window.va s.end.window.vs → sends_last (tag_step_state s).end.parameters.recovery (tag_step_state s).end.window ≡ sends_last s.end.parameters.recovery s.end.window
+unfolding tag_step_state
+shown_on_tags s w = sends_last_on_tags s.end.parameters.recovery s.end.window w
+
+established_t200_on_tags : (s : StepState) → IsWindow s.end.window.va s.end.window.vs → tag_step_state (established_t200 Whole s) ≡ established_t200 Tagged (tag_step_state s)
+unfolding established_t200
+established_t200_on_tags s w =
+    by_test (sends_last s.end.parameters.recovery s.end.window) (sends_last (tag_step_state s).end.parameters.recovery (tag_step_state s).end.window) _ _ _ _ (shown_on_tags s w)
+    (λ last. last_on_tags s (some_sent s.end.parameters.recovery s.end.window w last)) (λ _. enquiry_on_tags s)
+
 pub multiple_frame_established_on_tags : (input : Input) (s : StepState) → IsWindow s.end.window.va s.end.window.vs → IsHeardNear input s.end.window
     → tag_step_state (multiple_frame_established Whole input s) ≡ multiple_frame_established Tagged (tag_input input) (tag_step_state s)
 unfolding multiple_frame_established tag_control
@@ -132,7 +172,7 @@ multiple_frame_established_on_tags (Heard (Rej nr pf) role) s w n =
 multiple_frame_established_on_tags (Heard (Rnr nr pf) role) s w n =
     rw (rnr_nr_on_tags nr (s ▷ set_peer_busy true ▷ poll_or_final role pf) (polled_numbered nr true role pf s (w, n)), poll_or_final_on_tags role pf (set_peer_busy true s), set_peer_busy_on_tags true s) refl
 multiple_frame_established_on_tags (Expiry T203) s w n = simp actions
-multiple_frame_established_on_tags (Expiry T200) s w n = simp actions
+multiple_frame_established_on_tags (Expiry T200) s w n = established_t200_on_tags s w
 multiple_frame_established_on_tags input s w n = in_7_and_8_on_tags input s w
 
 -- ---- State 8.

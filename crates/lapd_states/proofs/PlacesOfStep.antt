@@ -6,14 +6,14 @@ use Rattle.lapd_timers.specs.declared.timer.Timer.TheVariants.{T200, T201, T202,
 use Rattle.lapd_frame.specs.declared.Role.TheVariants.{Command, Answer}
 use Rattle.lapd_frame.specs.declared.Control.{Control}
 use Rattle.lapd_mod128.specs.Counting.{Reading}
-use Rattle.lapd_supervision.specs.StateVariables.{status_frame, acknowledgement, is_accepted, i_frame_response, acknowledged_count, next_i_frame, with_own_busy}
+use Rattle.lapd_supervision.specs.StateVariables.{status_frame, acknowledgement, is_accepted, i_frame_response, acknowledged_count, next_i_frame, last_i_frame, with_own_busy}
 use Rattle.lapd_states.specs.declared.out.Out.{Out}
 use Rattle.lapd_states.specs.declared.out.Out.TheVariants.{Send, SendMessage, SendUnit, Up, UnitUp, Established, Confirmed, Released, ReleaseConfirm, Acknowledged, Dropped, Start, Stop, Report}
 use Rattle.lapd_states.specs.Close.{close}
 use Rattle.lapd_states.specs.Counts.{leaving}
 use Rattle.lapd_states.specs.End.{End, StepState, begin, waiting, runs, with_timer}
 use Rattle.lapd_states.specs.Input.{Input}
-use Rattle.lapd_states.specs.Procedures.{out_where, counted, response_of, put, state_to, rc_to, increment_rc, layer3_initiated_to, release_pending_to, start, stop, expired, clear_exception_conditions, zero_state_variables, set_peer_busy, set_own_busy, enquiry_response, transmit_enquiry, transmit_rr, queue_up, discard_i_queue, acknowledge, invoke_retransmission, discard_unacknowledged, i_frame_ns, transmit_i_frame, ensure_t200}
+use Rattle.lapd_states.specs.Procedures.{retransmit_last_i_frame, out_where, counted, response_of, put, state_to, rc_to, increment_rc, layer3_initiated_to, release_pending_to, start, stop, expired, clear_exception_conditions, zero_state_variables, set_peer_busy, set_own_busy, enquiry_response, transmit_enquiry, transmit_rr, queue_up, discard_i_queue, acknowledge, invoke_retransmission, discard_unacknowledged, i_frame_ns, transmit_i_frame, ensure_t200}
 use Rattle.lapd_states.specs.Refusal.{refused}
 use Rattle.lapd_states.specs.Table.{row, step}
 use Rattle.lapd_states.proofs.EachAction.{IsPut, KeptByActions, row_keeps, close_keeps}
@@ -123,7 +123,7 @@ module _ (r : Reading) (from : ℕ) where
   timed_then T203 on s h = h
 
   pub places : KeptByActions r Before Then (λ message. Unit {0}) (Unit {0}) (Unit {0})
-  unfolding put state_to rc_to increment_rc layer3_initiated_to release_pending_to start stop expired clear_exception_conditions zero_state_variables set_peer_busy set_own_busy enquiry_response transmit_enquiry transmit_rr queue_up discard_i_queue acknowledge invoke_retransmission discard_unacknowledged i_frame_ns transmit_i_frame ensure_t200
+  unfolding put retransmit_last_i_frame state_to rc_to increment_rc layer3_initiated_to release_pending_to start stop expired clear_exception_conditions zero_state_variables set_peer_busy set_own_busy enquiry_response transmit_enquiry transmit_rr queue_up discard_i_queue acknowledge invoke_retransmission discard_unacknowledged i_frame_ns transmit_i_frame ensure_t200
   places = record {
     puts = λ out s ok h. placed (out ∷ []) (put_leaves_none out ok) h;
     states = λ state s h. h;
@@ -140,6 +140,7 @@ module _ (r : Reading) (from : ℕ) where
     owns = λ on s h. placed (Send Answer (status_frame false (with_own_busy on s.end.window)) ∷ []) refl h;
     responds = λ s h. placed (Send Answer (status_frame true s.end.window) ∷ []) refl h;
     enquires = λ s h. placed (Send Command (status_frame true s.end.window) ∷ Start T200 ∷ []) refl h;
+    repeats = λ s h. placed (SendMessage (s.end.next - 1 - s.end.first) (last_i_frame r s.end.window) ∷ Start T200 ∷ []) refl h;
     queues = λ message s given h. record { place = h.place; within = omega (arith, length-append s.end.given (message ∷ []), h.within) };
     discards = λ s h. record {
       place = omega (arith, leaving_both s.outs (counted (waiting s.end) Dropped), dropped_all (waiting s.end), h.place, h.within);

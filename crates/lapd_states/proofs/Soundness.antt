@@ -21,9 +21,9 @@ use Rattle.lapd_states.specs.AwaitingEstablishment.{end_establishment, confirm_o
 use Rattle.lapd_states.specs.AwaitingRelease.{confirm_release, awaiting_release_t200, awaiting_release}
 use Rattle.lapd_states.specs.Close.{send_next, is_7_or_8, is_established, send_all, acknowledge_pending, close, may_send_next}
 use Rattle.lapd_states.specs.End.{End, StepState, ◌▷◌, new_end, unsent, runs, begin}
-use Rattle.lapd_states.specs.Established.{acknowledge_with_timers, i_frame_nr, poll_or_final, rr_nr, rej_nr, rnr_nr, busy_on, busy_off, in_7_and_8, multiple_frame_established}
+use Rattle.lapd_states.specs.Established.{sends_last, established_t200, acknowledge_with_timers, i_frame_nr, poll_or_final, rr_nr, rej_nr, rnr_nr, busy_on, busy_off, in_7_and_8, multiple_frame_established}
 use Rattle.lapd_states.specs.Input.{Input, Heard, Faulty, Expiry, Establish, Release, BusyOn, BusyOff, UnitData, Give}
-use Rattle.lapd_states.specs.Procedures.{put, state_to, rc_to, increment_rc, layer3_initiated_to, release_pending_to, start, stop, expired, clear_exception_conditions, zero_state_variables, set_peer_busy, set_own_busy, enquiry_response, transmit_enquiry, queue_up, discard_i_queue, acknowledge, invoke_retransmission, i_frame_ns, discard_unacknowledged, transmit_i_frame, ensure_t200, transmit_rr, establish_data_link, reestablish_data_link, nr_error_recovery}
+use Rattle.lapd_states.specs.Procedures.{retransmit_last_i_frame, put, state_to, rc_to, increment_rc, layer3_initiated_to, release_pending_to, start, stop, expired, clear_exception_conditions, zero_state_variables, set_peer_busy, set_own_busy, enquiry_response, transmit_enquiry, queue_up, discard_i_queue, acknowledge, invoke_retransmission, i_frame_ns, discard_unacknowledged, transmit_i_frame, ensure_t200, transmit_rr, establish_data_link, reestablish_data_link, nr_error_recovery}
 use Rattle.lapd_states.specs.Refusal.{refused}
 use Rattle.lapd_states.specs.Sound.{AreOutstanding, AreUnsent, AreAwaiting, IsSoundIn, IsSound}
 use Rattle.lapd_states.specs.Table.{by_state, report_fault, row, step, is_unit_data, unless, fault_letter}
@@ -282,9 +282,13 @@ sound_in_7_and_8 r (Give message) s q h = opened_in r s.end.state _ q (given_out
 sound_in_7_and_8 r (Heard (Ua f) Answer) s q h = opened_in r s.end.state _ q h
 sound_in_7_and_8 r input s q h = opened_in r s.end.state _ q h
 
-established_expired : (r : Reading) (s : StepState) → AreOutstanding r s.end.first s.end.next (length s.end.given) s.end.window.va s.end.window.vs → SoundAfter r (multiple_frame_established r (Expiry T200) s) × SoundAfter r (multiple_frame_established r (Expiry T203) s)
-unfolding multiple_frame_established begin put state_to rc_to increment_rc layer3_initiated_to release_pending_to start stop expired clear_exception_conditions zero_state_variables set_peer_busy set_own_busy enquiry_response transmit_enquiry queue_up discard_i_queue acknowledge invoke_retransmission i_frame_ns discard_unacknowledged transmit_i_frame ensure_t200 transmit_rr without_exceptions with_zero_counters without_ack_pending after_i_frame with_va acknowledged_count with_vs after_sending with_own_busy with_peer_busy
-established_expired r s h = (h, h)
+expired_last : (r : Reading) (s : StepState) → AreOutstanding r s.end.first s.end.next (length s.end.given) s.end.window.va s.end.window.vs → SoundAfter r (established_t200 r s)
+unfolding established_t200 retransmit_last_i_frame expired transmit_enquiry without_ack_pending rc_to state_to
+expired_last r s h = either r (sends_last s.end.parameters.recovery s.end.window) _ _ (λ _. h) (λ _. h)
+
+expired_203 : (r : Reading) (s : StepState) → AreOutstanding r s.end.first s.end.next (length s.end.given) s.end.window.va s.end.window.vs → SoundAfter r (multiple_frame_established r (Expiry T203) s)
+unfolding multiple_frame_established expired transmit_enquiry without_ack_pending rc_to state_to
+expired_203 r s h = h
 
 recovery_expiring : (r : Reading) (s : StepState) → Opened r s → SoundAfter r (timer_recovery_t200 s)
 unfolding timer_recovery_t200 expired transmit_enquiry without_ack_pending increment_rc put
@@ -301,8 +305,8 @@ sound_established r (Heard (Rr nr pf) Answer) s o = ready_numbered r nr (poll_or
 sound_established r (Heard (Rnr nr pf) Answer) s o = not_ready_numbered r nr (poll_or_final Answer pf (set_peer_busy true s)) (polled r Answer pf (set_peer_busy true s) o)
 sound_established r (Heard (Rej nr pf) Answer) s o = reject_numbered r nr (poll_or_final Answer pf (set_peer_busy false s)) (polled r Answer pf (set_peer_busy false s) o)
 sound_established r (Heard (Dm true) Answer) s o = opened r (put (Report letter.B) s) o
-sound_established r (Expiry T200) s o = (established_expired r s o.1).0
-sound_established r (Expiry T203) s o = (established_expired r s o.1).1
+sound_established r (Expiry T200) s o = expired_last r s o.1
+sound_established r (Expiry T203) s o = expired_203 r s o.1
 sound_established r input s o = sound_in_7_and_8 r input s o.0 o.1
 
 sound_timer_recovery : (r : Reading) (h : Input) (s : StepState) → Opened r s → SoundAfter r (timer_recovery r h s)

@@ -1,17 +1,19 @@
 -- State 7, multiple frame established (Q.921 Figure B.7), and the rows that it has in common with state 8.
-use Rattle.std.specs.Prelude.{ℕ, ◌==◌, if◌then◌else◌, Bool, true, false}
+use Rattle.std.specs.Prelude.{ℕ, ◌==◌, ◌&&◌, if◌then◌else◌, not, Bool, true, false}
 use Rattle.lapd_frame.specs.declared.Role.{Role}
 use Rattle.lapd_frame.specs.declared.Role.TheVariants.{Command, Answer}
 use Rattle.lapd_frame.specs.declared.Control.TheVariants.{I, Rr, Rnr, Rej, Sabme, Dm, Disc, Ua, Frmr}
 use Rattle.lapd_timers.specs.declared.timer.Timer.TheVariants.{T200, T203}
 use Rattle.lapd_mod128.specs.Counting.{Reading}
-use Rattle.lapd_supervision.specs.StateVariables.{is_valid_nr, acknowledges_all}
+use Rattle.lapd_supervision.specs.StateVariables.{StateVariables, is_valid_nr, acknowledges_all}
+use Rattle.lapd_states.specs.declared.recovery.Recovery.{Recovery}
+use Rattle.lapd_states.specs.declared.recovery.Recovery.TheVariants.{Enquiry, LastMessage}
 use Rattle.lapd_states.specs.declared.state.State.TheVariants.{TeiAssigned, AwaitingRelease, MultipleFrameEstablished, TimerRecovery}
 use Rattle.lapd_states.specs.declared.out.Letter.TheVariants as letter
 use Rattle.lapd_states.specs.declared.out.Out.TheVariants.{Send, Released, Report}
 use Rattle.lapd_states.specs.Input.{Input, Heard, Expiry, Establish, Release, BusyOn, BusyOff, Give}
 use Rattle.lapd_states.specs.End.{StepState, ◌▷◌}
-use Rattle.lapd_states.specs.Procedures.{put, state_to, rc_to, layer3_initiated_to, start, stop, expired, clear_exception_conditions, zero_state_variables, set_peer_busy, set_own_busy, enquiry_response, transmit_enquiry, queue_up, discard_i_queue, acknowledge, invoke_retransmission, discard_unacknowledged, i_frame_ns, establish_data_link, reestablish_data_link, nr_error_recovery}
+use Rattle.lapd_states.specs.Procedures.{put, state_to, rc_to, layer3_initiated_to, start, stop, expired, clear_exception_conditions, zero_state_variables, set_peer_busy, set_own_busy, enquiry_response, transmit_enquiry, retransmit_last_i_frame, queue_up, discard_i_queue, acknowledge, invoke_retransmission, discard_unacknowledged, i_frame_ns, establish_data_link, reestablish_data_link, nr_error_recovery}
 use Rattle.lapd_states.specs.TeiAssigned.{unsolicited_ua}
 
 -- ---- States 7 and 8.
@@ -72,6 +74,18 @@ rej_nr r nr s =
 unfoldable pub rnr_nr : Reading → ℕ → StepState → StepState
 rnr_nr r nr s = if is_valid_nr r nr s.end.window then s ▷ acknowledge r nr ▷ stop T203 ▷ start T200 else s ▷ nr_error_recovery
 
+-- the recovery is LastMessage, the peer is not busy, and a message is outstanding
+abbrev pub sends_last : Recovery → StateVariables → Bool
+sends_last Enquiry v = false
+sends_last LastMessage v = not v.peer_busy && not (v.vs == v.va)
+
+-- T200 expires: the last I frame goes out again, or an enquiry (5.6.7)
+unfoldable pub established_t200 : Reading → StepState → StepState
+established_t200 r s =
+    if sends_last s.end.parameters.recovery s.end.window
+    then s ▷ expired T200 ▷ retransmit_last_i_frame r ▷ rc_to 1 ▷ state_to TimerRecovery
+    else s ▷ expired T200 ▷ transmit_enquiry ▷ rc_to 1 ▷ state_to TimerRecovery
+
 unfoldable pub multiple_frame_established : Reading → Input → StepState → StepState
 multiple_frame_established r (Heard (I ns nr p) Command) s = s ▷ i_frame_ns r ns p ▷ i_frame_nr r nr
 multiple_frame_established r (Heard (Dm true) Answer) s = s ▷ put (Report letter.B)
@@ -79,5 +93,5 @@ multiple_frame_established r (Heard (Rr nr pf) role) s = s ▷ set_peer_busy fal
 multiple_frame_established r (Heard (Rej nr pf) role) s = s ▷ set_peer_busy false ▷ poll_or_final role pf ▷ rej_nr r nr
 multiple_frame_established r (Heard (Rnr nr pf) role) s = s ▷ set_peer_busy true ▷ poll_or_final role pf ▷ rnr_nr r nr
 multiple_frame_established r (Expiry T203) s = s ▷ expired T203 ▷ rc_to 0 ▷ transmit_enquiry ▷ state_to TimerRecovery
-multiple_frame_established r (Expiry T200) s = s ▷ expired T200 ▷ transmit_enquiry ▷ rc_to 1 ▷ state_to TimerRecovery
+multiple_frame_established r (Expiry T200) s = s ▷ established_t200 r
 multiple_frame_established r input s = s ▷ in_7_and_8 input

@@ -10,7 +10,7 @@ use Rattle.lapd_frame.specs.declared.Role.TheVariants.{Command, Answer}
 use Rattle.lapd_frame.specs.declared.Control.{Control}
 use Rattle.lapd_frame.specs.declared.Control.TheVariants.{Sabme}
 use Rattle.lapd_mod128.specs.Counting.{Reading}
-use Rattle.lapd_supervision.specs.StateVariables.{without_exceptions, with_zero_counters, status_frame, acknowledgement, without_ack_pending, is_accepted, after_i_frame, i_frame_response, with_va, acknowledged_count, with_vs, next_i_frame, after_sending, with_own_busy, with_peer_busy}
+use Rattle.lapd_supervision.specs.StateVariables.{without_exceptions, with_zero_counters, status_frame, acknowledgement, without_ack_pending, is_accepted, after_i_frame, i_frame_response, with_va, acknowledged_count, with_vs, next_i_frame, last_i_frame, after_sending, with_own_busy, with_peer_busy}
 use Rattle.lapd_states.specs.declared.state.State.{State}
 use Rattle.lapd_states.specs.declared.state.State.TheVariants.{AwaitingEstablishment}
 use Rattle.lapd_states.specs.declared.out.Letter.TheVariants as letter
@@ -142,6 +142,13 @@ unfoldable pub transmit_i_frame : Reading → StepState → StepState
 transmit_i_frame r s = record {
   end = record (s.end) { window = after_sending r s.end.window; next = s.end.next + 1 };
   outs = s.outs ++ SendMessage (s.end.next - s.end.first) (next_i_frame s.end.window) ∷ [];
+}
+
+-- the last sent message goes out again, with P=1, and T200 is started (5.6.7 b)
+unfoldable pub retransmit_last_i_frame : Reading → StepState → StepState
+retransmit_last_i_frame r s = record {
+  end = record (s.end) { window = without_ack_pending s.end.window; t200 = true };
+  outs = s.outs ++ SendMessage (s.end.next - 1 - s.end.first) (last_i_frame r s.end.window) ∷ Start T200 ∷ [];
 }
 
 -- where T200 does not run, STOP T203 and START T200

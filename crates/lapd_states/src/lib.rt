@@ -10,6 +10,7 @@ mod event;
 mod laws;
 mod out;
 mod params;
+mod recovery;
 mod state;
 
 pub use event::{Event, LinkFault, Refused};
@@ -23,4 +24,5 @@ pub use laws::{
 };
 pub use out::{Letter, Out};
 pub use params::Params;
+pub use recovery::Recovery;
 pub use state::State;

@@ -1,6 +1,7 @@
 ghost use Rattle.std.specs.Prelude.{◌≡◌, ◌≤◌};
 ghost use Rattle.lapd_states.specs.Parameters.{parameters_of, basic_parameters, primary_parameters};
 
+use crate::Recovery;
 use lapd_frame::Sapi;
 use std::marker::Model;
 
@@ -10,6 +11,7 @@ pub struct Params {
     k: u8,
     n200: u8,
     room: u16,
+    recovery: Recovery,
 }
 
 impl Model for Params {
@@ -18,11 +20,11 @@ impl Model for Params {
 
     ghost Value = { Parameters };
 
-    ghost view = { λ p. record { k = p.k; n200 = p.n200; room = p.room } };
+    ghost view = { λ p. record { k = p.k; n200 = p.n200; room = p.room; recovery = p.recovery } };
 
-    ghost invariant = { λ p. AreInRange (record { k = p.k; n200 = p.n200; room = p.room }) };
+    ghost invariant = { λ p. AreInRange (record { k = p.k; n200 = p.n200; room = p.room; recovery = p.recovery }) };
 
-    ghost inverse = { λ n. record { k = n.k; n200 = n.n200; room = n.room } };
+    ghost inverse = { λ n. record { k = n.k; n200 = n.n200; room = n.room; recovery = n.recovery } };
 }
 
 impl Params {
@@ -33,7 +35,12 @@ impl Params {
     {
         let in_range = 1 <= k && k <= 127 && 1 <= n200 && n200 <= 100 && 1 <= room && room <= 1024;
         if in_range {
-            Some(Params { k, n200, room })
+            Some(Params {
+                k,
+                n200,
+                room,
+                recovery: Recovery::Enquiry,
+            })
         } else {
             None
         }
@@ -52,6 +59,7 @@ impl Params {
             k,
             n200: 3,
             room: 512,
+            recovery: Recovery::Enquiry,
         }
     }
 
@@ -63,7 +71,23 @@ impl Params {
             k: 7,
             n200: 3,
             room: 512,
+            recovery: Recovery::Enquiry,
         }
+    }
+
+    /// The same with this recovery. What [`Params::new`], [`Params::basic`] and [`Params::primary`] give has
+    /// [`Recovery::Enquiry`].
+    pub fn with_recovery(self, recovery: Recovery) -> Params
+        ensures { result ≡ record self { recovery = recovery } }
+    {
+        Params { recovery, ..self }
+    }
+
+    /// What T200 sends in state 7.
+    pub fn recovery(&self) -> Recovery
+        ensures { result ≡ self.now.recovery }
+    {
+        self.recovery
     }
 
     /// The window, 1 to 127 frames.

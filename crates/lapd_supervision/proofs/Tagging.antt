@@ -1,10 +1,10 @@
 -- On tags each action does what it does on numbers without a bound, as long as the numbers lie near each other.
-use Rattle.std.proofs.Common.{◌≡◌, ℕ, ◌+◌, ◌≤◌, Bool, true, false, if◌then◌else◌, Option, Some, option_map, refl, ap, arith}
+use Rattle.std.proofs.Common.{◌≡◌, ◌<◌, ℕ, ◌+◌, ◌≤◌, Bool, true, false, if◌then◌else◌, Option, Some, option_map, refl, ap, arith}
 use Rattle.lapd_field.specs.declared.control.Control.{Control}
 use Rattle.lapd_field.specs.declared.control.Control.TheVariants.{Rr, Rnr, Rej}
 use Rattle.lapd_mod128.specs.Counting.{Whole, Tagged, tag, after, AreNear}
-use Rattle.lapd_mod128.proofs.Tags.{tag_of_after, equality_on_tags, steps_on_tags, lies_within_on_tags}
-use Rattle.lapd_supervision.specs.StateVariables.{StateVariables, initial_variables, without_exceptions, with_zero_counters, status_frame, acknowledgement, without_ack_pending, poll_response, is_accepted, is_rejected, after_i_frame, i_frame_response, is_valid_nr, with_va, acknowledged_count, acknowledges_all, with_vs, outstanding, may_send, next_i_frame, after_sending, with_own_busy, with_peer_busy}
+use Rattle.lapd_mod128.proofs.Tags.{tag_of_after, tag_of_before, equality_on_tags, steps_on_tags, lies_within_on_tags}
+use Rattle.lapd_supervision.specs.StateVariables.{StateVariables, initial_variables, without_exceptions, with_zero_counters, status_frame, acknowledgement, without_ack_pending, poll_response, is_accepted, is_rejected, after_i_frame, i_frame_response, is_valid_nr, with_va, acknowledged_count, acknowledges_all, with_vs, outstanding, may_send, next_i_frame, last_i_frame, after_sending, with_own_busy, with_peer_busy}
 use Rattle.lapd_supervision.specs.Tags.{tag_variables, tag_control, IsWindow, IsNearWindow}
 
 -- ---- Actions that count nothing
@@ -51,6 +51,10 @@ acknowledgement_on_tags m = refl
 pub next_i_frame_on_tags : (m : StateVariables) → tag_control (next_i_frame m) ≡ next_i_frame (tag_variables m)
 unfolding tag_variables tag_control next_i_frame
 next_i_frame_on_tags m = refl
+
+pub last_i_frame_on_tags : (m : StateVariables) → 0 < m.vs → tag_control (last_i_frame Whole m) ≡ last_i_frame Tagged (tag_variables m)
+unfolding tag_variables tag_control last_i_frame
+last_i_frame_on_tags m h = rw (tag_of_before m.vs h) refl
 
 pub after_sending_on_tags : (m : StateVariables) → tag_variables (after_sending Whole m) ≡ after_sending Tagged (tag_variables m)
 unfolding tag_variables after_sending

@@ -4,7 +4,7 @@
 use Rattle.std.specs.Prelude.{◌≡◌, ℕ, ◌<◌, ◌==◌, nat_lt, Bool, true, false, not, ◌&&◌, ◌||◌, if◌then◌else◌, Option, Some, None}
 use Rattle.lapd_field.specs.declared.control.Control.{Control}
 use Rattle.lapd_field.specs.declared.control.Control.TheVariants.{I, Rr, Rnr, Rej}
-use Rattle.lapd_mod128.specs.Counting.{Reading, after, steps, lies_within}
+use Rattle.lapd_mod128.specs.Counting.{Reading, after, before, steps, lies_within}
 
 -- the state variables V(S), V(A), V(R) (Q.921 3.5.2), the busy conditions of the peer and of this end (5.6.5, 5.6.6),
 -- the reject condition (5.8.1), and whether an acknowledgement is to be sent (5.6.2.2)
@@ -120,6 +120,10 @@ next_i_frame m = I m.vs m.vr false
 -- V(S) is one on; the frame acknowledged, too
 unfoldable pub after_sending : Reading → StateVariables → StateVariables
 after_sending r m = record m { vs = after r m.vs; ack_pending = false }
+
+-- the last I frame again, with P=1 (Q.921 5.6.7 b): N(S) is V(S) - 1, N(R) is V(R)
+unfoldable pub last_i_frame : Reading → StateVariables → Control
+last_i_frame r m = I (before r m.vs) m.vr true
 
 -- ---- Busy conditions begin and end.
 

@@ -1,6 +1,6 @@
 ghost use Rattle.std.specs.Prelude.{◌≡◌, ◌<◌, ◌≤◌, ◌&&◌, true, false, not, Some, IfSome, is_some};
 ghost use Rattle.lapd_mod128.specs.Counting.{Tagged, after};
-ghost use Rattle.lapd_supervision.specs.StateVariables.{initial_variables, without_exceptions, with_zero_counters, status_frame, acknowledgement, without_ack_pending, is_accepted, is_rejected, poll_response, after_i_frame, i_frame_response, is_valid_nr, with_va, acknowledged_count, acknowledges_all, with_vs, may_send, next_i_frame, after_sending, with_own_busy, with_peer_busy};
+ghost use Rattle.lapd_supervision.specs.StateVariables.{initial_variables, without_exceptions, with_zero_counters, status_frame, acknowledgement, without_ack_pending, is_accepted, is_rejected, poll_response, after_i_frame, i_frame_response, is_valid_nr, with_va, acknowledged_count, acknowledges_all, with_vs, may_send, next_i_frame, last_i_frame, after_sending, with_own_busy, with_peer_busy};
 
 use crate::{Advance, Receipt};
 use lapd_field::{Control, Number};
@@ -368,6 +368,20 @@ impl Window {
             ..self.nothing_pending()
         };
         (window, control)
+    }
+
+    /// The last I frame that was sent, again, with P=1: N(S) = V(S) - 1; V(S) stays, ack pending false (Q.921 5.6.7 b).
+    #[tactic(auto, unfolding(crate::specs::StateVariables::last_i_frame, crate::specs::StateVariables::without_ack_pending))]
+    pub fn send_last(self) -> (Window, Control)
+        ensures window { result.0 ≡ without_ack_pending self }
+        ensures control { result.1 ≡ last_i_frame Tagged self }
+    {
+        let control = Control::I {
+            ns: number(self.vs.back()),
+            nr: number(self.vr),
+            p: true,
+        };
+        (self.nothing_pending(), control)
     }
 }
 

@@ -1,4 +1,5 @@
-//! Tests of the crates below, as tables: scripts and octets in hexadecimal, and what they call for.
+//! Tests of the crates below, as tables: scripts, rows of the state table, counters and queues, and what they call for.
+//! Those of fields, frames and trace lines stand in `lapd_trace`.
 //!
 //! They stand apart so that each crate is proved once. What a contract says is not tested again. A row shows that the
 //! definitions say what is meant, that a call can succeed, and what a value prints. `wants` fails a test with the row's
@@ -14,10 +15,6 @@ mod decodes;
 #[cfg(test)]
 mod devices;
 #[cfg(test)]
-mod fields;
-#[cfg(test)]
-mod frames;
-#[cfg(test)]
 mod links;
 #[cfg(test)]
 mod queues;
@@ -27,8 +24,6 @@ mod reports;
 mod rows;
 #[cfg(test)]
 mod scripts;
-#[cfg(test)]
-mod traces;
 #[cfg(test)]
 mod wants;
 #[cfg(test)]

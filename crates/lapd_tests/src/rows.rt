@@ -20,7 +20,7 @@ use lapd_script::Command;
 use std::alloc::Global;
 use std::test::Fail;
 
-/// A new link of this side, with a window of `k` frames, N200 of 2 or 3 and room for so many messages.
+/// A new link of this side, with a window of `k` frames, this N200 and room for so many messages.
 fn new_link(alloc: Global, side: Side, k: u8, n200: u8, room: u16) -> Result<Answerer, Fail> {
     let params = Params::new(k, n200, room).ok_or("a number is out of range")?;
     Ok(Answerer::new(alloc, side, params)?)
@@ -122,13 +122,33 @@ fn push_mark(text: &mut String, word: &str, set: bool) -> Result<(), Fail> {
 /// A word and a number other than 0.
 fn push_number(text: &mut String, word: &str, number: u8) -> Result<(), Fail> {
     if number != 0 {
-        write!(text, "{word}{number}")?;
+        text.push_str(word)?;
+        write!(text, "{number}")?;
     }
     Ok(())
 }
 
 /// A script, and the condition to which it leads.
 type Place = (&'static str, &'static str);
+
+/// A place, and rows that hold there.
+type Table = (Place, &'static [&'static str]);
+
+/// Checks the rows of each table.
+fn check_tables(alloc: Global, tables: &[Table]) -> Result<(), Fail> {
+    for (place, rows) in tables {
+        check_rows(alloc, *place, rows)?;
+    }
+    Ok(())
+}
+
+/// Checks rows that hold at each of these places.
+fn check_places(alloc: Global, places: &[Place], rows: &[&str]) -> Result<(), Fail> {
+    for place in places {
+        check_rows(alloc, *place, rows)?;
+    }
+    Ok(())
+}
 
 /// Checks rows of the state table, each `name | event | outputs | condition`, with `-` for no outputs and `=` for the
 /// condition before. For each one a new network link, with a window of two frames, N200 of 2 and room for three

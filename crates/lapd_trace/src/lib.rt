@@ -2,12 +2,14 @@
 //!
 //! Begin with [`line`]: it takes any octets and who sent them, and gives the text of the frame, or of the first fault
 //! where they are none. [`History`] keeps the last lines of a trace in room that is taken once, and [`Lines`] goes
-//! over them from the oldest. The test `every_control_field_and_fault` of lapd_tests shows a
+//! over them from the oldest. The test `every_control_field_and_fault` shows a
 //! line for each frame.
 #![tactic(auto)]
 
 mod history;
 mod lines;
+#[cfg(test)]
+mod tests;
 mod trace;
 
 pub use history::History;

@@ -111,6 +111,7 @@ impl Machine {
     /// T200 expires, where it runs.
     fn t200_expiry(&mut self, outs: &mut Outs)
         requires room { HasRoom 6 outs.old }
+        requires between { IsBetweenSteps self.old }
         ensures step { Does self.old outs.old self.new outs.new (row Tagged self.old.state (Expiry Timer.T200)) }
         ensures len { Grows 6 outs.old outs.new }
     {
@@ -122,6 +123,7 @@ impl Machine {
     /// T200 has run and expires.
     fn t200_expiry_by_state(&mut self, outs: &mut Outs)
         requires room { HasRoom 6 outs.old }
+        requires between { IsBetweenSteps self.old }
         ensures step { Does self.old outs.old self.new outs.new (by_state Tagged self.old.state (Expiry Timer.T200)) }
         ensures len { Grows 6 outs.old outs.new }
     {

@@ -1,16 +1,16 @@
 //! The rows of state 7, multiple frame established (Q.921 Figure B.7), and those that it has in common with state 8.
 
-ghost use Rattle.std.specs.Prelude.{◌≡◌, ◌==◌, true, false, IfSome, IfNone};
+ghost use Rattle.std.specs.Prelude.{◌≡◌, ◌<◌, ◌==◌, true, false, IfSome, IfNone};
 ghost use Rattle.lapd_mod128.specs.Counting.{Tagged};
 ghost use Rattle.lapd_supervision.specs.StateVariables.{is_valid_nr};
-ghost use Rattle.lapd_states.specs.Established.{busy_on, busy_off, in_7_and_8, poll_or_final, acknowledge_with_timers, i_frame_nr, rr_nr, rej_nr, rnr_nr, multiple_frame_established};
+ghost use Rattle.lapd_states.specs.Established.{busy_on, busy_off, in_7_and_8, poll_or_final, acknowledge_with_timers, i_frame_nr, rr_nr, rej_nr, rnr_nr, sends_last, established_t200, multiple_frame_established};
 ghost use Rattle.lapd_states.specs.Input.{Heard, Expiry, Establish, Release};
 
 use crate::Outs;
 use crate::machine::Machine;
 use crate::machine::tei_assigned::unsolicited_ua;
 use lapd_frame::{Control, Number, Role};
-use lapd_states::{Letter, Out, State};
+use lapd_states::{Letter, Out, Recovery, State};
 use lapd_supervision::{Advance, Window};
 use lapd_timers::Timer;
 
@@ -120,7 +120,7 @@ impl Machine {
 }
 
 /// State 7, a frame or an expired timer.
-#[tactic(auto, using(crate::proofs::Rows::then_row, crate::proofs::Rows::else_row), unfolding(lapd_states::specs::Established::poll_or_final, lapd_states::specs::Established::multiple_frame_established, lapd_states::specs::Established::in_7_and_8))]
+#[tactic(auto, using(crate::proofs::Rows::then_row, crate::proofs::Rows::else_row), unfolding(lapd_states::specs::Established::poll_or_final, lapd_states::specs::Established::established_t200, lapd_states::specs::Established::multiple_frame_established, lapd_states::specs::Established::in_7_and_8))]
 impl Machine {
     ghost use Rattle.lapd_link.specs.Sent.{SentAreOutstanding};
     ghost use Rattle.lapd_link.specs.StandsFor.{Does, HasRoom, Grows};
@@ -217,16 +217,40 @@ impl Machine {
         self.state_to(State::TimerRecovery);
     }
 
-    /// T200 expires: the peer is asked how far it is.
+    /// T200 expires: the last I frame goes out again, or the peer is asked how far it is.
     pub fn established_t200(&mut self, outs: &mut Outs)
         requires room { HasRoom 2 outs.old }
-        ensures step { Does self.old outs.old self.new outs.new (multiple_frame_established Tagged (Expiry Timer.T200)) }
+        requires counted { SentAreOutstanding self.old }
+        ensures step { Does self.old outs.old self.new outs.new (established_t200 Tagged) }
         ensures len { Grows 2 outs.old outs.new }
     {
-        self.expired_t200();
-        self.transmit_enquiry(outs);
-        self.rc_to(1);
-        self.state_to(State::TimerRecovery);
+        if self.sends_last() {
+            self.expired_t200();
+            self.retransmit_last_i_frame(outs);
+            self.rc_to(1);
+            self.state_to(State::TimerRecovery);
+        } else {
+            self.expired_t200();
+            self.transmit_enquiry(outs);
+            self.rc_to(1);
+            self.state_to(State::TimerRecovery);
+        }
+    }
+
+    /// The recovery is the last message, the peer is not busy, and a message is outstanding.
+    #[tactic(auto, using(crate::proofs::Outstanding::some_are_sent))]
+    fn sends_last(&self) -> bool
+        requires counted { SentAreOutstanding self.now }
+        ensures exact { result ≡ sends_last self.now.params.recovery self.now.window }
+        ensures sent { result ≡ true → 0 < self.now.queue.sent }
+    {
+        match self.params.recovery() {
+            Recovery::Enquiry => false,
+            Recovery::LastMessage => {
+                let outstanding = self.window.vs().value() != self.window.va().value();
+                !self.window.peer_busy() && outstanding
+            }
+        }
     }
 }
 

@@ -4,9 +4,9 @@
 ghost use Rattle.std.specs.Prelude.{◌≡◌, ◌≤◌, ◌<◌, ◌+◌, ◌==◌, length, if◌then◌else◌, true, OnOk, OnErr, IfErr, is_err};
 ghost use Rattle.arrayvec.specs.ArrayVec.{array_vec_len};
 ghost use Rattle.lapd_mod128.specs.Counting.{Tagged};
-ghost use Rattle.lapd_supervision.specs.StateVariables.{without_exceptions, with_zero_counters, status_frame, acknowledgement, without_ack_pending, is_accepted, after_i_frame, i_frame_response, with_va, acknowledged_count, is_valid_nr, with_vs, next_i_frame, after_sending, with_own_busy, with_peer_busy};
+ghost use Rattle.lapd_supervision.specs.StateVariables.{without_exceptions, with_zero_counters, status_frame, acknowledgement, without_ack_pending, is_accepted, after_i_frame, i_frame_response, with_va, acknowledged_count, is_valid_nr, with_vs, next_i_frame, last_i_frame, after_sending, with_own_busy, with_peer_busy};
 ghost use Rattle.lapd_queue.specs.Waiting.{with_message, one_more_sent, without_first, all_unsent, emptied};
-ghost use Rattle.lapd_states.specs.Procedures.{put, state_to, rc_to, increment_rc, layer3_initiated_to, release_pending_to, start, stop, expired, clear_exception_conditions, zero_state_variables, set_peer_busy, set_own_busy, enquiry_response, transmit_enquiry, queue_up, discard_i_queue, acknowledge, invoke_retransmission, i_frame_ns, discard_unacknowledged, transmit_i_frame, ensure_t200, transmit_rr, establish_data_link, reestablish_data_link, nr_error_recovery};
+ghost use Rattle.lapd_states.specs.Procedures.{put, state_to, rc_to, increment_rc, layer3_initiated_to, release_pending_to, start, stop, expired, clear_exception_conditions, zero_state_variables, set_peer_busy, set_own_busy, enquiry_response, transmit_enquiry, queue_up, discard_i_queue, acknowledge, invoke_retransmission, i_frame_ns, discard_unacknowledged, transmit_i_frame, retransmit_last_i_frame, ensure_t200, transmit_rr, establish_data_link, reestablish_data_link, nr_error_recovery};
 
 use crate::Outs;
 use crate::machine::{Machine, push};
@@ -93,6 +93,7 @@ impl Machine {
 
     /// T200 has expired.
     pub fn expired_t200(&mut self)
+        ensures queue { self.new.queue ≡ self.old.queue }
         ensures step { DoesQuietly self.old self.new (expired Timer.T200) }
     {
         self.t200 = false;
@@ -300,6 +301,27 @@ impl Machine {
         self.window = window;
         self.queue.sent_one();
         push(outs, Out::SendMessage(place, control));
+    }
+}
+
+/// The last sent message goes out again.
+#[tactic(auto, using(crate::proofs::Tails::tail_last_place), unfolding(lapd_states::specs::Procedures::retransmit_last_i_frame))]
+impl Machine {
+    ghost use Rattle.lapd_link.specs.StandsFor.{Does, HasRoom, Grows};
+
+    /// With P=1, and T200 is started.
+    pub fn retransmit_last_i_frame(&mut self, outs: &mut Outs)
+        requires room { HasRoom 2 outs.old }
+        requires sent { 0 < self.old.queue.sent }
+        ensures step { Does self.old outs.old self.new outs.new (retransmit_last_i_frame Tagged) }
+        ensures len { Grows 2 outs.old outs.new }
+    {
+        let place = self.queue.sent() - 1;
+        let (window, control) = self.window.send_last();
+        self.window = window;
+        self.t200 = true;
+        push(outs, Out::SendMessage(place, control));
+        push(outs, Out::Start(Timer::T200));
     }
 }
 

@@ -1,10 +1,10 @@
 //! Rows of state 5, awaiting establishment, and of state 6, awaiting release.
 
-use crate::rows::check_rows;
+use crate::rows::{Place, Table, check_tables};
 use std::test::Fail;
 
 /// Layer 3 establishes.
-const ASKED: (&str, &str) = ("establish", "5 L3I T200");
+const ASKED: Place = ("establish", "5 L3I T200");
 
 const ROWS_ASKED: &[&str] = &[
     "establish request | establish | - | =",
@@ -23,7 +23,7 @@ const ROWS_ASKED: &[&str] = &[
 ];
 
 /// Layer 3 establishes, and N200 SABME more have got no answer.
-const ASKED_TO_THE_END: (&str, &str) = ("establish; t200; t200", "5 L3I RC=2 T200");
+const ASKED_TO_THE_END: Place = ("establish; t200; t200", "5 L3I RC=2 T200");
 
 const ROWS_ASKED_TO_THE_END: &[&str] = &[
     "T200, RC = N200 | t200 | report G; released | 4 L3I RC=2",
@@ -34,7 +34,7 @@ const ROWS_ASKED_TO_THE_END: &[&str] = &[
 ];
 
 /// Layer 3 establishes, and wants the link released.
-const LEAVING: (&str, &str) = ("establish; release", "5 L3I RP T200");
+const LEAVING: Place = ("establish; release", "5 L3I RP T200");
 
 const ROWS_LEAVING: &[&str] = &[
     "establish request | establish | refused L4 Releasing | =",
@@ -53,7 +53,7 @@ const ROWS_LEAVING: &[&str] = &[
 ];
 
 /// As before, and N200 SABME more have got no answer.
-const LEAVING_TO_THE_END: (&str, &str) = ("establish; release; t200; t200", "5 L3I RP RC=2 T200");
+const LEAVING_TO_THE_END: Place = ("establish; release; t200; t200", "5 L3I RP RC=2 T200");
 
 const ROWS_LEAVING_TO_THE_END: &[&str] = &[
     "T200, RC = N200 | t200 | report G; release-confirmed | 4 L3I RC=2",
@@ -62,7 +62,7 @@ const ROWS_LEAVING_TO_THE_END: &[&str] = &[
 ];
 
 /// The data link establishes again by itself, with nothing sent.
-const ALONE: (&str, &str) = ("frame 00817f; frame 02810f", "5 T200");
+const ALONE: Place = ("frame 00817f; frame 02810f", "5 T200");
 
 const ROWS_ALONE: &[&str] = &[
     "establish request | establish | - | 5 L3I T200",
@@ -79,7 +79,7 @@ const ROWS_ALONE: &[&str] = &[
 ];
 
 /// As before, and layer 3 wants the link released.
-const ALONE_AND_LEAVING: (&str, &str) = ("frame 00817f; frame 02810f; release", "5 RP T200");
+const ALONE_AND_LEAVING: Place = ("frame 00817f; frame 02810f; release", "5 RP T200");
 
 const ROWS_ALONE_AND_LEAVING: &[&str] = &[
     "establish request | establish | refused L4 Releasing | =",
@@ -91,7 +91,7 @@ const ROWS_ALONE_AND_LEAVING: &[&str] = &[
 ];
 
 /// The data link establishes again by itself, and the queue is full of messages that were not sent.
-const FULL: (&str, &str) = (
+const FULL: Place = (
     "frame 00817f; frame 02810f; give 01; give 02; give 03",
     "5 T200 unsent 01 02 03",
 );
@@ -110,7 +110,7 @@ const ROWS_FULL: &[&str] = &[
 ];
 
 /// The data link establishes again by itself for the last time, with a message that was not sent.
-const ALONE_TO_THE_END: (&str, &str) = (
+const ALONE_TO_THE_END: Place = (
     "frame 00817f; frame 02810f; give 01; t200; t200",
     "5 RC=2 T200 unsent 01",
 );
@@ -121,7 +121,7 @@ const ROWS_ALONE_TO_THE_END: &[&str] = &[
 ];
 
 /// The data link establishes again by itself, with a message sent and not acknowledged, and another behind it.
-const UNACKNOWLEDGED: (&str, &str) = (
+const UNACKNOWLEDGED: Place = (
     "frame 00817f; give 01; frame 02810f; give 02",
     "5 V(S)=1 T200 sent 01 unsent 02",
 );
@@ -138,7 +138,7 @@ const ROWS_UNACKNOWLEDGED: &[&str] = &[
 ];
 
 /// As before, and layer 3 establishes instead.
-const UNACKNOWLEDGED_AND_ASKED: (&str, &str) = (
+const UNACKNOWLEDGED_AND_ASKED: Place = (
     "frame 00817f; give 01; frame 02810f; establish",
     "5 L3I V(S)=1 T200",
 );
@@ -149,7 +149,7 @@ const ROWS_UNACKNOWLEDGED_AND_ASKED: &[&str] = &[
 ];
 
 /// The link is being released.
-const RELEASING: (&str, &str) = ("frame 00817f; release", "6 T200");
+const RELEASING: Place = ("frame 00817f; release", "6 T200");
 
 const ROWS_RELEASING: &[&str] = &[
     "establish request | establish | refused L4 Releasing | =",
@@ -168,7 +168,7 @@ const ROWS_RELEASING: &[&str] = &[
 ];
 
 /// The link is being released, and N200 DISC more have got no answer.
-const RELEASING_TO_THE_END: (&str, &str) = ("frame 00817f; release; t200; t200", "6 RC=2 T200");
+const RELEASING_TO_THE_END: Place = ("frame 00817f; release; t200; t200", "6 RC=2 T200");
 
 const ROWS_RELEASING_TO_THE_END: &[&str] = &[
     "T200, RC = N200 | t200 | report H; release-confirmed | 4 RC=2",
@@ -177,38 +177,23 @@ const ROWS_RELEASING_TO_THE_END: &[&str] = &[
     "DISC P=1 | frame 008153 | send 008173 | =",
 ];
 
-#[test]
-fn establishment_that_layer_3_asked_for(rt: HostRuntime) -> Result<(), Fail> {
-    check_rows(rt.alloc(), ASKED, ROWS_ASKED)?;
-    check_rows(rt.alloc(), ASKED_TO_THE_END, ROWS_ASKED_TO_THE_END)
-}
+/// Each place with its rows.
+const TABLES: &[Table] = &[
+    (ASKED, ROWS_ASKED),
+    (ASKED_TO_THE_END, ROWS_ASKED_TO_THE_END),
+    (LEAVING, ROWS_LEAVING),
+    (LEAVING_TO_THE_END, ROWS_LEAVING_TO_THE_END),
+    (ALONE_AND_LEAVING, ROWS_ALONE_AND_LEAVING),
+    (ALONE, ROWS_ALONE),
+    (FULL, ROWS_FULL),
+    (ALONE_TO_THE_END, ROWS_ALONE_TO_THE_END),
+    (UNACKNOWLEDGED, ROWS_UNACKNOWLEDGED),
+    (UNACKNOWLEDGED_AND_ASKED, ROWS_UNACKNOWLEDGED_AND_ASKED),
+    (RELEASING, ROWS_RELEASING),
+    (RELEASING_TO_THE_END, ROWS_RELEASING_TO_THE_END),
+];
 
 #[test]
-fn establishment_with_a_release_pending(rt: HostRuntime) -> Result<(), Fail> {
-    check_rows(rt.alloc(), LEAVING, ROWS_LEAVING)?;
-    check_rows(rt.alloc(), LEAVING_TO_THE_END, ROWS_LEAVING_TO_THE_END)?;
-    check_rows(rt.alloc(), ALONE_AND_LEAVING, ROWS_ALONE_AND_LEAVING)
-}
-
-#[test]
-fn establishment_by_the_data_link(rt: HostRuntime) -> Result<(), Fail> {
-    check_rows(rt.alloc(), ALONE, ROWS_ALONE)?;
-    check_rows(rt.alloc(), FULL, ROWS_FULL)?;
-    check_rows(rt.alloc(), ALONE_TO_THE_END, ROWS_ALONE_TO_THE_END)
-}
-
-#[test]
-fn establishment_with_messages_unacknowledged(rt: HostRuntime) -> Result<(), Fail> {
-    check_rows(rt.alloc(), UNACKNOWLEDGED, ROWS_UNACKNOWLEDGED)?;
-    check_rows(
-        rt.alloc(),
-        UNACKNOWLEDGED_AND_ASKED,
-        ROWS_UNACKNOWLEDGED_AND_ASKED,
-    )
-}
-
-#[test]
-fn release(rt: HostRuntime) -> Result<(), Fail> {
-    check_rows(rt.alloc(), RELEASING, ROWS_RELEASING)?;
-    check_rows(rt.alloc(), RELEASING_TO_THE_END, ROWS_RELEASING_TO_THE_END)
+fn rows_of_states_5_and_6(rt: HostRuntime) -> Result<(), Fail> {
+    check_tables(rt.alloc(), TABLES)
 }

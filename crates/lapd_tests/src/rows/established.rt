@@ -1,10 +1,10 @@
 //! Rows of state 7, multiple frame established, with nothing to be acknowledged.
 
-use crate::rows::check_rows;
+use crate::rows::{Place, Table, check_tables};
 use std::test::Fail;
 
 /// The peer established the link.
-const ESTABLISHED: (&str, &str) = ("frame 00817f", "7 T203");
+const ESTABLISHED: Place = ("frame 00817f", "7 T203");
 
 const REQUESTS: &[&str] = &[
     "establish request | establish | send 02817f; stop T203; start T200 | 5 L3I T200",
@@ -116,7 +116,7 @@ const SUPERVISORY_NOT_VALID: &[&str] = &[
 ];
 
 /// Layer 3 established the link, so that only what the link does by itself takes that mark away.
-const ESTABLISHED_AS_ASKED: (&str, &str) = ("establish; frame 028173", "7 L3I T203");
+const ESTABLISHED_AS_ASKED: Place = ("establish; frame 028173", "7 L3I T203");
 
 const BY_ITSELF: &[&str] = &[
     "DM F=0 | frame 02810f | report E; send 02817f; stop T203; start T200 | 5 T200",
@@ -134,7 +134,7 @@ const BY_ITSELF: &[&str] = &[
 ];
 
 /// The link recovered at the last enquiry, so that RC is still N200.
-const RECOVERED: (&str, &str) = (
+const RECOVERED: Place = (
     "frame 00817f; t203; t200; t200; frame 02810101",
     "7 RC=2 T203",
 );
@@ -148,7 +148,7 @@ const ENQUIRIES_COUNTED_ANEW: &[&str] = &[
 ];
 
 /// As before, with a message sent.
-const RECOVERED_AND_SENT: (&str, &str) = (
+const RECOVERED_AND_SENT: Place = (
     "frame 00817f; t203; t200; t200; frame 02810101; give 01",
     "7 RC=2 V(S)=1 T200 sent 01",
 );
@@ -158,7 +158,7 @@ const ENQUIRY_COUNTED: &[&str] = &[
 ];
 
 /// An I frame is missing, and REJ was sent for it.
-const REJECTING: (&str, &str) = ("frame 00817f; frame 00810200", "7 rejecting T203");
+const REJECTING: Place = ("frame 00817f; frame 00810200", "7 rejecting T203");
 
 const ROWS_REJECTING: &[&str] = &[
     "I P=0, N(S) not V(R) | frame 0081040005 | start T203 | =",
@@ -181,7 +181,7 @@ const ROWS_REJECTING: &[&str] = &[
 ];
 
 /// The own receiver is busy.
-const OWN_BUSY: (&str, &str) = ("frame 00817f; busy on", "7 own-busy T203");
+const OWN_BUSY: Place = ("frame 00817f; busy on", "7 own-busy T203");
 
 const ROWS_OWN_BUSY: &[&str] = &[
     "busy | busy on | - | =",
@@ -208,45 +208,22 @@ const ROWS_OWN_BUSY: &[&str] = &[
     "release request | release | send 028153; stop T203; start T200 | 6 own-busy T200",
 ];
 
-#[test]
-fn requests_in_state_7(rt: HostRuntime) -> Result<(), Fail> {
-    check_rows(rt.alloc(), ESTABLISHED, REQUESTS)
-}
+/// Each place with its rows.
+const TABLES: &[Table] = &[
+    (ESTABLISHED, REQUESTS),
+    (ESTABLISHED, UNNUMBERED),
+    (ESTABLISHED, FAULTS),
+    (ESTABLISHED, MESSAGES),
+    (ESTABLISHED, SUPERVISORY),
+    (ESTABLISHED, SUPERVISORY_NOT_VALID),
+    (ESTABLISHED_AS_ASKED, BY_ITSELF),
+    (RECOVERED, ENQUIRIES_COUNTED_ANEW),
+    (RECOVERED_AND_SENT, ENQUIRY_COUNTED),
+    (REJECTING, ROWS_REJECTING),
+    (OWN_BUSY, ROWS_OWN_BUSY),
+];
 
 #[test]
-fn unnumbered_frames_in_state_7(rt: HostRuntime) -> Result<(), Fail> {
-    check_rows(rt.alloc(), ESTABLISHED, UNNUMBERED)?;
-    check_rows(rt.alloc(), ESTABLISHED, FAULTS)
-}
-
-#[test]
-fn messages_in_state_7(rt: HostRuntime) -> Result<(), Fail> {
-    check_rows(rt.alloc(), ESTABLISHED, MESSAGES)
-}
-
-#[test]
-fn supervisory_frames_in_state_7(rt: HostRuntime) -> Result<(), Fail> {
-    check_rows(rt.alloc(), ESTABLISHED, SUPERVISORY)?;
-    check_rows(rt.alloc(), ESTABLISHED, SUPERVISORY_NOT_VALID)
-}
-
-#[test]
-fn the_link_establishes_again_by_itself(rt: HostRuntime) -> Result<(), Fail> {
-    check_rows(rt.alloc(), ESTABLISHED_AS_ASKED, BY_ITSELF)
-}
-
-#[test]
-fn enquiries_are_counted_anew(rt: HostRuntime) -> Result<(), Fail> {
-    check_rows(rt.alloc(), RECOVERED, ENQUIRIES_COUNTED_ANEW)?;
-    check_rows(rt.alloc(), RECOVERED_AND_SENT, ENQUIRY_COUNTED)
-}
-
-#[test]
-fn rejecting_in_state_7(rt: HostRuntime) -> Result<(), Fail> {
-    check_rows(rt.alloc(), REJECTING, ROWS_REJECTING)
-}
-
-#[test]
-fn own_receiver_busy_in_state_7(rt: HostRuntime) -> Result<(), Fail> {
-    check_rows(rt.alloc(), OWN_BUSY, ROWS_OWN_BUSY)
+fn rows_of_state_7(rt: HostRuntime) -> Result<(), Fail> {
+    check_tables(rt.alloc(), TABLES)
 }

@@ -1,10 +1,10 @@
 //! Rows that hold in every state, and those that hold wherever no link is established.
 
-use crate::rows::check_rows;
+use crate::rows::{Place, check_places};
 use std::test::Fail;
 
 /// Scripts that lead to each state, with and without layer 3, a release, messages and marks, and what they lead to.
-const NOT_ESTABLISHED: &[(&str, &str)] = &[
+const NOT_ESTABLISHED: &[Place] = &[
     ("", "4"),
     ("establish; frame 02811f", "4 L3I"),
     ("establish", "5 L3I T200"),
@@ -23,7 +23,7 @@ const NOT_ESTABLISHED: &[(&str, &str)] = &[
     ("frame 00817f; busy on; release", "6 own-busy T200"),
 ];
 
-const ESTABLISHED: &[(&str, &str)] = &[
+const ESTABLISHED: &[Place] = &[
     ("frame 00817f", "7 T203"),
     ("establish; frame 028173", "7 L3I T203"),
     (
@@ -100,28 +100,13 @@ const FAULTS_REPORTED: &[&str] = &[
 ];
 
 #[test]
-fn unit_data_identification_and_lengths(rt: HostRuntime) -> Result<(), Fail> {
-    for place in NOT_ESTABLISHED {
-        check_rows(rt.alloc(), *place, IN_EVERY_STATE)?;
-    }
-    for place in ESTABLISHED {
-        check_rows(rt.alloc(), *place, IN_EVERY_STATE)?;
-    }
-    Ok(())
+fn rows_of_every_state(rt: HostRuntime) -> Result<(), Fail> {
+    check_places(rt.alloc(), NOT_ESTABLISHED, IN_EVERY_STATE)?;
+    check_places(rt.alloc(), ESTABLISHED, IN_EVERY_STATE)
 }
 
 #[test]
-fn frames_of_an_established_link_give_nothing_before(rt: HostRuntime) -> Result<(), Fail> {
-    for place in NOT_ESTABLISHED {
-        check_rows(rt.alloc(), *place, FRAMES_WITHOUT_ROW)?;
-    }
-    Ok(())
-}
-
-#[test]
-fn faults_are_reported_before_establishment(rt: HostRuntime) -> Result<(), Fail> {
-    for place in NOT_ESTABLISHED {
-        check_rows(rt.alloc(), *place, FAULTS_REPORTED)?;
-    }
-    Ok(())
+fn rows_of_every_state_before_establishment(rt: HostRuntime) -> Result<(), Fail> {
+    check_places(rt.alloc(), NOT_ESTABLISHED, FRAMES_WITHOUT_ROW)?;
+    check_places(rt.alloc(), NOT_ESTABLISHED, FAULTS_REPORTED)
 }

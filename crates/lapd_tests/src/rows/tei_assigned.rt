@@ -1,10 +1,10 @@
 //! Rows of state 4, TEI assigned.
 
-use crate::rows::check_rows;
+use crate::rows::{Place, Table, check_tables};
 use std::test::Fail;
 
 /// A new link.
-const NEW: (&str, &str) = ("", "4");
+const NEW: Place = ("", "4");
 
 const REQUESTS: &[&str] = &[
     "establish request | establish | send 02817f; start T200 | 5 L3I T200",
@@ -30,7 +30,7 @@ const FRAMES: &[&str] = &[
 ];
 
 /// A link that was established as layer 3 asked, and that the peer refused after a second SABME.
-const REFUSED: (&str, &str) = ("establish; t200; frame 02811f", "4 L3I RC=1");
+const REFUSED: Place = ("establish; t200; frame 02811f", "4 L3I RC=1");
 
 const FRAMES_AFTER_REFUSAL: &[&str] = &[
     "establish request | establish | send 02817f; start T200 | 5 L3I T200",
@@ -38,7 +38,7 @@ const FRAMES_AFTER_REFUSAL: &[&str] = &[
 ];
 
 /// A link that was established, with every mark set, until the peer released it.
-const RELEASED: (&str, &str) = (
+const RELEASED: Place = (
     "frame 00817f; give 01; frame 00810000; frame 00810400; frame 00810500; busy on; frame 008153",
     "4 V(S)=1 V(R)=1 peer-busy own-busy rejecting",
 );
@@ -53,22 +53,15 @@ const MARKS_CLEARED: &[&str] = &[
     "DISC P=1 | frame 008153 | send 00811f | =",
 ];
 
-#[test]
-fn requests_in_state_4(rt: HostRuntime) -> Result<(), Fail> {
-    check_rows(rt.alloc(), NEW, REQUESTS)
-}
+/// Each place with its rows.
+const TABLES: &[Table] = &[
+    (NEW, REQUESTS),
+    (NEW, FRAMES),
+    (REFUSED, FRAMES_AFTER_REFUSAL),
+    (RELEASED, MARKS_CLEARED),
+];
 
 #[test]
-fn frames_in_state_4(rt: HostRuntime) -> Result<(), Fail> {
-    check_rows(rt.alloc(), NEW, FRAMES)
-}
-
-#[test]
-fn state_4_after_a_refusal(rt: HostRuntime) -> Result<(), Fail> {
-    check_rows(rt.alloc(), REFUSED, FRAMES_AFTER_REFUSAL)
-}
-
-#[test]
-fn establishment_clears_marks_and_counters(rt: HostRuntime) -> Result<(), Fail> {
-    check_rows(rt.alloc(), RELEASED, MARKS_CLEARED)
+fn rows_of_state_4(rt: HostRuntime) -> Result<(), Fail> {
+    check_tables(rt.alloc(), TABLES)
 }

@@ -1,10 +1,10 @@
 //! Rows of state 8, timer recovery.
 
-use crate::rows::check_rows;
+use crate::rows::{Place, Table, check_tables};
 use std::test::Fail;
 
 /// T203 expired, and nothing is to be acknowledged.
-const ASKING: (&str, &str) = ("frame 00817f; t203", "8 T200");
+const ASKING: Place = ("frame 00817f; t203", "8 T200");
 
 const REQUESTS: &[&str] = &[
     "establish request | establish | send 02817f; start T200 | 5 L3I T200",
@@ -89,7 +89,7 @@ const SUPERVISORY_NOT_VALID: &[&str] = &[
 ];
 
 /// N200 enquiries more have got no answer.
-const ASKING_TO_THE_END: (&str, &str) = ("frame 00817f; t203; t200; t200", "8 RC=2 T200");
+const ASKING_TO_THE_END: Place = ("frame 00817f; t203; t200; t200", "8 RC=2 T200");
 
 const ROWS_ASKING_TO_THE_END: &[&str] = &[
     "T200, RC = N200 | t200 | report I; send 02817f; start T200 | 5 T200",
@@ -100,7 +100,7 @@ const ROWS_ASKING_TO_THE_END: &[&str] = &[
 ];
 
 /// T200 expired once more than N200 times in all, with a message to be acknowledged.
-const SENT_TO_THE_END: (&str, &str) = (
+const SENT_TO_THE_END: Place = (
     "frame 00817f; give 01; t200; t200",
     "8 RC=2 V(S)=1 T200 sent 01",
 );
@@ -110,7 +110,7 @@ const ROWS_SENT_TO_THE_END: &[&str] = &[
 ];
 
 /// Layer 3 established the link, so that only what the link does by itself takes that mark away.
-const ASKING_AS_ASKED: (&str, &str) = (
+const ASKING_AS_ASKED: Place = (
     "establish; frame 028173; t203; t200; t200",
     "8 L3I RC=2 T200",
 );
@@ -127,7 +127,7 @@ const BY_ITSELF: &[&str] = &[
 ];
 
 /// T200 expired, with two of three messages sent.
-const SENT: (&str, &str) = (
+const SENT: Place = (
     "frame 00817f; give 01; give 02; give 03; t200",
     "8 RC=1 V(S)=2 T200 sent 01 02 unsent 03",
 );
@@ -214,7 +214,7 @@ const NOT_FINAL: &[&str] = &[
 ];
 
 /// The peer is busy, and a message waits.
-const PEER_BUSY: (&str, &str) = (
+const PEER_BUSY: Place = (
     "frame 00817f; frame 02810500; give 01; t200",
     "8 RC=1 peer-busy T200 unsent 01",
 );
@@ -237,7 +237,7 @@ const ROWS_PEER_BUSY: &[&str] = &[
 ];
 
 /// The own receiver is busy.
-const OWN_BUSY: (&str, &str) = ("frame 00817f; busy on; t203", "8 own-busy T200");
+const OWN_BUSY: Place = ("frame 00817f; busy on; t203", "8 own-busy T200");
 
 const ROWS_OWN_BUSY: &[&str] = &[
     "busy | busy on | - | =",
@@ -257,7 +257,7 @@ const ROWS_OWN_BUSY: &[&str] = &[
 ];
 
 /// An I frame is missing, and REJ was sent for it.
-const REJECTING: (&str, &str) = ("frame 00817f; frame 00810200; t203", "8 rejecting T200");
+const REJECTING: Place = ("frame 00817f; frame 00810200; t203", "8 rejecting T200");
 
 const ROWS_REJECTING: &[&str] = &[
     "I P=0, N(S) not V(R) | frame 0081040005 | - | =",
@@ -269,57 +269,26 @@ const ROWS_REJECTING: &[&str] = &[
     "FRMR F=1 | frame 0281977f00020401 | report K; send 02817f; start T200 | 5 T200",
 ];
 
-#[test]
-fn requests_in_state_8(rt: HostRuntime) -> Result<(), Fail> {
-    check_rows(rt.alloc(), ASKING, REQUESTS)?;
-    check_rows(rt.alloc(), SENT, REQUESTS_WITH_MESSAGES)
-}
+/// Each place with its rows.
+const TABLES: &[Table] = &[
+    (ASKING, REQUESTS),
+    (SENT, REQUESTS_WITH_MESSAGES),
+    (ASKING, UNNUMBERED),
+    (ASKING, FAULTS),
+    (ASKING, MESSAGES),
+    (ASKING, SUPERVISORY),
+    (ASKING, SUPERVISORY_NOT_VALID),
+    (ASKING_TO_THE_END, ROWS_ASKING_TO_THE_END),
+    (SENT_TO_THE_END, ROWS_SENT_TO_THE_END),
+    (ASKING_AS_ASKED, BY_ITSELF),
+    (SENT, FINAL),
+    (SENT, NOT_FINAL),
+    (PEER_BUSY, ROWS_PEER_BUSY),
+    (OWN_BUSY, ROWS_OWN_BUSY),
+    (REJECTING, ROWS_REJECTING),
+];
 
 #[test]
-fn unnumbered_frames_in_state_8(rt: HostRuntime) -> Result<(), Fail> {
-    check_rows(rt.alloc(), ASKING, UNNUMBERED)?;
-    check_rows(rt.alloc(), ASKING, FAULTS)
-}
-
-#[test]
-fn messages_in_state_8(rt: HostRuntime) -> Result<(), Fail> {
-    check_rows(rt.alloc(), ASKING, MESSAGES)
-}
-
-#[test]
-fn supervisory_frames_in_state_8(rt: HostRuntime) -> Result<(), Fail> {
-    check_rows(rt.alloc(), ASKING, SUPERVISORY)?;
-    check_rows(rt.alloc(), ASKING, SUPERVISORY_NOT_VALID)
-}
-
-#[test]
-fn enquiries_end(rt: HostRuntime) -> Result<(), Fail> {
-    check_rows(rt.alloc(), ASKING_TO_THE_END, ROWS_ASKING_TO_THE_END)?;
-    check_rows(rt.alloc(), SENT_TO_THE_END, ROWS_SENT_TO_THE_END)?;
-    check_rows(rt.alloc(), ASKING_AS_ASKED, BY_ITSELF)
-}
-
-#[test]
-fn final_responses_end_recovery(rt: HostRuntime) -> Result<(), Fail> {
-    check_rows(rt.alloc(), SENT, FINAL)
-}
-
-#[test]
-fn other_frames_only_acknowledge(rt: HostRuntime) -> Result<(), Fail> {
-    check_rows(rt.alloc(), SENT, NOT_FINAL)
-}
-
-#[test]
-fn peer_receiver_busy_in_state_8(rt: HostRuntime) -> Result<(), Fail> {
-    check_rows(rt.alloc(), PEER_BUSY, ROWS_PEER_BUSY)
-}
-
-#[test]
-fn own_receiver_busy_in_state_8(rt: HostRuntime) -> Result<(), Fail> {
-    check_rows(rt.alloc(), OWN_BUSY, ROWS_OWN_BUSY)
-}
-
-#[test]
-fn rejecting_in_state_8(rt: HostRuntime) -> Result<(), Fail> {
-    check_rows(rt.alloc(), REJECTING, ROWS_REJECTING)
+fn rows_of_state_8(rt: HostRuntime) -> Result<(), Fail> {
+    check_tables(rt.alloc(), TABLES)
 }

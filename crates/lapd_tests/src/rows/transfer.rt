@@ -1,10 +1,10 @@
 //! Rows of state 7, multiple frame established, with messages that wait or are to be acknowledged.
 
-use crate::rows::check_rows;
+use crate::rows::{Place, Table, check_tables};
 use std::test::Fail;
 
 /// Two of three messages are sent, and the window is closed.
-const SENT: (&str, &str) = (
+const SENT: Place = (
     "frame 00817f; give 01; give 02; give 03",
     "7 V(S)=2 T200 sent 01 02 unsent 03",
 );
@@ -114,7 +114,7 @@ const MESSAGES: &[&str] = &[
 ];
 
 /// One message is sent, and the window is open.
-const OPEN: (&str, &str) = ("frame 00817f; give 01", "7 V(S)=1 T200 sent 01");
+const OPEN: Place = ("frame 00817f; give 01", "7 V(S)=1 T200 sent 01");
 
 const ROWS_OPEN: &[&str] = &[
     "data request | give 02 | send 0281020002 | 7 V(S)=2 T200 sent 01 02",
@@ -127,7 +127,7 @@ const ROWS_OPEN: &[&str] = &[
 ];
 
 /// The window is closed, and no message waits.
-const CLOSED: (&str, &str) = ("frame 00817f; give 01; give 02", "7 V(S)=2 T200 sent 01 02");
+const CLOSED: Place = ("frame 00817f; give 01; give 02", "7 V(S)=2 T200 sent 01 02");
 
 const ROWS_CLOSED: &[&str] = &[
     "data request | give 03 | - | 7 V(S)=2 T200 sent 01 02 unsent 03",
@@ -136,7 +136,7 @@ const ROWS_CLOSED: &[&str] = &[
 ];
 
 /// The peer is busy, and a message waits.
-const PEER_BUSY: (&str, &str) = (
+const PEER_BUSY: Place = (
     "frame 00817f; frame 02810500; give 01",
     "7 peer-busy T200 unsent 01",
 );
@@ -169,7 +169,7 @@ const ROWS_PEER_BUSY: &[&str] = &[
 ];
 
 /// The peer became busy when two messages were sent.
-const PEER_BUSY_AFTER: (&str, &str) = (
+const PEER_BUSY_AFTER: Place = (
     "frame 00817f; give 01; give 02; frame 02810500",
     "7 V(S)=2 peer-busy T200 sent 01 02",
 );
@@ -188,7 +188,7 @@ const ROWS_PEER_BUSY_AFTER: &[&str] = &[
 ];
 
 /// The own receiver is busy, and a message is sent: what is discarded acknowledges all the same.
-const OWN_BUSY: (&str, &str) = (
+const OWN_BUSY: Place = (
     "frame 00817f; busy on; give 01",
     "7 V(S)=1 own-busy T200 sent 01",
 );
@@ -203,7 +203,7 @@ const ROWS_OWN_BUSY: &[&str] = &[
 ];
 
 /// Every mark is set.
-const MARKED: (&str, &str) = (
+const MARKED: Place = (
     "frame 00817f; give 01; frame 00810000; frame 00810400; frame 00810500; busy on",
     "7 V(S)=1 V(R)=1 peer-busy own-busy rejecting T200 sent 01",
 );
@@ -227,46 +227,23 @@ const ROWS_MARKED: &[&str] = &[
      | send 00810102 | 7 V(S)=1 V(R)=1 peer-busy rejecting T200 sent 01",
 ];
 
-#[test]
-fn requests_while_messages_are_outstanding(rt: HostRuntime) -> Result<(), Fail> {
-    check_rows(rt.alloc(), SENT, REQUESTS)
-}
+/// Each place with its rows.
+const TABLES: &[Table] = &[
+    (SENT, REQUESTS),
+    (SENT, UNNUMBERED),
+    (SENT, RECEIVE_READY),
+    (SENT, REJECT),
+    (SENT, RECEIVE_NOT_READY),
+    (SENT, MESSAGES),
+    (OPEN, ROWS_OPEN),
+    (CLOSED, ROWS_CLOSED),
+    (PEER_BUSY, ROWS_PEER_BUSY),
+    (PEER_BUSY_AFTER, ROWS_PEER_BUSY_AFTER),
+    (OWN_BUSY, ROWS_OWN_BUSY),
+    (MARKED, ROWS_MARKED),
+];
 
 #[test]
-fn unnumbered_frames_while_messages_are_outstanding(rt: HostRuntime) -> Result<(), Fail> {
-    check_rows(rt.alloc(), SENT, UNNUMBERED)
-}
-
-#[test]
-fn supervisory_frames_acknowledge(rt: HostRuntime) -> Result<(), Fail> {
-    check_rows(rt.alloc(), SENT, RECEIVE_READY)?;
-    check_rows(rt.alloc(), SENT, REJECT)?;
-    check_rows(rt.alloc(), SENT, RECEIVE_NOT_READY)
-}
-
-#[test]
-fn messages_acknowledge(rt: HostRuntime) -> Result<(), Fail> {
-    check_rows(rt.alloc(), SENT, MESSAGES)
-}
-
-#[test]
-fn the_window_opens_and_closes(rt: HostRuntime) -> Result<(), Fail> {
-    check_rows(rt.alloc(), OPEN, ROWS_OPEN)?;
-    check_rows(rt.alloc(), CLOSED, ROWS_CLOSED)
-}
-
-#[test]
-fn peer_receiver_busy_in_state_7(rt: HostRuntime) -> Result<(), Fail> {
-    check_rows(rt.alloc(), PEER_BUSY, ROWS_PEER_BUSY)?;
-    check_rows(rt.alloc(), PEER_BUSY_AFTER, ROWS_PEER_BUSY_AFTER)
-}
-
-#[test]
-fn own_receiver_busy_with_a_message_sent(rt: HostRuntime) -> Result<(), Fail> {
-    check_rows(rt.alloc(), OWN_BUSY, ROWS_OWN_BUSY)
-}
-
-#[test]
-fn every_mark_in_state_7(rt: HostRuntime) -> Result<(), Fail> {
-    check_rows(rt.alloc(), MARKED, ROWS_MARKED)
+fn rows_of_state_7_with_messages(rt: HostRuntime) -> Result<(), Fail> {
+    check_tables(rt.alloc(), TABLES)
 }

@@ -1,6 +1,6 @@
 //! Frames both ways, and the first fault of octets that are none (Q.921 2.9, 3.6, Table 5).
 
-use crate::wants::wants;
+use crate::tests::wants::wants;
 use lapd_frame::Control::{Disc, Dm, Frmr, I, Rej, Rnr, Rr, Sabme, Ua, Ui, Xid};
 use lapd_frame::FaultKind::{
     BadAddress, InfoNotPermitted, InfoTooLong, SapiNotServed, TooShort, Undefined, WrongSize,

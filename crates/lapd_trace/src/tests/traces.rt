@@ -1,7 +1,7 @@
 //! Lines of text for every frame and fault, written by hand, and histories that overflow.
 
-use crate::wants::wants;
-use lapd_trace::{History, Side, line};
+use crate::tests::wants::wants;
+use crate::{History, Side, line};
 use std::alloc::Global;
 use std::test::Fail;
 

@@ -1,6 +1,6 @@
 //! The address and control fields, octet by octet (Q.921 3.3 to 3.6).
 
-use crate::wants::wants;
+use crate::tests::wants::wants;
 use lapd_frame::Control::{Disc, Dm, Frmr, I, Rej, Rnr, Rr, Sabme, Ua, Ui, Xid};
 use lapd_frame::FieldFault::{BadAddress, SapiNotServed, TooShort, Undefined};
 use lapd_frame::Role::{Answer, Command};

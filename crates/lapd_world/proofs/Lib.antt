@@ -1,0 +1,4 @@
+pub mod Places
+pub mod Safety
+pub mod Schedules
+pub mod Swaps

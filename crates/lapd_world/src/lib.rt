@@ -1,0 +1,15 @@
+//! Two ends of a data link, after ITU-T Q.921 (09/97), and the line between them: what may happen to them, what is written
+//! down of it, and when that is safe.
+//!
+//! Nothing here runs. The definitions stand in specs/, to be read in this order: `Line`, one direction of the line;
+//! `Histories`, what a side received, sent, had acknowledged and dropped; `Move`, what a side does or what happens to it,
+//! and when that is admitted; `World`, both ends, and a run of moves; and `Safe`. Each holds on whole numbers and on the
+//! tags that frames carry. The laws below try them on worked moves: begin with [`schedule_is_computed`].
+#![tactic(auto)]
+
+mod laws;
+
+pub use laws::{
+    moves_are_computed, new_worlds_are_safe, refusals_are_computed, schedule_is_computed,
+    schedule_is_safe, sides_are_alike, wrong_histories_are_not_safe,
+};
