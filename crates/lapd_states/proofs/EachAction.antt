@@ -1,6 +1,6 @@
 -- One walk over the table: what each action keeps, each row and the end of a step keep.
 --
--- Before an N(R) is acknowledged a fact P is kept, and from then on a fact Q that follows from it. Three actions need a
+-- Before an N(R) is acknowledged or a message goes out a fact P is kept, and from then on a fact Q that follows from it. Three actions need a
 -- premise of their own: M of a message that joins the queue, B where an establishment begins, T where an I frame is taken.
 use Rattle.std.proofs.Common.{◌≡◌, ℕ, zero, suc, ◌==◌, ◌&&◌, not, nat_lt, Bool, true, false, if◌then◌else◌, List, None, refl}
 use Rattle.lapd_timers.specs.declared.timer.Timer.{Timer}
@@ -56,7 +56,6 @@ pub record KeptByActions (r : Reading) (P Q : StepState → Type 0) (M : List �
   pub owns : (on : Bool) (s : StepState) → P s → P (set_own_busy on s)
   pub responds : (s : StepState) → P s → P (enquiry_response s)
   pub enquires : (s : StepState) → P s → P (transmit_enquiry s)
-  pub repeats : (s : StepState) → P s → P (retransmit_last_i_frame r s)
   pub queues : (message : List ℕ) (s : StepState) → M message → P s → P (queue_up message s)
   pub discards : (s : StepState) → P s → P (discard_i_queue s)
   pub loses : (s : StepState) → P s → P (discard_unacknowledged s)
@@ -64,6 +63,8 @@ pub record KeptByActions (r : Reading) (P Q : StepState → Type 0) (M : List �
   pub follows : (s : StepState) → P s → Q s
   pub acknowledges : (nr : ℕ) (s : StepState) → is_valid_nr r nr s.end.window ≡ true → P s → Q (acknowledge r nr s)
   pub retransmits : (nr : ℕ) (s : StepState) → is_valid_nr r nr s.end.window ≡ true → Q (acknowledge r nr s) → Q (s ▷ acknowledge r nr ▷ invoke_retransmission nr)
+  pub repeats : (s : StepState) → P s → Q (retransmit_last_i_frame r s)
+  pub rcs_then : (n : ℕ) (s : StepState) → Q s → Q (rc_to n s)
   pub states_then : (state : State) (s : StepState) → Q s → Q (state_to state s)
   pub starts_then : (timer : Timer) (s : StepState) → Q s → Q (start timer s)
   pub stops_then : (timer : Timer) (s : StepState) → Q s → Q (stop timer s)
@@ -233,10 +234,10 @@ module _ (r : Reading) (P Q : StepState → Type 0) (M : List ℕ → Type 0) (B
   polled Command false s h = h
   polled Answer false s h = h
 
-  expiring_7 : (s : StepState) → P s → P (established_t200 r s)
+  expiring_7 : (s : StepState) → P s → Q (established_t200 r s)
   unfolding established_t200
-  expiring_7 s h = either P (sends_last s.end.parameters.recovery s.end.window) _ _
-      (λ _. w.states _ _ (w.rcs 1 _ (w.repeats _ (w.expires T200 _ h)))) (λ _. w.states _ _ (w.rcs 1 _ (w.enquires _ (w.expires T200 _ h))))
+  expiring_7 s h = either Q (sends_last s.end.parameters.recovery s.end.window) _ _
+      (λ _. w.states_then _ _ (w.rcs_then 1 _ (w.repeats _ (w.expires T200 _ h)))) (λ _. w.follows _ (w.states _ _ (w.rcs 1 _ (w.enquires _ (w.expires T200 _ h)))))
 
   in_7 : (input : Input) (s : StepState) → ((message : List ℕ) → input ≡ Give message → M message) → (is_sabme input ≡ true → B) → ((ns nr : ℕ) (p : Bool) → input ≡ Heard (I ns nr p) Command → T)
       → P s → Q (multiple_frame_established r input s)
@@ -247,7 +248,7 @@ module _ (r : Reading) (P Q : StepState → Type 0) (M : List ℕ → Type 0) (B
   in_7 (Heard (Rej nr pf) role) s m b t h = rej_numbered nr _ (polled role pf _ (w.peers false s h))
   in_7 (Heard (Rnr nr pf) role) s m b t h = rnr_numbered nr _ (polled role pf _ (w.peers true s h))
   in_7 (Expiry T203) s m b t h = w.follows _ (w.states _ _ (w.enquires _ (w.rcs 0 _ (w.expires T203 _ h))))
-  in_7 (Expiry T200) s m b t h = w.follows _ (expiring_7 s h)
+  in_7 (Expiry T200) s m b t h = expiring_7 s h
   in_7 input s m b t h = w.follows _ (in_both input s m b h)
 
   polled_in_recovery : (role : Role) (pf : Bool) (s : StepState) → P s → P (poll role pf s)

@@ -202,6 +202,7 @@ module _ (r : Reading) (e : End) (n : ℕ) (gives begins takes : Bool) (Fits : T
     follows = λ s h. h;
     acknowledges = λ nr s valid h. added (counted (acknowledged_count r nr s.end.window) Acknowledged) (quiet_where (nat_lt 0 (acknowledged_count r nr s.end.window)) (Acknowledged (acknowledged_count r nr s.end.window)) ((tt, tt), refl)) h;
     retransmits = λ nr s valid h. h;
+    rcs_then = λ k s h. h;
     states_then = λ state s h. h;
     starts_then = λ timer s h. added (Start timer ∷ []) ((tt, tt), refl) (timed timer true s h);
     stops_then = λ timer s h. added (out_where (runs timer s.end) (Stop timer)) (quiet_where (runs timer s.end) (Stop timer) ((tt, tt), refl)) (timed timer false s h);

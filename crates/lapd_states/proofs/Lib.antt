@@ -3,6 +3,7 @@ pub mod EachAction
 pub mod InputsThatCount
 pub mod KeptByStep
 pub mod OpenRowsOnTags
+pub mod OrderOfStep
 pub mod PlacesOfStep
 pub mod RowsOnTags
 pub mod Sending

@@ -19,7 +19,7 @@ use Rattle.lapd_states.specs.Table.{row, step}
 use Rattle.lapd_states.proofs.EachAction.{IsPut, KeptByActions, row_keeps, close_keeps}
 use Rattle.lapd_states.proofs.KeptByStep.{taken}
 
-leaving_both : (xs ys : List Out) → leaving (xs ++ ys) ≡ leaving xs + leaving ys
+pub leaving_both : (xs ys : List Out) → leaving (xs ++ ys) ≡ leaving xs + leaving ys
 leaving_both [] ys = omega arith
 leaving_both (Acknowledged n ∷ xs) ys = omega (arith, leaving_both xs ys)
 leaving_both (Dropped n ∷ xs) ys = omega (arith, leaving_both xs ys)
@@ -140,7 +140,7 @@ module _ (r : Reading) (from : ℕ) where
     owns = λ on s h. placed (Send Answer (status_frame false (with_own_busy on s.end.window)) ∷ []) refl h;
     responds = λ s h. placed (Send Answer (status_frame true s.end.window) ∷ []) refl h;
     enquires = λ s h. placed (Send Command (status_frame true s.end.window) ∷ Start T200 ∷ []) refl h;
-    repeats = λ s h. placed (SendMessage (s.end.next - 1 - s.end.first) (last_i_frame r s.end.window) ∷ Start T200 ∷ []) refl h;
+    repeats = λ s h. moved (SendMessage (s.end.next - 1 - s.end.first) (last_i_frame r s.end.window) ∷ Start T200 ∷ []) refl (record { place = h.place });
     queues = λ message s given h. record { place = h.place; within = omega (arith, length-append s.end.given (message ∷ []), h.within) };
     discards = λ s h. record {
       place = omega (arith, leaving_both s.outs (counted (waiting s.end) Dropped), dropped_all (waiting s.end), h.place, h.within);
@@ -153,6 +153,7 @@ module _ (r : Reading) (from : ℕ) where
     acknowledges = λ nr s valid h. let n = acknowledged_count r nr s.end.window in
         record { place = omega (arith, leaving_both s.outs (counted n Acknowledged), acknowledged_where n (nat_lt 0 n) refl, h.place) };
     retransmits = λ nr s valid h. h;
+    rcs_then = λ k s h. h;
     states_then = λ state s h. h;
     starts_then = λ timer s h. moved (Start timer ∷ []) refl (timed_then timer true s h);
     stops_then = λ timer s h. moved (out_where (runs timer s.end) (Stop timer)) (none_where (runs timer s.end) (Stop timer) refl) (timed_then timer false s h);
