@@ -1,33 +1,30 @@
 -- One walk over the table: what each action keeps, each row and the end of a step keep.
 --
--- Before an N(R) is acknowledged a fact P is kept, and from then on a fact Q that follows from it. Three actions need a
+-- Before an N(R) is acknowledged or a message goes out a fact P is kept, and from then on a fact Q that follows from it. Three actions need a
 -- premise of their own: M of a message that joins the queue, B where an establishment begins, T where an I frame is taken.
-use Rattle.std.proofs.Common.{◌≡◌, ℕ, zero, suc, ◌==◌, ◌&&◌, not, nat_lt, Bool, true, false, if◌then◌else◌, List, Option, Some, None, Result, Ok, refl, subst}
+use Rattle.std.proofs.Common.{◌≡◌, ℕ, zero, suc, ◌==◌, ◌&&◌, not, nat_lt, Bool, true, false, if◌then◌else◌, List, None, refl}
 use Rattle.lapd_timers.specs.declared.timer.Timer.{Timer}
 use Rattle.lapd_timers.specs.declared.timer.Timer.TheVariants.{T200, T203}
 use Rattle.lapd_frame.specs.declared.Role.{Role}
 use Rattle.lapd_frame.specs.declared.Role.TheVariants.{Command, Answer}
-use Rattle.lapd_frame.specs.declared.Control.{Control}
 use Rattle.lapd_frame.specs.declared.Control.TheVariants.{I, Rr, Rnr, Rej, Sabme, Dm, Disc, Ua, Frmr}
 use Rattle.lapd_frame.specs.declared.fault_kind.FaultKind.{FaultKind}
 use Rattle.lapd_frame.specs.Frame.{content_fault}
 use Rattle.lapd_mod128.specs.Counting.{Reading}
-use Rattle.lapd_supervision.specs.StateVariables.{is_valid_nr, acknowledges_all, after_i_frame, without_ack_pending, with_peer_busy}
-use Rattle.lapd_states.specs.declared.event.LinkFault.{LinkFault}
+use Rattle.lapd_supervision.specs.StateVariables.{is_valid_nr, acknowledges_all}
 use Rattle.lapd_states.specs.declared.state.State.{State}
 use Rattle.lapd_states.specs.declared.state.State.TheVariants.{TeiAssigned, AwaitingEstablishment, AwaitingRelease, MultipleFrameEstablished, TimerRecovery}
 use Rattle.lapd_states.specs.declared.out.Out.{Out}
-use Rattle.lapd_states.specs.declared.out.Out.TheVariants.{Send, SendMessage, SendUnit, Up, UnitUp, Established, Confirmed, Released, ReleaseConfirm, Report}
+use Rattle.lapd_states.specs.declared.out.Out.TheVariants.{Send, SendUnit, UnitUp, Established, Confirmed, Released, ReleaseConfirm, Report}
 use Rattle.lapd_states.specs.AwaitingEstablishment.{release_primitive, end_establishment, confirm_or_indicate, ua_final, awaiting_establishment_t200, awaiting_establishment}
 use Rattle.lapd_states.specs.AwaitingRelease.{confirm_release, awaiting_release_t200, awaiting_release}
 use Rattle.lapd_states.specs.Begins.{is_sabme, is_final_ua, begins}
-use Rattle.lapd_states.specs.Close.{is_7_or_8, may_send_next, send_next, send_all, acknowledge_pending, close}
-use Rattle.lapd_states.specs.End.{End, StepState, ◌▷◌, begin, runs, unsent}
+use Rattle.lapd_states.specs.Close.{is_7_or_8, may_send_next, send_all, acknowledge_pending, close}
+use Rattle.lapd_states.specs.End.{StepState, ◌▷◌, runs, unsent}
 use Rattle.lapd_states.specs.Established.{busy_on, busy_off, in_7_and_8, sends_last, established_t200, poll_or_final, acknowledge_with_timers, i_frame_nr, rr_nr, rej_nr, rnr_nr, multiple_frame_established}
 use Rattle.lapd_states.specs.Input.{Input, Heard, Faulty, Expiry, Establish, Release, BusyOn, BusyOff, UnitData, Give}
 use Rattle.lapd_states.specs.Procedures.{put, retransmit_last_i_frame, state_to, rc_to, increment_rc, layer3_initiated_to, release_pending_to, start, stop, expired, clear_exception_conditions, zero_state_variables, set_peer_busy, set_own_busy, enquiry_response, transmit_enquiry, transmit_rr, queue_up, discard_i_queue, acknowledge, invoke_retransmission, discard_unacknowledged, i_frame_ns, transmit_i_frame, ensure_t200, establish_data_link, reestablish_data_link, nr_error_recovery}
-use Rattle.lapd_states.specs.Refusal.{refused}
-use Rattle.lapd_states.specs.Table.{by_state, report_fault, is_unit_data, row, unless, step}
+use Rattle.lapd_states.specs.Table.{by_state, report_fault, is_unit_data, row}
 use Rattle.lapd_states.specs.TeiAssigned.{tei_assigned}
 use Rattle.lapd_states.specs.TimerRecovery.{poll, is_final, i_frame_nr_in_recovery, rr_nr_in_recovery, rnr_nr_in_recovery, timer_recovery_t200, timer_recovery}
 
@@ -59,7 +56,6 @@ pub record KeptByActions (r : Reading) (P Q : StepState → Type 0) (M : List �
   pub owns : (on : Bool) (s : StepState) → P s → P (set_own_busy on s)
   pub responds : (s : StepState) → P s → P (enquiry_response s)
   pub enquires : (s : StepState) → P s → P (transmit_enquiry s)
-  pub repeats : (s : StepState) → P s → P (retransmit_last_i_frame r s)
   pub queues : (message : List ℕ) (s : StepState) → M message → P s → P (queue_up message s)
   pub discards : (s : StepState) → P s → P (discard_i_queue s)
   pub loses : (s : StepState) → P s → P (discard_unacknowledged s)
@@ -67,6 +63,8 @@ pub record KeptByActions (r : Reading) (P Q : StepState → Type 0) (M : List �
   pub follows : (s : StepState) → P s → Q s
   pub acknowledges : (nr : ℕ) (s : StepState) → is_valid_nr r nr s.end.window ≡ true → P s → Q (acknowledge r nr s)
   pub retransmits : (nr : ℕ) (s : StepState) → is_valid_nr r nr s.end.window ≡ true → Q (acknowledge r nr s) → Q (s ▷ acknowledge r nr ▷ invoke_retransmission nr)
+  pub repeats : (s : StepState) → P s → Q (retransmit_last_i_frame r s)
+  pub rcs_then : (n : ℕ) (s : StepState) → Q s → Q (rc_to n s)
   pub states_then : (state : State) (s : StepState) → Q s → Q (state_to state s)
   pub starts_then : (timer : Timer) (s : StepState) → Q s → Q (start timer s)
   pub stops_then : (timer : Timer) (s : StepState) → Q s → Q (stop timer s)
@@ -236,10 +234,10 @@ module _ (r : Reading) (P Q : StepState → Type 0) (M : List ℕ → Type 0) (B
   polled Command false s h = h
   polled Answer false s h = h
 
-  expiring_7 : (s : StepState) → P s → P (established_t200 r s)
+  expiring_7 : (s : StepState) → P s → Q (established_t200 r s)
   unfolding established_t200
-  expiring_7 s h = either P (sends_last s.end.parameters.recovery s.end.window) _ _
-      (λ _. w.states _ _ (w.rcs 1 _ (w.repeats _ (w.expires T200 _ h)))) (λ _. w.states _ _ (w.rcs 1 _ (w.enquires _ (w.expires T200 _ h))))
+  expiring_7 s h = either Q (sends_last s.end.parameters.recovery s.end.window) _ _
+      (λ _. w.states_then _ _ (w.rcs_then 1 _ (w.repeats _ (w.expires T200 _ h)))) (λ _. w.follows _ (w.states _ _ (w.rcs 1 _ (w.enquires _ (w.expires T200 _ h)))))
 
   in_7 : (input : Input) (s : StepState) → ((message : List ℕ) → input ≡ Give message → M message) → (is_sabme input ≡ true → B) → ((ns nr : ℕ) (p : Bool) → input ≡ Heard (I ns nr p) Command → T)
       → P s → Q (multiple_frame_established r input s)
@@ -250,7 +248,7 @@ module _ (r : Reading) (P Q : StepState → Type 0) (M : List ℕ → Type 0) (B
   in_7 (Heard (Rej nr pf) role) s m b t h = rej_numbered nr _ (polled role pf _ (w.peers false s h))
   in_7 (Heard (Rnr nr pf) role) s m b t h = rnr_numbered nr _ (polled role pf _ (w.peers true s h))
   in_7 (Expiry T203) s m b t h = w.follows _ (w.states _ _ (w.enquires _ (w.rcs 0 _ (w.expires T203 _ h))))
-  in_7 (Expiry T200) s m b t h = w.follows _ (expiring_7 s h)
+  in_7 (Expiry T200) s m b t h = expiring_7 s h
   in_7 input s m b t h = w.follows _ (in_both input s m b h)
 
   polled_in_recovery : (role : Role) (pf : Bool) (s : StepState) → P s → P (poll role pf s)

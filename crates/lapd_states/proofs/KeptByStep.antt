@@ -1,6 +1,6 @@
 -- What a step keeps that depends on no state: parameters, the grammar of what is sent, and short messages; and but for
 -- the inputs that say otherwise, the messages given, the number of establishments, and nothing for layer 3.
-use Rattle.std.proofs.Common.{◌≡◌, ◌-◌, ℕ, ◌+◌, ◌≤◌, ◌==◌, nat_lt, Bool, true, false, if◌then◌else◌, List, [], ◌∷◌, ◌++◌, length, Option, Some, None, Result, Ok, refl, sym, subst, ◌∙◌, ap, arith}
+use Rattle.std.proofs.Common.{◌≡◌, ◌-◌, ℕ, ◌+◌, ◌≤◌, ◌==◌, nat_lt, Bool, true, false, if◌then◌else◌, List, [], ◌∷◌, ◌++◌, length, Option, Some, None, Result, Ok, refl, subst, arith}
 use Rattle.std.proofs.lemmas.Bool.Decides.{nat_tests}
 use Rattle.lapd_timers.specs.declared.timer.Timer.{Timer}
 use Rattle.lapd_timers.specs.declared.timer.Timer.TheVariants.{T200, T201, T202, T203}
@@ -23,8 +23,8 @@ use Rattle.lapd_states.specs.End.{End, StepState, begin, waiting, runs, with_tim
 use Rattle.lapd_states.specs.Input.{Input, Heard, Give}
 use Rattle.lapd_states.specs.Parameters.{Parameters}
 use Rattle.lapd_states.specs.Procedures.{retransmit_last_i_frame, out_where, counted, response_of, put, state_to, rc_to, increment_rc, layer3_initiated_to, release_pending_to, start, stop, expired, clear_exception_conditions, zero_state_variables, set_peer_busy, set_own_busy, enquiry_response, transmit_enquiry, transmit_rr, queue_up, discard_i_queue, acknowledge, invoke_retransmission, discard_unacknowledged, i_frame_ns, transmit_i_frame, ensure_t200}
-use Rattle.lapd_states.specs.Refusal.{refused, refused_when_full, give_refused}
-use Rattle.lapd_states.specs.Spoken.{IsSpoken, AreSpoken, AreShort}
+use Rattle.lapd_states.specs.Refusal.{refused}
+use Rattle.lapd_states.specs.Spoken.{AreSpoken, AreShort}
 use Rattle.lapd_states.specs.Table.{row, unless, step}
 use Rattle.lapd_states.proofs.EachAction.{IsPut, KeptByActions, row_keeps, close_keeps}
 
@@ -100,7 +100,7 @@ response_in : (rejected p : Bool) (n : ℕ) (other : Option Control) → AreQuie
 response_in true p n other h = ((refl, tt), refl)
 response_in false p n other h = h
 
-response_is_quiet : (r : Reading) (ns : ℕ) (p : Bool) (m : StateVariables) → AreQuiet (response_of (i_frame_response r ns p m))
+pub response_is_quiet : (r : Reading) (ns : ℕ) (p : Bool) (m : StateVariables) → AreQuiet (response_of (i_frame_response r ns p m))
 unfolding i_frame_response
 response_is_quiet r ns p m = response_in (is_rejected ns m) p m.vr (poll_response p (after_i_frame r ns p m)) (poll_is_quiet p (after_i_frame r ns p m))
 
@@ -202,6 +202,7 @@ module _ (r : Reading) (e : End) (n : ℕ) (gives begins takes : Bool) (Fits : T
     follows = λ s h. h;
     acknowledges = λ nr s valid h. added (counted (acknowledged_count r nr s.end.window) Acknowledged) (quiet_where (nat_lt 0 (acknowledged_count r nr s.end.window)) (Acknowledged (acknowledged_count r nr s.end.window)) ((tt, tt), refl)) h;
     retransmits = λ nr s valid h. h;
+    rcs_then = λ k s h. h;
     states_then = λ state s h. h;
     starts_then = λ timer s h. added (Start timer ∷ []) ((tt, tt), refl) (timed timer true s h);
     stops_then = λ timer s h. added (out_where (runs timer s.end) (Stop timer)) (quiet_where (runs timer s.end) (Stop timer) ((tt, tt), refl)) (timed timer false s h);

@@ -1,7 +1,10 @@
 pub mod ActionsOnTags
 pub mod EachAction
+pub mod InputsThatCount
 pub mod KeptByStep
 pub mod OpenRowsOnTags
+pub mod OrderOfStep
+pub mod PlacesOfStep
 pub mod RowsOnTags
 pub mod Sending
 pub mod Soundness

@@ -1,9 +1,10 @@
 -- Where an establishment begins, with all numbers at 0 (Q.921 5.5.1.2).
-use Rattle.std.specs.Prelude.{◌&&◌, not, Bool, true, false}
+use Rattle.std.specs.Prelude.{◌≡◌, ◌+◌, ◌&&◌, not, Bool, true, false}
 use Rattle.lapd_frame.specs.declared.Role.TheVariants.{Command, Answer}
 use Rattle.lapd_frame.specs.declared.Control.TheVariants.{Sabme, Ua}
 use Rattle.lapd_states.specs.declared.state.State.{State}
 use Rattle.lapd_states.specs.declared.state.State.TheVariants.{TeiAssigned, AwaitingEstablishment, AwaitingRelease, MultipleFrameEstablished, TimerRecovery}
+use Rattle.lapd_states.specs.End.{End}
 use Rattle.lapd_states.specs.Input.{Input, Heard}
 
 abbrev pub is_sabme : Input → Bool
@@ -22,3 +23,10 @@ begins AwaitingEstablishment release_pending input = is_final_ua input && not re
 begins AwaitingRelease release_pending input = false
 begins MultipleFrameEstablished release_pending input = is_sabme input
 begins TimerRecovery release_pending input = is_sabme input
+
+-- it has begun, in state 7: nothing is acknowledged or received in it; V(S) counts what has gone out in it already
+pub record HasBegun (before now : End) : Type 0 where
+  pub counted : now.establishments ≡ before.establishments + 1
+  pub established : now.state ≡ MultipleFrameEstablished
+  pub none_acknowledged : now.window.va ≡ 0
+  pub none_received : now.window.vr ≡ 0

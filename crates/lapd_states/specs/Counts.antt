@@ -1,10 +1,10 @@
 -- What the outputs of a step count, and what they are to agree with.
-use Rattle.std.specs.Prelude.{ℕ, ◌+◌, ◌&&◌, Bool, true, false, List, [], ◌∷◌}
+use Rattle.std.specs.Prelude.{◌≡◌, ℕ, ◌+◌, ◌&&◌, Bool, false, List, [], ◌∷◌}
 use Rattle.lapd_frame.specs.declared.Role.TheVariants.{Command}
 use Rattle.lapd_frame.specs.declared.Control.TheVariants.{I}
 use Rattle.lapd_supervision.specs.StateVariables.{is_accepted}
 use Rattle.lapd_states.specs.declared.out.Out.{Out}
-use Rattle.lapd_states.specs.declared.out.Out.TheVariants.{Up, Acknowledged, Dropped}
+use Rattle.lapd_states.specs.declared.out.Out.TheVariants.{SendMessage, Up, Acknowledged, Dropped}
 use Rattle.lapd_states.specs.Close.{is_7_or_8}
 use Rattle.lapd_states.specs.End.{End}
 use Rattle.lapd_states.specs.Input.{Input, Heard, Give}
@@ -21,6 +21,13 @@ leaving [] = 0
 leaving (Acknowledged n ∷ outs) = n + leaving outs
 leaving (Dropped n ∷ outs) = n + leaving outs
 leaving (out ∷ outs) = leaving outs
+
+-- behind a message that goes out none is told to be acknowledged or dropped: so the place of each is counted from the first
+-- that waits after the step
+abbrev pub AreCountedFirst : List Out → Type 0
+AreCountedFirst [] = Unit {0}
+AreCountedFirst (SendMessage place control ∷ outs) = (leaving outs ≡ 0) × AreCountedFirst outs
+AreCountedFirst (out ∷ outs) = AreCountedFirst outs
 
 -- the message of an input, where it is one
 abbrev pub messages_of : Input → List (List ℕ)

@@ -1,7 +1,9 @@
 //! Laws of the whole state table, over its definitions. They do nothing when they are called.
 
-ghost use Rattle.std.specs.Prelude.{◌≡◌, ◌≤◌, ℕ, Ok};
+ghost use Rattle.std.specs.Prelude.{◌≡◌, ◌≤◌, ◌+◌, ◌++◌, true, false, ℕ, if◌then◌else◌, length, Ok};
 ghost use Rattle.lapd_mod128.specs.Counting.{Reading, Whole, Tagged};
+ghost use Rattle.lapd_states.specs.Begins.{begins, HasBegun};
+ghost use Rattle.lapd_states.specs.Counts.{ups, leaving, AreCountedFirst, messages_of, accepts};
 ghost use Rattle.lapd_states.specs.End.{End, StepState, new_end};
 ghost use Rattle.lapd_states.specs.Input.{Input};
 ghost use Rattle.lapd_states.specs.Parameters.{Parameters};
@@ -39,4 +41,24 @@ pub fn tags_decide()
 pub fn sent_frames_are_in_the_grammar()
     ensures sent { (r : Reading) (input : Input) (e : End) (s : StepState) → step r input e ≡ Ok s → AreSpoken s.outs }
     ensures short { (r : Reading) (input : Input) (e : End) (s : StepState) → AreShort e.given → step r input e ≡ Ok s → AreShort s.end.given }
+{}
+
+/// A step begins one establishment or none: one by a SABME command in states 4, 7 and 8, and by a UA with F=1 in state 5
+/// where no release waits for it (Q.921 5.5.1.2). Then the end is in state 7 with V(A) and V(R) at 0.
+pub fn establishments_are_counted()
+    ensures begun { (r : Reading) (input : Input) (e : End) (s : StepState) → begins e.state e.release_pending input ≡ true
+        → step r input e ≡ Ok s → HasBegun e s.end }
+    ensures none { (r : Reading) (input : Input) (e : End) (s : StepState) → begins e.state e.release_pending input ≡ false
+        → step r input e ≡ Ok s → s.end.establishments ≡ e.establishments }
+{}
+
+/// Messages are told of rightly. Those given stay, and one that is accepted comes behind them; the place of the first
+/// that waits moves by as many as the step tells to be acknowledged or dropped, before any message goes out; and the information of a frame goes to
+/// layer 3 once where states 7 and 8 accept it, and else never (Q.921 5.6.2, 5.6.3.2).
+pub fn messages_are_counted()
+    ensures given { (r : Reading) (input : Input) (e : End) (s : StepState) → step r input e ≡ Ok s → s.end.given ≡ e.given ++ messages_of input }
+    ensures first { (r : Reading) (input : Input) (e : End) (s : StepState) → e.first ≤ length e.given → step r input e ≡ Ok s
+        → s.end.first ≡ e.first + leaving s.outs }
+    ensures order { (r : Reading) (input : Input) (e : End) (s : StepState) → step r input e ≡ Ok s → AreCountedFirst s.outs }
+    ensures up { (r : Reading) (input : Input) (e : End) (s : StepState) → step r input e ≡ Ok s → ups s.outs ≡ (if accepts input e then 1 else 0) }
 {}

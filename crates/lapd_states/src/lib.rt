@@ -18,7 +18,10 @@ pub use lapd_frame::{
     Address, Control, FaultKind, Frame, FrameFault, Number, Role, Sapi, Side, Tei,
 };
 pub use lapd_timers::Timer;
-pub use laws::{all_sent_are_outstanding, parameters_stay, sent_frames_are_in_the_grammar, tags_decide};
+pub use laws::{
+    all_sent_are_outstanding, establishments_are_counted, messages_are_counted, parameters_stay,
+    sent_frames_are_in_the_grammar, tags_decide,
+};
 pub use out::{Letter, Out};
 pub use params::Params;
 pub use recovery::Recovery;

@@ -1,0 +1,186 @@
+-- What a step tells to be acknowledged or dropped, it tells before messages go out.
+use Rattle.std.proofs.Common.{◌≡◌, ℕ, ◌+◌, ◌-◌, ◌==◌, nat_lt, Bool, true, false, if◌then◌else◌, List, [], ◌∷◌, ◌++◌, Option, Some, None, Ok, refl, subst, arith}
+use Rattle.lapd_timers.specs.declared.timer.Timer.TheVariants.{T200, T203}
+use Rattle.lapd_frame.specs.declared.Role.TheVariants.{Command, Answer}
+use Rattle.lapd_frame.specs.declared.Control.{Control}
+use Rattle.lapd_mod128.specs.Counting.{Reading}
+use Rattle.lapd_supervision.specs.StateVariables.{status_frame, acknowledgement, is_accepted, i_frame_response, acknowledged_count, next_i_frame, last_i_frame, with_own_busy}
+use Rattle.lapd_states.specs.declared.out.Out.{Out}
+use Rattle.lapd_states.specs.declared.out.Out.TheVariants.{Send, SendMessage, SendUnit, Up, UnitUp, Established, Confirmed, Released, ReleaseConfirm, Acknowledged, Dropped, Start, Stop, Report}
+use Rattle.lapd_states.specs.Close.{close}
+use Rattle.lapd_states.specs.Counts.{leaving, AreCountedFirst}
+use Rattle.lapd_states.specs.End.{End, StepState, begin, waiting, runs}
+use Rattle.lapd_states.specs.Input.{Input}
+use Rattle.lapd_states.specs.Procedures.{retransmit_last_i_frame, out_where, counted, response_of, put, state_to, rc_to, increment_rc, layer3_initiated_to, release_pending_to, start, stop, expired, clear_exception_conditions, zero_state_variables, set_peer_busy, set_own_busy, enquiry_response, transmit_enquiry, transmit_rr, queue_up, discard_i_queue, acknowledge, invoke_retransmission, discard_unacknowledged, i_frame_ns, transmit_i_frame, ensure_t200}
+use Rattle.lapd_states.specs.Refusal.{refused}
+use Rattle.lapd_states.specs.Table.{row, step}
+use Rattle.lapd_states.proofs.EachAction.{IsPut, KeptByActions, row_keeps, close_keeps}
+use Rattle.lapd_states.proofs.KeptByStep.{taken}
+use Rattle.lapd_states.proofs.PlacesOfStep.{leaving_both}
+
+-- how many messages go out
+abbrev sent : List Out → ℕ
+sent [] = 0
+sent (SendMessage place control ∷ outs) = sent outs + 1
+sent (out ∷ outs) = sent outs
+
+sent_both : (xs ys : List Out) → sent (xs ++ ys) ≡ sent xs + sent ys
+sent_both [] ys = omega arith
+sent_both (SendMessage place control ∷ xs) ys = omega (arith, sent_both xs ys)
+sent_both (Send role control ∷ xs) ys = sent_both xs ys
+sent_both (SendUnit ∷ xs) ys = sent_both xs ys
+sent_both (Up ∷ xs) ys = sent_both xs ys
+sent_both (UnitUp ∷ xs) ys = sent_both xs ys
+sent_both (Established ∷ xs) ys = sent_both xs ys
+sent_both (Confirmed ∷ xs) ys = sent_both xs ys
+sent_both (Released ∷ xs) ys = sent_both xs ys
+sent_both (ReleaseConfirm ∷ xs) ys = sent_both xs ys
+sent_both (Acknowledged n ∷ xs) ys = sent_both xs ys
+sent_both (Dropped n ∷ xs) ys = sent_both xs ys
+sent_both (Start timer ∷ xs) ys = sent_both xs ys
+sent_both (Stop timer ∷ xs) ys = sent_both xs ys
+sent_both (Report letter ∷ xs) ys = sent_both xs ys
+
+none_is_first : (outs : List Out) → sent outs ≡ 0 → AreCountedFirst outs
+none_is_first [] h = tt
+none_is_first (SendMessage place control ∷ outs) h = absurd (omega (arith, h))
+none_is_first (Send role control ∷ outs) h = none_is_first outs h
+none_is_first (SendUnit ∷ outs) h = none_is_first outs h
+none_is_first (Up ∷ outs) h = none_is_first outs h
+none_is_first (UnitUp ∷ outs) h = none_is_first outs h
+none_is_first (Established ∷ outs) h = none_is_first outs h
+none_is_first (Confirmed ∷ outs) h = none_is_first outs h
+none_is_first (Released ∷ outs) h = none_is_first outs h
+none_is_first (ReleaseConfirm ∷ outs) h = none_is_first outs h
+none_is_first (Acknowledged n ∷ outs) h = none_is_first outs h
+none_is_first (Dropped n ∷ outs) h = none_is_first outs h
+none_is_first (Start timer ∷ outs) h = none_is_first outs h
+none_is_first (Stop timer ∷ outs) h = none_is_first outs h
+none_is_first (Report letter ∷ outs) h = none_is_first outs h
+
+first_both : (xs ys : List Out) → AreCountedFirst xs → leaving ys ≡ 0 → AreCountedFirst ys → AreCountedFirst (xs ++ ys)
+first_both [] ys hx none hy = hy
+first_both (SendMessage place control ∷ xs) ys hx none hy = (omega (arith, leaving_both xs ys, hx.0, none), first_both xs ys hx.1 none hy)
+first_both (Send role control ∷ xs) ys hx none hy = first_both xs ys hx none hy
+first_both (SendUnit ∷ xs) ys hx none hy = first_both xs ys hx none hy
+first_both (Up ∷ xs) ys hx none hy = first_both xs ys hx none hy
+first_both (UnitUp ∷ xs) ys hx none hy = first_both xs ys hx none hy
+first_both (Established ∷ xs) ys hx none hy = first_both xs ys hx none hy
+first_both (Confirmed ∷ xs) ys hx none hy = first_both xs ys hx none hy
+first_both (Released ∷ xs) ys hx none hy = first_both xs ys hx none hy
+first_both (ReleaseConfirm ∷ xs) ys hx none hy = first_both xs ys hx none hy
+first_both (Acknowledged n ∷ xs) ys hx none hy = first_both xs ys hx none hy
+first_both (Dropped n ∷ xs) ys hx none hy = first_both xs ys hx none hy
+first_both (Start timer ∷ xs) ys hx none hy = first_both xs ys hx none hy
+first_both (Stop timer ∷ xs) ys hx none hy = first_both xs ys hx none hy
+first_both (Report letter ∷ xs) ys hx none hy = first_both xs ys hx none hy
+
+-- ---- Outputs of which none is a message.
+
+put_sends_none : (out : Out) → IsPut out → sent (out ∷ []) ≡ 0
+put_sends_none (Send role control) h = refl
+put_sends_none SendUnit h = refl
+put_sends_none UnitUp h = refl
+put_sends_none Established h = refl
+put_sends_none Confirmed h = refl
+put_sends_none Released h = refl
+put_sends_none ReleaseConfirm h = refl
+put_sends_none (Report letter) h = refl
+put_sends_none (SendMessage place control) h = absurd h
+put_sends_none Up h = absurd h
+put_sends_none (Acknowledged n) h = absurd h
+put_sends_none (Dropped n) h = absurd h
+put_sends_none (Start timer) h = absurd h
+put_sends_none (Stop timer) h = absurd h
+
+none_where : (on : Bool) (out : Out) → sent (out ∷ []) ≡ 0 → sent (out_where on out) ≡ 0
+none_where true out h = h
+none_where false out h = refl
+
+none_of_response : (response : Option Control) → sent (response_of response) ≡ 0
+none_of_response None = refl
+none_of_response (Some control) = refl
+
+none_of_lost : (same : Bool) (n : ℕ) → sent (if same then [] else counted n Dropped ++ Established ∷ []) ≡ 0
+none_of_lost true n = refl
+none_of_lost false n = omega (arith, sent_both (counted n Dropped) (Established ∷ []), none_where (nat_lt 0 n) (Dropped n) refl)
+
+-- ---- What is kept.
+
+-- no message went out so far
+pub record IsSilent (outs : List Out) : Type 0 where
+  pub none : sent outs ≡ 0
+
+-- what counts went before the messages
+pub record IsInOrder (outs : List Out) : Type 0 where
+  pub order : AreCountedFirst outs
+
+silent : {outs : List Out} (more : List Out) → sent more ≡ 0 → IsSilent outs → IsSilent (outs ++ more)
+silent {outs = outs} more none h = record { none = omega (arith, sent_both outs more, none, h.none) }
+
+-- outputs that neither count nor are a message, or a message
+ordered : {outs : List Out} (more : List Out) → leaving more ≡ 0 → AreCountedFirst more → IsInOrder outs → IsInOrder (outs ++ more)
+ordered {outs = outs} more none later h = record { order = first_both outs more h.order none later }
+
+in_order : {outs : List Out} → IsSilent outs → IsInOrder outs
+in_order {outs = outs} h = record { order = none_is_first outs h.none }
+
+leaves_none_where : (on : Bool) (out : Out) → leaving (out ∷ []) ≡ 0 → AreCountedFirst (out ∷ []) → (leaving (out_where on out) ≡ 0) × AreCountedFirst (out_where on out)
+leaves_none_where true out h f = (h, f)
+leaves_none_where false out h f = (refl, tt)
+
+leaves_none_unless : (on : Bool) (outs : List Out) → (leaving outs ≡ 0) × AreCountedFirst outs → (leaving (if on then [] else outs) ≡ 0) × AreCountedFirst (if on then [] else outs)
+leaves_none_unless true outs h = (refl, tt)
+leaves_none_unless false outs h = h
+
+orders : (r : Reading) → KeptByActions r (λ s. IsSilent s.outs) (λ s. IsInOrder s.outs) (λ message. Unit {0}) (Unit {0}) (Unit {0})
+unfolding put retransmit_last_i_frame state_to rc_to increment_rc layer3_initiated_to release_pending_to start stop expired clear_exception_conditions zero_state_variables set_peer_busy set_own_busy enquiry_response transmit_enquiry transmit_rr queue_up discard_i_queue acknowledge invoke_retransmission discard_unacknowledged i_frame_ns transmit_i_frame ensure_t200
+orders r = record {
+  puts = λ out s ok h. silent (out ∷ []) (put_sends_none out ok) h;
+  states = λ state s h. h;
+  rcs = λ n s h. h;
+  increments = λ s h. h;
+  layer3s = λ on s h. h;
+  pendings = λ on s h. h;
+  starts = λ timer s h. silent (Start timer ∷ []) refl h;
+  stops = λ timer s h. silent (out_where (runs timer s.end) (Stop timer)) (none_where (runs timer s.end) (Stop timer) refl) h;
+  expires = λ timer s h. h;
+  clears = λ s h. h;
+  zeroes = λ s b h. h;
+  peers = λ on s h. h;
+  owns = λ on s h. silent (Send Answer (status_frame false (with_own_busy on s.end.window)) ∷ []) refl h;
+  responds = λ s h. silent (Send Answer (status_frame true s.end.window) ∷ []) refl h;
+  enquires = λ s h. silent (Send Command (status_frame true s.end.window) ∷ Start T200 ∷ []) refl h;
+  queues = λ message s given h. h;
+  discards = λ s h. silent (counted (waiting s.end) Dropped) (none_where (nat_lt 0 (waiting s.end)) (Dropped (waiting s.end)) refl) h;
+  loses = λ s h. silent (if s.end.window.vs == s.end.window.va then [] else counted (waiting s.end) Dropped ++ Established ∷ []) (none_of_lost (s.end.window.vs == s.end.window.va) (waiting s.end)) h;
+  takes = λ ns p s t h. silent (response_of (i_frame_response r ns p s.end.window)) (none_of_response (i_frame_response r ns p s.end.window))
+      (silent (out_where (is_accepted ns s.end.window) Up) (none_where (is_accepted ns s.end.window) Up refl) h);
+  follows = λ s h. in_order h;
+  acknowledges = λ nr s valid h. let n = acknowledged_count r nr s.end.window in
+      in_order (silent (counted n Acknowledged) (none_where (nat_lt 0 n) (Acknowledged n) refl) h);
+  retransmits = λ nr s valid h. h;
+  repeats = λ s h. ordered (SendMessage (s.end.next - 1 - s.end.first) (last_i_frame r s.end.window) ∷ Start T200 ∷ []) refl (refl, tt) (in_order h);
+  rcs_then = λ n s h. h;
+  states_then = λ state s h. h;
+  starts_then = λ timer s h. ordered (Start timer ∷ []) refl tt h;
+  stops_then = λ timer s h. let stopped = leaves_none_where (runs timer s.end) (Stop timer) refl tt in ordered (out_where (runs timer s.end) (Stop timer)) stopped.0 stopped.1 h;
+  sends = λ s go h. ordered (SendMessage (s.end.next - s.end.first) (next_i_frame s.end.window) ∷ []) refl (refl, tt) h;
+  ensures_t200 = λ s h.
+      let stopped = leaves_none_unless s.end.t200 (out_where s.end.t203 (Stop T203)) (leaves_none_where s.end.t203 (Stop T203) refl tt) in
+      let started = leaves_none_unless s.end.t200 (Start T200 ∷ []) (refl, tt) in
+      ordered (if s.end.t200 then [] else Start T200 ∷ []) started.0 started.1 (ordered (if s.end.t200 then [] else out_where s.end.t203 (Stop T203)) stopped.0 stopped.1 h);
+  tells = λ s h. ordered (Send Answer (acknowledgement s.end.window) ∷ []) refl tt h;
+}
+
+begins_silent : (e : End) → IsSilent (begin e).outs
+unfolding begin
+begins_silent e = record { none = refl }
+
+pub order_of_step : (r : Reading) (input : Input) (e : End) (s : StepState) → step r input e ≡ Ok s → AreCountedFirst s.outs
+unfolding step
+order_of_step r input e s done =
+    let P : StepState → Type 0 = λ t. IsSilent t.outs in
+    let Q : StepState → Type 0 = λ t. IsInOrder t.outs in
+    (subst Q (taken (refused input e) (close r (row r e.state input (begin e))) s done).1 (close_keeps r P Q _ _ _ (orders r) (row r e.state input (begin e))
+    (row_keeps r P Q _ _ _ (orders r) e.state input (begin e) (λ message same. tt) (λ b. tt) (λ opened ns nr p same. tt) (begins_silent e)))).order
