@@ -1,5 +1,6 @@
 -- Requests that are refused, in the order in which it is looked for, and the names of refusals.
 use Rattle.std.specs.Prelude.{ℕ, List, ◌==◌, nat_lt, if◌then◌else◌, Bool, true, false, length, codes, Option, Some, None}
+use Rattle.lapd_frame.specs.Frame.{n201}
 use Rattle.lapd_states.specs.declared.state.State.{State}
 use Rattle.lapd_states.specs.declared.state.State.TheVariants.{TeiAssigned, AwaitingEstablishment, AwaitingRelease, MultipleFrameEstablished, TimerRecovery}
 use Rattle.lapd_states.specs.declared.event.LinkFault.{LinkFault}
@@ -16,7 +17,7 @@ refusal_name LayerThreeEstablishing = codes "L5 LayerThreeEstablishing"
 
 -- at most N201 octets go into a frame (Q.921 5.9.3)
 abbrev pub refused_when_long : ℕ → Option LinkFault
-refused_when_long len = if nat_lt 260 len then Some TooLong else None
+refused_when_long len = if nat_lt n201 len then Some TooLong else None
 
 abbrev pub refused_when_full : Bool → Option LinkFault
 refused_when_full full = if full then Some QueueFull else None
@@ -41,7 +42,7 @@ establish_refused MultipleFrameEstablished release_pending = None
 establish_refused TimerRecovery release_pending = None
 
 abbrev pub refused : Input → End → Option LinkFault
-refused (Give message) e = if nat_lt 260 (length message) then Some TooLong else give_refused e.state e.release_pending e.layer3_initiated (waiting e == e.parameters.room)
+refused (Give message) e = if nat_lt n201 (length message) then Some TooLong else give_refused e.state e.release_pending e.layer3_initiated (waiting e == e.parameters.room)
 refused (UnitData len) e = refused_when_long len
 refused Establish e = establish_refused e.state e.release_pending
 refused input e = None

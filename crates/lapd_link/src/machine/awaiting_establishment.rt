@@ -24,7 +24,7 @@ fn release_primitive(asked: bool) -> Out
 impl Machine {
     ghost use Rattle.lapd_link.specs.StandsFor.{Does, HasRoom, Grows};
 
-    /// A frame.
+    /// A frame (Figure B.5).
     pub fn awaiting_establishment_heard(&mut self, control: Control, role: Role, outs: &mut Outs)
         requires room { HasRoom 6 outs.old }
         ensures step { Does self.old outs.old self.new outs.new (awaiting_establishment (Heard control role)) }
@@ -48,7 +48,7 @@ impl Machine {
         }
     }
 
-    /// DL-ESTABLISH request, not refused: layer 3 establishes, in place of the data link itself.
+    /// DL-ESTABLISH request, not refused: layer 3 establishes, in place of the data link itself (Figure B.5).
     pub fn awaiting_establishment_establish(&mut self, outs: &mut Outs)
         requires room { HasRoom 1 outs.old }
         ensures step { Does self.old outs.old self.new outs.new (awaiting_establishment Establish) }
@@ -58,7 +58,7 @@ impl Machine {
         self.layer3_initiated_to(true);
     }
 
-    /// DL-RELEASE request: the release waits for the answer to the SABME.
+    /// DL-RELEASE request: the release waits for the answer to the SABME (Figure B.5).
     pub fn awaiting_establishment_release(&mut self, outs: &mut Outs)
         requires room { HasRoom 1 outs.old }
         ensures step { Does self.old outs.old self.new outs.new (awaiting_establishment Release) }
@@ -68,7 +68,7 @@ impl Machine {
         self.release_pending_to(true);
     }
 
-    /// UA with F=1.
+    /// UA with F=1 (Figure B.5).
     fn ua_final(&mut self, outs: &mut Outs)
         requires room { HasRoom 4 outs.old }
         ensures step { Does self.old outs.old self.new outs.new ua_final }
@@ -90,7 +90,7 @@ impl Machine {
     }
 
     /// Layer 3 is told that the link is established as it asked for, or, where messages are lost, that it was
-    /// established again.
+    /// established again (Figure B.5).
     fn confirm_or_indicate(&mut self, outs: &mut Outs)
         requires room { HasRoom 2 outs.old }
         ensures step { Does self.old outs.old self.new outs.new confirm_or_indicate }
@@ -103,7 +103,7 @@ impl Machine {
         }
     }
 
-    /// T200 expires: the SABME is sent again, N200 times at most.
+    /// T200 expires: the SABME is sent again, N200 times at most (Figure B.5).
     pub fn awaiting_establishment_t200(&mut self, outs: &mut Outs)
         requires room { HasRoom 3 outs.old }
         ensures step { Does self.old outs.old self.new outs.new awaiting_establishment_t200 }
@@ -122,7 +122,7 @@ impl Machine {
         }
     }
 
-    /// The SABME was refused, or never answered.
+    /// The SABME was refused, or never answered (Figure B.5).
     fn end_establishment(&mut self, outs: &mut Outs)
         requires room { HasRoom 1 outs.old }
         ensures step { Does self.old outs.old self.new outs.new end_establishment }

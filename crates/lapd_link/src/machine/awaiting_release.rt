@@ -12,7 +12,7 @@ use lapd_states::{Letter, Out, State};
 impl Machine {
     ghost use Rattle.lapd_link.specs.StandsFor.{Does, HasRoom, Grows};
 
-    /// A frame.
+    /// A frame (Figure B.6).
     pub fn awaiting_release_heard(&mut self, control: Control, role: Role, outs: &mut Outs)
         requires room { HasRoom 6 outs.old }
         ensures step { Does self.old outs.old self.new outs.new (awaiting_release (Heard control role)) }
@@ -32,7 +32,7 @@ impl Machine {
         }
     }
 
-    /// The DISC is answered.
+    /// The DISC is answered (Figure B.6).
     fn confirm_release(&mut self, outs: &mut Outs)
         requires room { HasRoom 2 outs.old }
         ensures step { Does self.old outs.old self.new outs.new confirm_release }
@@ -43,7 +43,7 @@ impl Machine {
         self.state_to(State::TeiAssigned);
     }
 
-    /// T200 expires: the DISC is sent again, N200 times at most.
+    /// T200 expires: the DISC is sent again, N200 times at most (Figure B.6).
     pub fn awaiting_release_t200(&mut self, outs: &mut Outs)
         requires room { HasRoom 2 outs.old }
         ensures step { Does self.old outs.old self.new outs.new awaiting_release_t200 }

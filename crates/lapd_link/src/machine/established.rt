@@ -19,7 +19,7 @@ use lapd_timers::Timer;
 impl Machine {
     ghost use Rattle.lapd_link.specs.StandsFor.{Does, HasRoom, Grows};
 
-    /// DL-ESTABLISH request.
+    /// DL-ESTABLISH request (Figures B.7 and B.8).
     pub fn established_establish(&mut self, outs: &mut Outs)
         requires room { HasRoom 4 outs.old }
         ensures step { Does self.old outs.old self.new outs.new (in_7_and_8 Establish) }
@@ -30,7 +30,7 @@ impl Machine {
         self.establish_data_link(outs);
     }
 
-    /// DL-RELEASE request.
+    /// DL-RELEASE request (Figures B.7 and B.8).
     pub fn established_release(&mut self, outs: &mut Outs)
         requires room { HasRoom 4 outs.old }
         ensures step { Does self.old outs.old self.new outs.new (in_7_and_8 Release) }
@@ -44,7 +44,7 @@ impl Machine {
         self.state_to(State::AwaitingRelease);
     }
 
-    /// Own receiver busy begins, where that is new.
+    /// Own receiver busy begins, where that is new (Figures B.7 and B.8).
     pub fn busy_on(&mut self, outs: &mut Outs)
         requires room { HasRoom 1 outs.old }
         ensures step { Does self.old outs.old self.new outs.new busy_on }
@@ -55,7 +55,7 @@ impl Machine {
         }
     }
 
-    /// Own receiver busy ends.
+    /// Own receiver busy ends (Figures B.7 and B.8).
     pub fn busy_off(&mut self, outs: &mut Outs)
         requires room { HasRoom 1 outs.old }
         ensures step { Does self.old outs.old self.new outs.new busy_off }
@@ -66,7 +66,7 @@ impl Machine {
         }
     }
 
-    /// A frame that is taken alike in both states.
+    /// A frame that is taken alike in both states (Figures B.7 and B.8).
     pub fn in_7_and_8_heard(&mut self, control: Control, role: Role, outs: &mut Outs)
         requires room { HasRoom 6 outs.old }
         ensures step { Does self.old outs.old self.new outs.new (in_7_and_8 (Heard control role)) }
@@ -88,7 +88,7 @@ impl Machine {
         }
     }
 
-    /// SABME: the peer establishes the link again.
+    /// SABME: the peer establishes the link again (Figures B.7 and B.8).
     fn established_sabme(&mut self, p: bool, outs: &mut Outs)
         requires room { HasRoom 6 outs.old }
         ensures step { Does self.old outs.old self.new outs.new (in_7_and_8 (Heard (Control.Sabme p) Role.Command)) }
@@ -104,7 +104,7 @@ impl Machine {
         self.state_to(State::MultipleFrameEstablished);
     }
 
-    /// DISC: the peer releases the link.
+    /// DISC: the peer releases the link (Figures B.7 and B.8).
     fn established_disc(&mut self, p: bool, outs: &mut Outs)
         requires room { HasRoom 5 outs.old }
         ensures step { Does self.old outs.old self.new outs.new (in_7_and_8 (Heard (Control.Disc p) Role.Command)) }
@@ -125,7 +125,7 @@ impl Machine {
     ghost use Rattle.lapd_link.specs.Sent.{SentAreOutstanding};
     ghost use Rattle.lapd_link.specs.StandsFor.{Does, HasRoom, Grows};
 
-    /// A frame.
+    /// A frame (Figure B.7).
     pub fn established_heard(&mut self, control: Control, role: Role, outs: &mut Outs)
         requires room { HasRoom 6 outs.old }
         requires counted { SentAreOutstanding self.old }
@@ -159,7 +159,7 @@ impl Machine {
         }
     }
 
-    /// An I frame.
+    /// An I frame (Figure B.7).
     fn established_i_frame(&mut self, ns: Number, nr: Number, p: bool, role: Role, outs: &mut Outs)
         requires room { HasRoom 6 outs.old }
         requires counted { SentAreOutstanding self.old }
@@ -175,7 +175,7 @@ impl Machine {
         }
     }
 
-    /// DM.
+    /// DM (Figure B.7).
     fn established_dm(&mut self, f: bool, role: Role, outs: &mut Outs)
         requires room { HasRoom 4 outs.old }
         ensures step { Does self.old outs.old self.new outs.new (multiple_frame_established Tagged (Heard (Control.Dm f) role)) }
@@ -191,7 +191,7 @@ impl Machine {
         }
     }
 
-    /// A command with P=1 is answered, and a response with F=1 was not asked for.
+    /// A command with P=1 is answered, and a response with F=1 was not asked for (Figure B.7).
     fn poll_or_final(&mut self, role: Role, pf: bool, outs: &mut Outs)
         requires room { HasRoom 1 outs.old }
         ensures step { Does self.old outs.old self.new outs.new (poll_or_final role pf) }
@@ -205,7 +205,7 @@ impl Machine {
         }
     }
 
-    /// T203 expires: the peer is asked how far it is.
+    /// T203 expires: the peer is asked how far it is (Figure B.7).
     pub fn established_t203(&mut self, outs: &mut Outs)
         requires room { HasRoom 2 outs.old }
         ensures step { Does self.old outs.old self.new outs.new (multiple_frame_established Tagged (Expiry Timer.T203)) }
@@ -217,7 +217,7 @@ impl Machine {
         self.state_to(State::TimerRecovery);
     }
 
-    /// T200 expires: the last I frame goes out again, or the peer is asked how far it is.
+    /// T200 expires: the last I frame goes out again, or the peer is asked how far it is (Figure B.7).
     pub fn established_t200(&mut self, outs: &mut Outs)
         requires room { HasRoom 2 outs.old }
         requires counted { SentAreOutstanding self.old }
@@ -275,7 +275,7 @@ impl Machine {
         nr.value() == self.window.va().value()
     }
 
-    /// The N(R) of an I frame; while the peer is busy, T200 goes on.
+    /// The N(R) of an I frame; while the peer is busy, T200 goes on (Figure B.7).
     fn i_frame_nr(&mut self, nr: Number, outs: &mut Outs)
         requires room { HasRoom 4 outs.old }
         requires counted { SentAreOutstanding self.old }
@@ -294,7 +294,7 @@ impl Machine {
         }
     }
 
-    /// The N(R) of an RR frame.
+    /// The N(R) of an RR frame (Figure B.7).
     fn rr_nr(&mut self, nr: Number, outs: &mut Outs)
         requires room { HasRoom 4 outs.old }
         requires counted { SentAreOutstanding self.old }
@@ -307,7 +307,7 @@ impl Machine {
         }
     }
 
-    /// A valid N(R), and T200 and T203 by whether it acknowledges all, nothing new, or some.
+    /// A valid N(R), and T200 and T203 by whether it acknowledges all, nothing new, or some (Figure B.7).
     fn acknowledge_with_timers(&mut self, nr: Number, taken: (Window, Advance), outs: &mut Outs)
         requires room { HasRoom 3 outs.old }
         requires taken { IsTaken nr self.old.window taken }
@@ -325,7 +325,7 @@ impl Machine {
         }
     }
 
-    /// The N(R) of a REJ frame.
+    /// The N(R) of a REJ frame (Figure B.7).
     fn rej_nr(&mut self, nr: Number, outs: &mut Outs)
         requires room { HasRoom 4 outs.old }
         requires counted { SentAreOutstanding self.old }
@@ -343,7 +343,7 @@ impl Machine {
         }
     }
 
-    /// The N(R) of an RNR frame.
+    /// The N(R) of an RNR frame (Figure B.7).
     fn rnr_nr(&mut self, nr: Number, outs: &mut Outs)
         requires room { HasRoom 4 outs.old }
         requires counted { SentAreOutstanding self.old }

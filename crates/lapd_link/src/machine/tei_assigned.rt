@@ -20,7 +20,7 @@ pub fn unsolicited_ua(f: bool) -> Letter
 impl Machine {
     ghost use Rattle.lapd_link.specs.StandsFor.{Does, HasRoom, Grows};
 
-    /// A frame.
+    /// A frame (Figure B.4).
     pub fn tei_assigned_heard(&mut self, control: Control, role: Role, outs: &mut Outs)
         requires room { HasRoom 6 outs.old }
         ensures step { Does self.old outs.old self.new outs.new (tei_assigned (Heard control role)) }
@@ -43,7 +43,7 @@ impl Machine {
         }
     }
 
-    /// DL-ESTABLISH request.
+    /// DL-ESTABLISH request (Figure B.4).
     pub fn tei_assigned_establish(&mut self, outs: &mut Outs)
         requires room { HasRoom 4 outs.old }
         ensures step { Does self.old outs.old self.new outs.new (tei_assigned Establish) }

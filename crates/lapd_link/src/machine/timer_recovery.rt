@@ -25,7 +25,7 @@ impl Machine {
     ghost use Rattle.lapd_link.specs.Sent.{SentAreOutstanding};
     ghost use Rattle.lapd_link.specs.StandsFor.{Does, HasRoom, Grows};
 
-    /// A frame.
+    /// A frame (Figure B.8).
     pub fn timer_recovery_heard(&mut self, control: Control, role: Role, outs: &mut Outs)
         requires room { HasRoom 6 outs.old }
         requires counted { SentAreOutstanding self.old }
@@ -59,7 +59,7 @@ impl Machine {
         }
     }
 
-    /// An I frame.
+    /// An I frame (Figure B.8).
     fn timer_recovery_i_frame(
         &mut self,
         ns: Number,
@@ -82,7 +82,7 @@ impl Machine {
         }
     }
 
-    /// DM.
+    /// DM (Figure B.8).
     fn timer_recovery_dm(&mut self, f: bool, role: Role, outs: &mut Outs)
         requires room { HasRoom 4 outs.old }
         ensures step { Does self.old outs.old self.new outs.new (timer_recovery Tagged (Heard (Control.Dm f) role)) }
@@ -101,7 +101,7 @@ impl Machine {
         }
     }
 
-    /// A command with P=1 is answered.
+    /// A command with P=1 is answered (Figure B.8).
     fn poll(&mut self, role: Role, pf: bool, outs: &mut Outs)
         requires room { HasRoom 1 outs.old }
         ensures step { Does self.old outs.old self.new outs.new (poll role pf) }
@@ -114,7 +114,7 @@ impl Machine {
         }
     }
 
-    /// The N(R) of an I frame.
+    /// The N(R) of an I frame (Figure B.8).
     fn i_frame_nr_in_recovery(&mut self, nr: Number, outs: &mut Outs)
         requires room { HasRoom 4 outs.old }
         requires counted { SentAreOutstanding self.old }
@@ -127,7 +127,7 @@ impl Machine {
         }
     }
 
-    /// The N(R) of an RR or REJ frame; a final ends the recovery.
+    /// The N(R) of an RR or REJ frame; a final ends the recovery (Figure B.8).
     fn rr_nr_in_recovery(&mut self, last: bool, nr: Number, outs: &mut Outs)
         requires room { HasRoom 4 outs.old }
         requires counted { SentAreOutstanding self.old }
@@ -150,7 +150,7 @@ impl Machine {
         }
     }
 
-    /// The N(R) of an RNR frame; a final ends the recovery.
+    /// The N(R) of an RNR frame; a final ends the recovery (Figure B.8).
     fn rnr_nr_in_recovery(&mut self, last: bool, nr: Number, outs: &mut Outs)
         requires room { HasRoom 4 outs.old }
         requires counted { SentAreOutstanding self.old }
@@ -172,7 +172,7 @@ impl Machine {
         }
     }
 
-    /// T200 expires: the enquiry is sent again, N200 times at most.
+    /// T200 expires: the enquiry is sent again, N200 times at most (Figure B.8).
     pub fn timer_recovery_t200(&mut self, outs: &mut Outs)
         requires room { HasRoom 4 outs.old }
         ensures step { Does self.old outs.old self.new outs.new timer_recovery_t200 }
