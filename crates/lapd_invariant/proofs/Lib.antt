@@ -1,0 +1,9 @@
+pub mod Lists
+pub mod Receipts
+pub mod Runs
+pub mod Hearings
+pub mod Parts
+pub mod Losses
+pub mod Worlds
+pub mod Sounds
+pub mod Moves

@@ -1,0 +1,4 @@
+pub mod Kinds
+pub mod Parties
+pub mod Conjuncts
+pub mod Invariant
