@@ -7,3 +7,9 @@ pub mod Losses
 pub mod Worlds
 pub mod Sounds
 pub mod Moves
+pub mod Mids
+pub mod Says
+pub mod Turns
+pub mod Acknowledges
+pub mod Polls
+pub mod Takes

@@ -1,5 +1,5 @@
 -- Lists taken from the kinds of frames, when one more frame is behind all others.
-use Rattle.std.proofs.Common.{◌≡◌, ℕ, zero, suc, if◌then◌else◌, ◌+◌, Bool, true, false, List, [], ◌∷◌, ◌++◌, slice_get, Some, append_assoc, append-nil, refl, sym, ap, ◌∙◌, arith}
+use Rattle.std.proofs.Common.{◌≡◌, ◌⊎◌, inl, inr, ◌<◌, ℕ, zero, suc, if◌then◌else◌, ◌+◌, Bool, true, false, List, [], ◌∷◌, ◌++◌, slice_get, Some, append_assoc, append-nil, refl, sym, ap, ◌∙◌, arith}
 use Rattle.lapd_invariant.specs.Kinds.{Kind, message_of, messages, number_of, numbers, rejection_of, rejections, tally}
 use Rattle.lapd_invariant.specs.Conjuncts.{Each}
 
@@ -58,3 +58,6 @@ get_more (y ∷ xs) ys (suc place) x is = get_more xs ys place x is
 pub by_test : {A : Type 0} (P : A → Type 0) (test : Bool) (x y : A) → (test ≡ true → P x) → (test ≡ false → P y) → P (if test then x else y)
 by_test P true x y one other = one refl
 by_test P false x y one other = other refl
+
+pub nat_cases : (n m : ℕ) → n < m + 1 → n < m ⊎ (n ≡ m)
+nat_cases n m below = grind (arith, below)
