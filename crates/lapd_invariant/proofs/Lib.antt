@@ -13,3 +13,5 @@ pub mod Turns
 pub mod Acknowledges
 pub mod Polls
 pub mod Takes
+pub mod Rejects
+pub mod Backs
