@@ -14,8 +14,10 @@ use Rattle.lapd_invariant.proofs.Hearings.{on_map, on_both, by_open, from_open}
 use Rattle.lapd_invariant.proofs.Lists.{each_map}
 use Rattle.lapd_invariant.proofs.Losses.{rejected_map}
 use Rattle.lapd_invariant.proofs.Mids.{Mid, numbering, open_kept}
+use Rattle.lapd_invariant.proofs.Polls.{IsSettled, established, to_established}
 use Rattle.lapd_invariant.proofs.Receipts.{place_below}
 use Rattle.lapd_invariant.proofs.Runs.{NonePolls, all_is_junk, climb_top}
+use Rattle.lapd_invariant.proofs.Turns.{turned, final_left, rejection_left}
 
 abbrev pub backing_sender : ℕ → Sender → Sender
 backing_sender nr s = record s { vs = nr; next = s.first }
@@ -119,7 +121,7 @@ none_polls (Status nr ∷ ks) none = none_polls ks (omega (arith, none))
 none_polls (Enquiry nr ∷ ks) none = absurd (omega (arith, none))
 none_polls (k ∷ ks) none = none_polls ks (omega (arith, none))
 
-polls_heard : (P : List Kind → Type 0) (o : Option Hearing) → P (frames_heard o) → OnHearing (λ h. P h.frames) o
+pub polls_heard : (P : List Kind → Type 0) (o : Option Hearing) → P (frames_heard o) → OnHearing (λ h. P h.frames) o
 polls_heard P None p = tt
 polls_heard P (Some h) p = p
 
@@ -141,12 +143,33 @@ sent_back_in_7 x y out nr ks is m =
 pub none_asked_in_7 : (x y : Party) (out back : List Kind) → x.state ≡ MultipleFrameEstablished → Mid x y out back → NoneAsked (frames_heard (hears y out)) back
 none_asked_in_7 x y out back is m = subst (λ s. AreAsked s x.sends.base y.takes.received (frames_heard (hears y out)) back) is m.its.heard.asked
 
-pub back_by_rejection : (x y : Party) (out : List Kind) (nr : ℕ) (ks : List Kind) → x.state ≡ MultipleFrameEstablished → Mid x y out (Rejection nr ∷ ks) → Mid x y out (Status nr ∷ ks)
-    → Mid (backing nr (acknowledging nr x)) y out ks
-back_by_rejection x y out nr ks is m t =
+pub back_by_rejection : (x y : Party) (out : List Kind) (nr : ℕ) (ks : List Kind) → x.state ≡ MultipleFrameEstablished → Mid x y out (Rejection nr ∷ ks) → Mid (backing nr (acknowledging nr x)) y out ks
+back_by_rejection x y out nr ks is m =
+    let t : Mid x y out (Status nr ∷ ks) = turned x y out (Status nr ∷ ks) (Rejection nr ∷ ks) (rejection_left nr ks) m in
     let facts = sent_back_in_7 x y out nr ks is m in
     let None_ : Hearing → Type 0 = λ h. tally poll_of h.frames ≡ 0 in
     let none : OnHearing None_ (hears y out) = polls_heard (λ l. tally poll_of l ≡ 0) (hears y out) (none_asked_in_7 x y out (Rejection nr ∷ ks) is m).polls in
     keeps_backing (acknowledging nr x) y out ks nr refl facts.0.names facts.1
     (on_both (IsAwaiting nr) None_ (λ h. IsInOrder h.rejecting h.vr nr (messages h.frames)) (hears y out) (λ h w n. all_junk nr h w n) facts.0.waits none)
     (keeps_acknowledging x y out nr ks t)
+
+-- ---- By a final, in state 8.
+
+order_of_none : (rejecting : Bool) (low end : ℕ) (ms : List Message) → ms ≡ [] → IsInOrder rejecting low end ms
+order_of_none true low end ms none = subst (λ l. IsInOrder true low end l) (sym none) tt
+order_of_none false low end ms none = subst (λ l. IsInOrder false low end l) (sym none) tt
+
+pub asked_in_8 : (x y : Party) (out back : List Kind) → x.state ≡ TimerRecovery → Mid x y out back → OneAsked x.sends.base y.takes.received (frames_heard (hears y out)) back
+asked_in_8 x y out back is m = subst (λ s. AreAsked s x.sends.base y.takes.received (frames_heard (hears y out)) back) is m.its.heard.asked
+
+pub back_by_final : (x y : Party) (out : List Kind) (nr : ℕ) (ks : List Kind) → x.state ≡ TimerRecovery → Mid x y out (Final nr ∷ ks) → Mid (established (backing nr (acknowledging nr x))) y out ks
+back_by_final x y out nr ks is m =
+    let t : Mid x y out (Status nr ∷ ks) = turned x y out (Status nr ∷ ks) (Final nr ∷ ks) (final_left nr ks) m in
+    let asked = asked_in_8 x y out (Final nr ∷ ks) is m in
+    let named = asked.names.0 in
+    let gone : messages (frames_heard (hears y out)) ≡ [] = asked.alone (omega arith) in
+    let none : OnHearing (λ h. messages h.frames ≡ []) (hears y out) = polls_heard (λ l. messages l ≡ []) (hears y out) gone in
+    to_established (backing nr (acknowledging nr x)) y out ks (record { polls = omega (arith, asked.one); finals = omega (arith, asked.one) }) named.1
+    (keeps_backing (acknowledging nr x) y out ks nr refl named.0 named.1
+    (on_map (λ h. messages h.frames ≡ []) (λ h. IsInOrder h.rejecting h.vr nr (messages h.frames)) (hears y out) (λ h n. order_of_none h.rejecting h.vr nr (messages h.frames) n) none)
+    (keeps_acknowledging x y out nr ks t))

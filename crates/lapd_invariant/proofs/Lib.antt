@@ -15,3 +15,4 @@ pub mod Polls
 pub mod Takes
 pub mod Rejects
 pub mod Backs
+pub mod Sends

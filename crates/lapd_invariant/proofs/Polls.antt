@@ -138,3 +138,40 @@ enquiring x y out back settled w =
     (on_map Heard _ (hears y out) (λ h i. asked_said y.state y.sends.base x.takes.received back u h.frames refl refl i.asked) m.mine.heard)
     (on_map Heard _ (hears y out) (λ h i. rejected_said y.state y.sends.vs y.sends.base x.takes.received (Some (hearing_now z back)) u h.frames refl i.rejected) m.mine.heard)
     (asked_once x.sends.base y.takes.received u (hears y out) back refl refl settled.polls settled.finals) m
+
+-- ---- The answer comes: to state 7, where nothing is asked any more.
+
+abbrev pub established : Party → Party
+established x = record x { state = MultipleFrameEstablished }
+
+pub to_established : (x y : Party) (out back : List Kind) → IsSettled x y out back → rejections back ≡ [] → Mid x y out back → Mid (established x) y out back
+to_established x y out back settled none m =
+    let was = Some (hearing_now x back) in
+    record {
+      opened = refl;
+      mine = record {
+        kept = numbering m;
+        passed = m.mine.passed; past = m.mine.past; lately = m.mine.lately;
+        none_yet = λ _. m.mine.none_yet m.opened;
+        below = λ _. m.mine.below (open_holds x.state x.asked x.leaving m.opened);
+        heard = on_map (IsHeard x y was) (IsHeard (established x) y was) (hears y out) (λ h i. record {
+          stream = subst (λ b. IsStream b x.sends y.takes.received h.vr h.rejecting (messages h.frames)) m.opened i.stream;
+          acks = subst (λ b. AreAcknowledging b x.takes y.sends.base h.va h.vs (numbers h.frames)) m.opened i.acks;
+          asked = i.asked;
+          rejected = i.rejected;
+        }) m.mine.heard;
+        exchange = subst (λ n. IsExchange n out back) (open_asks_none x.state m.opened) m.mine.exchange;
+        histories = m.mine.histories;
+      };
+      its = record {
+        kept = m.its.kept; passed = m.its.passed; past = m.its.past; lately = m.its.lately; none_yet = m.its.none_yet; below = m.its.below;
+        heard = record {
+          stream = m.its.heard.stream;
+          acks = m.its.heard.acks;
+          asked = record { polls = settled.polls; finals = settled.finals };
+          rejected = subst (λ ns. AreRejected MultipleFrameEstablished x.sends.vs x.sends.base y.takes.received (hears y out) ns) (sym none) tt;
+        };
+        exchange = m.its.exchange;
+        histories = m.its.histories;
+      };
+    }
