@@ -16,3 +16,5 @@ pub mod Takes
 pub mod Rejects
 pub mod Backs
 pub mod Sends
+pub mod Goes
+pub mod Closes
