@@ -132,28 +132,28 @@ status_of : (busy : Bool) (w : StateVariables) (pf : Bool) → w.own_busy ≡ bu
 unfolding status_frame
 status_of busy w pf is = rw is refl
 
-final_kind : (w : StateVariables) → kind_of Answer (status_frame true w) [] 0 ≡ Final w.vr
+pub final_kind : (w : StateVariables) → kind_of Answer (status_frame true w) [] 0 ≡ Final w.vr
 final_kind w = by_busy w.own_busy refl
   where
     by_busy : (busy : Bool) → w.own_busy ≡ busy → kind_of Answer (status_frame true w) [] 0 ≡ Final w.vr
     by_busy true is = ap (λ k. kind_of Answer k [] 0) (status_of true w true is)
     by_busy false is = ap (λ k. kind_of Answer k [] 0) (status_of false w true is)
 
-status_kind : (w : StateVariables) → kind_of Answer (status_frame false w) [] 0 ≡ Status w.vr
+pub status_kind : (w : StateVariables) → kind_of Answer (status_frame false w) [] 0 ≡ Status w.vr
 status_kind w = by_busy w.own_busy refl
   where
     by_busy : (busy : Bool) → w.own_busy ≡ busy → kind_of Answer (status_frame false w) [] 0 ≡ Status w.vr
     by_busy true is = ap (λ k. kind_of Answer k [] 0) (status_of true w false is)
     by_busy false is = ap (λ k. kind_of Answer k [] 0) (status_of false w false is)
 
-enquiry_kind : (w : StateVariables) → kind_of Command (status_frame true w) [] 0 ≡ Enquiry w.vr
+pub enquiry_kind : (w : StateVariables) → kind_of Command (status_frame true w) [] 0 ≡ Enquiry w.vr
 enquiry_kind w = by_busy w.own_busy refl
   where
     by_busy : (busy : Bool) → w.own_busy ≡ busy → kind_of Command (status_frame true w) [] 0 ≡ Enquiry w.vr
     by_busy true is = ap (λ k. kind_of Command k [] 0) (status_of true w true is)
     by_busy false is = ap (λ k. kind_of Command k [] 0) (status_of false w true is)
 
-one_behind : (fs : List Flight) (role : Role) (control : Control) (u : Kind) → kind_of role control [] 0 ≡ u → kinds (fs ++ without_info role control ∷ []) ≡ kinds fs ++ u ∷ []
+pub one_behind : (fs : List Flight) (role : Role) (control : Control) (u : Kind) → kind_of role control [] 0 ≡ u → kinds (fs ++ without_info role control ∷ []) ≡ kinds fs ++ u ∷ []
 one_behind fs role control u is = kinds_more fs (without_info role control) ∙ ap (λ k. kinds fs ++ k ∷ []) is
 
 -- the acknowledgement that is pending
@@ -182,7 +182,7 @@ goes_response c s nr ks m =
 
 -- ---- N(R).
 
-abbrev acked_story : ℕ → Story → Story
+abbrev pub acked_story : ℕ → Story → Story
 acked_story n t = record t { history = with_acked n t.history }
 
 nothing_acked : (t : Story) → t ≡ acked_story 0 t
@@ -197,7 +197,7 @@ nothing_acked t = ap (λ h. record t { history = h }) (no_places t.history)
         both : h.acked ≡ h.acked ++ [] → h.passed ≡ h.passed + 0 → h ≡ with_acked 0 h
         both a p = ap (λ l. record h { acked = l }) a ∙ ap (λ n. record h { acked = h.acked ++ []; passed = n }) p
 
-acked_told : (n : ℕ) (o : Occasion) (t : Story) → told o (counted n Acknowledged) t ≡ acked_story n t
+pub acked_told : (n : ℕ) (o : Occasion) (t : Story) → told o (counted n Acknowledged) t ≡ acked_story n t
 acked_told zero o t = nothing_acked t
 acked_told (suc n) o t = by_some (nat_lt 0 (suc n)) (grind (arith, nat_tests))
   where

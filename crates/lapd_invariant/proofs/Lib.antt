@@ -18,3 +18,5 @@ pub mod Backs
 pub mod Sends
 pub mod Goes
 pub mod Closes
+pub mod Receives
+pub mod OpenRows

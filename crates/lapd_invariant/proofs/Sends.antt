@@ -33,7 +33,7 @@ sent_here at era place sent same = let test : (place == at) ≡ true = grind (ar
 sent_elsewhere : (at era place : ℕ) (sent : ℕ → Option ℕ) → (place ≡ at → ⊥) → sent_at at era sent place ≡ sent place
 sent_elsewhere at era place sent other = let test : (place == at) ≡ false = grind (arith, other, nat_tests) in rw test refl
 
-same_or_not : (n m : ℕ) → (n ≡ m) ⊎ (n ≡ m → ⊥)
+pub same_or_not : (n m : ℕ) → (n ≡ m) ⊎ (n ≡ m → ⊥)
 same_or_not n m = grind arith
 
 sent_still : (at era place : ℕ) (sent : ℕ → Option ℕ) → sent place ≡ Some era → sent_at at era sent place ≡ Some era
