@@ -20,3 +20,4 @@ pub mod Goes
 pub mod Closes
 pub mod Receives
 pub mod OpenRows
+pub mod Closed

@@ -63,7 +63,7 @@ behind_less ended = tt
 behind_less (taken {x = k} {xs = xs} {ys = ys} p) = taken_less (is_acceptance k) p (behind_acceptance xs) (behind_acceptance ys) (behind_less p)
 behind_less (lost {y = k} {xs = xs} {ys = ys} p) = lost_less (is_acceptance k) (behind_acceptance xs) ys (behind_acceptance ys) (behind_within p) (behind_less p)
 
-less_in : (state : State) (leaving : Bool) (now was : Hearing) {xs ys : List Kind} → Part xs ys → IsLess now was → HearsLess (heard_in state leaving now xs) (heard_in state leaving was ys)
+pub less_in : (state : State) (leaving : Bool) (now was : Hearing) {xs ys : List Kind} → Part xs ys → IsLess now was → HearsLess (heard_in state leaving now xs) (heard_in state leaving was ys)
 less_in TeiAssigned leaving now was p less = tt
 less_in AwaitingEstablishment true now was p less = tt
 less_in AwaitingEstablishment false now was p less = behind_less p
