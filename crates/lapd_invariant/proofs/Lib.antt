@@ -21,3 +21,5 @@ pub mod Closes
 pub mod Receives
 pub mod OpenRows
 pub mod Closed
+pub mod Seems
+pub mod Closings
