@@ -23,3 +23,4 @@ pub mod OpenRows
 pub mod Closed
 pub mod Seems
 pub mod Closings
+pub mod ClosedRows
