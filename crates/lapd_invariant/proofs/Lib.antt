@@ -24,3 +24,5 @@ pub mod Closed
 pub mod Seems
 pub mod Closings
 pub mod ClosedRows
+pub mod Steps
+pub mod OpenTimers
