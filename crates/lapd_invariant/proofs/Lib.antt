@@ -26,3 +26,5 @@ pub mod Closings
 pub mod ClosedRows
 pub mod Steps
 pub mod OpenTimers
+pub mod UnderWay
+pub mod Deeds
