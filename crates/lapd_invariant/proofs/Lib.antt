@@ -28,3 +28,4 @@ pub mod Steps
 pub mod OpenTimers
 pub mod UnderWay
 pub mod Deeds
+pub mod Delivers
