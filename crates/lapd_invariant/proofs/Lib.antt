@@ -29,3 +29,4 @@ pub mod OpenTimers
 pub mod UnderWay
 pub mod Deeds
 pub mod Delivers
+pub mod Near
