@@ -1,7 +1,8 @@
 -- One walk over the table: what each action keeps, each row and the end of a step keep.
 --
--- Before an N(R) is acknowledged or a message goes out a fact P is kept, and from then on a fact Q that follows from it. Three actions need a
--- premise of their own: M of a message that joins the queue, B where an establishment begins, T where an I frame is taken.
+-- Before an N(R) is acknowledged or a message goes out a fact P is kept, and from then on a fact Q that follows from it. Four actions need a
+-- premise of their own: M of a message that joins the queue, B where an establishment begins, T where an I frame is taken,
+-- U where unit data goes up.
 use Rattle.std.proofs.Common.{◌≡◌, ℕ, zero, suc, ◌==◌, ◌&&◌, not, nat_lt, Bool, true, false, if◌then◌else◌, List, None, refl}
 use Rattle.lapd_timers.specs.declared.timer.Timer.{Timer}
 use Rattle.lapd_timers.specs.declared.timer.Timer.TheVariants.{T200, T203}
@@ -19,6 +20,7 @@ use Rattle.lapd_states.specs.declared.out.Out.TheVariants.{Send, SendUnit, UnitU
 use Rattle.lapd_states.specs.AwaitingEstablishment.{release_primitive, end_establishment, confirm_or_indicate, ua_final, awaiting_establishment_t200, awaiting_establishment}
 use Rattle.lapd_states.specs.AwaitingRelease.{confirm_release, awaiting_release_t200, awaiting_release}
 use Rattle.lapd_states.specs.Begins.{is_sabme, is_final_ua, begins}
+use Rattle.lapd_states.specs.Counts.{hears_unit}
 use Rattle.lapd_states.specs.Close.{is_7_or_8, may_send_next, send_all, acknowledge_pending, close}
 use Rattle.lapd_states.specs.End.{StepState, ◌▷◌, runs, unsent}
 use Rattle.lapd_states.specs.Established.{busy_on, busy_off, in_7_and_8, sends_last, established_t200, poll_or_final, acknowledge_with_timers, i_frame_nr, rr_nr, rej_nr, rnr_nr, multiple_frame_established}
@@ -28,11 +30,11 @@ use Rattle.lapd_states.specs.Table.{by_state, report_fault, is_unit_data, row}
 use Rattle.lapd_states.specs.TeiAssigned.{tei_assigned}
 use Rattle.lapd_states.specs.TimerRecovery.{poll, is_final, i_frame_nr_in_recovery, rr_nr_in_recovery, rnr_nr_in_recovery, timer_recovery_t200, timer_recovery}
 
--- what `put` puts: a frame of the grammar without information, what layer 3 is told of the link, unit data, a report
+-- what `put` puts but for unit data that goes up: a frame of the grammar without information, what layer 3 is told of the
+-- link, unit data to be sent, a report
 abbrev pub IsPut : Out → Type 0
 IsPut (Send role control) = content_fault role control 0 ≡ None
 IsPut SendUnit = Unit {0}
-IsPut UnitUp = Unit {0}
 IsPut Established = Unit {0}
 IsPut Confirmed = Unit {0}
 IsPut Released = Unit {0}
@@ -40,8 +42,9 @@ IsPut ReleaseConfirm = Unit {0}
 IsPut (Report letter) = Unit {0}
 IsPut out = ⊥
 
-pub record KeptByActions (r : Reading) (P Q : StepState → Type 0) (M : List ℕ → Type 0) (B T : Type 0) : Type 0 where
+pub record KeptByActions (r : Reading) (P Q : StepState → Type 0) (M : List ℕ → Type 0) (B T U : Type 0) : Type 0 where
   pub puts : (out : Out) (s : StepState) → IsPut out → P s → P (put out s)
+  pub unit_ups : (s : StepState) → U → P s → P (put UnitUp s)
   pub states : (state : State) (s : StepState) → P s → P (state_to state s)
   pub rcs : (n : ℕ) (s : StepState) → P s → P (rc_to n s)
   pub increments : (s : StepState) → P s → P (increment_rc s)
@@ -86,7 +89,7 @@ both_then true false p q = refl
 both_then true true p q = cc
 both_then false leaving p q = cc
 
-module _ (r : Reading) (P Q : StepState → Type 0) (M : List ℕ → Type 0) (B T : Type 0) (w : KeptByActions r P Q M B T) where
+module _ (r : Reading) (P Q : StepState → Type 0) (M : List ℕ → Type 0) (B T U : Type 0) (w : KeptByActions r P Q M B T U) where
   establishing : (s : StepState) → P s → P (establish_data_link s)
   unfolding establish_data_link
   establishing s h = w.states _ _ (w.starts T200 _ (w.stops T203 _ (w.puts _ _ refl (w.rcs 0 _ (w.pendings false _ (w.clears _ h))))))
@@ -294,13 +297,13 @@ module _ (r : Reading) (P Q : StepState → Type 0) (M : List ℕ → Type 0) (B
   faulty TimerRecovery kind s h = reestablishing _ (w.puts _ s tt h)
 
   pub row_keeps : (state : State) (input : Input) (s : StepState) → ((message : List ℕ) → input ≡ Give message → M message) → (begins state s.end.release_pending input ≡ true → B)
-      → (is_7_or_8 state ≡ true → (ns nr : ℕ) (p : Bool) → input ≡ Heard (I ns nr p) Command → T) → P s → Q (row r state input s)
+      → (is_7_or_8 state ≡ true → (ns nr : ℕ) (p : Bool) → input ≡ Heard (I ns nr p) Command → T) → (hears_unit input ≡ true → U) → P s → Q (row r state input s)
   unfolding row
-  row_keeps state (Heard control role) s m b t h = either Q (is_unit_data control role) _ _ (λ _. w.follows _ (w.puts _ s tt h)) (λ _. in_state state (Heard control role) s m b t h)
-  row_keeps state (UnitData len) s m b t h = w.follows _ (w.puts _ s tt h)
-  row_keeps state (Faulty kind) s m b t h = w.follows _ (faulty state kind s h)
-  row_keeps state (Expiry timer) s m b t h = either Q (runs timer s.end) _ _ (λ _. in_state state (Expiry timer) s m b t h) (λ _. w.follows s h)
-  row_keeps state input s m b t h = in_state state input s m b t h
+  row_keeps state (Heard control role) s m b t u h = either Q (is_unit_data control role) _ _ (λ unit. w.follows _ (w.unit_ups s (u unit) h)) (λ _. in_state state (Heard control role) s m b t h)
+  row_keeps state (UnitData len) s m b t u h = w.follows _ (w.puts _ s tt h)
+  row_keeps state (Faulty kind) s m b t u h = w.follows _ (faulty state kind s h)
+  row_keeps state (Expiry timer) s m b t u h = either Q (runs timer s.end) _ _ (λ _. in_state state (Expiry timer) s m b t h) (λ _. w.follows s h)
+  row_keeps state input s m b t u h = in_state state input s m b t h
 
   -- ---- The end of a step, and a whole one.
 

@@ -9,4 +9,5 @@ pub mod RowsOnTags
 pub mod Sending
 pub mod Soundness
 pub mod StepOnTags
+pub mod UnitsOfStep
 pub mod WorkedRows

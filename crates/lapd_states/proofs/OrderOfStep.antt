@@ -80,7 +80,7 @@ first_both (Report letter ∷ xs) ys hx none hy = first_both xs ys hx none hy
 put_sends_none : (out : Out) → IsPut out → sent (out ∷ []) ≡ 0
 put_sends_none (Send role control) h = refl
 put_sends_none SendUnit h = refl
-put_sends_none UnitUp h = refl
+put_sends_none UnitUp h = absurd h
 put_sends_none Established h = refl
 put_sends_none Confirmed h = refl
 put_sends_none Released h = refl
@@ -133,10 +133,11 @@ leaves_none_unless : (on : Bool) (outs : List Out) → (leaving outs ≡ 0) × A
 leaves_none_unless true outs h = (refl, tt)
 leaves_none_unless false outs h = h
 
-orders : (r : Reading) → KeptByActions r (λ s. IsSilent s.outs) (λ s. IsInOrder s.outs) (λ message. Unit {0}) (Unit {0}) (Unit {0})
+orders : (r : Reading) → KeptByActions r (λ s. IsSilent s.outs) (λ s. IsInOrder s.outs) (λ message. Unit {0}) (Unit {0}) (Unit {0}) (Unit {0})
 unfolding put retransmit_last_i_frame state_to rc_to increment_rc layer3_initiated_to release_pending_to start stop expired clear_exception_conditions zero_state_variables set_peer_busy set_own_busy enquiry_response transmit_enquiry transmit_rr queue_up discard_i_queue acknowledge invoke_retransmission discard_unacknowledged i_frame_ns transmit_i_frame ensure_t200
 orders r = record {
   puts = λ out s ok h. silent (out ∷ []) (put_sends_none out ok) h;
+  unit_ups = λ s u h. silent (UnitUp ∷ []) refl h;
   states = λ state s h. h;
   rcs = λ n s h. h;
   increments = λ s h. h;
@@ -182,5 +183,5 @@ unfolding step
 order_of_step r input e s done =
     let P : StepState → Type 0 = λ t. IsSilent t.outs in
     let Q : StepState → Type 0 = λ t. IsInOrder t.outs in
-    (subst Q (taken (refused input e) (close r (row r e.state input (begin e))) s done).1 (close_keeps r P Q _ _ _ (orders r) (row r e.state input (begin e))
-    (row_keeps r P Q _ _ _ (orders r) e.state input (begin e) (λ message same. tt) (λ b. tt) (λ opened ns nr p same. tt) (begins_silent e)))).order
+    (subst Q (taken (refused input e) (close r (row r e.state input (begin e))) s done).1 (close_keeps r P Q _ _ _ _ (orders r) (row r e.state input (begin e))
+    (row_keeps r P Q _ _ _ _ (orders r) e.state input (begin e) (λ message same. tt) (λ b. tt) (λ opened ns nr p same. tt) (λ u. tt) (begins_silent e)))).order

@@ -41,7 +41,7 @@ leaving_both (Report letter ∷ xs) ys = leaving_both xs ys
 put_leaves_none : (out : Out) → IsPut out → leaving (out ∷ []) ≡ 0
 put_leaves_none (Send role control) h = refl
 put_leaves_none SendUnit h = refl
-put_leaves_none UnitUp h = refl
+put_leaves_none UnitUp h = absurd h
 put_leaves_none Established h = refl
 put_leaves_none Confirmed h = refl
 put_leaves_none Released h = refl
@@ -122,10 +122,11 @@ module _ (r : Reading) (from : ℕ) where
   timed_then T202 on s h = h
   timed_then T203 on s h = h
 
-  pub places : KeptByActions r Before Then (λ message. Unit {0}) (Unit {0}) (Unit {0})
+  pub places : KeptByActions r Before Then (λ message. Unit {0}) (Unit {0}) (Unit {0}) (Unit {0})
   unfolding put retransmit_last_i_frame state_to rc_to increment_rc layer3_initiated_to release_pending_to start stop expired clear_exception_conditions zero_state_variables set_peer_busy set_own_busy enquiry_response transmit_enquiry transmit_rr queue_up discard_i_queue acknowledge invoke_retransmission discard_unacknowledged i_frame_ns transmit_i_frame ensure_t200
   places = record {
     puts = λ out s ok h. placed (out ∷ []) (put_leaves_none out ok) h;
+    unit_ups = λ s u h. placed (UnitUp ∷ []) refl h;
     states = λ state s h. h;
     rcs = λ k s h. h;
     increments = λ s h. h;
@@ -166,11 +167,11 @@ module _ (r : Reading) (from : ℕ) where
 placed_by_row : (r : Reading) (input : Input) (e : End) → e.first ≤ length e.given → Then r e.first (row r e.state input (begin e))
 unfolding begin
 placed_by_row r input e within =
-    row_keeps r (Before r e.first) (Then r e.first) _ _ _ (places r e.first) e.state input (begin e) (λ message same. tt) (λ b. tt) (λ opened ns nr p same. tt)
+    row_keeps r (Before r e.first) (Then r e.first) _ _ _ _ (places r e.first) e.state input (begin e) (λ message same. tt) (λ b. tt) (λ opened ns nr p same. tt) (λ u. tt)
     (record { place = omega arith; within = within })
 
 pub first_after : (r : Reading) (input : Input) (e : End) (s : StepState) → e.first ≤ length e.given → step r input e ≡ Ok s → s.end.first ≡ e.first + leaving s.outs
 unfolding step
 first_after r input e s within done =
     let is = (taken (refused input e) (close r (row r e.state input (begin e))) s done).1 in
-    sym (subst (Then r e.first) is (close_keeps r (Before r e.first) (Then r e.first) _ _ _ (places r e.first) (row r e.state input (begin e)) (placed_by_row r input e within))).place
+    sym (subst (Then r e.first) is (close_keeps r (Before r e.first) (Then r e.first) _ _ _ _ (places r e.first) (row r e.state input (begin e)) (placed_by_row r input e within))).place

@@ -4,16 +4,23 @@ use Rattle.lapd_frame.specs.declared.Role.TheVariants.{Command}
 use Rattle.lapd_frame.specs.declared.Control.TheVariants.{I}
 use Rattle.lapd_supervision.specs.StateVariables.{is_accepted}
 use Rattle.lapd_states.specs.declared.out.Out.{Out}
-use Rattle.lapd_states.specs.declared.out.Out.TheVariants.{SendMessage, Up, Acknowledged, Dropped}
+use Rattle.lapd_states.specs.declared.out.Out.TheVariants.{SendMessage, Up, UnitUp, Acknowledged, Dropped}
 use Rattle.lapd_states.specs.Close.{is_7_or_8}
 use Rattle.lapd_states.specs.End.{End}
 use Rattle.lapd_states.specs.Input.{Input, Heard, Give}
+use Rattle.lapd_states.specs.Table.{is_unit_data}
 
 -- how often the information of an I frame goes to layer 3
 abbrev pub ups : List Out → ℕ
 ups [] = 0
 ups (Up ∷ outs) = ups outs + 1
 ups (out ∷ outs) = ups outs
+
+-- how often unit data goes to layer 3
+abbrev pub unit_ups : List Out → ℕ
+unit_ups [] = 0
+unit_ups (UnitUp ∷ outs) = unit_ups outs + 1
+unit_ups (out ∷ outs) = unit_ups outs
 
 -- how many messages are told to be acknowledged or dropped
 abbrev pub leaving : List Out → ℕ
@@ -38,3 +45,8 @@ messages_of input = []
 abbrev pub accepts : Input → End → Bool
 accepts (Heard (I ns nr p) Command) e = is_7_or_8 e.state && is_accepted ns e.window
 accepts input e = false
+
+-- a UI command
+abbrev pub hears_unit : Input → Bool
+hears_unit (Heard control role) = is_unit_data control role
+hears_unit input = false

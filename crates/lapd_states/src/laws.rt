@@ -3,7 +3,7 @@
 ghost use Rattle.std.specs.Prelude.{◌≡◌, ◌≤◌, ◌+◌, ◌++◌, true, false, ℕ, if◌then◌else◌, length, Ok};
 ghost use Rattle.lapd_mod128.specs.Counting.{Reading, Whole, Tagged};
 ghost use Rattle.lapd_states.specs.Begins.{begins, HasBegun};
-ghost use Rattle.lapd_states.specs.Counts.{ups, leaving, AreCountedFirst, messages_of, accepts};
+ghost use Rattle.lapd_states.specs.Counts.{ups, unit_ups, leaving, AreCountedFirst, messages_of, accepts, hears_unit};
 ghost use Rattle.lapd_states.specs.End.{End, StepState, new_end};
 ghost use Rattle.lapd_states.specs.Input.{Input};
 ghost use Rattle.lapd_states.specs.Parameters.{Parameters};
@@ -53,12 +53,13 @@ pub fn establishments_are_counted()
 {}
 
 /// Messages are told of rightly. Those given stay, and one that is accepted comes behind them; the place of the first
-/// that waits moves by as many as the step tells to be acknowledged or dropped, before any message goes out; and the information of a frame goes to
-/// layer 3 once where states 7 and 8 accept it, and else never (Q.921 5.6.2, 5.6.3.2).
+/// that waits moves by as many as the step tells to be acknowledged or dropped, before any message goes out; and the information of an I frame goes to
+/// layer 3 once where states 7 and 8 accept it, that of a UI once, and else never (Q.921 5.6.2, 5.6.3.2).
 pub fn messages_are_counted()
     ensures given { (r : Reading) (input : Input) (e : End) (s : StepState) → step r input e ≡ Ok s → s.end.given ≡ e.given ++ messages_of input }
     ensures first { (r : Reading) (input : Input) (e : End) (s : StepState) → e.first ≤ length e.given → step r input e ≡ Ok s
         → s.end.first ≡ e.first + leaving s.outs }
     ensures order { (r : Reading) (input : Input) (e : End) (s : StepState) → step r input e ≡ Ok s → AreCountedFirst s.outs }
+    ensures unit { (r : Reading) (input : Input) (e : End) (s : StepState) → step r input e ≡ Ok s → unit_ups s.outs ≡ (if hears_unit input then 1 else 0) }
     ensures up { (r : Reading) (input : Input) (e : End) (s : StepState) → step r input e ≡ Ok s → ups s.outs ≡ (if accepts input e then 1 else 0) }
 {}
