@@ -2,6 +2,8 @@ pub mod ActionsOnTags
 pub mod EachAction
 pub mod InputsThatCount
 pub mod KeptByStep
+pub mod MessagesThere
+pub mod NumbersOfStep
 pub mod OpenRowsOnTags
 pub mod OrderOfStep
 pub mod PlacesOfStep

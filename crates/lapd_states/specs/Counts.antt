@@ -1,5 +1,5 @@
 -- What the outputs of a step count, and what they are to agree with.
-use Rattle.std.specs.Prelude.{◌≡◌, ℕ, ◌+◌, ◌&&◌, Bool, false, List, [], ◌∷◌}
+use Rattle.std.specs.Prelude.{◌≡◌, ℕ, ◌<◌, ◌+◌, ◌&&◌, Bool, false, List, [], ◌∷◌}
 use Rattle.lapd_frame.specs.declared.Role.TheVariants.{Command}
 use Rattle.lapd_frame.specs.declared.Control.TheVariants.{I}
 use Rattle.lapd_supervision.specs.StateVariables.{is_accepted}
@@ -35,6 +35,15 @@ abbrev pub AreCountedFirst : List Out → Type 0
 AreCountedFirst [] = Unit {0}
 AreCountedFirst (SendMessage place control ∷ outs) = (leaving outs ≡ 0) × AreCountedFirst outs
 AreCountedFirst (out ∷ outs) = AreCountedFirst outs
+
+-- each message that goes out is there: its place, counted from the first that waits, is one of so many
+abbrev pub IsPlaced : ℕ → Out → Type 0
+IsPlaced waiting (SendMessage place control) = place < waiting
+IsPlaced waiting out = Unit {0}
+
+abbrev pub ArePlaced : ℕ → List Out → Type 0
+ArePlaced waiting [] = Unit {0}
+ArePlaced waiting (out ∷ outs) = IsPlaced waiting out × ArePlaced waiting outs
 
 -- the message of an input, where it is one
 abbrev pub messages_of : Input → List (List ℕ)

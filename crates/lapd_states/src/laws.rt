@@ -1,11 +1,12 @@
 //! Laws of the whole state table, over its definitions. They do nothing when they are called.
 
-ghost use Rattle.std.specs.Prelude.{◌≡◌, ◌≤◌, ◌+◌, ◌++◌, true, false, ℕ, if◌then◌else◌, length, Ok};
+ghost use Rattle.std.specs.Prelude.{◌≡◌, ◌≤◌, ◌+◌, ◌-◌, ◌++◌, true, false, ℕ, if◌then◌else◌, length, Ok};
 ghost use Rattle.lapd_mod128.specs.Counting.{Reading, Whole, Tagged};
 ghost use Rattle.lapd_states.specs.Begins.{begins, HasBegun};
-ghost use Rattle.lapd_states.specs.Counts.{ups, unit_ups, leaving, AreCountedFirst, messages_of, accepts, hears_unit};
+ghost use Rattle.lapd_states.specs.Counts.{ups, unit_ups, leaving, AreCountedFirst, ArePlaced, messages_of, accepts, hears_unit};
 ghost use Rattle.lapd_states.specs.End.{End, StepState, new_end};
 ghost use Rattle.lapd_states.specs.Input.{Input};
+ghost use Rattle.lapd_states.specs.Numbers.{AreNumbers, HearsNumbers, AreNumbered};
 ghost use Rattle.lapd_states.specs.Parameters.{Parameters};
 ghost use Rattle.lapd_states.specs.Sound.{IsSound};
 ghost use Rattle.lapd_states.specs.Spoken.{AreSpoken, AreShort};
@@ -41,6 +42,21 @@ pub fn tags_decide()
 pub fn sent_frames_are_in_the_grammar()
     ensures sent { (r : Reading) (input : Input) (e : End) (s : StepState) → step r input e ≡ Ok s → AreSpoken s.outs }
     ensures short { (r : Reading) (input : Input) (e : End) (s : StepState) → AreShort e.given → step r input e ≡ Ok s → AreShort s.end.given }
+{}
+
+/// Each message that goes out is there: its place, counted from the first that waits, is one of so many as wait after the
+/// step. So it is where all sent messages are outstanding and the state variables are numbers of the reading, in windows of
+/// up to 127 (Q.921 5.6.1, 5.6.7).
+pub fn sent_messages_are_there()
+    ensures { (r : Reading) (input : Input) (e : End) (s : StepState) → e.parameters.k ≤ 127 → IsSound r e → AreNumbers r e.window
+        → step r input e ≡ Ok s → ArePlaced (length s.end.given - s.end.first) s.outs }
+{}
+
+/// On tags, the state variables stay tags and each frame that goes out carries tags, where those that come do (Q.921
+/// 3.5.2.1). On whole numbers this says nothing.
+pub fn numbers_stay()
+    ensures own { (r : Reading) (input : Input) (e : End) (s : StepState) → AreNumbers r e.window → HearsNumbers r input → step r input e ≡ Ok s → AreNumbers r s.end.window }
+    ensures sent { (r : Reading) (input : Input) (e : End) (s : StepState) → AreNumbers r e.window → HearsNumbers r input → step r input e ≡ Ok s → AreNumbered r s.outs }
 {}
 
 /// A step begins one establishment or none: one by a SABME command in states 4, 7 and 8, and by a UA with F=1 in state 5
