@@ -1,4 +1,7 @@
+pub mod Keeping
 pub mod Places
 pub mod Safety
 pub mod Schedules
+pub mod Settling
 pub mod Swaps
+pub mod Telling
