@@ -2,6 +2,7 @@
 #![tactic(auto)]
 
 mod fate;
+mod history;
 mod received;
 
 pub use fate::{Ending, Fate};
