@@ -3,6 +3,7 @@ pub mod EachAction
 pub mod InputsThatCount
 pub mod KeptByStep
 pub mod MessagesThere
+pub mod NearNumbers
 pub mod NumbersOfStep
 pub mod OpenRowsOnTags
 pub mod OrderOfStep

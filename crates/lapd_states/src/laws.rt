@@ -1,8 +1,10 @@
 //! Laws of the whole state table, over its definitions. They do nothing when they are called.
 
 ghost use Rattle.std.specs.Prelude.{◌≡◌, ◌≤◌, ◌+◌, ◌-◌, ◌++◌, true, false, ℕ, if◌then◌else◌, length, Ok};
+ghost use Rattle.lapd_frame.specs.declared.Control.{Control};
 ghost use Rattle.lapd_mod128.specs.Counting.{Reading, Whole, Tagged};
 ghost use Rattle.lapd_states.specs.Begins.{begins, HasBegun};
+ghost use Rattle.lapd_states.specs.Close.{is_7_or_8};
 ghost use Rattle.lapd_states.specs.Counts.{ups, unit_ups, leaving, AreCountedFirst, ArePlaced, messages_of, accepts, hears_unit};
 ghost use Rattle.lapd_states.specs.End.{End, StepState, new_end};
 ghost use Rattle.lapd_states.specs.Input.{Input};
@@ -11,7 +13,7 @@ ghost use Rattle.lapd_states.specs.Parameters.{Parameters};
 ghost use Rattle.lapd_states.specs.Sound.{IsSound};
 ghost use Rattle.lapd_states.specs.Spoken.{AreSpoken, AreShort};
 ghost use Rattle.lapd_states.specs.Table.{step};
-ghost use Rattle.lapd_states.specs.Tagging.{tag_input, tag_end, tag_result, IsNear};
+ghost use Rattle.lapd_states.specs.Tagging.{tag_input, tag_end, tag_result, HasNearNumbers, HasNumbersWithin, IsNear};
 
 /// Over every list of events, from a new end on, all messages that are sent and neither acknowledged nor dropped are
 /// outstanding: in states 7 and 8, as many as steps lead from V(A) to V(S), so that message number n of the present
@@ -34,6 +36,13 @@ pub fn parameters_stay()
 /// of V(S) (Q.921 3.5.2, 5.9.5).
 pub fn tags_decide()
     ensures { (input : Input) (e : End) → IsNear input e → step Tagged (tag_input input) (tag_end e) ≡ tag_result (step Whole input e) }
+{}
+
+/// In states 7 and 8 numbers are near where an N(S) lies at most one below V(R) and less than k above it, and an N(R) from
+/// V(A) to V(S): k is the window of the sender, up to 127, and all sent messages are outstanding (Q.921 3.5.2, 5.9.5).
+pub fn numbers_within_are_near()
+    ensures { (k : ℕ) (control : Control) (e : End) → k ≤ 127 → IsSound Whole e → is_7_or_8 e.state ≡ true
+        → HasNumbersWithin k control e.window → HasNearNumbers control e.window }
 {}
 
 /// What a step sends is in the grammar of frames: each frame without information, and each I command with any message of

@@ -14,54 +14,43 @@ use Rattle.lapd_supervision.proofs.Tagging.{initial_variables_on_tags}
 use Rattle.lapd_states.specs.declared.event.LinkFault.{LinkFault}
 use Rattle.lapd_states.specs.declared.out.Out.{Out}
 use Rattle.lapd_states.specs.declared.out.Out.TheVariants.{Send, SendMessage, SendUnit, Up, UnitUp, Acknowledged, Dropped}
-use Rattle.lapd_states.specs.End.{StepState}
+use Rattle.lapd_states.specs.End.{End, StepState}
 use Rattle.lapd_states.specs.Input as input
 use Rattle.lapd_states.specs.Input.{Input}
 use Rattle.lapd_states.specs.Parameters.{Parameters}
 use Rattle.lapd_states.specs.Sound.{IsSound}
 use Rattle.lapd_states.specs.Table.{step}
 use Rattle.lapd_states.specs.Tagging.{tag_input, tag_out, tag_step_state, tag_result, IsHeardNear}
+use Rattle.lapd_states.proofs.NearNumbers.{numbers_within_are_near}
 use Rattle.lapd_states.proofs.StepOnTags.{step_on_tags}
 use Rattle.lapd_world.specs.Histories.{Occasion, Story, tell, told, message_frame, unit_frame}
 use Rattle.lapd_world.specs.Kept.{IsKeptWorld}
 use Rattle.lapd_world.specs.Line.{Flight, without_info, is_poll, is_final, first_poll, first_final}
 use Rattle.lapd_world.specs.Move.{Deed, Give, Establish, Release, Deliver, Lose, Expire200, Expire203, Busy, UnitData, Restart, Move, Refusal, NotRunning, View, Acted, story_after, view_after, stepped, hears, takes, delivers, loses, unless_under_way, expires_200, expires_203, restarts, busy_input, acts}
 use Rattle.lapd_world.specs.Safe.{AreSafe}
-use Rattle.lapd_world.specs.Tagged.{tag_flight, tag_station, tag_world, tag_outcome, IsFirstNear, IsNearDeed, IsNearMove, AreNearMoves}
+use Rattle.lapd_world.specs.Tagged.{tag_flight, tag_station, tag_world, tag_outcome, IsFirstNear, IsNearDeed, IsNearMove, AreNearMoves, IsFirstWithin, AreFirstWithin}
 use Rattle.lapd_world.specs.World.{World, view_of, Happened, in_world, happens, world_after, run, outcomes, left, new_world}
 use Rattle.lapd_world.proofs.Keeping.{run_kept}
 
 -- ---- The line.
 
-polled_alike : (role : Role) (control : Control) (info : List ℕ) (place : ℕ)
-    → is_poll (record { role = role; control = tag_control control; info = info; place = place }) ≡ is_poll (record { role = role; control = control; info = info; place = place })
-unfolding tag_control
-polled_alike role (I ns nr p) info place = refl
-polled_alike role (Rr nr pf) info place = refl
-polled_alike role (Rnr nr pf) info place = refl
-polled_alike role (Rej nr pf) info place = refl
-polled_alike role (Sabme p) info place = refl
-polled_alike role (Dm f) info place = refl
-polled_alike role (Ui p) info place = refl
-polled_alike role (Disc p) info place = refl
-polled_alike role (Ua f) info place = refl
-polled_alike role (Frmr f) info place = refl
-polled_alike role (Xid pf) info place = refl
+abbrev AsksAlike : Flight → Type 0
+AsksAlike frame = (is_poll (tag_flight frame) ≡ is_poll frame) × (is_final (tag_flight frame) ≡ is_final frame)
 
-answered_alike : (role : Role) (control : Control) (info : List ℕ) (place : ℕ)
-    → is_final (record { role = role; control = tag_control control; info = info; place = place }) ≡ is_final (record { role = role; control = control; info = info; place = place })
+-- a tag leaves P and F alone
+asks_alike : (role : Role) (control : Control) (info : List ℕ) (place : ℕ) → AsksAlike (record { role = role; control = control; info = info; place = place })
 unfolding tag_control
-answered_alike role (I ns nr p) info place = refl
-answered_alike role (Rr nr pf) info place = refl
-answered_alike role (Rnr nr pf) info place = refl
-answered_alike role (Rej nr pf) info place = refl
-answered_alike role (Sabme p) info place = refl
-answered_alike role (Dm f) info place = refl
-answered_alike role (Ui p) info place = refl
-answered_alike role (Disc p) info place = refl
-answered_alike role (Ua f) info place = refl
-answered_alike role (Frmr f) info place = refl
-answered_alike role (Xid pf) info place = refl
+asks_alike role (I ns nr p) info place = (refl, refl)
+asks_alike role (Rr nr pf) info place = (refl, refl)
+asks_alike role (Rnr nr pf) info place = (refl, refl)
+asks_alike role (Rej nr pf) info place = (refl, refl)
+asks_alike role (Sabme p) info place = (refl, refl)
+asks_alike role (Dm f) info place = (refl, refl)
+asks_alike role (Ui p) info place = (refl, refl)
+asks_alike role (Disc p) info place = (refl, refl)
+asks_alike role (Ua f) info place = (refl, refl)
+asks_alike role (Frmr f) info place = (refl, refl)
+asks_alike role (Xid pf) info place = (refl, refl)
 
 first_alike : (test : Flight → Bool) → ((frame : Flight) → test (tag_flight frame) ≡ test frame) → (frames : List Flight) → position_or_len test (map tag_flight frames) ≡ position_or_len test frames
 first_alike test alike [] = refl
@@ -71,10 +60,10 @@ position_alike : (test : Flight → Bool) → ((frame : Flight) → test (tag_fl
 position_alike test alike frames = rw (first_alike test alike frames, length-map frames tag_flight) refl
 
 first_poll_on_tags : (frames : List Flight) → first_poll (map tag_flight frames) ≡ first_poll frames
-first_poll_on_tags frames = position_alike is_poll (λ frame. polled_alike frame.role frame.control frame.info frame.place) frames
+first_poll_on_tags frames = position_alike is_poll (λ frame. (asks_alike frame.role frame.control frame.info frame.place).0) frames
 
 first_final_on_tags : (frames : List Flight) → first_final (map tag_flight frames) ≡ first_final frames
-first_final_on_tags frames = position_alike is_final (λ frame. answered_alike frame.role frame.control frame.info frame.place) frames
+first_final_on_tags frames = position_alike is_final (λ frame. (asks_alike frame.role frame.control frame.info frame.place).1) frames
 
 without_on_tags : (at : ℕ) (frames : List Flight) → remove (map tag_flight frames) at ≡ map tag_flight (remove frames at)
 without_on_tags zero [] = refl
@@ -229,6 +218,23 @@ outcomes_on_tags [] w kept near = refl
 outcomes_on_tags (move ∷ moves) w kept near =
     rw (move_on_tags move w kept near.0, after_on_tags w (happens Whole move w), outcomes_on_tags moves (world_after w (happens Whole move w)) (run_kept Whole (move ∷ []) w kept) near.1) refl
 
+-- ---- Where moves are near.
+
+first_near : (k : ℕ) (frames : List Flight) (e : End) → k ≤ 127 → IsSound Whole e → IsFirstWithin k frames e → IsFirstNear frames e
+first_near k [] e small sound within = tt
+first_near k (frame ∷ rest) e small sound within = λ is. numbers_within_are_near k frame.control e small sound is (within is)
+
+incoming_near : (who : Side) (w : World) → IsKeptWorld Whole w → AreFirstWithin w → IsFirstNear (view_of who w).incoming (view_of who w).station.end
+incoming_near side.User w kept within = first_near w.network.end.parameters.k w.to_user w.user.end kept.network.window kept.user.sound within.to_user
+incoming_near side.Network w kept within = first_near w.user.end.parameters.k w.to_network w.network.end kept.user.window kept.network.sound within.to_network
+
+deed_near : (deed : Deed) (v : View) → IsFirstNear v.incoming v.station.end → IsNearDeed deed v
+deed_near Deliver v near = near
+deed_near deed v near = tt
+
+pub move_near : (move : Move) (w : World) → IsKeptWorld Whole w → AreFirstWithin w → IsNearMove move w
+move_near move w kept within = deed_near move.deed (view_of move.side w) (incoming_near move.side w kept within)
+
 -- all moves are near where a predicate holds at the start under which each is near, and which each keeps
 pub near_by_invariant : (Inv : World → Type 0) → ((w : World) → Inv w → (move : Move) → IsNearMove move w × Inv (world_after w (happens Whole move w)))
     → (moves : List Move) (w : World) → Inv w → AreNearMoves moves w
@@ -236,6 +242,12 @@ near_by_invariant Inv keeps [] w inv = tt
 near_by_invariant Inv keeps (move ∷ moves) w inv =
     let now = keeps w inv move in
     (now.0, near_by_invariant Inv keeps moves (world_after w (happens Whole move w)) now.1)
+
+-- so too where the first frames lie within their bounds
+pub near_within_bounds : (Inv : World → Type 0) → ((w : World) → Inv w → AreFirstWithin w) → ((move : Move) (w : World) → Inv w → Inv (world_after w (happens Whole move w)))
+    → (moves : List Move) (w : World) → IsKeptWorld Whole w → Inv w → AreNearMoves moves w
+near_within_bounds Inv within keeps moves w kept inv = near_by_invariant (λ v. IsKeptWorld Whole v × Inv v)
+    (λ v both move. (move_near move v both.0 (within v both.1), (run_kept Whole (move ∷ []) v both.0, keeps move v both.1))) moves w (kept, inv)
 
 -- ---- What a reader of the histories sees.
 
