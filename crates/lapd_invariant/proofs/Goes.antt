@@ -95,7 +95,7 @@ goes_start c T201 s back m = quietly c s (start T201 s) back (told_append _ s.ou
 goes_start c T202 s back m = quietly c s (start T202 s) back (told_append _ s.outs (Start T202 ∷ []) _) refl m
 goes_start c T203 s back m = quietly c s (start T203 s) back (told_append _ s.outs (Start T203 ∷ []) _) refl m
 
-stop_told : (on : Bool) (timer : Timer) (o : Occasion) (t : Story) → told o (out_where on (Stop timer)) t ≡ t
+pub stop_told : (on : Bool) (timer : Timer) (o : Occasion) (t : Story) → told o (out_where on (Stop timer)) t ≡ t
 stop_told true timer o t = refl
 stop_told false timer o t = refl
 

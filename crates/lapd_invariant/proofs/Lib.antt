@@ -21,3 +21,8 @@ pub mod Closes
 pub mod Receives
 pub mod OpenRows
 pub mod Closed
+pub mod Seems
+pub mod Closings
+pub mod ClosedRows
+pub mod Steps
+pub mod OpenTimers

@@ -42,7 +42,7 @@ put_away x y out k back m =
 
 -- ---- What is known of an open side.
 
-open_numbering : (state : State) (asked leaving : Bool) (s : Sender) → is_7_or_8 state ≡ true → IsKept state asked leaving s → IsNumbering s
+pub open_numbering : (state : State) (asked leaving : Bool) (s : Sender) → is_7_or_8 state ≡ true → IsKept state asked leaving s → IsNumbering s
 open_numbering MultipleFrameEstablished asked leaving s opened kept = kept
 open_numbering TimerRecovery asked leaving s opened kept = kept
 open_numbering TeiAssigned asked leaving s opened kept = cc
