@@ -26,3 +26,7 @@ pub mod Closings
 pub mod ClosedRows
 pub mod Steps
 pub mod OpenTimers
+pub mod Units
+pub mod Restarts
+pub mod Gives
+pub mod Nearness
