@@ -30,3 +30,6 @@ pub mod Units
 pub mod Restarts
 pub mod Gives
 pub mod Nearness
+pub mod UnderWay
+pub mod Deeds
+pub mod Delivers
