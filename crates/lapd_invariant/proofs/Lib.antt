@@ -26,6 +26,10 @@ pub mod Closings
 pub mod ClosedRows
 pub mod Steps
 pub mod OpenTimers
+pub mod Units
+pub mod Restarts
+pub mod Gives
+pub mod Nearness
 pub mod UnderWay
 pub mod Deeds
 pub mod Delivers
