@@ -44,14 +44,14 @@ use Rattle.lapd_invariant.proofs.Worlds.{Holds, Keeps, left_by}
 pub ends_passed : (c : Context) (k : Kind) (ks : List Kind) (s : StepState) → Before c (k ∷ ks) s → Ends c ks (close Whole s)
 ends_passed c k ks s b = ends_nothing c ks s (passed_over c k ks s b)
 
-no_foreign : (c : Context) (ks : List Kind) (s : StepState) → Before c (Foreign ∷ ks) s → ⊥
+pub no_foreign : (c : Context) (ks : List Kind) (s : StepState) → Before c (Foreign ∷ ks) s → ⊥
 no_foreign c ks s b = let clean = b.its.exchange.clean in omega (arith, clean)
 
 -- no answer comes to an open side
-no_acceptance : (c : Context) (ks : List Kind) (s : StepState) → is_7_or_8 s.end.state ≡ true → Before c (Accepts ∷ ks) s → ⊥
+pub no_acceptance : (c : Context) (ks : List Kind) (s : StepState) → is_7_or_8 s.end.state ≡ true → Before c (Accepts ∷ ks) s → ⊥
 no_acceptance c ks s opened b = let one = b.mine.exchange.one in let none = open_asks_none s.end.state opened in omega (arith, one, none)
 
-no_refusal : (c : Context) (ks : List Kind) (s : StepState) → is_7_or_8 s.end.state ≡ true → Before c (Refuses ∷ ks) s → ⊥
+pub no_refusal : (c : Context) (ks : List Kind) (s : StepState) → is_7_or_8 s.end.state ≡ true → Before c (Refuses ∷ ks) s → ⊥
 no_refusal c ks s opened b = let one = b.mine.exchange.one in let none = open_asks_none s.end.state opened in omega (arith, one, none)
 
 -- unit data goes to layer 3

@@ -33,4 +33,6 @@ pub mod Nearness
 pub mod UnderWay
 pub mod Deeds
 pub mod Delivers
-pub mod Near
+pub mod Reported
+pub mod ReportRows
+pub mod ReportsHeard

@@ -32,7 +32,7 @@ use Rattle.lapd_invariant.proofs.Turns.{turned, rejection_left, final_left}
 
 -- ---- The N(R) is valid.
 
-valid_whole : (va nr vs : ℕ) → va ≤ nr → nr ≤ vs → lies_within Whole va nr vs ≡ true
+pub valid_whole : (va nr vs : ℕ) → va ≤ nr → nr ≤ vs → lies_within Whole va nr vs ≡ true
 unfolding lies_within
 valid_whole va nr vs low high = let a : nat_le va nr ≡ true = grind (arith, low, nat_tests) in let b : nat_le nr vs ≡ true = grind (arith, high, nat_tests) in rw (a, b) refl
 
