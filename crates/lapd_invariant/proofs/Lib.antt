@@ -26,3 +26,4 @@ pub mod Closings
 pub mod ClosedRows
 pub mod Steps
 pub mod OpenTimers
+pub mod Begins
