@@ -27,3 +27,4 @@ pub mod ClosedRows
 pub mod Steps
 pub mod OpenTimers
 pub mod Begins
+pub mod BeginRows

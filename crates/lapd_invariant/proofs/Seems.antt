@@ -30,7 +30,7 @@ pub record Seems (c : Context) (s : StepState) (p : Party) (l : List Kind) : Typ
   pub party : seen c s ≡ p
   pub line : line c s ≡ l
 
-by_story : (c : Context) (t : StepState) (after : Story) (p : Party) (l : List Kind) → story c t ≡ after → party_of c.base t.end after.history ≡ p → kinds after.line ≡ l → Seems c t p l
+pub by_story : (c : Context) (t : StepState) (after : Story) (p : Party) (l : List Kind) → story c t ≡ after → party_of c.base t.end after.history ≡ p → kinds after.line ≡ l → Seems c t p l
 by_story c t after p l so q r = record { party = ap (λ st. party_of c.base t.end st.history) so ∙ q; line = ap (λ st. kinds st.line) so ∙ r }
 
 -- ---- Outputs of which nothing is told.
