@@ -1,36 +1,35 @@
 -- Rows of the state table by which an establishment begins.
-use Rattle.std.proofs.Common.{◌≡◌, ◌⊎◌, inl, inr, ℕ, zero, suc, ◌+◌, ◌-◌, ◌<◌, ◌≤◌, nat_lt, ◌==◌, if◌then◌else◌, Bool, true, false, List, [], ◌∷◌, ◌++◌, length, Option, Some, None, append_assoc, refl, sym, ap, subst, ◌∙◌, arith}
+use Rattle.std.proofs.Common.{◌≡◌, ℕ, ◌+◌, ◌≤◌, nat_lt, ◌==◌, if◌then◌else◌, Bool, true, false, List, [], ◌∷◌, ◌++◌, length, append_assoc, refl, sym, ap, subst, ◌∙◌, arith}
 use Rattle.std.proofs.lemmas.Bool.Decides.{nat_tests}
 use Rattle.lapd_timers.specs.declared.timer.Timer.{Timer}
-use Rattle.lapd_timers.specs.declared.timer.Timer.TheVariants.{T200, T201, T202, T203}
+use Rattle.lapd_timers.specs.declared.timer.Timer.TheVariants.{T200, T203}
 use Rattle.lapd_frame.specs.declared.Role.TheVariants.{Command, Answer}
 use Rattle.lapd_frame.specs.declared.Control.TheVariants.{Sabme, Ua}
 use Rattle.lapd_mod128.specs.Counting.{Whole}
 use Rattle.lapd_supervision.specs.StateVariables.{without_exceptions, with_zero_counters}
 use Rattle.lapd_states.specs.declared.state.State.{State}
-use Rattle.lapd_states.specs.declared.state.State.TheVariants.{TeiAssigned, AwaitingEstablishment, AwaitingRelease, MultipleFrameEstablished, TimerRecovery}
+use Rattle.lapd_states.specs.declared.state.State.TheVariants.{TeiAssigned, AwaitingEstablishment, MultipleFrameEstablished}
 use Rattle.lapd_states.specs.declared.out.Letter.TheVariants as letter
 use Rattle.lapd_states.specs.declared.out.Out.{Out}
 use Rattle.lapd_states.specs.declared.out.Out.TheVariants.{Send, Start, Stop, Dropped, Established, Confirmed, Report}
 use Rattle.lapd_states.specs.AwaitingEstablishment.{confirm_or_indicate, ua_final}
 use Rattle.lapd_states.specs.Close.{is_7_or_8, close}
-use Rattle.lapd_states.specs.End.{End, StepState, ◌▷◌, waiting, runs, begin}
+use Rattle.lapd_states.specs.End.{StepState, ◌▷◌, waiting}
 use Rattle.lapd_states.specs.Established.{in_7_and_8}
-use Rattle.lapd_states.specs.Input.{Input, Heard}
+use Rattle.lapd_states.specs.Input.{Heard}
 use Rattle.lapd_states.specs.Procedures.{out_where, counted, put, state_to, start, stop, clear_exception_conditions, zero_state_variables, discard_i_queue, discard_unacknowledged}
 use Rattle.lapd_states.specs.TeiAssigned.{tei_assigned}
-use Rattle.lapd_world.specs.Histories.{History, Occasion, Story, tell, told, with_beginning}
-use Rattle.lapd_world.specs.Line.{Flight}
+use Rattle.lapd_world.specs.Histories.{Occasion, Story, told, with_beginning}
 use Rattle.lapd_world.specs.Move.{story_after}
-use Rattle.lapd_invariant.specs.Kinds.{Kind, Asks, Accepts, kinds}
-use Rattle.lapd_invariant.specs.Parties.{Sender, Party, party_of}
+use Rattle.lapd_invariant.specs.Kinds.{Kind, Asks, Accepts}
+use Rattle.lapd_invariant.specs.Parties.{Sender, Party}
 use Rattle.lapd_invariant.specs.Conjuncts.{IsEmpty, IsHolding, IsNumbering, IsKept, is_holding, most_asks, high}
 use Rattle.lapd_invariant.specs.Invariant.{Both}
 use Rattle.lapd_invariant.proofs.Begins.{beginning, IsFresh, by_acceptance, by_asking}
 use Rattle.lapd_invariant.proofs.Closed.{still_sender}
 use Rattle.lapd_invariant.proofs.ClosedRows.{here, ends_released_by_ua}
 use Rattle.lapd_invariant.proofs.Closings.{all_passed, passes_all}
-use Rattle.lapd_invariant.proofs.Goes.{Context, story, occasion, seen, line, Goes, told_append}
+use Rattle.lapd_invariant.proofs.Goes.{Context, story, occasion, seen, line, told_append}
 use Rattle.lapd_invariant.proofs.Lists.{by_test}
 use Rattle.lapd_invariant.proofs.Mids.{Mid, open_numbering, open_holds, open_asks_none}
 use Rattle.lapd_invariant.proofs.Receipts.{high_given}
@@ -178,11 +177,11 @@ ends_established c ks s is stays blind b =
     let After : StepState → Type 0 = λ d. Ends c ks (close Whole (d ▷ zero_state_variables ▷ stop T200 ▷ start T203 ▷ state_to MultipleFrameEstablished)) in
     by_test After s.end.layer3_initiated (put Confirmed s) (discard_unacknowledged s)
     (λ by_layer3. begun_by_ua c ks s (put Confirmed s) s.end.first s.end.next x.sends.passed is stays (put_blind s Confirmed (λ o u b t. refl) blind) (seems_put c Confirmed s x l (λ o t. refl) (here c s))
-        (fresh_empty x y l (Accepts ∷ ks) b (empty_in_5 s.end.state s.end.layer3_initiated s.end.release_pending x.sends is stays by_layer3 b.mine.kept)) b)
+    (fresh_empty x y l (Accepts ∷ ks) b (empty_in_5 s.end.state s.end.layer3_initiated s.end.release_pending x.sends is stays by_layer3 b.mine.kept)) b)
     (λ itself. by_outstanding After s
-        (λ none. begun_by_ua c ks s (discards_by true s) s.end.first s.end.next x.sends.passed is stays (kept_blind s blind) (seems_kept c s x l (here c s))
-            (fresh_settled x y l (Accepts ∷ ks) b none (holding_in_5 s.end.state s.end.layer3_initiated s.end.release_pending x.sends is stays itself b.mine.kept) (b.mine.below (holds s.end.state s.end.layer3_initiated s.end.release_pending is stays itself))) b)
-        (begun_by_ua c ks s (discards_by false s) n n (all_passed x.sends) is stays (all_dropped_blind s blind) (seems_all_dropped c s x l (here c s)) (fresh_dropped x y l (Accepts ∷ ks) b) b))
+    (λ none. begun_by_ua c ks s (discards_by true s) s.end.first s.end.next x.sends.passed is stays (kept_blind s blind) (seems_kept c s x l (here c s))
+    (fresh_settled x y l (Accepts ∷ ks) b none (holding_in_5 s.end.state s.end.layer3_initiated s.end.release_pending x.sends is stays itself b.mine.kept) (b.mine.below (holds s.end.state s.end.layer3_initiated s.end.release_pending is stays itself))) b)
+    (begun_by_ua c ks s (discards_by false s) n n (all_passed x.sends) is stays (all_dropped_blind s blind) (seems_all_dropped c s x l (here c s)) (fresh_dropped x y l (Accepts ∷ ks) b) b))
   where
     holds : (state : State) (asked leaving : Bool) → state ≡ AwaitingEstablishment → leaving ≡ false → asked ≡ false → is_holding state asked leaving ≡ true
     holds state asked leaving is stays itself = rw (is, stays, itself) refl
@@ -219,7 +218,7 @@ ends_sabme_in_4 c ks s is blind b =
     let said : Seems c s2 (cleared x) k = seems_clear c s1 x k (seems_send c Answer (Ua true) Accepts s x l refl (here c s)) in
     ends_begun c n ks (s5 ▷ state_to MultipleFrameEstablished) (beginning s.end.first s.end.next x.sends.passed false x) k
     (seems_state e MultipleFrameEstablished s5 p k (seems_start e T203 s4 p k (seems_put e Established s3 p k (λ o t. refl)
-        (seems_zero c n s2 (cleared x) k (clear_blind s1 (put_blind s (Send Answer (Ua true)) (λ o u b t. refl) blind)) said))))
+    (seems_zero c n s2 (cleared x) k (clear_blind s1 (put_blind s (Send Answer (Ua true)) (λ o u b t. refl) blind)) said))))
     (by_asking x c.peer l ks s.end.first s.end.next x.sends.passed false (fresh_empty x c.peer l (Asks ∷ ks) b kept) (ap (λ st. most_asks st) is) b)
 
 timers_blind : (d : StepState) → AreBlind d.outs → AreBlind (d ▷ stop T200 ▷ start T203).outs
@@ -264,5 +263,5 @@ ends_sabme_in_7_8 c ks s opened blind b =
     let unheeded : AreBlind s3.outs = put_blind s2 (Report letter.F) (λ o u b t. refl) (clear_blind s1 (put_blind s (Send Answer (Ua true)) (λ o u b t. refl) blind)) in
     by_outstanding (λ d. Ends c ks (close Whole (d ▷ stop T200 ▷ start T203 ▷ zero_state_variables ▷ state_to MultipleFrameEstablished))) s3
     (λ none. begun_by_sabme c ks s (discards_by true s3) s.end.first s.end.next x.sends.passed opened (kept_blind s3 unheeded) (seems_kept c s3 (cleared x) k said)
-        (fresh_settled x y l (Asks ∷ ks) b (as_before s none) (record { first = numbers_.first; next = numbers_.next; ordered = numbers_.ordered; within = numbers_.within }) (b.mine.below (open_holds s.end.state s.end.layer3_initiated s.end.release_pending opened))) b)
+    (fresh_settled x y l (Asks ∷ ks) b (as_before s none) (record { first = numbers_.first; next = numbers_.next; ordered = numbers_.ordered; within = numbers_.within }) (b.mine.below (open_holds s.end.state s.end.layer3_initiated s.end.release_pending opened))) b)
     (begun_by_sabme c ks s (discards_by false s3) n n (all_passed x.sends) opened (all_dropped_blind s3 unheeded) (seems_all_dropped c s3 (cleared x) k said) (fresh_dropped x y l (Asks ∷ ks) b) b)

@@ -1,13 +1,13 @@
 -- An establishment begins, over what is seen of the side: by the UA that answers its SABME, and by a SABME of the peer.
-use Rattle.std.proofs.Common.{◌≡◌, ◌⊎◌, inl, inr, ℕ, zero, suc, ◌+◌, ◌<◌, ◌≤◌, Bool, true, false, List, [], ◌∷◌, ◌++◌, length, Option, Some, None, refl, sym, ap, subst, ◌∙◌, arith}
+use Rattle.std.proofs.Common.{◌≡◌, inl, inr, ℕ, ◌+◌, ◌≤◌, Bool, true, false, List, [], ◌∷◌, ◌++◌, length, Option, Some, refl, sym, ap, subst, arith}
 use Rattle.lapd_states.specs.declared.state.State.{State}
-use Rattle.lapd_states.specs.declared.state.State.TheVariants.{TeiAssigned, AwaitingEstablishment, AwaitingRelease, MultipleFrameEstablished, TimerRecovery}
+use Rattle.lapd_states.specs.declared.state.State.TheVariants.{AwaitingEstablishment, MultipleFrameEstablished}
 use Rattle.lapd_states.specs.Close.{is_7_or_8}
 use Rattle.lapd_world.specs.Histories.{Receipt}
-use Rattle.lapd_invariant.specs.Kinds.{Message, Kind, Asks, Accepts, messages, numbers, rejections, tally, ask_of, answer_of, poll_of, final_of, foreign_of}
+use Rattle.lapd_invariant.specs.Kinds.{Message, Kind, Asks, Accepts, messages, numbers, rejections, answer_of}
 use Rattle.lapd_invariant.specs.Parties.{Sender, Receiver, Party, Hearing, hearing_now, hearing_to_come, heard_in, hears, OnHearing, frames_heard}
-use Rattle.lapd_invariant.specs.Conjuncts.{Each, IsGot, IsInOrder, IsClimb, IsInStep, IsNumbering, IsPast, IsStream, AreAcknowledging, NoneAsked, AreAsked, AreRejected, IsHeard, IsExchange, most_asks, high}
-use Rattle.lapd_invariant.specs.Invariant.{IsSpeaking, Half, Both}
+use Rattle.lapd_invariant.specs.Conjuncts.{Each, IsGot, IsClimb, IsInStep, IsNumbering, IsPast, IsStream, AreAcknowledging, NoneAsked, AreAsked, AreRejected, IsHeard, IsExchange, most_asks, high}
+use Rattle.lapd_invariant.specs.Invariant.{IsSpeaking, Both}
 use Rattle.lapd_invariant.proofs.Backs.{no_rejections, order_of_none, polls_heard}
 use Rattle.lapd_invariant.proofs.Closed.{unsaid_polls, unsaid_finals, unsaid_messages, unsaid_rejections, nothing_heard, nothing_behind_answer, unasked, unrejected, frames_nothing}
 use Rattle.lapd_invariant.proofs.Closings.{IsAsked, is_asked}
