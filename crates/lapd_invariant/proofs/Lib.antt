@@ -28,3 +28,12 @@ pub mod Steps
 pub mod OpenTimers
 pub mod Begins
 pub mod BeginRows
+pub mod Units
+pub mod Restarts
+pub mod Gives
+pub mod Nearness
+pub mod UnderWay
+pub mod Deeds
+pub mod Delivers
+pub mod Near
+pub mod Beginnings
