@@ -41,7 +41,7 @@ known_below base limit zero received row names got = omega arith
 known_below base limit (suc n) received row names got = let last : base + n < high received = place_below 0 0 (base + n) received row (got n (omega arith)) in omega (arith, last, names)
 
 -- no REJ of the peer is in hand or behind it, where this side is in state 7 afterwards
-no_rejections : (state : State) (vs base : ℕ) (received : List Receipt) (waiting : Option Hearing) (ns : List ℕ) → ns ≡ [] → AreRejected state vs base received waiting ns
+pub no_rejections : (state : State) (vs base : ℕ) (received : List Receipt) (waiting : Option Hearing) (ns : List ℕ) → ns ≡ [] → AreRejected state vs base received waiting ns
 no_rejections TeiAssigned vs base received waiting ns none = tt
 no_rejections AwaitingEstablishment vs base received waiting ns none = none
 no_rejections AwaitingRelease vs base received waiting ns none = tt
@@ -155,7 +155,7 @@ back_by_rejection x y out nr ks is m =
 
 -- ---- By a final, in state 8.
 
-order_of_none : (rejecting : Bool) (low end : ℕ) (ms : List Message) → ms ≡ [] → IsInOrder rejecting low end ms
+pub order_of_none : (rejecting : Bool) (low end : ℕ) (ms : List Message) → ms ≡ [] → IsInOrder rejecting low end ms
 order_of_none true low end ms none = subst (λ l. IsInOrder true low end l) (sym none) tt
 order_of_none false low end ms none = subst (λ l. IsInOrder false low end l) (sym none) tt
 

@@ -175,14 +175,14 @@ heard_quiet z y here u h q i = record {
 }
 
 -- nothing behind a UA, of a side that is closed
-unasked : (state : State) (base : ℕ) (received : List Receipt) (out : List Kind) → is_7_or_8 state ≡ false → tally poll_of out ≡ 0 → AreAsked state base received out []
+pub unasked : (state : State) (base : ℕ) (received : List Receipt) (out : List Kind) → is_7_or_8 state ≡ false → tally poll_of out ≡ 0 → AreAsked state base received out []
 unasked TeiAssigned base received out closed none = tt
 unasked AwaitingEstablishment base received out closed none = record { polls = none; finals = refl }
 unasked AwaitingRelease base received out closed none = tt
 unasked MultipleFrameEstablished base received out closed none = cc
 unasked TimerRecovery base received out closed none = cc
 
-unrejected : (state : State) (vs base : ℕ) (received : List Receipt) (waiting : Option Hearing) → is_7_or_8 state ≡ false → AreRejected state vs base received waiting []
+pub unrejected : (state : State) (vs base : ℕ) (received : List Receipt) (waiting : Option Hearing) → is_7_or_8 state ≡ false → AreRejected state vs base received waiting []
 unrejected TeiAssigned vs base received waiting closed = tt
 unrejected AwaitingEstablishment vs base received waiting closed = refl
 unrejected AwaitingRelease vs base received waiting closed = tt
@@ -211,7 +211,7 @@ polls_more : (u : Kind) (o : Option Hearing) → poll_of u ≡ 0 → tally poll_
 polls_more u None no_poll none = refl
 polls_more u (Some h) no_poll none = let more = tally_more poll_of u h.frames in omega (arith, more, no_poll, none)
 
-frames_nothing : (o : Option Hearing) → OnHearing (λ h. h.frames ≡ []) o → tally poll_of (frames_heard o) ≡ 0
+pub frames_nothing : (o : Option Hearing) → OnHearing (λ h. h.frames ≡ []) o → tally poll_of (frames_heard o) ≡ 0
 frames_nothing None none = refl
 frames_nothing (Some h) none = ap (λ l. tally poll_of l) none
 

@@ -26,6 +26,8 @@ pub mod Closings
 pub mod ClosedRows
 pub mod Steps
 pub mod OpenTimers
+pub mod Begins
+pub mod BeginRows
 pub mod Units
 pub mod Restarts
 pub mod Gives
@@ -36,3 +38,5 @@ pub mod Delivers
 pub mod Reported
 pub mod ReportRows
 pub mod ReportsHeard
+pub mod Beginnings
+pub mod Whole
