@@ -1,22 +1,21 @@
 -- An open side goes back: V(S) is set to V(A), and all that waits is to be sent again.
-use Rattle.std.proofs.Common.{◌≡◌, ◌≢◌, ◌⊎◌, inl, inr, ℕ, zero, suc, ◌+◌, ◌-◌, ◌<◌, ◌≤◌, Bool, true, false, List, [], ◌∷◌, ◌++◌, Option, Some, None, option_map, refl, sym, ap, subst, ◌∙◌, arith}
+use Rattle.std.proofs.Common.{◌≡◌, inl, ℕ, zero, suc, ◌+◌, ◌<◌, ◌≤◌, Bool, true, false, List, [], ◌∷◌, Option, Some, None, refl, sym, subst, arith}
 use Rattle.lapd_states.specs.declared.state.State.{State}
 use Rattle.lapd_states.specs.declared.state.State.TheVariants.{TeiAssigned, AwaitingEstablishment, AwaitingRelease, MultipleFrameEstablished, TimerRecovery}
 use Rattle.lapd_states.specs.Close.{is_7_or_8}
 use Rattle.lapd_world.specs.Histories.{Receipt}
 use Rattle.lapd_world.proofs.Places.{IsRow}
-use Rattle.lapd_invariant.specs.Kinds.{Message, Kind, Numbered, Status, Rejection, Enquiry, Final, message_of, messages, numbers, rejections, bit, tally, poll_of, final_of}
-use Rattle.lapd_invariant.specs.Parties.{Sender, Receiver, Party, Hearing, hearing_now, hears, OnHearing, frames_heard}
-use Rattle.lapd_invariant.specs.Conjuncts.{Each, HasPlace, IsGot, IsPlaced, IsNumbering, IsRun, IsInOrder, IsClimb, IsStream, AreAcknowledging, NoneAsked, OneAsked, AreAsked, IsAwaiting, IsSentBack, AtMostOne, AreRejected, IsHeard, high, IsInStep}
-use Rattle.lapd_invariant.specs.Invariant.{IsSpeaking}
+use Rattle.lapd_invariant.specs.Kinds.{Message, Kind, Numbered, Status, Rejection, Enquiry, Final, messages, numbers, rejections, bit, tally, poll_of}
+use Rattle.lapd_invariant.specs.Parties.{Sender, Party, Hearing, hearing_now, hears, OnHearing, frames_heard}
+use Rattle.lapd_invariant.specs.Conjuncts.{Each, IsGot, IsPlaced, IsNumbering, IsInOrder, IsClimb, NoneAsked, OneAsked, AreAsked, IsAwaiting, IsSentBack, AtMostOne, AreRejected, IsHeard, high, IsInStep}
 use Rattle.lapd_invariant.proofs.Acknowledges.{acknowledging, keeps_acknowledging}
-use Rattle.lapd_invariant.proofs.Hearings.{on_map, on_both, by_open, from_open}
+use Rattle.lapd_invariant.proofs.Hearings.{on_map, on_both, from_open}
 use Rattle.lapd_invariant.proofs.Lists.{each_map}
 use Rattle.lapd_invariant.proofs.Losses.{rejected_map}
 use Rattle.lapd_invariant.proofs.Mids.{Mid, numbering, open_kept}
-use Rattle.lapd_invariant.proofs.Polls.{IsSettled, established, to_established}
+use Rattle.lapd_invariant.proofs.Polls.{established, to_established}
 use Rattle.lapd_invariant.proofs.Receipts.{place_below}
-use Rattle.lapd_invariant.proofs.Runs.{NonePolls, all_is_junk, climb_top}
+use Rattle.lapd_invariant.proofs.Runs.{NonePolls, all_is_junk}
 use Rattle.lapd_invariant.proofs.Turns.{turned, final_left, rejection_left}
 
 abbrev pub backing_sender : ℕ → Sender → Sender
@@ -64,10 +63,17 @@ keeps_backing x y out back nr at names none order m =
       opened = m.opened;
       mine = record {
         kept = open_kept x.state x.asked x.leaving z.sends m.opened (record {
-          first = n.first; next = omega (arith, n.first, at); ordered = omega (arith, at); window = omega (arith, at); within = omega (arith, n.within, n.first, n.next, n.ordered);
+          first = n.first;
+          next = omega (arith, n.first, at);
+          ordered = omega (arith, at);
+          window = omega (arith, at);
+          within = omega (arith, n.within, n.first, n.next, n.ordered);
           since = λ place from before. n.since place from (omega (arith, before, n.first, n.next, n.ordered));
         });
-        passed = m.mine.passed; past = m.mine.past; lately = m.mine.lately; none_yet = m.mine.none_yet;
+        passed = m.mine.passed;
+        past = m.mine.past;
+        lately = m.mine.lately;
+        none_yet = m.mine.none_yet;
         below = λ _. names;
         heard = on_both Order (IsHeard x y was) (IsHeard z y now) (hears y out) (λ h o i. record {
           stream = record {
@@ -85,7 +91,12 @@ keeps_backing x y out back nr at names none order m =
         histories = m.mine.histories;
       };
       its = record {
-        kept = m.its.kept; passed = m.its.passed; past = m.its.past; lately = m.its.lately; none_yet = m.its.none_yet; below = m.its.below;
+        kept = m.its.kept;
+        passed = m.its.passed;
+        past = m.its.past;
+        lately = m.its.lately;
+        none_yet = m.its.none_yet;
+        below = m.its.below;
         heard = record {
           stream = m.its.heard.stream;
           acks = record {
@@ -104,6 +115,7 @@ keeps_backing x y out back nr at names none order m =
     reached : (vr : ℕ) → IsInStep x.sends.base vr y.takes.received → vr ≤ nr
     reached zero step = omega arith
     reached (suc vr) step = let level : high y.takes.received ≡ x.sends.base + suc vr = step.level (omega arith) in omega (arith, level, names)
+
     its_reached : is_7_or_8 y.state ≡ true → y.takes.vr ≤ nr
     its_reached opened = reached y.takes.vr ((from_open (IsHeard x y (Some (hearing_now x back))) y out opened m.mine.heard).stream.step (inl m.opened))
 

@@ -1,5 +1,4 @@
 -- The rows by which an establishment begins, where a frame has just been delivered; and so a delivery, whatever is delivered.
-use Rattle.std.proofs.Common.{refl}
 use Rattle.lapd_states.specs.End.{begin}
 use Rattle.lapd_world.specs.Move.{Deliver}
 use Rattle.lapd_invariant.proofs.BeginRows.{none_is_blind, ends_established, ends_sabme_in_4, ends_sabme_in_7_8}

@@ -40,3 +40,4 @@ pub mod ReportRows
 pub mod ReportsHeard
 pub mod Beginnings
 pub mod Whole
+pub mod Reached

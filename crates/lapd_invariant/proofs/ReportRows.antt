@@ -1,39 +1,23 @@
 -- What each row of the state table reports, where the invariant holds before it.
-use Rattle.std.proofs.Common.{◌≡◌, ℕ, zero, suc, ◌+◌, ◌≤◌, ◌==◌, nat_lt, if◌then◌else◌, Bool, true, false, List, [], ◌∷◌, length, Option, Some, None, Result, Ok, Err, refl, sym, ap, subst, ◌∙◌, arith}
-use Rattle.lapd_timers.specs.declared.timer.Timer.{Timer}
-use Rattle.lapd_timers.specs.declared.timer.Timer.TheVariants.{T200, T201, T202, T203}
-use Rattle.lapd_frame.specs.declared.Role.{Role}
-use Rattle.lapd_frame.specs.declared.Role.TheVariants.{Command, Answer}
-use Rattle.lapd_frame.specs.declared.Control.{Control}
-use Rattle.lapd_frame.specs.declared.Control.TheVariants.{I, Rr, Rnr, Rej, Sabme, Dm, Ui, Disc, Ua, Frmr, Xid}
+use Rattle.std.proofs.Common.{nat_lt, Bool, true, false}
+use Rattle.lapd_timers.specs.declared.timer.Timer.TheVariants.{T200, T203}
 use Rattle.lapd_mod128.specs.Counting.{Whole}
-use Rattle.lapd_supervision.specs.StateVariables.{StateVariables, is_valid_nr, acknowledges_all, after_i_frame, with_peer_busy, without_ack_pending}
 use Rattle.lapd_states.specs.declared.state.State.{State}
 use Rattle.lapd_states.specs.declared.state.State.TheVariants.{TeiAssigned, AwaitingEstablishment, AwaitingRelease, MultipleFrameEstablished, TimerRecovery}
 use Rattle.lapd_states.specs.declared.out.Letter.TheVariants as letter
-use Rattle.lapd_states.specs.declared.out.Out.TheVariants.{UnitUp, Report}
-use Rattle.lapd_states.specs.AwaitingEstablishment.{awaiting_establishment, awaiting_establishment_t200, release_primitive, end_establishment, ua_final, confirm_or_indicate}
-use Rattle.lapd_states.specs.AwaitingRelease.{awaiting_release, awaiting_release_t200, confirm_release}
-use Rattle.lapd_states.specs.Close.{is_7_or_8}
-use Rattle.lapd_states.specs.End.{End, StepState, ◌▷◌, begin, runs}
-use Rattle.lapd_states.specs.Established.{busy_on, busy_off, in_7_and_8, poll_or_final, acknowledge_with_timers, i_frame_nr, rr_nr, rej_nr, rnr_nr, sends_last, established_t200, multiple_frame_established}
+use Rattle.lapd_states.specs.declared.out.Out.TheVariants.{Report}
+use Rattle.lapd_states.specs.AwaitingEstablishment.{awaiting_establishment, awaiting_establishment_t200, release_primitive, end_establishment}
+use Rattle.lapd_states.specs.AwaitingRelease.{awaiting_release, awaiting_release_t200}
+use Rattle.lapd_states.specs.End.{StepState, runs}
+use Rattle.lapd_states.specs.Established.{busy_on, busy_off, in_7_and_8, sends_last, established_t200, multiple_frame_established}
 use Rattle.lapd_states.specs.Input as input
 use Rattle.lapd_states.specs.Input.{Input, Heard, Expiry}
-use Rattle.lapd_states.specs.Procedures.{put, set_peer_busy, enquiry_response, acknowledge, i_frame_ns}
-use Rattle.lapd_states.specs.Table.{by_state, row, is_unit_data}
+use Rattle.lapd_states.specs.Procedures.{put}
+use Rattle.lapd_states.specs.Table.{by_state, row}
 use Rattle.lapd_states.specs.TeiAssigned.{tei_assigned}
-use Rattle.lapd_states.specs.TimerRecovery.{poll, is_final, i_frame_nr_in_recovery, rr_nr_in_recovery, rnr_nr_in_recovery, timer_recovery_t200, timer_recovery}
-use Rattle.lapd_invariant.specs.Kinds.{Kind, Numbered, Status, Rejection, Enquiry, Final, Asks, Accepts, Refuses, Foreign, kind_of, numbers}
-use Rattle.lapd_invariant.specs.Parties.{Party}
-use Rattle.lapd_invariant.specs.Conjuncts.{IsClimb}
-use Rattle.lapd_invariant.proofs.Deeds.{Before, opened_in}
-use Rattle.lapd_invariant.proofs.Delivers.{no_foreign, no_acceptance, no_refusal}
-use Rattle.lapd_invariant.proofs.Goes.{Context, seen, line, Goes}
+use Rattle.lapd_states.specs.TimerRecovery.{timer_recovery_t200, timer_recovery}
 use Rattle.lapd_invariant.proofs.Lists.{by_test}
-use Rattle.lapd_invariant.proofs.Mids.{enter}
-use Rattle.lapd_invariant.proofs.OpenRows.{valid_whole, no_final_in_7}
 use Rattle.lapd_invariant.proofs.Reported.{Reports, reporting, re_put, re_establish, re_reestablish}
-use Rattle.lapd_invariant.proofs.Runs.{climb_top}
 
 abbrev R : StepState → Type 0
 R t = Reports t

@@ -1,18 +1,15 @@
 -- What each action of the state table reports.
-use Rattle.std.proofs.Common.{◌≡◌, ℕ, zero, suc, ◌+◌, ◌-◌, ◌==◌, ◌&&◌, nat_lt, if◌then◌else◌, Bool, true, false, List, [], ◌∷◌, ◌++◌, length, Option, Some, None, refl, sym, subst}
+use Rattle.std.proofs.Common.{ℕ, zero, suc, ◌==◌, ◌&&◌, nat_lt, if◌then◌else◌, Bool, true, false, List, [], ◌∷◌, ◌++◌, Option, Some, None}
 use Rattle.lapd_timers.specs.declared.timer.Timer.{Timer}
 use Rattle.lapd_timers.specs.declared.timer.Timer.TheVariants.{T200, T203}
-use Rattle.lapd_frame.specs.declared.Role.TheVariants.{Command, Answer}
 use Rattle.lapd_frame.specs.declared.Control.{Control}
-use Rattle.lapd_frame.specs.declared.Control.TheVariants.{Sabme}
 use Rattle.lapd_mod128.specs.Counting.{Whole}
 use Rattle.lapd_supervision.specs.StateVariables.{is_accepted, i_frame_response, acknowledged_count}
 use Rattle.lapd_states.specs.declared.state.State.{State}
-use Rattle.lapd_states.specs.declared.state.State.TheVariants.{AwaitingEstablishment}
 use Rattle.lapd_states.specs.declared.out.Out.{Out}
-use Rattle.lapd_states.specs.declared.out.Out.TheVariants.{Send, Up, Established, Acknowledged, Dropped, Start, Stop}
+use Rattle.lapd_states.specs.declared.out.Out.TheVariants.{Up, Established, Acknowledged, Dropped, Start, Stop}
 use Rattle.lapd_states.specs.Close.{is_7_or_8, may_send_next, send_next, send_all, acknowledge_pending, close}
-use Rattle.lapd_states.specs.End.{End, StepState, ◌▷◌, unsent, waiting, runs, begin}
+use Rattle.lapd_states.specs.End.{End, StepState, unsent, waiting, runs, begin}
 use Rattle.lapd_states.specs.Procedures.{out_where, counted, response_of, put, state_to, rc_to, increment_rc, layer3_initiated_to, release_pending_to, start, stop, expired, clear_exception_conditions, zero_state_variables, set_peer_busy, set_own_busy, enquiry_response, transmit_enquiry, transmit_rr, queue_up, discard_i_queue, acknowledge, invoke_retransmission, discard_unacknowledged, i_frame_ns, transmit_i_frame, retransmit_last_i_frame, ensure_t200, establish_data_link, reestablish_data_link}
 use Rattle.lapd_invariant.specs.Reports.{IsExpectedOut, AreExpected}
 use Rattle.lapd_invariant.proofs.Lists.{by_test}

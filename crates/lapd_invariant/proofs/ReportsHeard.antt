@@ -1,28 +1,24 @@
 -- What is reported of a frame that is delivered: every N(R) is valid, and no answer comes unasked.
-use Rattle.std.proofs.Common.{◌≡◌, ℕ, zero, suc, ◌+◌, ◌≤◌, ◌==◌, nat_lt, if◌then◌else◌, Bool, true, false, List, [], ◌∷◌, length, Option, Some, None, Result, Ok, Err, refl, sym, ap, subst, ◌∙◌, arith}
-use Rattle.lapd_timers.specs.declared.timer.Timer.TheVariants.{T200, T203}
+use Rattle.std.proofs.Common.{◌≡◌, ℕ, ◌==◌, if◌then◌else◌, Bool, true, false, List, ◌∷◌, refl, ap, arith}
 use Rattle.lapd_frame.specs.declared.Role.{Role}
 use Rattle.lapd_frame.specs.declared.Role.TheVariants.{Command, Answer}
 use Rattle.lapd_frame.specs.declared.Control.{Control}
-use Rattle.lapd_frame.specs.declared.Control.TheVariants.{I, Rr, Rnr, Rej, Sabme, Dm, Ui, Disc, Ua, Frmr, Xid}
+use Rattle.lapd_frame.specs.declared.Control.TheVariants.{I, Rr, Rnr, Rej, Sabme, Dm, Disc, Ua, Frmr}
 use Rattle.lapd_mod128.specs.Counting.{Whole}
-use Rattle.lapd_supervision.specs.StateVariables.{StateVariables, is_valid_nr, acknowledges_all, after_i_frame, with_peer_busy, without_ack_pending}
+use Rattle.lapd_supervision.specs.StateVariables.{is_valid_nr, acknowledges_all, after_i_frame, with_peer_busy, without_ack_pending}
 use Rattle.lapd_states.specs.declared.state.State.{State}
 use Rattle.lapd_states.specs.declared.state.State.TheVariants.{TeiAssigned, AwaitingEstablishment, AwaitingRelease, MultipleFrameEstablished, TimerRecovery}
-use Rattle.lapd_states.specs.declared.out.Letter.TheVariants as letter
-use Rattle.lapd_states.specs.declared.out.Out.TheVariants.{UnitUp, Report, Confirmed}
 use Rattle.lapd_states.specs.AwaitingEstablishment.{awaiting_establishment, ua_final, confirm_or_indicate}
 use Rattle.lapd_states.specs.AwaitingRelease.{awaiting_release, confirm_release}
 use Rattle.lapd_states.specs.Close.{is_7_or_8}
-use Rattle.lapd_states.specs.End.{End, StepState, ◌▷◌, begin}
+use Rattle.lapd_states.specs.End.{StepState}
 use Rattle.lapd_states.specs.Established.{in_7_and_8, poll_or_final, acknowledge_with_timers, i_frame_nr, rr_nr, rej_nr, rnr_nr, multiple_frame_established}
-use Rattle.lapd_states.specs.Input.{Input, Heard}
-use Rattle.lapd_states.specs.Procedures.{put, set_peer_busy, enquiry_response, acknowledge, i_frame_ns}
+use Rattle.lapd_states.specs.Input.{Heard}
+use Rattle.lapd_states.specs.Procedures.{set_peer_busy, enquiry_response, i_frame_ns}
 use Rattle.lapd_states.specs.Table.{by_state, row, is_unit_data}
 use Rattle.lapd_states.specs.TeiAssigned.{tei_assigned}
-use Rattle.lapd_states.specs.TimerRecovery.{poll, is_final, i_frame_nr_in_recovery, rr_nr_in_recovery, rnr_nr_in_recovery, timer_recovery}
-use Rattle.lapd_invariant.specs.Kinds.{Kind, Numbered, Status, Rejection, Enquiry, Final, Asks, Accepts, Refuses, Foreign, kind_of, numbers}
-use Rattle.lapd_invariant.specs.Parties.{Party}
+use Rattle.lapd_states.specs.TimerRecovery.{poll, i_frame_nr_in_recovery, rr_nr_in_recovery, rnr_nr_in_recovery, timer_recovery}
+use Rattle.lapd_invariant.specs.Kinds.{Kind, Foreign, kind_of, numbers}
 use Rattle.lapd_invariant.specs.Conjuncts.{IsClimb, most_asks}
 use Rattle.lapd_invariant.proofs.Deeds.{Before, opened_in}
 use Rattle.lapd_invariant.proofs.Delivers.{no_foreign, no_acceptance, no_refusal}
@@ -30,7 +26,7 @@ use Rattle.lapd_invariant.proofs.Goes.{Context, seen, line, Goes}
 use Rattle.lapd_invariant.proofs.Lists.{by_test}
 use Rattle.lapd_invariant.proofs.Mids.{enter}
 use Rattle.lapd_invariant.proofs.OpenRows.{valid_whole, no_final_in_7}
-use Rattle.lapd_invariant.proofs.Reported.{Reports, reporting, re_put, re_establish, re_reestablish, re_ns, re_peer_busy, re_response}
+use Rattle.lapd_invariant.proofs.Reported.{Reports, reporting, re_ns}
 use Rattle.lapd_invariant.proofs.ReportRows.{re_ended}
 use Rattle.lapd_invariant.proofs.Runs.{climb_top}
 
@@ -159,7 +155,6 @@ unfolding ua_final
 re_ua s r = by_test R s.end.release_pending _ _ (λ _. search reporting depth 8) (λ _. search (reporting, re_confirm) depth 8)
 
 module _ (c : Context) (ks : List Kind) (s : StepState) (r : Reports s) where
-
   heard_in_4 : (control : Control) (role : Role) → s.end.state ≡ TeiAssigned → Before c (kind_of role control c.octets c.place ∷ ks) s → Reports (tei_assigned (Heard control role) s)
   unfolding tei_assigned
   heard_in_4 (Sabme p) Command is b = search reporting depth 8

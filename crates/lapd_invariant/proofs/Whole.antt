@@ -1,21 +1,20 @@
 -- Every deed keeps the invariant, and reports nothing but F, G, H and I; hence every run.
-use Rattle.std.proofs.Common.{◌≡◌, ℕ, ◌≤◌, nat_lt, if◌then◌else◌, Bool, true, false, List, [], ◌∷◌, length, Option, Some, None, Result, Ok, Err, refl, sym, ap, subst, ◌∙◌}
+use Rattle.std.proofs.Common.{ℕ, nat_lt, Bool, true, false, List, [], ◌∷◌, length, Option, Some, None, Result, Ok, Err, refl}
 use Rattle.lapd_timers.specs.declared.timer.Timer.TheVariants.{T200, T203}
 use Rattle.lapd_frame.specs.declared.Side.{Side}
 use Rattle.lapd_frame.specs.declared.Side.TheVariants as side
 use Rattle.lapd_mod128.specs.Counting.{Whole}
 use Rattle.lapd_states.specs.declared.event.LinkFault.{LinkFault}
 use Rattle.lapd_states.specs.Close.{close}
-use Rattle.lapd_states.specs.End.{End, StepState, begin}
+use Rattle.lapd_states.specs.End.{StepState, begin}
 use Rattle.lapd_states.specs.Input as input
 use Rattle.lapd_states.specs.Input.{Input, Heard, Expiry}
-use Rattle.lapd_states.specs.Parameters.{Parameters}
 use Rattle.lapd_states.specs.Refusal.{refused}
 use Rattle.lapd_states.specs.Table.{row, step, unless}
 use Rattle.lapd_world.specs.Line.{Flight, first_poll, first_final}
-use Rattle.lapd_world.specs.Move.{Deed, Give, Establish, Release, Deliver, Lose, Expire200, Expire203, Busy, UnitData, Restart, Move, Station, View, Acted, Refusal, acts, stepped, takes, hears, delivers, loses, quietly, expires_200, expires_203, unless_under_way, busy_input, view_after}
+use Rattle.lapd_world.specs.Move.{Deed, Give, Establish, Release, Deliver, Lose, Expire200, Expire203, Busy, UnitData, Restart, Move, Station, View, Acted, Refusal, acts, stepped, takes, hears, delivers, loses, expires_200, expires_203, unless_under_way, busy_input}
 use Rattle.lapd_world.specs.Safe.{AreSafe}
-use Rattle.lapd_world.specs.World.{World, new_world, swapped, view_of, in_world, world_after, happens, run}
+use Rattle.lapd_world.specs.World.{World, view_of, in_world, world_after, happens, run}
 use Rattle.lapd_invariant.specs.Kinds.{kind, kinds}
 use Rattle.lapd_invariant.specs.Invariant.{IsInvariant}
 use Rattle.lapd_invariant.specs.Reports.{AreExpected, ReportsExpected}

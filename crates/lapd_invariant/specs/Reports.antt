@@ -28,3 +28,8 @@ AreExpected (out ∷ outs) = IsExpectedOut out × AreExpected outs
 abbrev pub ReportsExpected : Result Happened Refusal → Type 0
 ReportsExpected (Ok happened) = AreExpected happened.outs
 ReportsExpected (Err refusal) = Unit {0}
+
+-- nor among those of a list of moves
+abbrev pub AllReportsExpected : List (Result Happened Refusal) → Type 0
+AllReportsExpected [] = Unit {0}
+AllReportsExpected (outcome ∷ outcomes) = ReportsExpected outcome × AllReportsExpected outcomes
