@@ -4,10 +4,9 @@ use Rattle.lapd_states.specs.declared.state.State.{State}
 use Rattle.lapd_states.specs.declared.state.State.TheVariants.{TeiAssigned, AwaitingEstablishment, AwaitingRelease, MultipleFrameEstablished, TimerRecovery}
 use Rattle.lapd_states.specs.Close.{is_7_or_8}
 use Rattle.lapd_world.specs.Histories.{Receipt}
-use Rattle.lapd_world.proofs.Places.{IsRow}
 use Rattle.lapd_invariant.specs.Kinds.{Message, Kind, Numbered, Status, Rejection, Enquiry, Final, messages, numbers, rejections, bit, tally, poll_of}
 use Rattle.lapd_invariant.specs.Parties.{Sender, Party, Hearing, hearing_now, hears, OnHearing, frames_heard}
-use Rattle.lapd_invariant.specs.Conjuncts.{Each, IsGot, IsPlaced, IsNumbering, IsInOrder, IsClimb, NoneAsked, OneAsked, AreAsked, IsAwaiting, IsSentBack, AtMostOne, AreRejected, IsHeard, high, IsInStep}
+use Rattle.lapd_invariant.specs.Conjuncts.{Each, IsGot, IsPlaced, IsNumbering, IsInOrder, IsClimb, NoneAsked, OneAsked, AreAsked, IsAwaiting, IsSentBack, AtMostOne, AreRejected, IsHeard, high, IsInStep, IsRow}
 use Rattle.lapd_invariant.proofs.Acknowledges.{acknowledging, keeps_acknowledging}
 use Rattle.lapd_invariant.proofs.Hearings.{on_map, on_both, from_open}
 use Rattle.lapd_invariant.proofs.Lists.{each_map}

@@ -17,10 +17,9 @@ use Rattle.lapd_states.specs.Table.{by_state, row}
 use Rattle.lapd_states.specs.TimerRecovery.{timer_recovery}
 use Rattle.lapd_world.specs.Histories.{Receipt}
 use Rattle.lapd_world.specs.Move.{Give, acts, takes, story_after}
-use Rattle.lapd_world.proofs.Places.{AreGiven}
 use Rattle.lapd_invariant.specs.Kinds.{Message, Kind, kinds, messages}
 use Rattle.lapd_invariant.specs.Parties.{Sender, Party, Hearing, hears}
-use Rattle.lapd_invariant.specs.Conjuncts.{IsKept, IsPlaced, IsHeard}
+use Rattle.lapd_invariant.specs.Conjuncts.{IsKept, IsPlaced, IsHeard, AreGiven}
 use Rattle.lapd_invariant.specs.Invariant.{Both}
 use Rattle.lapd_invariant.proofs.Goes.{Context, seen, line}
 use Rattle.lapd_invariant.proofs.Hearings.{on_map}

@@ -2,8 +2,7 @@
 use Rattle.std.proofs.Common.{◌≡◌, ◌⊎◌, inl, inr, ℕ, ◌+◌, ◌<◌, ◌≤◌, List, [], ◌∷◌, ◌++◌, length, slice_get, Some, refl, arith}
 use Rattle.std.proofs.lemmas.Option.{slice_get_within}
 use Rattle.lapd_world.specs.Histories.{Receipt}
-use Rattle.lapd_world.proofs.Places.{AreGiven, IsRow}
-use Rattle.lapd_invariant.specs.Conjuncts.{high_from, era_from, HasPlace}
+use Rattle.lapd_invariant.specs.Conjuncts.{high_from, era_from, HasPlace, AreGiven, IsRow}
 use Rattle.lapd_invariant.proofs.Lists.{get_more}
 
 pub high_more : (low : ℕ) (rs : List Receipt) (r : Receipt) → high_from low (rs ++ r ∷ []) ≡ r.place + 1

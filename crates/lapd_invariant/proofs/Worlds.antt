@@ -1,16 +1,18 @@
 -- From what one side sees to the whole world: a deed of one side, a move of either, and a run of moves.
-use Rattle.std.proofs.Common.{ℕ, ◌≤◌, [], Result, Ok, Err, refl, arith}
+use Rattle.std.proofs.Common.{ℕ, ◌+◌, ◌≤◌, List, ◌∷◌, [], Result, Ok, Err, refl, arith}
 use Rattle.lapd_frame.specs.declared.Side.TheVariants as side
 use Rattle.lapd_mod128.specs.Counting.{Whole}
 use Rattle.lapd_states.specs.Parameters.{Parameters}
 use Rattle.lapd_states.proofs.Soundness.{sound_new}
+use Rattle.lapd_world.specs.Histories.{Receipt}
 use Rattle.lapd_world.specs.Move.{Deed, Station, View, Acted, Refusal, acts}
 use Rattle.lapd_world.specs.Safe.{AreSafe, IsSafeFrom}
 use Rattle.lapd_world.specs.World.{World, swapped, new_station, new_world}
+use Rattle.lapd_world.proofs.Places as places
 use Rattle.lapd_world.proofs.Places.{safe_by_places}
 use Rattle.lapd_invariant.specs.Kinds.{kinds}
 use Rattle.lapd_invariant.specs.Parties.{party}
-use Rattle.lapd_invariant.specs.Conjuncts.{AreHistories}
+use Rattle.lapd_invariant.specs.Conjuncts.{AreGiven, IsRow, AreHistories}
 use Rattle.lapd_invariant.specs.Invariant.{Half, Both, IsInvariant}
 
 -- ---- What a side sees.
@@ -45,8 +47,16 @@ exchanged w i = record {
 
 -- ---- Safe.
 
+given_so : (given : List (List ℕ)) (received : List Receipt) → AreGiven given received → places.AreGiven given received
+given_so given [] are = tt
+given_so given (message ∷ received) are = (are.0, given_so given received are.1)
+
+row_so : (next establishment : ℕ) (received : List Receipt) → IsRow next establishment received → places.IsRow next establishment received
+row_so next establishment [] row = tt
+row_so next establishment (message ∷ received) row = (row.0, row.1, row_so (message.place + 1) message.establishment received row.2)
+
 safe_so : (sender receiver : Station) → AreHistories sender.end.given sender.history.sent_in sender.history.acked receiver.history.received → IsSafeFrom sender receiver
-safe_so sender receiver h = safe_by_places sender.end.given sender.history.sent_in sender.history.acked receiver.history.received h.as_given h.row h.prefix h.arrived
+safe_so sender receiver h = safe_by_places sender.end.given sender.history.sent_in sender.history.acked receiver.history.received (given_so sender.end.given receiver.history.received h.as_given) (row_so 0 0 receiver.history.received h.row) h.prefix h.arrived
 
 pub safe_by_invariant : (w : World) → IsInvariant w → AreSafe w
 safe_by_invariant w i = (safe_so w.user w.network i.both.mine.histories, safe_so w.network w.user i.both.its.histories)

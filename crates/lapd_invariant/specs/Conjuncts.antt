@@ -1,12 +1,11 @@
 -- The conjuncts of the invariant, each over the values that it reads. One side speaks and the other hears; all that is said
 -- here is said of both sides.
-use Rattle.std.specs.Prelude.{◌≡◌, ◌⊎◌, ℕ, ◌+◌, ◌<◌, ◌≤◌, Bool, true, false, List, [], ◌∷◌, length, slice_get, Option, Some}
+use Rattle.std.specs.Prelude.{◌≡◌, ◌⊎◌, ℕ, ◌+◌, ◌<◌, ◌≤◌, Bool, true, false, List, [], ◌∷◌, length, map, slice_get, Option, Some}
 use Rattle.lapd_states.specs.declared.state.State.{State}
 use Rattle.lapd_states.specs.declared.state.State.TheVariants.{TeiAssigned, AwaitingEstablishment, AwaitingRelease, MultipleFrameEstablished, TimerRecovery}
 use Rattle.lapd_states.specs.Close.{is_7_or_8}
 use Rattle.lapd_world.specs.Histories.{Receipt}
 use Rattle.lapd_world.specs.Safe.{IsAmong}
-use Rattle.lapd_world.proofs.Places.{places_of, AreGiven, IsRow}
 use Rattle.lapd_invariant.specs.Kinds.{Message, Kind, Final, messages, numbers, rejections, tally, ask_of, answer_of, poll_of, final_of, foreign_of}
 use Rattle.lapd_invariant.specs.Parties.{Sender, Receiver, Party, Hearing, OnHearing, frames_heard}
 
@@ -30,6 +29,21 @@ era_from era (r ∷ rs) = era_from r.establishment rs
 
 abbrev pub latest : List Receipt → ℕ
 latest rs = era_from 0 rs
+
+-- the places received
+abbrev pub places_of : List Receipt → List ℕ
+places_of received = map (λ message. message.place) received
+
+-- each message received is what was given at its place
+abbrev pub AreGiven : List (List ℕ) → List Receipt → Type 0
+AreGiven given [] = Unit {0}
+AreGiven given (message ∷ received) = (slice_get given message.place ≡ Some message.octets) × AreGiven given received
+
+-- the places rise from `next` on, and one that was received in the same establishment as the one before it is the very next
+abbrev pub IsRow : ℕ → ℕ → List Receipt → Type 0
+IsRow next establishment [] = Unit {0}
+IsRow next establishment (message ∷ received) =
+    (next ≤ message.place) × (message.establishment ≡ establishment → message.place ≡ next) × IsRow (message.place + 1) message.establishment received
 
 -- this place was received
 abbrev pub HasPlace : ℕ → List Receipt → Type 0
