@@ -8,6 +8,7 @@ pub mod NumbersOfStep
 pub mod OpenRowsOnTags
 pub mod OrderOfStep
 pub mod PlacesOfStep
+pub mod ReportsOfStep
 pub mod RowsOnTags
 pub mod Sending
 pub mod Soundness
