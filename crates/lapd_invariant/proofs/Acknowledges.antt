@@ -1,12 +1,10 @@
 -- An open side uses the N(R) of the frame in hand: V(A) is set to it, and the messages below it are acknowledged.
-use Rattle.std.proofs.Common.{◌≡◌, ◌⊎◌, inl, inr, ℕ, zero, suc, ◌+◌, ◌-◌, ◌<◌, ◌≤◌, Bool, true, false, List, [], ◌∷◌, ◌++◌, Option, Some, None, option_map, refl, sym, ap, subst, ◌∙◌, arith}
+use Rattle.std.proofs.Common.{◌≡◌, ◌⊎◌, inl, inr, ℕ, zero, suc, ◌+◌, ◌-◌, ◌<◌, ◌≤◌, List, [], ◌∷◌, ◌++◌, Some, refl, sym, subst, arith}
 use Rattle.std.specs.List.{range_with_len}
-use Rattle.lapd_states.specs.Close.{is_7_or_8}
 use Rattle.lapd_world.specs.Safe.{IsAmong}
 use Rattle.lapd_invariant.specs.Kinds.{Kind, Status, messages, numbers, rejections}
-use Rattle.lapd_invariant.specs.Parties.{Sender, Party, Hearing, hearing_now, hears, OnHearing, frames_heard}
-use Rattle.lapd_invariant.specs.Conjuncts.{Each, HasPlace, IsGot, IsPlaced, IsNumbering, IsAwaiting, IsHeard, most_asks}
-use Rattle.lapd_invariant.specs.Invariant.{IsSpeaking}
+use Rattle.lapd_invariant.specs.Parties.{Sender, Party, hearing_now, hears, OnHearing, frames_heard}
+use Rattle.lapd_invariant.specs.Conjuncts.{HasPlace, IsGot, IsPlaced, IsNumbering, IsAwaiting, IsHeard, most_asks}
 use Rattle.lapd_invariant.proofs.Hearings.{on_both, by_open}
 use Rattle.lapd_invariant.proofs.Lists.{each_map}
 use Rattle.lapd_invariant.proofs.Losses.{asked_less, rejected_map, exchange_less}
@@ -57,10 +55,18 @@ keeps_acknowledging x y out nr ks m =
       opened = m.opened;
       mine = record {
         kept = open_kept x.state x.asked x.leaving z.sends m.opened (record {
-          first = omega (arith, n.first, low); next = n.next; ordered = high_; window = omega (arith, n.window, low); within = n.within; since = n.since;
+          first = omega (arith, n.first, low);
+          next = n.next;
+          ordered = high_;
+          window = omega (arith, n.window, low);
+          within = n.within;
+          since = n.since;
         });
         passed = omega (arith, m.mine.passed);
-        past = m.mine.past; lately = m.mine.lately; none_yet = m.mine.none_yet; below = m.mine.below;
+        past = m.mine.past;
+        lately = m.mine.lately;
+        none_yet = m.mine.none_yet;
+        below = m.mine.below;
         heard = on_both (λ h. nr ≤ h.vr) (IsHeard x y (Some was)) (IsHeard z y (Some now)) (hears y out) (λ h above i. record {
           stream = record {
             placed = each_map (IsPlaced x.sends) (IsPlaced z.sends) (messages h.frames) (λ m. placed_acknowledging nr x.sends m) i.stream.placed;
@@ -79,12 +85,18 @@ keeps_acknowledging x y out nr ks m =
           row = m.mine.histories.row;
           prefix = m.mine.histories.prefix;
           arrived = λ place among. elim (among_either place x.sends.acked (range_with_len x.sends.passed (nr - x.sends.va)) among) [
-            inl before ↦ m.mine.histories.arrived place before
-          | inr new ↦ arrives place new ];
+            | inl before ↦ m.mine.histories.arrived place before
+            | inr new ↦ arrives place new
+          ];
         };
       };
       its = record {
-        kept = m.its.kept; passed = m.its.passed; past = m.its.past; lately = m.its.lately; none_yet = m.its.none_yet; below = m.its.below;
+        kept = m.its.kept;
+        passed = m.its.passed;
+        past = m.its.past;
+        lately = m.its.lately;
+        none_yet = m.its.none_yet;
+        below = m.its.below;
         heard = record {
           stream = m.its.heard.stream;
           acks = record { climb = acks.climb.1; known = acks.known.1; top = λ opened. ((acks.top opened).0.1, (acks.top opened).1) };

@@ -1,22 +1,21 @@
 -- An open side goes back: V(S) is set to V(A), and all that waits is to be sent again.
-use Rattle.std.proofs.Common.{◌≡◌, ◌≢◌, ◌⊎◌, inl, inr, ℕ, zero, suc, ◌+◌, ◌-◌, ◌<◌, ◌≤◌, Bool, true, false, List, [], ◌∷◌, ◌++◌, Option, Some, None, option_map, refl, sym, ap, subst, ◌∙◌, arith}
+use Rattle.std.proofs.Common.{◌≡◌, inl, ℕ, zero, suc, ◌+◌, ◌<◌, ◌≤◌, Bool, true, false, List, [], ◌∷◌, Option, Some, None, refl, sym, subst, arith}
 use Rattle.lapd_states.specs.declared.state.State.{State}
 use Rattle.lapd_states.specs.declared.state.State.TheVariants.{TeiAssigned, AwaitingEstablishment, AwaitingRelease, MultipleFrameEstablished, TimerRecovery}
 use Rattle.lapd_states.specs.Close.{is_7_or_8}
 use Rattle.lapd_world.specs.Histories.{Receipt}
 use Rattle.lapd_world.proofs.Places.{IsRow}
-use Rattle.lapd_invariant.specs.Kinds.{Message, Kind, Numbered, Status, Rejection, Enquiry, Final, message_of, messages, numbers, rejections, bit, tally, poll_of, final_of}
-use Rattle.lapd_invariant.specs.Parties.{Sender, Receiver, Party, Hearing, hearing_now, hears, OnHearing, frames_heard}
-use Rattle.lapd_invariant.specs.Conjuncts.{Each, HasPlace, IsGot, IsPlaced, IsNumbering, IsRun, IsInOrder, IsClimb, IsStream, AreAcknowledging, NoneAsked, OneAsked, AreAsked, IsAwaiting, IsSentBack, AtMostOne, AreRejected, IsHeard, high, IsInStep}
-use Rattle.lapd_invariant.specs.Invariant.{IsSpeaking}
+use Rattle.lapd_invariant.specs.Kinds.{Message, Kind, Numbered, Status, Rejection, Enquiry, Final, messages, numbers, rejections, bit, tally, poll_of}
+use Rattle.lapd_invariant.specs.Parties.{Sender, Party, Hearing, hearing_now, hears, OnHearing, frames_heard}
+use Rattle.lapd_invariant.specs.Conjuncts.{Each, IsGot, IsPlaced, IsNumbering, IsInOrder, IsClimb, NoneAsked, OneAsked, AreAsked, IsAwaiting, IsSentBack, AtMostOne, AreRejected, IsHeard, high, IsInStep}
 use Rattle.lapd_invariant.proofs.Acknowledges.{acknowledging, keeps_acknowledging}
-use Rattle.lapd_invariant.proofs.Hearings.{on_map, on_both, by_open, from_open}
+use Rattle.lapd_invariant.proofs.Hearings.{on_map, on_both, from_open}
 use Rattle.lapd_invariant.proofs.Lists.{each_map}
 use Rattle.lapd_invariant.proofs.Losses.{rejected_map}
 use Rattle.lapd_invariant.proofs.Mids.{Mid, numbering, open_kept}
-use Rattle.lapd_invariant.proofs.Polls.{IsSettled, established, to_established}
+use Rattle.lapd_invariant.proofs.Polls.{established, to_established}
 use Rattle.lapd_invariant.proofs.Receipts.{place_below}
-use Rattle.lapd_invariant.proofs.Runs.{NonePolls, all_is_junk, climb_top}
+use Rattle.lapd_invariant.proofs.Runs.{NonePolls, all_is_junk}
 use Rattle.lapd_invariant.proofs.Turns.{turned, final_left, rejection_left}
 
 abbrev pub backing_sender : ℕ → Sender → Sender
@@ -41,7 +40,7 @@ known_below base limit zero received row names got = omega arith
 known_below base limit (suc n) received row names got = let last : base + n < high received = place_below 0 0 (base + n) received row (got n (omega arith)) in omega (arith, last, names)
 
 -- no REJ of the peer is in hand or behind it, where this side is in state 7 afterwards
-no_rejections : (state : State) (vs base : ℕ) (received : List Receipt) (waiting : Option Hearing) (ns : List ℕ) → ns ≡ [] → AreRejected state vs base received waiting ns
+pub no_rejections : (state : State) (vs base : ℕ) (received : List Receipt) (waiting : Option Hearing) (ns : List ℕ) → ns ≡ [] → AreRejected state vs base received waiting ns
 no_rejections TeiAssigned vs base received waiting ns none = tt
 no_rejections AwaitingEstablishment vs base received waiting ns none = none
 no_rejections AwaitingRelease vs base received waiting ns none = tt
@@ -64,10 +63,17 @@ keeps_backing x y out back nr at names none order m =
       opened = m.opened;
       mine = record {
         kept = open_kept x.state x.asked x.leaving z.sends m.opened (record {
-          first = n.first; next = omega (arith, n.first, at); ordered = omega (arith, at); window = omega (arith, at); within = omega (arith, n.within, n.first, n.next, n.ordered);
+          first = n.first;
+          next = omega (arith, n.first, at);
+          ordered = omega (arith, at);
+          window = omega (arith, at);
+          within = omega (arith, n.within, n.first, n.next, n.ordered);
           since = λ place from before. n.since place from (omega (arith, before, n.first, n.next, n.ordered));
         });
-        passed = m.mine.passed; past = m.mine.past; lately = m.mine.lately; none_yet = m.mine.none_yet;
+        passed = m.mine.passed;
+        past = m.mine.past;
+        lately = m.mine.lately;
+        none_yet = m.mine.none_yet;
         below = λ _. names;
         heard = on_both Order (IsHeard x y was) (IsHeard z y now) (hears y out) (λ h o i. record {
           stream = record {
@@ -85,7 +91,12 @@ keeps_backing x y out back nr at names none order m =
         histories = m.mine.histories;
       };
       its = record {
-        kept = m.its.kept; passed = m.its.passed; past = m.its.past; lately = m.its.lately; none_yet = m.its.none_yet; below = m.its.below;
+        kept = m.its.kept;
+        passed = m.its.passed;
+        past = m.its.past;
+        lately = m.its.lately;
+        none_yet = m.its.none_yet;
+        below = m.its.below;
         heard = record {
           stream = m.its.heard.stream;
           acks = record {
@@ -104,6 +115,7 @@ keeps_backing x y out back nr at names none order m =
     reached : (vr : ℕ) → IsInStep x.sends.base vr y.takes.received → vr ≤ nr
     reached zero step = omega arith
     reached (suc vr) step = let level : high y.takes.received ≡ x.sends.base + suc vr = step.level (omega arith) in omega (arith, level, names)
+
     its_reached : is_7_or_8 y.state ≡ true → y.takes.vr ≤ nr
     its_reached opened = reached y.takes.vr ((from_open (IsHeard x y (Some (hearing_now x back))) y out opened m.mine.heard).stream.step (inl m.opened))
 
@@ -155,7 +167,7 @@ back_by_rejection x y out nr ks is m =
 
 -- ---- By a final, in state 8.
 
-order_of_none : (rejecting : Bool) (low end : ℕ) (ms : List Message) → ms ≡ [] → IsInOrder rejecting low end ms
+pub order_of_none : (rejecting : Bool) (low end : ℕ) (ms : List Message) → ms ≡ [] → IsInOrder rejecting low end ms
 order_of_none true low end ms none = subst (λ l. IsInOrder true low end l) (sym none) tt
 order_of_none false low end ms none = subst (λ l. IsInOrder false low end l) (sym none) tt
 

@@ -1,16 +1,16 @@
 -- One lemma for all that leaves a side closed: rows of states 4, 5 and 6, and leaving states 7 and 8.
-use Rattle.std.proofs.Common.{◌≡◌, ◌⊎◌, inl, inr, ℕ, zero, suc, ◌+◌, ◌<◌, ◌≤◌, Bool, true, false, List, [], ◌∷◌, ◌++◌, length, Option, Some, None, option_map, refl, sym, ap, subst, ◌∙◌, arith}
+use Rattle.std.proofs.Common.{◌≡◌, inl, inr, ℕ, ◌+◌, ◌<◌, ◌≤◌, Bool, true, false, List, [], ◌∷◌, ◌++◌, Option, Some, None, option_map, refl, sym, ap, subst, ◌∙◌, arith}
 use Rattle.lapd_states.specs.declared.state.State.{State}
 use Rattle.lapd_states.specs.declared.state.State.TheVariants.{TeiAssigned, AwaitingEstablishment, AwaitingRelease, MultipleFrameEstablished, TimerRecovery}
 use Rattle.lapd_states.specs.Close.{is_7_or_8}
 use Rattle.lapd_world.specs.Histories.{Receipt}
 use Rattle.lapd_invariant.specs.Kinds.{Message, Kind, Numbered, Status, Rejection, Enquiry, Final, Asks, Accepts, Refuses, Unnumbered, message_of, messages, number_of, numbers, rejection_of, rejections, tally, ask_of, answer_of, poll_of, final_of, foreign_of, is_acceptance}
 use Rattle.lapd_invariant.specs.Parties.{Sender, Receiver, Party, Hearing, behind, behind_acceptance, hearing_now, hearing_to_come, heard_in, hears, OnHearing, frames_heard}
-use Rattle.lapd_invariant.specs.Conjuncts.{IsKept, is_holding, IsPlaced, IsStream, AreAcknowledging, NoneAsked, AreAsked, AreRejected, IsHeard, NoneBehindAsk, IsExchange, most_asks, high}
-use Rattle.lapd_invariant.specs.Invariant.{IsSpeaking, Half, Both}
-use Rattle.lapd_invariant.proofs.Hearings.{on_map, on_mapped, hears_more, one_more, closed_hears_nothing}
-use Rattle.lapd_invariant.proofs.Lists.{messages_same, numbers_same, rejections_same, tally_more, each_map}
-use Rattle.lapd_invariant.proofs.Losses.{HearsLess, IsLess, less_in, on_less, asked_heard_less, rejected_less, stream_less, acks_less, hears_less}
+use Rattle.lapd_invariant.specs.Conjuncts.{IsKept, is_holding, IsPlaced, IsStream, AreAcknowledging, AreAsked, AreRejected, IsHeard, NoneBehindAsk, IsExchange, most_asks}
+use Rattle.lapd_invariant.specs.Invariant.{Both}
+use Rattle.lapd_invariant.proofs.Hearings.{on_map, on_mapped, hears_more, one_more}
+use Rattle.lapd_invariant.proofs.Lists.{numbers_same, tally_more, each_map}
+use Rattle.lapd_invariant.proofs.Losses.{HearsLess, IsLess, asked_heard_less, rejected_less, stream_less, acks_less}
 use Rattle.lapd_invariant.proofs.Parts.{Part, part_whole, part_nothing, part_numbers, part_tally, part_rejections, part_behind_ask, part_messages}
 use Rattle.lapd_invariant.proofs.Says.{stream_said, acks_silent, asked_said, rejected_said}
 
@@ -105,6 +105,7 @@ heard_part_nothing AwaitingEstablishment false now ks none gone = by_behind ks g
     pick : (test : Bool) (l : List Kind) (o : Option (List Kind)) → numbers l ≡ [] → numbers (frames_heard (option_map hearing_to_come o)) ≡ [] → numbers (frames_heard (option_map hearing_to_come (behind test l o))) ≡ []
     pick true l o here later = here
     pick false l o here later = later
+
     by_behind : (l : List Kind) → numbers l ≡ [] → numbers (frames_heard (option_map hearing_to_come (behind_acceptance l))) ≡ []
     by_behind [] gone = refl
     by_behind (k ∷ l) gone = let rest : numbers l ≡ [] = behind_nothing (number_of k) (numbers l) gone in pick (is_acceptance k) l (behind_acceptance l) rest (by_behind l rest)
@@ -175,14 +176,14 @@ heard_quiet z y here u h q i = record {
 }
 
 -- nothing behind a UA, of a side that is closed
-unasked : (state : State) (base : ℕ) (received : List Receipt) (out : List Kind) → is_7_or_8 state ≡ false → tally poll_of out ≡ 0 → AreAsked state base received out []
+pub unasked : (state : State) (base : ℕ) (received : List Receipt) (out : List Kind) → is_7_or_8 state ≡ false → tally poll_of out ≡ 0 → AreAsked state base received out []
 unasked TeiAssigned base received out closed none = tt
 unasked AwaitingEstablishment base received out closed none = record { polls = none; finals = refl }
 unasked AwaitingRelease base received out closed none = tt
 unasked MultipleFrameEstablished base received out closed none = cc
 unasked TimerRecovery base received out closed none = cc
 
-unrejected : (state : State) (vs base : ℕ) (received : List Receipt) (waiting : Option Hearing) → is_7_or_8 state ≡ false → AreRejected state vs base received waiting []
+pub unrejected : (state : State) (vs base : ℕ) (received : List Receipt) (waiting : Option Hearing) → is_7_or_8 state ≡ false → AreRejected state vs base received waiting []
 unrejected TeiAssigned vs base received waiting closed = tt
 unrejected AwaitingEstablishment vs base received waiting closed = refl
 unrejected AwaitingRelease vs base received waiting closed = tt
@@ -211,7 +212,7 @@ polls_more : (u : Kind) (o : Option Hearing) → poll_of u ≡ 0 → tally poll_
 polls_more u None no_poll none = refl
 polls_more u (Some h) no_poll none = let more = tally_more poll_of u h.frames in omega (arith, more, no_poll, none)
 
-frames_nothing : (o : Option Hearing) → OnHearing (λ h. h.frames ≡ []) o → tally poll_of (frames_heard o) ≡ 0
+pub frames_nothing : (o : Option Hearing) → OnHearing (λ h. h.frames ≡ []) o → tally poll_of (frames_heard o) ≡ 0
 frames_nothing None none = refl
 frames_nothing (Some h) none = ap (λ l. tally poll_of l) none
 
@@ -243,7 +244,10 @@ asks_more u (k ∷ ks) no_number none = ((λ ask. numbers_same u ks no_number �
 
 exchange_closed : (most most_was : ℕ) (state : State) (back back_was out now : List Kind) → Part back back_was → Said state back out now → tally ask_of now + tally answer_of back ≤ most → IsExchange most_was out back_was → IsExchange most now back
 exchange_closed most most_was state back back_was out now p unspoken one w = let answers = part_tally answer_of p in record {
-  one = one; behind = w.behind; before = λ answer. w.before (omega (arith, answer, answers)); clean = w.clean;
+  one = one;
+  behind = w.behind;
+  before = λ answer. w.before (omega (arith, answer, answers));
+  clean = w.clean;
 }
 exchange_closed most most_was state back back_was out now p (quietly u q) one w = let answers = part_tally answer_of p in let foreign = tally_more foreign_of u out in record {
   one = one;
@@ -286,6 +290,7 @@ module _ (x y : Party) (out now back_was back : List Kind) (state : State) (aske
         rejected = closed_rejected state x.sends.vs x.sends.base y.takes.received (hears y now) (hears y out) closed (part_rejections l.part)
             (subst (λ s. AreRejected s x.sends.vs x.sends.base y.takes.received (hears y out) (rejections h.frames)) (sym is) i.rejected);
       }
+
       turned : (n w : Option Hearing) → HearsLess n w → OnHearing (IsHeard y x (hears y out)) w → OnHearing (IsHeard y z (hears y now)) n
       turned None w l i = tt
       turned (Some n) None l i = absurd l
@@ -308,7 +313,12 @@ module _ (x y : Party) (out now back_was back : List Kind) (state : State) (aske
       histories = b.mine.histories;
     };
     its = record {
-      kept = b.its.kept; passed = b.its.passed; past = b.its.past; lately = b.its.lately; none_yet = b.its.none_yet; below = b.its.below;
+      kept = b.its.kept;
+      passed = b.its.passed;
+      past = b.its.past;
+      lately = b.its.lately;
+      none_yet = b.its.none_yet;
+      below = b.its.below;
       heard = its_heard less b.its.heard;
       exchange = let foreign = part_tally foreign_of part in record { one = its_one; behind = part_behind_ask part b.its.exchange.behind; before = before; clean = omega (arith, foreign, b.its.exchange.clean) };
       histories = b.its.histories;

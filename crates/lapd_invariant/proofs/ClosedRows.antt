@@ -1,31 +1,30 @@
 -- Rows of the state table that leave a side closed.
-use Rattle.std.proofs.Common.{◌≡◌, ◌⊎◌, inl, inr, ℕ, zero, suc, ◌+◌, ◌-◌, ◌<◌, ◌≤◌, nat_lt, if◌then◌else◌, Bool, true, false, List, [], ◌∷◌, ◌++◌, length, Option, Some, None, refl, sym, ap, subst, ◌∙◌, arith}
+use Rattle.std.proofs.Common.{◌≡◌, nat_lt, Bool, true, false, List, [], ◌∷◌, ◌++◌, length, None, refl, sym, ap, subst, arith}
 use Rattle.lapd_timers.specs.declared.timer.Timer.TheVariants.{T200, T203}
 use Rattle.lapd_frame.specs.declared.Role.TheVariants.{Command, Answer}
 use Rattle.lapd_frame.specs.declared.Control.TheVariants.{Sabme, Dm, Disc, Ua}
 use Rattle.lapd_mod128.specs.Counting.{Whole}
 use Rattle.lapd_states.specs.declared.state.State.{State}
-use Rattle.lapd_states.specs.declared.state.State.TheVariants.{TeiAssigned, AwaitingEstablishment, AwaitingRelease, MultipleFrameEstablished, TimerRecovery}
+use Rattle.lapd_states.specs.declared.state.State.TheVariants.{TeiAssigned, AwaitingEstablishment, AwaitingRelease}
 use Rattle.lapd_states.specs.declared.out.Letter.TheVariants as letter
-use Rattle.lapd_states.specs.declared.out.Out.{Out}
 use Rattle.lapd_states.specs.declared.out.Out.TheVariants.{Send, Released, ReleaseConfirm, Report}
 use Rattle.lapd_states.specs.AwaitingEstablishment.{release_primitive, end_establishment, awaiting_establishment_t200}
 use Rattle.lapd_states.specs.AwaitingRelease.{confirm_release, awaiting_release_t200}
 use Rattle.lapd_states.specs.Close.{is_7_or_8, close}
-use Rattle.lapd_states.specs.End.{End, StepState, ◌▷◌}
+use Rattle.lapd_states.specs.End.{StepState, ◌▷◌}
 use Rattle.lapd_states.specs.Procedures.{put, state_to, rc_to, increment_rc, layer3_initiated_to, release_pending_to, start, stop, expired, discard_i_queue, establish_data_link, reestablish_data_link}
-use Rattle.lapd_invariant.specs.Kinds.{Kind, Asks, Accepts, Refuses, numbers, tally, ask_of, answer_of}
-use Rattle.lapd_invariant.specs.Parties.{Sender, Party, Hearing, hearing_now, heard_in, hears}
+use Rattle.lapd_invariant.specs.Kinds.{Kind, Asks, Accepts, Refuses, tally, ask_of, answer_of}
+use Rattle.lapd_invariant.specs.Parties.{Party, hearing_now, heard_in}
 use Rattle.lapd_invariant.specs.Conjuncts.{IsNumbering, IsEmpty, IsKept, is_holding, most_asks}
 use Rattle.lapd_invariant.specs.Invariant.{Both}
-use Rattle.lapd_invariant.proofs.Closed.{still, still_sender, Less, same, deaf}
+use Rattle.lapd_invariant.proofs.Closed.{still, still_sender, same, deaf}
 use Rattle.lapd_invariant.proofs.Closings.{all_passed, passes_all, empties, leaving_is_empty, empty_where_leaving, asking, settling, refusing, accepts}
 use Rattle.lapd_invariant.proofs.Goes.{Context, seen, line}
 use Rattle.lapd_invariant.proofs.Lists.{by_test}
 use Rattle.lapd_invariant.proofs.Losses.{hears_less, both_less}
 use Rattle.lapd_invariant.proofs.Mids.{open_numbering, open_holds, open_asks_none}
 use Rattle.lapd_invariant.proofs.Parts.{part_whole, part_first}
-use Rattle.lapd_invariant.proofs.Seems.{Seems, IsUntold, Ends, ends_closed, dropping, establishing, seems_put, seems_rc, seems_increment, seems_expired, seems_start, seems_stop, seems_send, seems_state, seems_layer3, seems_pending, seems_discard, seems_establish, seems_reestablish}
+use Rattle.lapd_invariant.proofs.Seems.{Seems, IsUntold, Ends, ends_closed, dropping, seems_put, seems_rc, seems_increment, seems_expired, seems_start, seems_stop, seems_send, seems_state, seems_layer3, seems_pending, seems_discard, seems_establish, seems_reestablish}
 
 pub here : (c : Context) (s : StepState) → Seems c s (seen c s) (line c s)
 here c s = record { party = refl; line = refl }
@@ -250,9 +249,9 @@ ends_t200_in_5 c ks s is no_ask no_answer b =
     by_test (λ (t : StepState). Ends c ks (close Whole t)) (nat_lt s.end.rc s.end.parameters.n200) _ _
     (λ _. ends_asking_again c ks s (s3 ▷ start T200) closed (one_at_most s.end.state is) no_ask no_answer (seems_start c T200 s3 x k (seems_send c Command (Sabme true) Asks s2 x l refl (seems_expired c s1 x l (seems_increment c s x l (here c s))))) b)
     (λ _. ends_closed c ks (end_establishment t3) (still TeiAssigned s.end.layer3_initiated false n n (all_passed x.sends) x.takes.rejecting x) l refl
-        (seems_ended c t3 p l (seems_put c (Report letter.G) t2 p l (λ o t. refl) (discards_expired c s l)))
-        (settling x c.peer l ks ks TeiAssigned s.end.layer3_initiated false n n (all_passed x.sends) x.takes.rejecting (part_whole ks) b refl (omega (arith, no_ask, no_answer))
-        (empties n n (all_passed x.sends) x.sends refl refl) (passes_all x c.peer l ks b) (λ h. cc) (deaf refl)))
+    (seems_ended c t3 p l (seems_put c (Report letter.G) t2 p l (λ o t. refl) (discards_expired c s l)))
+    (settling x c.peer l ks ks TeiAssigned s.end.layer3_initiated false n n (all_passed x.sends) x.takes.rejecting (part_whole ks) b refl (omega (arith, no_ask, no_answer))
+    (empties n n (all_passed x.sends) x.sends refl refl) (passes_all x c.peer l ks b) (λ h. cc) (deaf refl)))
   where
     discards_expired : (c : Context) (s : StepState) (l : List Kind) → Seems c (s ▷ expired T200 ▷ discard_i_queue) (dropping (seen c s)) (line c s)
     discards_expired c s l = seems_discard c (s ▷ expired T200) (seen c s) (line c s) (seems_expired c s (seen c s) (line c s) (here c s))
@@ -275,6 +274,6 @@ ends_t200_in_6 c ks s is no_ask no_answer b =
     by_test (λ (t : StepState). Ends c ks (close Whole t)) (nat_lt s.end.rc s.end.parameters.n200) _ _
     (λ _. ends_asking_again c ks s (s3 ▷ start T200) closed most no_ask no_answer (seems_start c T200 s3 x k (seems_send c Command (Disc true) Asks s2 x l refl (seems_expired c s1 x l (seems_increment c s x l (here c s))))) b)
     (λ _. ends_closed c ks (state_to TeiAssigned t3) (still TeiAssigned s.end.layer3_initiated s.end.release_pending x.sends.first x.sends.next x.sends.passed x.takes.rejecting x) l refl
-        (seems_state c TeiAssigned t3 x l (seems_put c ReleaseConfirm t2 x l (λ o t. refl) (seems_put c (Report letter.H) t1 x l (λ o t. refl) (seems_expired c s x l (here c s)))))
-        (settling x c.peer l ks ks TeiAssigned s.end.layer3_initiated s.end.release_pending x.sends.first x.sends.next x.sends.passed x.takes.rejecting (part_whole ks) b refl (omega (arith, no_ask, no_answer))
-        kept b.mine.passed (λ h. cc) (deaf refl)))
+    (seems_state c TeiAssigned t3 x l (seems_put c ReleaseConfirm t2 x l (λ o t. refl) (seems_put c (Report letter.H) t1 x l (λ o t. refl) (seems_expired c s x l (here c s)))))
+    (settling x c.peer l ks ks TeiAssigned s.end.layer3_initiated s.end.release_pending x.sends.first x.sends.next x.sends.passed x.takes.rejecting (part_whole ks) b refl (omega (arith, no_ask, no_answer))
+    kept b.mine.passed (λ h. cc) (deaf refl)))

@@ -1,9 +1,7 @@
 -- The end of a step: messages go out while the window is open, and then the acknowledgement that is pending.
-use Rattle.std.proofs.Common.{◌≡◌, ◌⊎◌, inl, inr, ℕ, zero, suc, ◌+◌, ◌-◌, ◌<◌, ◌≤◌, nat_lt, ◌==◌, ◌&&◌, not, if◌then◌else◌, Bool, true, false, List, [], ◌∷◌, ◌++◌, map, length, get_or, Option, Some, None, refl, sym, ap, subst, ◌∙◌, arith}
-use Rattle.std.proofs.lemmas.Bool.Decides.{nat_tests}
-use Rattle.lapd_timers.specs.declared.timer.Timer.TheVariants.{T200, T203}
-use Rattle.lapd_frame.specs.declared.Role.TheVariants.{Command, Answer}
-use Rattle.lapd_frame.specs.declared.Control.TheVariants.{I, Rr, Rnr, Rej}
+use Rattle.std.proofs.Common.{◌≡◌, ℕ, zero, suc, ◌+◌, ◌-◌, ◌<◌, ◌≤◌, nat_lt, ◌&&◌, Bool, true, false, List, [], ◌∷◌, ◌++◌, length, refl, ap, ◌∙◌, arith}
+use Rattle.lapd_timers.specs.declared.timer.Timer.TheVariants.{T200}
+use Rattle.lapd_frame.specs.declared.Control.TheVariants.{I}
 use Rattle.lapd_mod128.specs.Counting.{Whole, steps, after, before}
 use Rattle.lapd_supervision.specs.StateVariables.{StateVariables, without_ack_pending, may_send, next_i_frame, after_sending, last_i_frame}
 use Rattle.lapd_supervision.proofs.Outstanding.{may_send_leaves_room}
@@ -11,19 +9,18 @@ use Rattle.lapd_states.specs.declared.state.State.{State}
 use Rattle.lapd_states.specs.declared.state.State.TheVariants.{TeiAssigned, AwaitingEstablishment, AwaitingRelease, MultipleFrameEstablished, TimerRecovery}
 use Rattle.lapd_states.specs.declared.out.Out.TheVariants.{SendMessage, Start}
 use Rattle.lapd_states.specs.Close.{is_7_or_8, is_established, may_send_next, send_next, send_all, acknowledge_pending, close}
-use Rattle.lapd_states.specs.End.{End, StepState, unsent}
-use Rattle.lapd_states.specs.Procedures.{transmit_i_frame, ensure_t200, transmit_rr, retransmit_last_i_frame, state_to}
+use Rattle.lapd_states.specs.End.{StepState, unsent}
+use Rattle.lapd_states.specs.Procedures.{transmit_i_frame, retransmit_last_i_frame, state_to}
 use Rattle.lapd_states.proofs.Sending.{both_true, below}
-use Rattle.lapd_world.specs.Histories.{History, Occasion, Story, told, with_sending, message_frame}
-use Rattle.lapd_world.specs.Line.{Flight}
+use Rattle.lapd_world.specs.Histories.{Occasion, Story, with_sending, message_frame}
 use Rattle.lapd_world.specs.Move.{story_after}
-use Rattle.lapd_invariant.specs.Kinds.{Message, Kind, Numbered, kind, kinds}
-use Rattle.lapd_invariant.specs.Parties.{Party, party_of}
+use Rattle.lapd_invariant.specs.Kinds.{Kind, Numbered, kind}
+use Rattle.lapd_invariant.specs.Parties.{party_of}
 use Rattle.lapd_invariant.specs.Conjuncts.{IsNumbering}
 use Rattle.lapd_invariant.proofs.Goes.{Context, story, occasion, seen, line, Goes, told_append, kinds_more, moved, goes_ensure, goes_rr}
 use Rattle.lapd_invariant.proofs.Lists.{by_test}
-use Rattle.lapd_invariant.proofs.Mids.{Mid, numbering}
-use Rattle.lapd_invariant.proofs.Sends.{sending, sending_sender, next_message, keeps_sending, repeating, last_message, keeps_repeating}
+use Rattle.lapd_invariant.proofs.Mids.{numbering}
+use Rattle.lapd_invariant.proofs.Sends.{sending, next_message, keeps_sending, repeating, last_message, keeps_repeating}
 
 in_state_7 : (state : State) → is_established state ≡ true → state ≡ MultipleFrameEstablished
 in_state_7 MultipleFrameEstablished is = refl

@@ -1,11 +1,11 @@
 -- The ways in which a side is left closed, over what is seen of it: it asks, it answers, or it says nothing.
-use Rattle.std.proofs.Common.{◌≡◌, ◌⊎◌, inl, inr, ℕ, zero, suc, ◌+◌, ◌-◌, ◌<◌, ◌≤◌, Bool, true, false, List, [], ◌∷◌, ◌++◌, length, Option, Some, None, refl, sym, ap, subst, ◌∙◌, arith}
+use Rattle.std.proofs.Common.{◌≡◌, ℕ, ◌+◌, ◌-◌, ◌<◌, ◌≤◌, Bool, true, false, List, [], ◌∷◌, ◌++◌, length, refl, sym, subst, arith}
 use Rattle.lapd_states.specs.declared.state.State.{State}
 use Rattle.lapd_states.specs.declared.state.State.TheVariants.{TeiAssigned, AwaitingEstablishment, AwaitingRelease, MultipleFrameEstablished, TimerRecovery}
 use Rattle.lapd_states.specs.Close.{is_7_or_8}
 use Rattle.lapd_invariant.specs.Kinds.{Kind, Asks, Accepts, Refuses, numbers, tally, ask_of, answer_of}
 use Rattle.lapd_invariant.specs.Parties.{Sender, Party, hearing_now, heard_in, hears}
-use Rattle.lapd_invariant.specs.Conjuncts.{IsNumbering, IsHolding, IsEmpty, IsKept, is_holding, most_asks}
+use Rattle.lapd_invariant.specs.Conjuncts.{IsNumbering, IsEmpty, IsKept, is_holding, most_asks}
 use Rattle.lapd_invariant.specs.Invariant.{Both}
 use Rattle.lapd_invariant.proofs.Closed.{still, still_sender, unspoken, quietly, accepting, asks_is_quiet, refuses_is_quiet, Less, same, deaf, closing}
 use Rattle.lapd_invariant.proofs.Hearings.{closed_hears_nothing}

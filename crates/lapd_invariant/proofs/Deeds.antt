@@ -1,5 +1,5 @@
 -- What a side does, and what happens to it, but for what is delivered.
-use Rattle.std.proofs.Common.{◌≡◌, ◌⊎◌, inl, inr, ℕ, ◌+◌, ◌≤◌, if◌then◌else◌, Bool, true, false, List, [], ◌∷◌, ◌++◌, length, Option, Some, None, Result, Ok, Err, refl, sym, ap, subst, ◌∙◌, arith}
+use Rattle.std.proofs.Common.{◌≡◌, ℕ, Bool, true, false, List, [], Option, Some, None, Result, refl, ap, ◌∙◌}
 use Rattle.lapd_timers.specs.declared.timer.Timer.TheVariants.{T200, T203}
 use Rattle.lapd_frame.specs.declared.Side.TheVariants as side
 use Rattle.lapd_mod128.specs.Counting.{Whole}
@@ -9,7 +9,7 @@ use Rattle.lapd_states.specs.declared.out.Out.TheVariants.{ReleaseConfirm}
 use Rattle.lapd_states.specs.AwaitingEstablishment.{awaiting_establishment}
 use Rattle.lapd_states.specs.AwaitingRelease.{awaiting_release}
 use Rattle.lapd_states.specs.Close.{is_7_or_8, close}
-use Rattle.lapd_states.specs.End.{End, StepState, begin, runs}
+use Rattle.lapd_states.specs.End.{StepState, begin, runs}
 use Rattle.lapd_states.specs.Established.{in_7_and_8, multiple_frame_established}
 use Rattle.lapd_states.specs.Input as input
 use Rattle.lapd_states.specs.Input.{Input, Expiry, BusyOn, BusyOff}
@@ -17,19 +17,17 @@ use Rattle.lapd_states.specs.Procedures.{put}
 use Rattle.lapd_states.specs.Table.{by_state, row}
 use Rattle.lapd_states.specs.TeiAssigned.{tei_assigned}
 use Rattle.lapd_states.specs.TimerRecovery.{timer_recovery}
-use Rattle.lapd_world.specs.Line.{Flight, first_poll, first_final}
-use Rattle.lapd_world.specs.Move.{Deed, Establish, Release, Expire200, Expire203, Busy, Station, View, Acted, Refusal, acts, takes, expires_200, expires_203, unless_under_way, busy_input, story_after}
+use Rattle.lapd_world.specs.Line.{first_poll, first_final}
+use Rattle.lapd_world.specs.Move.{Establish, Release, Expire200, Expire203, Busy, Station, View, Acted, Refusal, acts, takes, expires_200, expires_203, unless_under_way, busy_input, story_after}
 use Rattle.lapd_invariant.specs.Kinds.{Kind, kinds, tally, ask_of, answer_of, poll_of, final_of}
-use Rattle.lapd_invariant.specs.Parties.{Party, hears, frames_heard}
 use Rattle.lapd_invariant.specs.Conjuncts.{most_asks}
 use Rattle.lapd_invariant.specs.Invariant.{Both}
 use Rattle.lapd_invariant.proofs.ClosedRows.{here, ends_as_it_was, ends_establishing, ends_established_by_layer3, ends_release_pending, ends_releasing, ends_t200_in_5, ends_t200_in_6}
-use Rattle.lapd_invariant.proofs.Goes.{Context, story, seen, line, Goes}
+use Rattle.lapd_invariant.proofs.Goes.{Context, seen, line, Goes}
 use Rattle.lapd_invariant.proofs.Lists.{by_test}
 use Rattle.lapd_invariant.proofs.Mids.{enter}
 use Rattle.lapd_invariant.proofs.OpenTimers.{goes_busy_on, goes_busy_off, goes_t200_in_7, goes_t203_in_7, ends_t200_in_8}
-use Rattle.lapd_invariant.proofs.Polls.{IsSettled}
-use Rattle.lapd_invariant.proofs.Seems.{Seems, Ends, seems_put}
+use Rattle.lapd_invariant.proofs.Seems.{Ends, seems_put}
 use Rattle.lapd_invariant.proofs.Steps.{context, begun, ends_open, by_refusal}
 use Rattle.lapd_invariant.proofs.UnderWay.{none_under_way, none_answered, heard_polls}
 use Rattle.lapd_invariant.proofs.Worlds.{Holds, Keeps, left_by}
@@ -161,4 +159,4 @@ pub keeps_t200 : Keeps Expire200
 unfolding acts takes begin expires_200
 keeps_t200 v peer small h = by_test (λ (r : Result Acted Refusal). Holds (left_by v r) peer) v.station.end.t200 _ _
     (λ _. unless_so v peer (first_poll v.outgoing) (first_final v.incoming) _ h (λ poll final.
-        by_refusal [] 0 v h.base h.its_base peer (Expiry T200) h (λ _. ends_t200 (at v peer h) (kinds v.incoming) (begin v.station.end) v.station.end.state refl (no_frames v peer h poll final) (started v peer h)))) (λ _. h)
+    by_refusal [] 0 v h.base h.its_base peer (Expiry T200) h (λ _. ends_t200 (at v peer h) (kinds v.incoming) (begin v.station.end) v.station.end.state refl (no_frames v peer h poll final) (started v peer h)))) (λ _. h)

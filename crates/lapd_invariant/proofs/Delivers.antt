@@ -1,41 +1,37 @@
 -- A frame is delivered: by the state and the frame.
-use Rattle.std.proofs.Common.{◌≡◌, ◌⊎◌, inl, inr, ℕ, ◌+◌, ◌≤◌, if◌then◌else◌, Bool, true, false, List, [], ◌∷◌, ◌++◌, length, Option, Some, None, Result, Ok, Err, refl, sym, ap, subst, ◌∙◌, arith}
+use Rattle.std.proofs.Common.{◌≡◌, Bool, true, false, List, [], ◌∷◌, refl, ap, arith}
 use Rattle.lapd_timers.specs.declared.timer.Timer.TheVariants.{T200, T203}
 use Rattle.lapd_frame.specs.declared.Role.{Role}
 use Rattle.lapd_frame.specs.declared.Role.TheVariants.{Command, Answer}
 use Rattle.lapd_frame.specs.declared.Control.{Control}
-use Rattle.lapd_frame.specs.declared.Control.TheVariants.{I, Rr, Rnr, Rej, Sabme, Dm, Ui, Disc, Ua, Frmr, Xid}
-use Rattle.lapd_frame.specs.declared.Side.TheVariants as side
+use Rattle.lapd_frame.specs.declared.Control.TheVariants.{I, Rr, Rnr, Rej, Sabme, Dm, Disc, Ua, Frmr}
 use Rattle.lapd_mod128.specs.Counting.{Whole}
 use Rattle.lapd_states.specs.declared.state.State.{State}
 use Rattle.lapd_states.specs.declared.state.State.TheVariants.{TeiAssigned, AwaitingEstablishment, AwaitingRelease, MultipleFrameEstablished, TimerRecovery}
-use Rattle.lapd_states.specs.declared.out.Letter.TheVariants as letter
 use Rattle.lapd_states.specs.declared.out.Out.TheVariants.{Report, UnitUp}
 use Rattle.lapd_states.specs.AwaitingEstablishment.{awaiting_establishment, ua_final, confirm_or_indicate}
 use Rattle.lapd_states.specs.AwaitingRelease.{awaiting_release}
 use Rattle.lapd_states.specs.Close.{is_7_or_8, close}
-use Rattle.lapd_states.specs.End.{End, StepState, ◌▷◌, begin}
+use Rattle.lapd_states.specs.End.{StepState, ◌▷◌, begin}
 use Rattle.lapd_states.specs.Established.{in_7_and_8, multiple_frame_established}
-use Rattle.lapd_states.specs.Input.{Input, Heard}
+use Rattle.lapd_states.specs.Input.{Heard}
 use Rattle.lapd_states.specs.Procedures.{put, state_to, start, stop, zero_state_variables}
 use Rattle.lapd_states.specs.Table.{by_state, row, step, is_unit_data}
 use Rattle.lapd_states.specs.TeiAssigned.{tei_assigned, unsolicited_ua}
 use Rattle.lapd_states.specs.TimerRecovery.{timer_recovery}
-use Rattle.lapd_world.specs.Histories.{Story, with_unit}
+use Rattle.lapd_world.specs.Histories.{with_unit}
 use Rattle.lapd_world.specs.Line.{Flight}
-use Rattle.lapd_world.specs.Move.{Deed, Deliver, Station, View, Acted, Refusal, acts, delivers, hears, story_after}
+use Rattle.lapd_world.specs.Move.{Deliver, Station, View, acts, delivers, hears, story_after}
 use Rattle.lapd_invariant.specs.Kinds.{Kind, Asks, Accepts, Refuses, Foreign, kind, kind_of, kinds}
 use Rattle.lapd_invariant.specs.Parties.{party_of}
-use Rattle.lapd_invariant.specs.Conjuncts.{most_asks}
-use Rattle.lapd_invariant.specs.Invariant.{Both}
 use Rattle.lapd_invariant.proofs.ClosedRows.{here, passed_over, ends_as_it_was, ends_refusing, ends_accepting, ends_disconnected, ends_refused, ends_released_by_ua, ends_released}
 use Rattle.lapd_invariant.proofs.Deeds.{Before, ends_nothing, opened_in, closed_in}
-use Rattle.lapd_invariant.proofs.Goes.{Context, story, occasion, seen, line, Goes, told_append, moved}
+use Rattle.lapd_invariant.proofs.Goes.{Context, story, seen, line, Goes, told_append, moved}
 use Rattle.lapd_invariant.proofs.Lists.{by_test}
 use Rattle.lapd_invariant.proofs.Mids.{enter, open_asks_none}
 use Rattle.lapd_invariant.proofs.OpenRows.{goes_i_in_7, goes_rr_in_7, goes_rnr_in_7, goes_rej_in_7, goes_i_in_8, goes_rr_in_8, goes_rnr_in_8, goes_rej_in_8}
 use Rattle.lapd_invariant.proofs.Seems.{Seems, Ends, seems_put}
-use Rattle.lapd_invariant.proofs.Steps.{context, begun, ends_open, by_refusal, holds_after}
+use Rattle.lapd_invariant.proofs.Steps.{context, begun, ends_open, holds_after}
 use Rattle.lapd_invariant.proofs.Worlds.{Holds, Keeps, left_by}
 
 -- ---- Frames that change nothing.
@@ -44,14 +40,14 @@ use Rattle.lapd_invariant.proofs.Worlds.{Holds, Keeps, left_by}
 pub ends_passed : (c : Context) (k : Kind) (ks : List Kind) (s : StepState) → Before c (k ∷ ks) s → Ends c ks (close Whole s)
 ends_passed c k ks s b = ends_nothing c ks s (passed_over c k ks s b)
 
-no_foreign : (c : Context) (ks : List Kind) (s : StepState) → Before c (Foreign ∷ ks) s → ⊥
+pub no_foreign : (c : Context) (ks : List Kind) (s : StepState) → Before c (Foreign ∷ ks) s → ⊥
 no_foreign c ks s b = let clean = b.its.exchange.clean in omega (arith, clean)
 
 -- no answer comes to an open side
-no_acceptance : (c : Context) (ks : List Kind) (s : StepState) → is_7_or_8 s.end.state ≡ true → Before c (Accepts ∷ ks) s → ⊥
+pub no_acceptance : (c : Context) (ks : List Kind) (s : StepState) → is_7_or_8 s.end.state ≡ true → Before c (Accepts ∷ ks) s → ⊥
 no_acceptance c ks s opened b = let one = b.mine.exchange.one in let none = open_asks_none s.end.state opened in omega (arith, one, none)
 
-no_refusal : (c : Context) (ks : List Kind) (s : StepState) → is_7_or_8 s.end.state ≡ true → Before c (Refuses ∷ ks) s → ⊥
+pub no_refusal : (c : Context) (ks : List Kind) (s : StepState) → is_7_or_8 s.end.state ≡ true → Before c (Refuses ∷ ks) s → ⊥
 no_refusal c ks s opened b = let one = b.mine.exchange.one in let none = open_asks_none s.end.state opened in omega (arith, one, none)
 
 -- unit data goes to layer 3

@@ -1,29 +1,27 @@
 -- The actions of the state table on what is seen of the acting side in mid-step: each has one of the effects that keep the
 -- invariant.
-use Rattle.std.proofs.Common.{◌≡◌, ◌⊎◌, inl, inr, ℕ, zero, suc, ◌+◌, ◌-◌, ◌<◌, ◌≤◌, nat_lt, ◌==◌, ◌&&◌, not, if◌then◌else◌, Bool, true, false, List, [], ◌∷◌, ◌++◌, map, length, get_or, Option, Some, None, refl, sym, ap, subst, ◌∙◌, arith}
+use Rattle.std.proofs.Common.{◌≡◌, ℕ, zero, suc, ◌+◌, ◌-◌, nat_lt, if◌then◌else◌, Bool, true, false, List, [], ◌∷◌, ◌++◌, refl, sym, ap, subst, ◌∙◌, arith}
 use Rattle.std.proofs.lemmas.Bool.Decides.{nat_tests}
 use Rattle.lapd_timers.specs.declared.timer.Timer.{Timer}
 use Rattle.lapd_timers.specs.declared.timer.Timer.TheVariants.{T200, T201, T202, T203}
 use Rattle.lapd_frame.specs.declared.Role.{Role}
 use Rattle.lapd_frame.specs.declared.Role.TheVariants.{Command, Answer}
 use Rattle.lapd_frame.specs.declared.Control.{Control}
-use Rattle.lapd_frame.specs.declared.Control.TheVariants.{I, Rr, Rnr, Rej}
+use Rattle.lapd_frame.specs.declared.Control.TheVariants.{Rr, Rnr}
 use Rattle.lapd_mod128.specs.Counting.{Whole, steps, after}
-use Rattle.lapd_supervision.specs.StateVariables.{StateVariables, status_frame, acknowledgement, without_ack_pending, with_peer_busy, with_own_busy, with_va, with_vs, acknowledged_count, may_send, next_i_frame, after_sending, last_i_frame}
-use Rattle.lapd_states.specs.declared.state.State.{State}
-use Rattle.lapd_states.specs.declared.state.State.TheVariants.{TeiAssigned, AwaitingEstablishment, AwaitingRelease, MultipleFrameEstablished, TimerRecovery}
+use Rattle.lapd_supervision.specs.StateVariables.{StateVariables, status_frame, acknowledgement, without_ack_pending, with_peer_busy, with_own_busy, with_va, acknowledged_count}
+use Rattle.lapd_states.specs.declared.state.State.TheVariants.{TimerRecovery}
 use Rattle.lapd_states.specs.declared.out.Out.{Out}
-use Rattle.lapd_states.specs.declared.out.Out.TheVariants.{Send, SendMessage, Start, Stop, Report, Acknowledged}
-use Rattle.lapd_states.specs.Close.{is_7_or_8}
-use Rattle.lapd_states.specs.End.{End, StepState, runs, with_timer}
-use Rattle.lapd_states.specs.Procedures.{out_where, counted, put, state_to, rc_to, increment_rc, start, stop, expired, set_peer_busy, set_own_busy, enquiry_response, transmit_enquiry, transmit_rr, acknowledge, invoke_retransmission, transmit_i_frame, ensure_t200, retransmit_last_i_frame}
+use Rattle.lapd_states.specs.declared.out.Out.TheVariants.{Send, Start, Stop, Report, Acknowledged}
+use Rattle.lapd_states.specs.End.{StepState, runs}
+use Rattle.lapd_states.specs.Procedures.{out_where, counted, put, state_to, rc_to, increment_rc, start, stop, expired, set_peer_busy, set_own_busy, enquiry_response, transmit_enquiry, transmit_rr, acknowledge, ensure_t200}
 use Rattle.lapd_world.specs.Histories.{History, Occasion, Story, tell, told, with_acked}
 use Rattle.lapd_world.specs.Line.{Flight, without_info}
 use Rattle.lapd_world.specs.Move.{View, story_after}
-use Rattle.lapd_invariant.specs.Kinds.{Message, Kind, Numbered, Status, Rejection, Enquiry, Final, kind, kind_of, kinds, rejections}
+use Rattle.lapd_invariant.specs.Kinds.{Kind, Status, Enquiry, Final, kind, kind_of, kinds}
 use Rattle.lapd_invariant.specs.Parties.{Party, party_of}
 use Rattle.lapd_invariant.proofs.Acknowledges.{acknowledging, keeps_acknowledging}
-use Rattle.lapd_invariant.proofs.Mids.{Mid, numbering}
+use Rattle.lapd_invariant.proofs.Mids.{Mid}
 use Rattle.lapd_invariant.proofs.Polls.{IsSettled, answering, enquiring, recovering}
 use Rattle.lapd_invariant.proofs.Says.{saying_status}
 
@@ -194,6 +192,7 @@ nothing_acked t = ap (λ h. record t { history = h }) (no_places t.history)
         append_nothing : (l : List ℕ) → l ≡ l ++ []
         append_nothing [] = refl
         append_nothing (x ∷ xs) = ap (λ l. x ∷ l) (append_nothing xs)
+
         both : h.acked ≡ h.acked ++ [] → h.passed ≡ h.passed + 0 → h ≡ with_acked 0 h
         both a p = ap (λ l. record h { acked = l }) a ∙ ap (λ n. record h { acked = h.acked ++ []; passed = n }) p
 

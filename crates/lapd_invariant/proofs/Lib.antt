@@ -26,6 +26,8 @@ pub mod Closings
 pub mod ClosedRows
 pub mod Steps
 pub mod OpenTimers
+pub mod Begins
+pub mod BeginRows
 pub mod Units
 pub mod Restarts
 pub mod Gives
@@ -33,3 +35,9 @@ pub mod Nearness
 pub mod UnderWay
 pub mod Deeds
 pub mod Delivers
+pub mod Reported
+pub mod ReportRows
+pub mod ReportsHeard
+pub mod Beginnings
+pub mod Whole
+pub mod Reached

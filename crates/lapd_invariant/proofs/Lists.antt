@@ -1,5 +1,5 @@
 -- Lists taken from the kinds of frames, when one more frame is behind all others.
-use Rattle.std.proofs.Common.{◌≡◌, ◌⊎◌, inl, inr, ◌<◌, ℕ, zero, suc, if◌then◌else◌, ◌+◌, Bool, true, false, List, [], ◌∷◌, ◌++◌, slice_get, Some, append_assoc, append-nil, refl, sym, ap, ◌∙◌, arith}
+use Rattle.std.proofs.Common.{◌≡◌, ◌⊎◌, ◌<◌, ℕ, zero, suc, if◌then◌else◌, ◌+◌, Bool, true, false, List, [], ◌∷◌, ◌++◌, slice_get, Some, append_assoc, append-nil, refl, sym, ap, ◌∙◌, arith}
 use Rattle.lapd_invariant.specs.Kinds.{Kind, message_of, messages, number_of, numbers, rejection_of, rejections, tally}
 use Rattle.lapd_invariant.specs.Conjuncts.{Each}
 

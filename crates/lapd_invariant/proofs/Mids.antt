@@ -1,16 +1,15 @@
 -- In the middle of a step, where the acting side is open: it hears all frames on their way to it, the one in hand first.
-use Rattle.std.proofs.Common.{◌≡◌, ◌⊎◌, inl, inr, ℕ, zero, suc, ◌+◌, ◌<◌, ◌≤◌, Bool, true, false, List, [], ◌∷◌, ◌++◌, Option, Some, None, option_map, refl, sym, ap, subst, ◌∙◌, arith}
+use Rattle.std.proofs.Common.{◌≡◌, inl, inr, ℕ, zero, suc, ◌≤◌, Bool, true, List, ◌∷◌, Some, refl, sym, subst, arith}
 use Rattle.lapd_states.specs.declared.state.State.{State}
 use Rattle.lapd_states.specs.declared.state.State.TheVariants.{TeiAssigned, AwaitingEstablishment, AwaitingRelease, MultipleFrameEstablished, TimerRecovery}
 use Rattle.lapd_states.specs.Close.{is_7_or_8}
-use Rattle.lapd_world.specs.Histories.{Receipt}
-use Rattle.lapd_invariant.specs.Kinds.{Message, Kind, Status, Enquiry, Final, messages, numbers, rejections, tally, ask_of, answer_of, poll_of, final_of, foreign_of, is_acceptance}
-use Rattle.lapd_invariant.specs.Parties.{Sender, Receiver, Party, Hearing, hearing_now, hears, OnHearing, frames_heard}
-use Rattle.lapd_invariant.specs.Conjuncts.{IsNumbering, IsKept, is_holding, IsGot, IsInStep, IsStream, AreAcknowledging, IsHeard, IsExchange, most_asks}
-use Rattle.lapd_invariant.specs.Invariant.{IsSpeaking, Half, Both}
-use Rattle.lapd_invariant.proofs.Hearings.{on_map, on_both, open_hears, from_open, by_open, IsHeardAs, IsToCome, heard_as}
+use Rattle.lapd_invariant.specs.Kinds.{Kind, numbers, tally, answer_of}
+use Rattle.lapd_invariant.specs.Parties.{Sender, Party, Hearing, hearing_now, hears, OnHearing}
+use Rattle.lapd_invariant.specs.Conjuncts.{IsNumbering, IsKept, is_holding, IsGot, IsHeard, most_asks}
+use Rattle.lapd_invariant.specs.Invariant.{IsSpeaking, Both}
+use Rattle.lapd_invariant.proofs.Hearings.{on_both, open_hears, IsHeardAs, heard_as}
 use Rattle.lapd_invariant.proofs.Losses.{speaking_less, hears_less, IsLess}
-use Rattle.lapd_invariant.proofs.Parts.{Part, part_whole, part_first}
+use Rattle.lapd_invariant.proofs.Parts.{part_whole, part_first}
 
 pub record Mid (x y : Party) (out back : List Kind) : Type 0 where
   pub opened : is_7_or_8 x.state ≡ true

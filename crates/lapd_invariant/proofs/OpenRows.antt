@@ -1,5 +1,5 @@
 -- Frames with N(R) that come in states 7 and 8.
-use Rattle.std.proofs.Common.{◌≡◌, ◌≢◌, ◌⊎◌, inl, inr, ℕ, zero, suc, ◌+◌, ◌-◌, ◌<◌, ◌≤◌, nat_le, nat_lt, ◌==◌, ◌&&◌, not, if◌then◌else◌, Bool, true, false, List, [], ◌∷◌, ◌++◌, Option, Some, None, refl, sym, ap, subst, ◌∙◌, arith}
+use Rattle.std.proofs.Common.{◌≡◌, ℕ, ◌-◌, ◌≤◌, nat_le, ◌==◌, if◌then◌else◌, Bool, true, false, List, ◌∷◌, refl, ◌∙◌, arith}
 use Rattle.std.proofs.lemmas.Bool.Decides.{nat_tests}
 use Rattle.lapd_timers.specs.declared.timer.Timer.TheVariants.{T200, T203}
 use Rattle.lapd_frame.specs.declared.Role.{Role}
@@ -7,24 +7,23 @@ use Rattle.lapd_frame.specs.declared.Role.TheVariants.{Command, Answer}
 use Rattle.lapd_frame.specs.declared.Control.{Control}
 use Rattle.lapd_frame.specs.declared.Control.TheVariants.{I, Rr, Rnr, Rej}
 use Rattle.lapd_mod128.specs.Counting.{Whole, lies_within, steps}
-use Rattle.lapd_supervision.specs.StateVariables.{StateVariables, is_valid_nr, acknowledges_all, with_va, with_vs, acknowledged_count, with_peer_busy}
-use Rattle.lapd_states.specs.declared.state.State.{State}
-use Rattle.lapd_states.specs.declared.state.State.TheVariants.{TeiAssigned, AwaitingEstablishment, AwaitingRelease, MultipleFrameEstablished, TimerRecovery}
+use Rattle.lapd_supervision.specs.StateVariables.{is_valid_nr, acknowledges_all, with_va, with_vs, acknowledged_count, with_peer_busy}
+use Rattle.lapd_states.specs.declared.state.State.TheVariants.{MultipleFrameEstablished, TimerRecovery}
 use Rattle.lapd_states.specs.declared.out.Out.TheVariants.{Acknowledged}
-use Rattle.lapd_states.specs.End.{End, StepState}
+use Rattle.lapd_states.specs.End.{StepState}
 use Rattle.lapd_states.specs.Established.{poll_or_final, acknowledge_with_timers, i_frame_nr, rr_nr, rej_nr, rnr_nr, multiple_frame_established}
-use Rattle.lapd_states.specs.Input.{Input, Heard}
-use Rattle.lapd_states.specs.Procedures.{counted, state_to, start, stop, set_peer_busy, enquiry_response, acknowledge, invoke_retransmission, i_frame_ns, nr_error_recovery}
-use Rattle.lapd_states.specs.TimerRecovery.{poll, is_final, i_frame_nr_in_recovery, rr_nr_in_recovery, rnr_nr_in_recovery, timer_recovery}
+use Rattle.lapd_states.specs.Input.{Heard}
+use Rattle.lapd_states.specs.Procedures.{counted, state_to, start, stop, set_peer_busy, enquiry_response, acknowledge, invoke_retransmission, i_frame_ns}
+use Rattle.lapd_states.specs.TimerRecovery.{poll, i_frame_nr_in_recovery, rr_nr_in_recovery, rnr_nr_in_recovery, timer_recovery}
 use Rattle.lapd_world.specs.Move.{story_after}
-use Rattle.lapd_invariant.specs.Kinds.{Message, Kind, Numbered, Status, Rejection, Enquiry, Final, Foreign, kind_of, tally, final_of, numbers}
-use Rattle.lapd_invariant.specs.Parties.{Party, hears, frames_heard}
+use Rattle.lapd_invariant.specs.Kinds.{Kind, Numbered, Status, Rejection, Enquiry, Final, Foreign, kind_of, tally, final_of, numbers}
+use Rattle.lapd_invariant.specs.Parties.{hears, frames_heard}
 use Rattle.lapd_invariant.specs.Conjuncts.{NoneAsked}
 use Rattle.lapd_invariant.proofs.Acknowledges.{acknowledging}
 use Rattle.lapd_invariant.proofs.Backs.{backing, back_by_rejection, back_by_final, none_asked_in_7}
 use Rattle.lapd_invariant.proofs.Goes.{Context, story, occasion, seen, line, Goes, told_append, acked_story, acked_told, moved, goes_peer_busy, goes_start, goes_stop, goes_response, goes_acknowledge}
 use Rattle.lapd_invariant.proofs.Lists.{by_test}
-use Rattle.lapd_invariant.proofs.Mids.{Mid, put_away}
+use Rattle.lapd_invariant.proofs.Mids.{put_away}
 use Rattle.lapd_invariant.proofs.Polls.{established}
 use Rattle.lapd_invariant.proofs.Receives.{in_hand, goes_ns}
 use Rattle.lapd_invariant.proofs.Runs.{climb_top}
@@ -32,7 +31,7 @@ use Rattle.lapd_invariant.proofs.Turns.{turned, rejection_left, final_left}
 
 -- ---- The N(R) is valid.
 
-valid_whole : (va nr vs : ℕ) → va ≤ nr → nr ≤ vs → lies_within Whole va nr vs ≡ true
+pub valid_whole : (va nr vs : ℕ) → va ≤ nr → nr ≤ vs → lies_within Whole va nr vs ≡ true
 unfolding lies_within
 valid_whole va nr vs low high = let a : nat_le va nr ≡ true = grind (arith, low, nat_tests) in let b : nat_le nr vs ≡ true = grind (arith, high, nat_tests) in rw (a, b) refl
 

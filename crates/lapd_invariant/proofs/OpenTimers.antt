@@ -1,5 +1,5 @@
 -- Timers that expire in states 7 and 8, and own receiver busy.
-use Rattle.std.proofs.Common.{◌≡◌, ◌≢◌, ◌⊎◌, inl, inr, ℕ, zero, suc, ◌+◌, ◌-◌, ◌<◌, ◌≤◌, nat_le, nat_lt, ◌==◌, ◌&&◌, not, if◌then◌else◌, Bool, true, false, List, [], ◌∷◌, ◌++◌, Option, Some, None, refl, sym, ap, subst, ◌∙◌, arith}
+use Rattle.std.proofs.Common.{◌≡◌, ℕ, ◌<◌, ◌≤◌, nat_lt, ◌==◌, ◌&&◌, not, Bool, true, false, List, refl, sym, ap, subst, arith}
 use Rattle.std.proofs.lemmas.Bool.Decides.{nat_tests}
 use Rattle.lapd_timers.specs.declared.timer.Timer.TheVariants.{T200, T203}
 use Rattle.lapd_mod128.specs.Counting.{Whole}
@@ -10,24 +10,22 @@ use Rattle.lapd_states.specs.declared.state.State.TheVariants.{MultipleFrameEsta
 use Rattle.lapd_states.specs.declared.out.Letter.TheVariants as letter
 use Rattle.lapd_states.specs.declared.out.Out.TheVariants.{Report}
 use Rattle.lapd_states.specs.Close.{is_7_or_8, close}
-use Rattle.lapd_states.specs.End.{End, StepState, ◌▷◌}
-use Rattle.lapd_states.specs.Established.{busy_on, busy_off, sends_last, established_t200, multiple_frame_established}
-use Rattle.lapd_states.specs.Input.{Input, Expiry}
-use Rattle.lapd_states.specs.Procedures.{put, state_to, rc_to, increment_rc, expired, set_own_busy, transmit_enquiry, retransmit_last_i_frame, reestablish_data_link}
+use Rattle.lapd_states.specs.End.{StepState, ◌▷◌}
+use Rattle.lapd_states.specs.Established.{busy_on, busy_off, sends_last, established_t200}
+use Rattle.lapd_states.specs.Procedures.{put, state_to, rc_to, increment_rc, expired, transmit_enquiry, retransmit_last_i_frame}
 use Rattle.lapd_states.specs.TimerRecovery.{timer_recovery_t200}
 use Rattle.lapd_supervision.specs.StateVariables.{StateVariables}
 use Rattle.lapd_world.specs.Move.{story_after}
-use Rattle.lapd_invariant.specs.Kinds.{Kind, tally, poll_of, final_of}
-use Rattle.lapd_invariant.specs.Parties.{Party, hears, frames_heard}
+use Rattle.lapd_invariant.specs.Kinds.{Kind}
 use Rattle.lapd_invariant.specs.Conjuncts.{IsNumbering}
 use Rattle.lapd_invariant.specs.Invariant.{Both}
 use Rattle.lapd_invariant.proofs.Closes.{goes_last}
 use Rattle.lapd_invariant.proofs.ClosedRows.{here, ends_reestablishing}
 use Rattle.lapd_invariant.proofs.Goes.{Context, seen, line, Goes, goes_rc, goes_increment, goes_expired, goes_own_busy, goes_enquiry}
 use Rattle.lapd_invariant.proofs.Lists.{by_test}
-use Rattle.lapd_invariant.proofs.Mids.{Mid, enter, leave, numbering}
+use Rattle.lapd_invariant.proofs.Mids.{enter, numbering}
 use Rattle.lapd_invariant.proofs.Polls.{IsSettled, settled_in_7}
-use Rattle.lapd_invariant.proofs.Seems.{Seems, Ends, seems_put, seems_expired}
+use Rattle.lapd_invariant.proofs.Seems.{Ends, seems_put, seems_expired}
 use Rattle.lapd_invariant.proofs.Steps.{ends_open}
 
 -- ---- Own receiver busy.

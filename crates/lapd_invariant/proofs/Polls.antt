@@ -1,17 +1,16 @@
 -- An open side answers a poll, or polls itself.
-use Rattle.std.proofs.Common.{◌≡◌, ◌⊎◌, inl, inr, ℕ, zero, suc, ◌+◌, ◌-◌, ◌<◌, ◌≤◌, Bool, true, false, List, [], ◌∷◌, ◌++◌, Option, Some, None, option_map, refl, sym, ap, subst, ◌∙◌, arith}
+use Rattle.std.proofs.Common.{◌≡◌, inl, ℕ, ◌+◌, ◌≤◌, true, List, [], ◌∷◌, ◌++◌, Option, Some, None, option_map, refl, sym, subst, arith}
 use Rattle.lapd_states.specs.declared.state.State.{State}
 use Rattle.lapd_states.specs.declared.state.State.TheVariants.{TeiAssigned, AwaitingEstablishment, AwaitingRelease, MultipleFrameEstablished, TimerRecovery}
 use Rattle.lapd_states.specs.Close.{is_7_or_8}
 use Rattle.lapd_world.specs.Histories.{Receipt}
-use Rattle.lapd_invariant.specs.Kinds.{Message, Kind, Numbered, Status, Rejection, Enquiry, Final, message_of, messages, numbers, rejections, tally, poll_of, final_of}
-use Rattle.lapd_invariant.specs.Parties.{Sender, Receiver, Party, Hearing, hearing_now, hears, OnHearing, frames_heard}
-use Rattle.lapd_invariant.specs.Conjuncts.{Each, IsGot, IsStream, IsKept, AreAcknowledging, NoneAsked, NoneBehindPoll, FinalsNameAll, OneAsked, AreAsked, IsAwaiting, AreRejected, IsHeard, IsExchange, most_asks, high, IsInStep}
-use Rattle.lapd_invariant.specs.Invariant.{IsSpeaking}
-use Rattle.lapd_invariant.proofs.Hearings.{on_map, on_both, one_more, IsHeardAs, heard_as}
-use Rattle.lapd_invariant.proofs.Lists.{tally_more, messages_same}
+use Rattle.lapd_invariant.specs.Kinds.{Kind, Status, Enquiry, Final, message_of, messages, numbers, rejections, tally, poll_of, final_of}
+use Rattle.lapd_invariant.specs.Parties.{Party, Hearing, hearing_now, hears, OnHearing, frames_heard}
+use Rattle.lapd_invariant.specs.Conjuncts.{IsGot, IsStream, AreAcknowledging, NoneAsked, NoneBehindPoll, OneAsked, AreAsked, AreRejected, IsHeard, IsExchange, high}
+use Rattle.lapd_invariant.proofs.Hearings.{on_map, on_both, one_more}
+use Rattle.lapd_invariant.proofs.Lists.{tally_more}
 use Rattle.lapd_invariant.proofs.Mids.{Mid, numbering, open_holds, open_asks_none, got_where_heard}
-use Rattle.lapd_invariant.proofs.Says.{say, IsSupervisory, acks_said, asked_said, rejected_said, asked_heard, finals_more, no_finals, behind_more}
+use Rattle.lapd_invariant.proofs.Says.{say, acks_said, asked_said, rejected_said, asked_heard, finals_more, no_finals, behind_more}
 use Rattle.lapd_invariant.proofs.Turns.{turned, enquiry_left}
 
 -- ---- A poll is answered.
@@ -88,7 +87,9 @@ to_recovery x y out back settled m =
       opened = refl;
       mine = record {
         kept = numbering m;
-        passed = m.mine.passed; past = m.mine.past; lately = m.mine.lately;
+        passed = m.mine.passed;
+        past = m.mine.past;
+        lately = m.mine.lately;
         none_yet = λ _. m.mine.none_yet m.opened;
         below = λ _. m.mine.below (open_holds x.state x.asked x.leaving m.opened);
         heard = on_map (IsHeard x y was) (IsHeard (recovering x) y was) (hears y out) (λ h i. record {
@@ -101,7 +102,12 @@ to_recovery x y out back settled m =
         histories = m.mine.histories;
       };
       its = record {
-        kept = m.its.kept; passed = m.its.passed; past = m.its.past; lately = m.its.lately; none_yet = m.its.none_yet; below = m.its.below;
+        kept = m.its.kept;
+        passed = m.its.passed;
+        past = m.its.past;
+        lately = m.its.lately;
+        none_yet = m.its.none_yet;
+        below = m.its.below;
         heard = record {
           stream = m.its.heard.stream;
           acks = m.its.heard.acks;
@@ -151,7 +157,9 @@ to_established x y out back settled none m =
       opened = refl;
       mine = record {
         kept = numbering m;
-        passed = m.mine.passed; past = m.mine.past; lately = m.mine.lately;
+        passed = m.mine.passed;
+        past = m.mine.past;
+        lately = m.mine.lately;
         none_yet = λ _. m.mine.none_yet m.opened;
         below = λ _. m.mine.below (open_holds x.state x.asked x.leaving m.opened);
         heard = on_map (IsHeard x y was) (IsHeard (established x) y was) (hears y out) (λ h i. record {
@@ -164,7 +172,12 @@ to_established x y out back settled none m =
         histories = m.mine.histories;
       };
       its = record {
-        kept = m.its.kept; passed = m.its.passed; past = m.its.past; lately = m.its.lately; none_yet = m.its.none_yet; below = m.its.below;
+        kept = m.its.kept;
+        passed = m.its.passed;
+        past = m.its.past;
+        lately = m.its.lately;
+        none_yet = m.its.none_yet;
+        below = m.its.below;
         heard = record {
           stream = m.its.heard.stream;
           acks = m.its.heard.acks;

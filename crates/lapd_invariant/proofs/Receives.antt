@@ -1,19 +1,17 @@
 -- The N(S) of an I frame in hand: the message is taken, rejected or discarded, and its poll answered.
-use Rattle.std.proofs.Common.{◌≡◌, ◌≢◌, ◌⊎◌, inl, inr, ℕ, zero, suc, ◌+◌, ◌-◌, ◌<◌, ◌≤◌, nat_lt, ◌==◌, ◌&&◌, not, if◌then◌else◌, Bool, true, false, List, [], ◌∷◌, ◌++◌, Option, Some, None, refl, sym, ap, subst, ◌∙◌, arith}
-use Rattle.lapd_frame.specs.declared.Role.TheVariants.{Command, Answer}
+use Rattle.std.proofs.Common.{◌≡◌, ◌⊎◌, inl, inr, ℕ, ◌+◌, ◌&&◌, not, Bool, true, false, List, [], ◌∷◌, ◌++◌, Option, Some, None, refl, sym, ap, subst, ◌∙◌}
+use Rattle.lapd_frame.specs.declared.Role.TheVariants.{Answer}
 use Rattle.lapd_frame.specs.declared.Control.{Control}
-use Rattle.lapd_frame.specs.declared.Control.TheVariants.{I, Rr, Rnr, Rej}
+use Rattle.lapd_frame.specs.declared.Control.TheVariants.{Rr, Rej}
 use Rattle.lapd_mod128.specs.Counting.{Whole, after}
-use Rattle.lapd_supervision.specs.StateVariables.{StateVariables, status_frame, is_accepted, poll_response, after_i_frame, i_frame_response, Receives}
+use Rattle.lapd_supervision.specs.StateVariables.{StateVariables, status_frame, poll_response, Receives}
 use Rattle.lapd_supervision.proofs.Receiving.{received_while_busy, received_in_sequence, received_out_of_sequence, received_while_rejecting}
-use Rattle.lapd_states.specs.declared.out.Out.{Out}
 use Rattle.lapd_states.specs.declared.out.Out.TheVariants.{Send, Up}
-use Rattle.lapd_states.specs.End.{End, StepState}
+use Rattle.lapd_states.specs.End.{StepState}
 use Rattle.lapd_states.specs.Procedures.{out_where, response_of, i_frame_ns}
-use Rattle.lapd_world.specs.Histories.{Story, Occasion, told, with_receipt}
+use Rattle.lapd_world.specs.Histories.{Story, told, with_receipt}
 use Rattle.lapd_world.specs.Move.{story_after}
-use Rattle.lapd_invariant.specs.Kinds.{Message, Kind, Numbered, Status, Rejection, Enquiry, Final, kind_of}
-use Rattle.lapd_invariant.specs.Parties.{Party}
+use Rattle.lapd_invariant.specs.Kinds.{Message, Kind, Numbered, Status, Rejection, Enquiry, Final}
 use Rattle.lapd_invariant.proofs.Goes.{Context, story, occasion, seen, line, Goes, told_append, moved, one_behind, final_kind}
 use Rattle.lapd_invariant.proofs.Mids.{Mid}
 use Rattle.lapd_invariant.proofs.Polls.{answering}

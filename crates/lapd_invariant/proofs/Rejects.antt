@@ -1,18 +1,17 @@
 -- An open side rejects the message in hand: it is not the one awaited, and this side is not yet rejecting.
-use Rattle.std.proofs.Common.{◌≡◌, ◌≢◌, ◌⊎◌, inl, inr, ℕ, zero, suc, ◌+◌, ◌-◌, ◌<◌, ◌≤◌, Bool, true, false, List, [], ◌∷◌, ◌++◌, Option, Some, None, option_map, refl, sym, ap, subst, ◌∙◌, arith}
+use Rattle.std.proofs.Common.{◌≡◌, inr, ℕ, zero, suc, ◌+◌, ◌<◌, ◌≤◌, Bool, true, false, List, [], ◌∷◌, ◌++◌, Option, Some, refl, sym, subst, arith}
 use Rattle.lapd_states.specs.declared.state.State.{State}
 use Rattle.lapd_states.specs.declared.state.State.TheVariants.{TeiAssigned, AwaitingEstablishment, AwaitingRelease, MultipleFrameEstablished, TimerRecovery}
 use Rattle.lapd_states.specs.Close.{is_7_or_8}
 use Rattle.lapd_world.specs.Histories.{Receipt}
-use Rattle.lapd_invariant.specs.Kinds.{Message, Kind, Numbered, Status, Rejection, Enquiry, Final, message_of, messages, numbers, rejections, tally, poll_of, final_of}
-use Rattle.lapd_invariant.specs.Parties.{Sender, Receiver, Party, Hearing, hearing_now, hears, OnHearing, frames_heard}
-use Rattle.lapd_invariant.specs.Conjuncts.{Each, IsGot, IsRun, IsNext, IsInOrder, IsStream, AreAcknowledging, NoneAsked, OneAsked, AreAsked, IsAwaiting, IsSentBack, AtMostOne, AreRejected, IsHeard, high, IsInStep}
-use Rattle.lapd_invariant.specs.Invariant.{IsSpeaking}
+use Rattle.lapd_invariant.specs.Kinds.{Message, Kind, Numbered, Status, Rejection, messages, numbers, rejections, tally, final_of}
+use Rattle.lapd_invariant.specs.Parties.{Party, Hearing, hearing_now, hears, OnHearing}
+use Rattle.lapd_invariant.specs.Conjuncts.{IsGot, IsRun, IsNext, IsInOrder, AreAsked, IsAwaiting, IsSentBack, AtMostOne, AreRejected, IsHeard, high, IsInStep}
 use Rattle.lapd_invariant.proofs.Hearings.{on_map, on_both, by_open}
 use Rattle.lapd_invariant.proofs.Lists.{rejections_append, tally_more}
 use Rattle.lapd_invariant.proofs.Losses.{rejected_map}
 use Rattle.lapd_invariant.proofs.Mids.{Mid, no_answer_out, got_where_heard}
-use Rattle.lapd_invariant.proofs.Runs.{order_is_junk, run_above, run_rest}
+use Rattle.lapd_invariant.proofs.Runs.{order_is_junk, run_above}
 use Rattle.lapd_invariant.proofs.Says.{say, acks_said, no_finals, asked_heard}
 use Rattle.lapd_invariant.proofs.Takes.{discarding}
 use Rattle.lapd_invariant.proofs.Turns.{left_of}
@@ -32,7 +31,12 @@ begin_rejecting x y out back m =
     record {
       opened = m.opened;
       mine = record {
-        kept = m.mine.kept; passed = m.mine.passed; past = m.mine.past; lately = m.mine.lately; none_yet = m.mine.none_yet; below = m.mine.below;
+        kept = m.mine.kept;
+        passed = m.mine.passed;
+        past = m.mine.past;
+        lately = m.mine.lately;
+        none_yet = m.mine.none_yet;
+        below = m.mine.below;
         heard = on_map (IsHeard x y was) (IsHeard z y now) (hears y out) (λ h i. record {
           stream = i.stream;
           acks = record { climb = i.acks.climb; known = i.acks.known; top = i.acks.top };
@@ -43,7 +47,12 @@ begin_rejecting x y out back m =
         histories = m.mine.histories;
       };
       its = record {
-        kept = m.its.kept; passed = m.its.passed; past = m.its.past; lately = m.its.lately; none_yet = m.its.none_yet; below = m.its.below;
+        kept = m.its.kept;
+        passed = m.its.passed;
+        past = m.its.past;
+        lately = m.its.lately;
+        none_yet = m.its.none_yet;
+        below = m.its.below;
         heard = record {
           stream = let s = m.its.heard.stream in record { placed = s.placed; near = s.near; order = order_is_junk x.takes.rejecting x.takes.vr y.sends.vs (messages back) s.order; step = s.step; between = s.between };
           acks = m.its.heard.acks;

@@ -1,15 +1,15 @@
 -- An open side sends a frame that is no message.
-use Rattle.std.proofs.Common.{◌≡◌, ◌⊎◌, inl, inr, ℕ, ◌+◌, ◌<◌, ◌≤◌, Bool, true, false, List, [], ◌∷◌, ◌++◌, Option, Some, None, option_map, refl, sym, ap, subst, ◌∙◌, arith}
+use Rattle.std.proofs.Common.{◌≡◌, ℕ, ◌<◌, Bool, true, false, List, [], ◌∷◌, ◌++◌, Option, Some, None, option_map, refl, sym, subst, ◌∙◌, arith}
 use Rattle.lapd_states.specs.declared.state.State.{State}
 use Rattle.lapd_states.specs.declared.state.State.TheVariants.{TeiAssigned, AwaitingEstablishment, AwaitingRelease, MultipleFrameEstablished, TimerRecovery}
 use Rattle.lapd_states.specs.Close.{is_7_or_8}
 use Rattle.lapd_world.specs.Histories.{Receipt}
-use Rattle.lapd_invariant.specs.Kinds.{Message, Kind, Numbered, Status, Rejection, Enquiry, Final, Unnumbered, message_of, messages, number_of, numbers, rejection_of, rejections, tally, ask_of, answer_of, poll_of, final_of, foreign_of, is_acceptance}
+use Rattle.lapd_invariant.specs.Kinds.{Kind, Status, Final, Unnumbered, message_of, messages, number_of, numbers, rejection_of, rejections, tally, ask_of, answer_of, poll_of, final_of, foreign_of, is_acceptance}
 use Rattle.lapd_invariant.specs.Parties.{Sender, Receiver, Party, Hearing, hearing_now, hears, OnHearing, frames_heard}
 use Rattle.lapd_invariant.specs.Conjuncts.{Each, IsGot, IsStream, IsClimb, AreAcknowledging, NoneAsked, NoneBehindPoll, NamesAll, FinalsNameAll, OneAsked, AreAsked, IsAwaiting, AreRejected, IsHeard, NoneBehindAsk, IsExchange, most_asks, high}
 use Rattle.lapd_invariant.specs.Invariant.{IsSpeaking}
 use Rattle.lapd_invariant.proofs.Hearings.{on_map, on_both, on_mapped, hears_more, one_more}
-use Rattle.lapd_invariant.proofs.Lists.{messages_same, numbers_same, numbers_more, rejections_same, tally_more, tally_append, each_more}
+use Rattle.lapd_invariant.proofs.Lists.{messages_same, numbers_same, numbers_more, rejections_same, tally_more, each_more}
 use Rattle.lapd_invariant.proofs.Losses.{rejected_map}
 use Rattle.lapd_invariant.proofs.Mids.{Mid, got_where_heard, open_asks_none}
 use Rattle.lapd_invariant.proofs.Runs.{climb_more, climb_to}
@@ -161,24 +161,34 @@ say x y out back u plain acks asked rejected polls m =
     let ABC : Hearing → Type 0 = λ h. AB h × C h in
     let facts : OnHearing ABC (hears y out) = on_both AB C ABC (hears y out) (λ h p q. (p, q)) (on_both A B AB (hears y out) (λ h p q. (p, q)) acks asked) rejected in
     let heard : OnHearing (λ h. Heard (one_more u h)) (hears y out) = on_both ABC Heard (λ h. Heard (one_more u h)) (hears y out)
-        (λ h p i. record {
-          stream = stream_said (is_7_or_8 x.state) x.sends y.takes.received h.vr h.rejecting u h.frames plain.no_message i.stream;
-          acks = p.0.0;
-          asked = p.0.1;
-          rejected = p.1;
-        }) facts m.mine.heard in
+    (λ h p i. record {
+      stream = stream_said (is_7_or_8 x.state) x.sends y.takes.received h.vr h.rejecting u h.frames plain.no_message i.stream;
+      acks = p.0.0;
+      asked = p.0.1;
+      rejected = p.1;
+    }) facts m.mine.heard in
     let there = option_map (one_more u) (hears y out) in
     let more : hears y (out ++ u ∷ []) ≡ there = hears_more y out u plain.no_acceptance in
     record {
       opened = m.opened;
       mine = subst (λ o. IsSpeaking x y (out ++ u ∷ []) back here o) (sym more) (record {
-        kept = m.mine.kept; passed = m.mine.passed; past = m.mine.past; lately = m.mine.lately; none_yet = m.mine.none_yet; below = m.mine.below;
+        kept = m.mine.kept;
+        passed = m.mine.passed;
+        past = m.mine.past;
+        lately = m.mine.lately;
+        none_yet = m.mine.none_yet;
+        below = m.mine.below;
         heard = on_mapped Heard (one_more u) (hears y out) heard;
         exchange = exchange_said (most_asks x.state) u out back (open_asks_none x.state m.opened) plain.no_ask plain.known m.mine.exchange;
         histories = m.mine.histories;
       });
       its = subst (λ o. IsSpeaking y x back (out ++ u ∷ []) o here) (sym more) (record {
-        kept = m.its.kept; passed = m.its.passed; past = m.its.past; lately = m.its.lately; none_yet = m.its.none_yet; below = m.its.below;
+        kept = m.its.kept;
+        passed = m.its.passed;
+        past = m.its.past;
+        lately = m.its.lately;
+        none_yet = m.its.none_yet;
+        below = m.its.below;
         heard = record {
           stream = m.its.heard.stream;
           acks = m.its.heard.acks;

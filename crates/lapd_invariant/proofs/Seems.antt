@@ -1,27 +1,27 @@
 -- The actions of the state table on a side that does not stay open, and on its line.
-use Rattle.std.proofs.Common.{◌≡◌, ◌⊎◌, inl, inr, ℕ, zero, suc, ◌+◌, ◌-◌, ◌<◌, ◌≤◌, nat_lt, ◌==◌, ◌&&◌, if◌then◌else◌, Bool, true, false, List, [], ◌∷◌, ◌++◌, length, Option, Some, None, refl, sym, ap, subst, ◌∙◌, arith}
+use Rattle.std.proofs.Common.{◌≡◌, ℕ, zero, suc, ◌+◌, ◌-◌, nat_lt, Bool, true, false, List, [], ◌∷◌, ◌++◌, length, refl, sym, ap, subst, ◌∙◌, arith}
 use Rattle.std.proofs.lemmas.Bool.Decides.{nat_tests}
 use Rattle.std.proofs.lemmas.List.{append-nil}
 use Rattle.lapd_timers.specs.declared.timer.Timer.{Timer}
 use Rattle.lapd_timers.specs.declared.timer.Timer.TheVariants.{T200, T201, T202, T203}
 use Rattle.lapd_frame.specs.declared.Role.{Role}
-use Rattle.lapd_frame.specs.declared.Role.TheVariants.{Command, Answer}
+use Rattle.lapd_frame.specs.declared.Role.TheVariants.{Command}
 use Rattle.lapd_frame.specs.declared.Control.{Control}
-use Rattle.lapd_frame.specs.declared.Control.TheVariants.{Sabme, Disc}
+use Rattle.lapd_frame.specs.declared.Control.TheVariants.{Sabme}
 use Rattle.lapd_mod128.specs.Counting.{Whole}
 use Rattle.lapd_supervision.specs.StateVariables.{without_exceptions}
 use Rattle.lapd_states.specs.declared.state.State.{State}
 use Rattle.lapd_states.specs.declared.state.State.TheVariants.{TeiAssigned, AwaitingEstablishment, AwaitingRelease, MultipleFrameEstablished, TimerRecovery}
 use Rattle.lapd_states.specs.declared.out.Out.{Out}
 use Rattle.lapd_states.specs.declared.out.Out.TheVariants.{Send, Start, Stop, Dropped}
-use Rattle.lapd_states.specs.Close.{is_7_or_8, is_established, may_send_next, send_all, acknowledge_pending, close}
-use Rattle.lapd_states.specs.End.{End, StepState, unsent, waiting, runs, with_timer}
+use Rattle.lapd_states.specs.Close.{is_7_or_8, is_established, may_send_next, acknowledge_pending, close}
+use Rattle.lapd_states.specs.End.{End, StepState, unsent, waiting, runs}
 use Rattle.lapd_states.specs.Procedures.{out_where, counted, put, state_to, rc_to, increment_rc, layer3_initiated_to, release_pending_to, start, stop, expired, clear_exception_conditions, discard_i_queue, establish_data_link, reestablish_data_link}
 use Rattle.lapd_states.proofs.Sending.{sends_none}
-use Rattle.lapd_world.specs.Histories.{History, Occasion, Story, tell, told, with_dropped}
+use Rattle.lapd_world.specs.Histories.{Occasion, Story, tell, told, with_dropped}
 use Rattle.lapd_world.specs.Move.{story_after}
 use Rattle.lapd_invariant.specs.Kinds.{Kind, Asks, kind_of, kinds}
-use Rattle.lapd_invariant.specs.Parties.{Sender, Party, party_of}
+use Rattle.lapd_invariant.specs.Parties.{Party, party_of}
 use Rattle.lapd_invariant.specs.Invariant.{Both}
 use Rattle.lapd_invariant.proofs.Goes.{Context, story, occasion, seen, line, told_append, stop_told, one_behind}
 

@@ -1,25 +1,23 @@
 -- An open side sends a message: the next one, or the last one again with a poll.
-use Rattle.std.proofs.Common.{◌≡◌, ◌≢◌, ◌⊎◌, inl, inr, ℕ, zero, suc, ◌+◌, ◌-◌, ◌<◌, ◌≤◌, ◌==◌, if◌then◌else◌, Bool, true, false, List, [], ◌∷◌, ◌++◌, length, get_or, slice_get, Option, Some, None, option_map, refl, sym, ap, subst, ◌∙◌, arith}
+use Rattle.std.proofs.Common.{◌≡◌, ◌⊎◌, inl, inr, ℕ, ◌+◌, ◌-◌, ◌<◌, ◌≤◌, ◌==◌, if◌then◌else◌, true, false, List, [], ◌∷◌, ◌++◌, length, get_or, Option, Some, None, option_map, refl, sym, ap, subst, ◌∙◌, arith}
 use Rattle.std.proofs.lemmas.Bool.Decides.{nat_tests}
 use Rattle.std.proofs.lemmas.Option.{slice_get-get_or}
 use Rattle.std.proofs.Math.Path.{fun_ext}
-use Rattle.lapd_states.specs.declared.state.State.{State}
-use Rattle.lapd_states.specs.declared.state.State.TheVariants.{TeiAssigned, AwaitingEstablishment, AwaitingRelease, MultipleFrameEstablished, TimerRecovery}
+use Rattle.lapd_states.specs.declared.state.State.TheVariants.{MultipleFrameEstablished, TimerRecovery}
 use Rattle.lapd_states.specs.Close.{is_7_or_8}
 use Rattle.lapd_world.specs.Histories.{Receipt}
-use Rattle.lapd_world.proofs.Places.{IsRow}
-use Rattle.lapd_invariant.specs.Kinds.{Message, Kind, Numbered, Status, Rejection, Enquiry, Final, message_of, messages, numbers, rejections, bit, tally, poll_of, final_of}
-use Rattle.lapd_invariant.specs.Parties.{Sender, Receiver, Party, Hearing, hearing_now, hears, OnHearing, frames_heard}
-use Rattle.lapd_invariant.specs.Conjuncts.{Each, HasPlace, IsGot, IsPlaced, IsNearTo, IsNumbering, IsKept, IsInOrder, IsPast, IsStream, AreAcknowledging, NoneAsked, NoneBehindPoll, OneAsked, AreAsked, IsAwaiting, IsSentBack, AtMostOne, AreRejected, IsHeard, IsExchange, most_asks, high, AreHistories}
+use Rattle.lapd_invariant.specs.Kinds.{Message, Kind, Numbered, messages, numbers, rejections, bit, tally, poll_of, final_of}
+use Rattle.lapd_invariant.specs.Parties.{Sender, Party, Hearing, hearing_now, hears, OnHearing, frames_heard}
+use Rattle.lapd_invariant.specs.Conjuncts.{Each, HasPlace, IsGot, IsPlaced, IsNearTo, IsNumbering, IsKept, IsPast, IsStream, NoneAsked, NoneBehindPoll, OneAsked, AreAsked, IsAwaiting, IsSentBack, AreRejected, IsHeard, most_asks, high}
 use Rattle.lapd_invariant.specs.Invariant.{IsSpeaking}
 use Rattle.lapd_invariant.proofs.Backs.{none_polls, none_asked_in_7, polls_heard}
-use Rattle.lapd_invariant.proofs.Hearings.{on_map, on_both, on_mapped, hears_more, one_more}
+use Rattle.lapd_invariant.proofs.Hearings.{on_both, on_mapped, hears_more, one_more}
 use Rattle.lapd_invariant.proofs.Lists.{messages_append, each_more, each_map, tally_more, nat_cases}
 use Rattle.lapd_invariant.proofs.Losses.{rejected_map, one_map}
 use Rattle.lapd_invariant.proofs.Mids.{Mid, numbering, open_kept, open_holds, open_asks_none, got_where_heard}
 use Rattle.lapd_invariant.proofs.Polls.{IsSettled, settled_in_7, recovering, to_recovery}
 use Rattle.lapd_invariant.proofs.Receipts.{place_below}
-use Rattle.lapd_invariant.proofs.Runs.{NonePolls, order_more, order_again, climb_to}
+use Rattle.lapd_invariant.proofs.Runs.{order_more, order_again, climb_to}
 use Rattle.lapd_invariant.proofs.Says.{acks_said, asked_said, rejected_said, exchange_said, exchange_heard, no_finals}
 
 -- ---- Which establishment a place was sent in.
@@ -116,7 +114,8 @@ module _ (x y : Party) (out back : List Kind) (is : x.state ≡ MultipleFrameEst
           kept = kept n;
           passed = m.mine.passed;
           past = past;
-          lately = m.mine.lately; none_yet = m.mine.none_yet;
+          lately = m.mine.lately;
+          none_yet = m.mine.none_yet;
           below = λ _. omega (arith, below);
           heard = on_mapped Now (one_more u) (hears y out) heard;
           exchange = exchange_said (most_asks x.state) u out back (open_asks_none x.state m.opened) refl refl m.mine.exchange;
@@ -128,7 +127,12 @@ module _ (x y : Party) (out back : List Kind) (is : x.state ≡ MultipleFrameEst
           };
         });
         its = subst (λ o. IsSpeaking y z back (out ++ u ∷ []) o now) (sym more) (record {
-          kept = m.its.kept; passed = m.its.passed; past = m.its.past; lately = m.its.lately; none_yet = m.its.none_yet; below = m.its.below;
+          kept = m.its.kept;
+          passed = m.its.passed;
+          past = m.its.past;
+          lately = m.its.lately;
+          none_yet = m.its.none_yet;
+          below = m.its.below;
           heard = record {
             stream = m.its.heard.stream;
             acks = let a = m.its.heard.acks in record { climb = climb_to s.va s.vs (s.vs + 1) (numbers back) (omega arith) a.climb; known = a.known; top = λ opened. ((a.top opened).0, omega (arith, (a.top opened).1)) };
@@ -144,18 +148,27 @@ module _ (x y : Party) (out back : List Kind) (is : x.state ≡ MultipleFrameEst
     where
       numbered : IsNumbering x.sends → IsNumbering (sending_sender x.sends)
       numbered n = record {
-        first = n.first; next = omega (arith, n.next); ordered = omega (arith, n.ordered); window = omega (arith, room); within = omega (arith, unsent);
+        first = n.first;
+        next = omega (arith, n.next);
+        ordered = omega (arith, n.ordered);
+        window = omega (arith, room);
+        within = omega (arith, unsent);
         since = λ place from before. elim (nat_cases place x.sends.next before) [
-            inl earlier ↦ sent_still x.sends.next x.sends.era place x.sends.sent_in (n.since place from earlier)
-          | inr same ↦ sent_here x.sends.next x.sends.era place x.sends.sent_in same ];
+          | inl earlier ↦ sent_still x.sends.next x.sends.era place x.sends.sent_in (n.since place from earlier)
+          | inr same ↦ sent_here x.sends.next x.sends.era place x.sends.sent_in same
+        ];
       }
+
       kept : IsNumbering x.sends → IsKept x.state x.asked x.leaving (sending_sender x.sends)
       kept n = open_kept x.state x.asked x.leaving (sending_sender x.sends) m.opened (numbered n)
+
       past : IsPast (sending_sender x.sends)
       past place era sent = elim (same_or_not place x.sends.next) [
-          inl same ↦ let now : Some x.sends.era ≡ Some era = sym (sent_here x.sends.next x.sends.era place x.sends.sent_in same) ∙ sent in
-              let eras : x.sends.era ≡ era = cc in let n : IsNumbering x.sends = numbering m in (omega (arith, eras), λ _. omega (arith, same, n.next))
-        | inr other ↦ m.mine.past place era (sym (sent_elsewhere x.sends.next x.sends.era place x.sends.sent_in other) ∙ sent) ]
+        | inl same ↦ let now : Some x.sends.era ≡ Some era = sym (sent_here x.sends.next x.sends.era place x.sends.sent_in same) ∙ sent in
+            let eras : x.sends.era ≡ era = cc in let n : IsNumbering x.sends = numbering m in (omega (arith, eras), λ _. omega (arith, same, n.next))
+        | inr other ↦ m.mine.past place era (sym (sent_elsewhere x.sends.next x.sends.era place x.sends.sent_in other) ∙ sent)
+      ]
+
       prefix : high y.takes.received ≤ x.sends.base + x.sends.vs → (place smaller : ℕ) → HasPlace place y.takes.received → smaller < place → sent_at x.sends.next x.sends.era x.sends.sent_in smaller ≡ sent_at x.sends.next x.sends.era x.sends.sent_in place → HasPlace smaller y.takes.received
       prefix below place smaller has less same =
           let at : place < high y.takes.received = place_below 0 0 place y.takes.received m.mine.histories.row has in
@@ -181,10 +194,12 @@ same_sender s n some = ap (λ f. sender f) (fun_ext same)
   where
     sender : (ℕ → Option ℕ) → Sender
     sender f = record s { sent_in = f }
+
     same : (place : ℕ) → sent_at (s.next - 1) s.era s.sent_in place ≡ s.sent_in place
     same place = elim (same_or_not place (s.next - 1)) [
-        inl here ↦ sent_here (s.next - 1) s.era place s.sent_in here ∙ sym (n.since place (omega (arith, here, n.next, some)) (omega (arith, here, n.next, some)))
-      | inr other ↦ sent_elsewhere (s.next - 1) s.era place s.sent_in other ]
+      | inl here ↦ sent_here (s.next - 1) s.era place s.sent_in here ∙ sym (n.since place (omega (arith, here, n.next, some)) (omega (arith, here, n.next, some)))
+      | inr other ↦ sent_elsewhere (s.next - 1) s.era place s.sent_in other
+    ]
 
 no_poll_before : (ks : List Kind) (m : Message) (vr : ℕ) → tally poll_of ks ≡ 0 → NoneBehindPoll (ks ++ Numbered m vr ∷ [])
 no_poll_before [] m vr none = ((λ _. refl), tt)
@@ -239,13 +254,23 @@ module _ (x y : Party) (out back : List Kind) (is : x.state ≡ TimerRecovery) (
       record {
         opened = m.opened;
         mine = subst (λ o. IsSpeaking x y (out ++ u ∷ []) back now o) (sym more) (record {
-          kept = m.mine.kept; passed = m.mine.passed; past = m.mine.past; lately = m.mine.lately; none_yet = m.mine.none_yet; below = m.mine.below;
+          kept = m.mine.kept;
+          passed = m.mine.passed;
+          past = m.mine.past;
+          lately = m.mine.lately;
+          none_yet = m.mine.none_yet;
+          below = m.mine.below;
           heard = on_mapped Now (one_more u) (hears y out) heard;
           exchange = exchange_said (most_asks x.state) u out back (open_asks_none x.state m.opened) refl refl m.mine.exchange;
           histories = m.mine.histories;
         });
         its = subst (λ o. IsSpeaking y x back (out ++ u ∷ []) o now) (sym more) (record {
-          kept = m.its.kept; passed = m.its.passed; past = m.its.past; lately = m.its.lately; none_yet = m.its.none_yet; below = m.its.below;
+          kept = m.its.kept;
+          passed = m.its.passed;
+          past = m.its.past;
+          lately = m.its.lately;
+          none_yet = m.its.none_yet;
+          below = m.its.below;
           heard = record {
             stream = m.its.heard.stream;
             acks = m.its.heard.acks;

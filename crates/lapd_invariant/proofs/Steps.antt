@@ -1,21 +1,20 @@
 -- From what a side sees to the middle of a step, and back.
-use Rattle.std.proofs.Common.{◌≡◌, ℕ, ◌≤◌, Bool, true, false, List, [], ◌∷◌, Option, Some, None, Result, Ok, Err, refl, sym, ap, subst, ◌∙◌}
+use Rattle.std.proofs.Common.{◌≡◌, ℕ, List, Option, Some, None, refl}
 use Rattle.lapd_mod128.specs.Counting.{Whole}
-use Rattle.lapd_states.specs.declared.state.State.{State}
 use Rattle.lapd_states.specs.declared.event.LinkFault.{LinkFault}
-use Rattle.lapd_states.specs.Close.{is_7_or_8, close}
-use Rattle.lapd_states.specs.End.{End, StepState, begin}
+use Rattle.lapd_states.specs.Close.{close}
+use Rattle.lapd_states.specs.End.{StepState, begin}
 use Rattle.lapd_states.specs.Input.{Input}
 use Rattle.lapd_states.specs.Refusal.{refused}
 use Rattle.lapd_states.specs.Table.{row, step, unless}
 use Rattle.lapd_world.specs.Line.{Flight}
-use Rattle.lapd_world.specs.Move.{Station, View, Acted, Refusal, stepped, view_after, story_after}
-use Rattle.lapd_invariant.specs.Kinds.{Kind, kind, kinds}
-use Rattle.lapd_invariant.specs.Parties.{Party, party, party_of}
+use Rattle.lapd_world.specs.Move.{Station, View, stepped, view_after, story_after}
+use Rattle.lapd_invariant.specs.Kinds.{Kind, kinds}
+use Rattle.lapd_invariant.specs.Parties.{party}
 use Rattle.lapd_invariant.specs.Invariant.{Both}
 use Rattle.lapd_invariant.proofs.Closes.{goes_close}
-use Rattle.lapd_invariant.proofs.Goes.{Context, story, seen, line, Goes}
-use Rattle.lapd_invariant.proofs.Mids.{enter, leave}
+use Rattle.lapd_invariant.proofs.Goes.{Context, seen, line, Goes}
+use Rattle.lapd_invariant.proofs.Mids.{leave}
 use Rattle.lapd_invariant.proofs.Seems.{Ends}
 use Rattle.lapd_invariant.proofs.Worlds.{Holds, left_by}
 

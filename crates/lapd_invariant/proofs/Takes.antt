@@ -1,21 +1,19 @@
 -- An open side takes the message in hand, discards it, or rejects it.
-use Rattle.std.proofs.Common.{◌≡◌, ◌≢◌, ◌⊎◌, inl, inr, ℕ, zero, suc, ◌+◌, ◌-◌, ◌<◌, ◌≤◌, Bool, true, false, List, [], ◌∷◌, ◌++◌, Option, Some, None, option_map, refl, sym, ap, subst, ◌∙◌, arith}
+use Rattle.std.proofs.Common.{◌≡◌, inl, inr, ℕ, zero, suc, ◌+◌, ◌-◌, ◌<◌, ◌≤◌, Bool, true, false, List, [], ◌∷◌, ◌++◌, Option, Some, refl, sym, ap, subst, ◌∙◌, arith}
 use Rattle.lapd_states.specs.declared.state.State.{State}
 use Rattle.lapd_states.specs.declared.state.State.TheVariants.{TeiAssigned, AwaitingEstablishment, AwaitingRelease, MultipleFrameEstablished, TimerRecovery}
 use Rattle.lapd_states.specs.Close.{is_7_or_8}
 use Rattle.lapd_world.specs.Histories.{Receipt}
-use Rattle.lapd_invariant.specs.Kinds.{Message, Kind, Numbered, Status, Rejection, Enquiry, Final, message_of, messages, numbers, rejections, bit, tally, poll_of, final_of, answer_of}
-use Rattle.lapd_invariant.specs.Parties.{Sender, Receiver, Party, Hearing, hearing_now, hears, OnHearing, frames_heard}
-use Rattle.lapd_invariant.specs.Conjuncts.{Each, HasPlace, IsGot, IsPlaced, IsNearTo, IsRun, IsInOrder, HasSome, IsStream, AreAcknowledging, NoneAsked, NoneBehindPoll, FinalsNameAll, OneAsked, AreAsked, IsAwaiting, IsSentBack, AtMostOne, AreRejected, IsHeard, IsExchange, most_asks, high, latest, IsInStep}
-use Rattle.lapd_invariant.specs.Invariant.{IsSpeaking}
-use Rattle.lapd_invariant.proofs.Hearings.{on_map, on_both, one_more, by_open, from_open}
-use Rattle.lapd_invariant.proofs.Lists.{nat_cases, tally_more, each_map, rejections_append}
-use Rattle.lapd_invariant.proofs.Losses.{rejected_map}
-use Rattle.lapd_invariant.proofs.Mids.{Mid, no_answer_out, got_where_heard}
-use Rattle.lapd_invariant.proofs.Receipts.{high_more, era_more, place_stays, place_comes, place_either, place_below, row_more, given_more}
-use Rattle.lapd_invariant.proofs.Runs.{climb_to, climb_top, awaited_begins_run, run_rest, run_below, near_after, order_is_junk, run_above}
-use Rattle.lapd_invariant.proofs.Says.{say, acks_said, no_finals, asked_heard, finals_more}
-use Rattle.lapd_invariant.proofs.Turns.{turned, message_left, left_of, numbers_left, messages_left}
+use Rattle.lapd_invariant.specs.Kinds.{Message, Kind, Numbered, messages, numbers, rejections, bit, tally, poll_of, final_of}
+use Rattle.lapd_invariant.specs.Parties.{Receiver, Party, Hearing, hearing_now, hears, OnHearing}
+use Rattle.lapd_invariant.specs.Conjuncts.{HasPlace, IsGot, IsPlaced, IsRun, IsStream, AreAsked, IsSentBack, AtMostOne, AreRejected, IsHeard, high, latest, IsInStep}
+use Rattle.lapd_invariant.proofs.Hearings.{on_both, by_open}
+use Rattle.lapd_invariant.proofs.Lists.{nat_cases, each_map}
+use Rattle.lapd_invariant.proofs.Mids.{Mid, no_answer_out}
+use Rattle.lapd_invariant.proofs.Receipts.{high_more, era_more, place_stays, place_comes, place_either, row_more, given_more}
+use Rattle.lapd_invariant.proofs.Runs.{climb_to, awaited_begins_run, run_rest, run_below, near_after}
+use Rattle.lapd_invariant.proofs.Says.{no_finals}
+use Rattle.lapd_invariant.proofs.Turns.{turned, message_left, left_of, messages_left}
 
 -- ---- The message is done with, and nothing else.
 
@@ -97,7 +95,9 @@ keeps_taking x y out m nr ks is w =
     record {
       opened = w.opened;
       mine = record {
-        kept = w.mine.kept; passed = w.mine.passed; past = w.mine.past;
+        kept = w.mine.kept;
+        passed = w.mine.passed;
+        past = w.mine.past;
         lately = let era : latest after ≡ x.sends.era = era_more 0 x.takes.received r in omega (arith, era);
         none_yet = λ opened none. absurd (omega (arith, none));
         below = w.mine.below;
@@ -115,7 +115,11 @@ keeps_taking x y out m nr ks is w =
         histories = w.mine.histories;
       };
       its = record {
-        kept = w.its.kept; passed = w.its.passed; past = w.its.past; lately = w.its.lately; none_yet = w.its.none_yet;
+        kept = w.its.kept;
+        passed = w.its.passed;
+        past = w.its.past;
+        lately = w.its.lately;
+        none_yet = w.its.none_yet;
         below = λ holding. omega (arith, high_, here, less);
         heard = record {
           stream = subst (λ ms. IsStream (is_7_or_8 y.state) y.sends after (x.takes.vr + 1) false ms) (sym (messages_left m.polled nr ks)) (record {
@@ -145,8 +149,10 @@ keeps_taking x y out m nr ks is w =
   where
     got_more : (n : ℕ) → IsGot y.sends.base x.takes.vr x.takes.received → IsPlaced y.sends m → n < x.takes.vr + 1 → HasPlace (y.sends.base + n) (x.takes.received ++ receipt_of x.sends.era m ∷ [])
     got_more n got placed below = elim (nat_cases n x.takes.vr below) [
-        inl less ↦ place_stays (y.sends.base + n) x.takes.received (receipt_of x.sends.era m) (got n less)
-      | inr same ↦ let at : y.sends.base + n ≡ m.place = omega (arith, same, placed.place, is) in subst (λ p. HasPlace p (x.takes.received ++ receipt_of x.sends.era m ∷ [])) (sym at) (place_comes x.takes.received (receipt_of x.sends.era m)) ]
+      | inl less ↦ place_stays (y.sends.base + n) x.takes.received (receipt_of x.sends.era m) (got n less)
+      | inr same ↦ let at : y.sends.base + n ≡ m.place = omega (arith, same, placed.place, is) in subst (λ p. HasPlace p (x.takes.received ++ receipt_of x.sends.era m ∷ [])) (sym at) (place_comes x.takes.received (receipt_of x.sends.era m))
+    ]
+
     next_place : x.sends.era ≡ latest x.takes.received → m.place ≡ high x.takes.received
     next_place same = next_by x.takes.vr refl
       where
@@ -154,13 +160,15 @@ keeps_taking x y out m nr ks is w =
         next_by zero none = let late : latest x.takes.received < x.sends.era = w.mine.none_yet w.opened none in absurd (omega (arith, same, late))
         next_by (suc vr) some = let level : high x.takes.received ≡ y.sends.base + x.takes.vr = (w.its.heard.stream.step (inr tt)).level (omega (arith, some)) in
             let place_ : m.place ≡ y.sends.base + m.number = w.its.heard.stream.placed.0.place in omega (arith, level, place_, is)
+
     prefix : (place smaller : ℕ) → HasPlace place (x.takes.received ++ receipt_of x.sends.era m ∷ []) → smaller < place → y.sends.sent_in smaller ≡ y.sends.sent_in place → HasPlace smaller (x.takes.received ++ receipt_of x.sends.era m ∷ [])
     prefix place smaller has less_ same = elim (place_either place x.takes.received (receipt_of x.sends.era m) has) [
-        inl before ↦ place_stays smaller x.takes.received (receipt_of x.sends.era m) (w.its.histories.prefix place smaller before less_ same)
+      | inl before ↦ place_stays smaller x.takes.received (receipt_of x.sends.era m) (w.its.histories.prefix place smaller before less_ same)
       | inr new ↦
           let placed : IsPlaced y.sends m = w.its.heard.stream.placed.0 in
           let now : y.sends.sent_in smaller ≡ Some y.sends.era = same ∙ ap (λ p. y.sends.sent_in p) (sym new) ∙ placed.sent in
           let from : y.sends.base ≤ smaller = (w.its.past smaller y.sends.era now).1 refl in
           let got : HasPlace (y.sends.base + (smaller - y.sends.base)) x.takes.received = (w.its.heard.stream.step (inr tt)).got (smaller - y.sends.base) (omega (arith, from, less_, new, placed.place, is)) in
           let at : y.sends.base + (smaller - y.sends.base) ≡ smaller = omega (arith, from) in
-          place_stays smaller x.takes.received (receipt_of x.sends.era m) (subst (λ p. HasPlace p x.takes.received) at got) ]
+          place_stays smaller x.takes.received (receipt_of x.sends.era m) (subst (λ p. HasPlace p x.takes.received) at got)
+    ]

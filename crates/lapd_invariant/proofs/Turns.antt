@@ -1,17 +1,16 @@
 -- Of the frame in hand a part is done with: what is left of it stands in its place, until its N(R) is used too.
-use Rattle.std.proofs.Common.{◌≡◌, ◌⊎◌, inl, inr, ℕ, zero, suc, ◌+◌, ◌<◌, ◌≤◌, Bool, true, false, List, [], ◌∷◌, ◌++◌, Option, Some, None, option_map, refl, sym, ap, subst, ◌∙◌, arith}
+use Rattle.std.proofs.Common.{◌≡◌, ℕ, ◌<◌, ◌≤◌, Bool, true, false, List, ◌∷◌, Some, refl, sym, subst, ◌∙◌, arith}
 use Rattle.lapd_states.specs.declared.state.State.{State}
 use Rattle.lapd_states.specs.declared.state.State.TheVariants.{TeiAssigned, AwaitingEstablishment, AwaitingRelease, MultipleFrameEstablished, TimerRecovery}
 use Rattle.lapd_states.specs.Close.{is_7_or_8}
 use Rattle.lapd_world.specs.Histories.{Receipt}
-use Rattle.lapd_invariant.specs.Kinds.{Message, Kind, Numbered, Status, Rejection, Enquiry, Final, message_of, messages, numbers, rejections, bit, tally, ask_of, answer_of, poll_of, final_of, foreign_of}
-use Rattle.lapd_invariant.specs.Parties.{Sender, Receiver, Party, Hearing, hearing_now, hears, OnHearing, frames_heard}
-use Rattle.lapd_invariant.specs.Conjuncts.{Each, IsGot, IsStream, AreAcknowledging, NoneAsked, NoneBehindPoll, FinalsNameAll, OneAsked, AreAsked, IsAwaiting, AreRejected, IsHeard, NoneBehindAsk, IsExchange, most_asks, high}
-use Rattle.lapd_invariant.specs.Invariant.{IsSpeaking}
+use Rattle.lapd_invariant.specs.Kinds.{Message, Kind, Numbered, Status, Rejection, Enquiry, Final, messages, numbers, rejections, tally, ask_of, answer_of, poll_of, final_of, foreign_of}
+use Rattle.lapd_invariant.specs.Parties.{Party, hearing_now, hears, frames_heard}
+use Rattle.lapd_invariant.specs.Conjuncts.{AreAcknowledging, NoneBehindPoll, FinalsNameAll, AreAsked, IsAwaiting, IsHeard, NoneBehindAsk, high}
 use Rattle.lapd_invariant.proofs.Hearings.{on_map}
 use Rattle.lapd_invariant.proofs.Losses.{stream_less, rejected_map, rejected_part}
 use Rattle.lapd_invariant.proofs.Mids.{Mid}
-use Rattle.lapd_invariant.proofs.Parts.{Part, part_whole, part_first, part_nothing, part_each, part_rejections}
+use Rattle.lapd_invariant.proofs.Parts.{Part, part_whole, part_first, part_nothing, part_each}
 
 -- the same N(R), and of all else no more
 pub record IsTurned (now was : List Kind) : Type 0 where
@@ -60,7 +59,12 @@ pub turned : (x y : Party) (out now was : List Kind) → IsTurned now was → Mi
 turned x y out now was t m = record {
   opened = m.opened;
   mine = record {
-    kept = m.mine.kept; passed = m.mine.passed; past = m.mine.past; lately = m.mine.lately; none_yet = m.mine.none_yet; below = m.mine.below;
+    kept = m.mine.kept;
+    passed = m.mine.passed;
+    past = m.mine.past;
+    lately = m.mine.lately;
+    none_yet = m.mine.none_yet;
+    below = m.mine.below;
     heard = on_map (IsHeard x y (Some (hearing_now x was))) (IsHeard x y (Some (hearing_now x now))) (hears y out) (λ h i. record {
       stream = i.stream;
       acks = i.acks;
@@ -76,7 +80,12 @@ turned x y out now was t m = record {
     histories = m.mine.histories;
   };
   its = record {
-    kept = m.its.kept; passed = m.its.passed; past = m.its.past; lately = m.its.lately; none_yet = m.its.none_yet; below = m.its.below;
+    kept = m.its.kept;
+    passed = m.its.passed;
+    past = m.its.past;
+    lately = m.its.lately;
+    none_yet = m.its.none_yet;
+    below = m.its.below;
     heard = record {
       stream = stream_less (is_7_or_8 y.state) y.sends x.takes.received x.takes.vr x.takes.rejecting t.messages m.its.heard.stream;
       acks = subst (λ ns. AreAcknowledging (is_7_or_8 y.state) y.takes x.sends.base x.sends.va x.sends.vs ns) (sym t.numbers) m.its.heard.acks;
@@ -98,20 +107,47 @@ turned x y out now was t m = record {
 -- of a poll that is answered, of a final, and of a REJ: the N(R)
 pub enquiry_left : (nr : ℕ) (ks : List Kind) → IsTurned (Status nr ∷ ks) (Enquiry nr ∷ ks)
 enquiry_left nr ks = record {
-  numbers = refl; messages = part_whole (messages ks); rejections = part_whole (rejections ks); asks = refl; answers = refl; foreign = refl;
-  polls = omega arith; finals = omega arith; behind_ask = λ none. none; behind_poll = λ none. ((λ poll. absurd (omega (arith, poll))), none.1); names = λ base top names. names;
+  numbers = refl;
+  messages = part_whole (messages ks);
+  rejections = part_whole (rejections ks);
+  asks = refl;
+  answers = refl;
+  foreign = refl;
+  polls = omega arith;
+  finals = omega arith;
+  behind_ask = λ none. none;
+  behind_poll = λ none. ((λ poll. absurd (omega (arith, poll))), none.1);
+  names = λ base top names. names;
 }
 
 pub final_left : (nr : ℕ) (ks : List Kind) → IsTurned (Status nr ∷ ks) (Final nr ∷ ks)
 final_left nr ks = record {
-  numbers = refl; messages = part_whole (messages ks); rejections = part_whole (rejections ks); asks = refl; answers = refl; foreign = refl;
-  polls = omega arith; finals = omega arith; behind_ask = λ none. none; behind_poll = λ none. none; names = λ base top names. (tt, names.1);
+  numbers = refl;
+  messages = part_whole (messages ks);
+  rejections = part_whole (rejections ks);
+  asks = refl;
+  answers = refl;
+  foreign = refl;
+  polls = omega arith;
+  finals = omega arith;
+  behind_ask = λ none. none;
+  behind_poll = λ none. none;
+  names = λ base top names. (tt, names.1);
 }
 
 pub rejection_left : (nr : ℕ) (ks : List Kind) → IsTurned (Status nr ∷ ks) (Rejection nr ∷ ks)
 rejection_left nr ks = record {
-  numbers = refl; messages = part_whole (messages ks); rejections = part_first nr (rejections ks); asks = refl; answers = refl; foreign = refl;
-  polls = omega arith; finals = omega arith; behind_ask = λ none. none; behind_poll = λ none. none; names = λ base top names. names;
+  numbers = refl;
+  messages = part_whole (messages ks);
+  rejections = part_first nr (rejections ks);
+  asks = refl;
+  answers = refl;
+  foreign = refl;
+  polls = omega arith;
+  finals = omega arith;
+  behind_ask = λ none. none;
+  behind_poll = λ none. none;
+  names = λ base top names. names;
 }
 
 -- of an I frame whose message is used: a poll where it polls, else the N(R)
@@ -121,12 +157,30 @@ left_of false nr = Status nr
 
 message_left_as : (polled : Bool) (m : Message) (nr : ℕ) (ks : List Kind) → m.polled ≡ polled → IsTurned (left_of polled nr ∷ ks) (Numbered m nr ∷ ks)
 message_left_as true m nr ks polls = record {
-  numbers = refl; messages = part_first m (messages ks); rejections = part_whole (rejections ks); asks = refl; answers = refl; foreign = refl;
-  polls = rw polls (omega arith); finals = omega arith; behind_ask = λ none. none; behind_poll = λ none. ((λ _. none.0 (rw polls (omega arith))), none.1); names = λ base top names. names;
+  numbers = refl;
+  messages = part_first m (messages ks);
+  rejections = part_whole (rejections ks);
+  asks = refl;
+  answers = refl;
+  foreign = refl;
+  polls = rw polls (omega arith);
+  finals = omega arith;
+  behind_ask = λ none. none;
+  behind_poll = λ none. ((λ _. none.0 (rw polls (omega arith))), none.1);
+  names = λ base top names. names;
 }
 message_left_as false m nr ks polls = record {
-  numbers = refl; messages = part_first m (messages ks); rejections = part_whole (rejections ks); asks = refl; answers = refl; foreign = refl;
-  polls = omega arith; finals = omega arith; behind_ask = λ none. none; behind_poll = λ none. ((λ poll. absurd (omega (arith, poll))), none.1); names = λ base top names. names;
+  numbers = refl;
+  messages = part_first m (messages ks);
+  rejections = part_whole (rejections ks);
+  asks = refl;
+  answers = refl;
+  foreign = refl;
+  polls = omega arith;
+  finals = omega arith;
+  behind_ask = λ none. none;
+  behind_poll = λ none. ((λ poll. absurd (omega (arith, poll))), none.1);
+  names = λ base top names. names;
 }
 
 pub message_left : (m : Message) (nr : ℕ) (ks : List Kind) → IsTurned (left_of m.polled nr ∷ ks) (Numbered m nr ∷ ks)

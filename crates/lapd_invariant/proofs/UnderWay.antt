@@ -1,7 +1,7 @@
 -- The premise of T200, read of the kinds of frames: nothing that it waits for is on its way.
-use Rattle.std.proofs.Common.{◌≡◌, ℕ, zero, suc, ◌+◌, ◌<◌, ◌≤◌, nat_lt, cond, not, ◌&&◌, Bool, true, false, List, [], ◌∷◌, length, position, option_map, Option, Some, None, refl, sym, ap, subst, ◌∙◌, arith}
+use Rattle.std.proofs.Common.{◌≡◌, ℕ, suc, ◌+◌, ◌≤◌, nat_lt, cond, not, ◌&&◌, Bool, true, false, List, [], ◌∷◌, length, position, option_map, Option, Some, None, refl, arith}
 use Rattle.std.proofs.lemmas.Bool.Decides.{nat_tests}
-use Rattle.std.specs.List.{position_or_len, prefix_len}
+use Rattle.std.specs.List.{position_or_len}
 use Rattle.lapd_frame.specs.declared.Role.{Role}
 use Rattle.lapd_frame.specs.declared.Role.TheVariants.{Command, Answer}
 use Rattle.lapd_frame.specs.declared.Control.{Control}

@@ -1,15 +1,17 @@
 -- From what one side sees to the whole world: a deed of one side, a move of either, and a run of moves.
-use Rattle.std.proofs.Common.{ℕ, ◌≤◌, Result, Ok, Err}
+use Rattle.std.proofs.Common.{ℕ, ◌≤◌, [], Result, Ok, Err, refl, arith}
 use Rattle.lapd_frame.specs.declared.Side.TheVariants as side
 use Rattle.lapd_mod128.specs.Counting.{Whole}
+use Rattle.lapd_states.specs.Parameters.{Parameters}
+use Rattle.lapd_states.proofs.Soundness.{sound_new}
 use Rattle.lapd_world.specs.Move.{Deed, Station, View, Acted, Refusal, acts}
 use Rattle.lapd_world.specs.Safe.{AreSafe, IsSafeFrom}
-use Rattle.lapd_world.specs.World.{World, swapped}
+use Rattle.lapd_world.specs.World.{World, swapped, new_station, new_world}
 use Rattle.lapd_world.proofs.Places.{safe_by_places}
 use Rattle.lapd_invariant.specs.Kinds.{kinds}
 use Rattle.lapd_invariant.specs.Parties.{party}
 use Rattle.lapd_invariant.specs.Conjuncts.{AreHistories}
-use Rattle.lapd_invariant.specs.Invariant.{Both, IsInvariant}
+use Rattle.lapd_invariant.specs.Invariant.{Half, Both, IsInvariant}
 
 -- ---- What a side sees.
 
@@ -48,3 +50,29 @@ safe_so sender receiver h = safe_by_places sender.end.given sender.history.sent_
 
 pub safe_by_invariant : (w : World) → IsInvariant w → AreSafe w
 safe_by_invariant w i = (safe_so w.user w.network i.both.mine.histories, safe_so w.network w.user i.both.its.histories)
+
+-- ---- A new world.
+
+pub new_holds : (user network : Parameters) → user.k ≤ 127 → network.k ≤ 127 → IsInvariant (new_world user network)
+new_holds user network u n = record {
+  user_base = 0;
+  network_base = 0;
+  both = record { mine = new_side user network; its = new_side network user };
+  user_sound = sound_new Whole user;
+  network_sound = sound_new Whole network;
+  user_window = u;
+  network_window = n;
+}
+  where
+    new_side : (x y : Parameters) → Half (party 0 (new_station x)) (party 0 (new_station y)) [] []
+    new_side x y = record {
+      kept = record { first = refl; next = refl };
+      passed = refl;
+      past = λ place era sent. cc;
+      lately = omega arith;
+      none_yet = λ opened. cc;
+      below = λ holding. cc;
+      heard = tt;
+      exchange = record { one = omega arith; behind = tt; before = λ answer. refl; clean = refl };
+      histories = record { as_given = tt; row = tt; prefix = λ place smaller has less same. has; arrived = λ place among. among };
+    }

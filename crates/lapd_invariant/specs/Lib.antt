@@ -2,3 +2,4 @@ pub mod Kinds
 pub mod Parties
 pub mod Conjuncts
 pub mod Invariant
+pub mod Reports
