@@ -1,4 +1,5 @@
 pub mod ActionsOnTags
+pub mod DueOnTags
 pub mod EachAction
 pub mod InputsThatCount
 pub mod KeptByStep

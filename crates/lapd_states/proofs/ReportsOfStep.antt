@@ -173,7 +173,8 @@ module _ (r : Reading) where
   in_4 Release s due h = puts _ _ tt h
   in_4 (Heard (Sabme p) Command) s due h = states _ _ (starts T203 _ (puts _ _ tt (zeroes _ (clears _ (puts _ _ tt h)))))
   in_4 (Heard (Disc p) Command) s due h = puts _ _ tt h
-  in_4 (Heard (Ua f) Answer) s due h = let asked = due.0 in cc
+  in_4 (Heard (Ua true) Answer) s due h = let asked = due.0 in cc
+  in_4 (Heard (Ua false) Answer) s due h = let asked = due.0 in cc
   in_4 input s due h = h
 
   primitive : (leaving : Bool) → IsExpectedOut (release_primitive leaving)
@@ -333,7 +334,8 @@ module _ (r : Reading) where
   in_7 (Heard (Rej nr pf) Answer) s due h = rej_in_7 nr _ (still_valid nr false pf Answer s due.1) (polled false pf Answer s due.0 h)
   in_7 (Heard (Rnr nr pf) Command) s due h = rnr_in_7 nr _ (still_valid nr true pf Command s due) (polled true pf Command s tt h)
   in_7 (Heard (Rnr nr pf) Answer) s due h = rnr_in_7 nr _ (still_valid nr true pf Answer s due.1) (polled true pf Answer s due.0 h)
-  in_7 (Heard (Ua f) Answer) s due h = let asked = due.0 in cc
+  in_7 (Heard (Ua true) Answer) s due h = let asked = due.0 in cc
+  in_7 (Heard (Ua false) Answer) s due h = let asked = due.0 in cc
   in_7 (Heard (Dm true) Answer) s due h = let asked = due.0 in cc
   in_7 (Heard (Dm false) Answer) s due h = let asked = due.0 in cc
   in_7 (Heard (Frmr f) Answer) s due h = let asked = due.0 in cc
@@ -377,7 +379,8 @@ module _ (r : Reading) where
   in_8 (Heard (Rej nr pf) Answer) s due h = rr_in_8 (is_final Answer pf) nr _ (still_valid_in_8 nr false pf Answer s due.1) (polled_in_8 false pf Answer s h)
   in_8 (Heard (Rnr nr pf) Command) s due h = rnr_in_8 (is_final Command pf) nr _ (still_valid_in_8 nr true pf Command s due) (polled_in_8 true pf Command s h)
   in_8 (Heard (Rnr nr pf) Answer) s due h = rnr_in_8 (is_final Answer pf) nr _ (still_valid_in_8 nr true pf Answer s due.1) (polled_in_8 true pf Answer s h)
-  in_8 (Heard (Ua f) Answer) s due h = let asked = due.0 in cc
+  in_8 (Heard (Ua true) Answer) s due h = let asked = due.0 in cc
+  in_8 (Heard (Ua false) Answer) s due h = let asked = due.0 in cc
   in_8 (Heard (Dm true) Answer) s due h = let asked = due.0 in cc
   in_8 (Heard (Dm false) Answer) s due h = let asked = due.0 in cc
   in_8 (Heard (Frmr f) Answer) s due h = let asked = due.0 in cc

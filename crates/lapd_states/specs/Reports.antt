@@ -1,16 +1,17 @@
 -- Error reports (Q.921 Appendix II): those to which lost frames lead, and what comes where no other report is made.
-use Rattle.std.specs.Prelude.{◌≡◌, Bool, true, false, List, [], ◌∷◌}
+use Rattle.std.specs.Prelude.{not, ◌&&◌, ◌≡◌, Bool, true, false, List, [], ◌∷◌}
 use Rattle.lapd_frame.specs.declared.Role.TheVariants.{Command, Answer}
 use Rattle.lapd_frame.specs.declared.Control.{Control}
 use Rattle.lapd_frame.specs.declared.Control.TheVariants.{I, Rr, Rnr, Rej, Dm, Ua, Frmr}
 use Rattle.lapd_mod128.specs.Counting.{Reading}
 use Rattle.lapd_supervision.specs.StateVariables.{StateVariables, is_valid_nr}
 use Rattle.lapd_states.specs.declared.state.State.{State}
-use Rattle.lapd_states.specs.declared.state.State.TheVariants.{TeiAssigned, AwaitingEstablishment, AwaitingRelease, MultipleFrameEstablished, TimerRecovery}
+use Rattle.lapd_states.specs.declared.state.State.TheVariants.{AwaitingEstablishment, AwaitingRelease, MultipleFrameEstablished, TimerRecovery}
 use Rattle.lapd_states.specs.declared.out.Letter.{Letter}
 use Rattle.lapd_states.specs.declared.out.Letter.TheVariants as letter
 use Rattle.lapd_states.specs.declared.out.Out.{Out}
 use Rattle.lapd_states.specs.declared.out.Out.TheVariants.{Report}
+use Rattle.lapd_states.specs.Close.{is_established, is_7_or_8}
 use Rattle.lapd_states.specs.End.{End}
 use Rattle.lapd_states.specs.Input.{Input, Heard, Faulty}
 
@@ -33,22 +34,23 @@ AreExpected (out ∷ outs) = IsExpectedOut out × AreExpected outs
 
 -- ---- What comes is due.
 
--- A response is unasked where nothing waits for it: a UA in states 4, 7 and 8, one with F=0 also in states 5 and 6; a DM and
--- a FRMR in states 7 and 8; and a supervisory response with F=1 in state 7.
-abbrev pub is_unasked : State → Control → Bool
-is_unasked TeiAssigned (Ua f) = true
-is_unasked AwaitingEstablishment (Ua false) = true
-is_unasked AwaitingRelease (Ua false) = true
-is_unasked MultipleFrameEstablished (Ua f) = true
-is_unasked MultipleFrameEstablished (Dm f) = true
-is_unasked MultipleFrameEstablished (Frmr f) = true
-is_unasked MultipleFrameEstablished (Rr nr f) = f
-is_unasked MultipleFrameEstablished (Rnr nr f) = f
-is_unasked MultipleFrameEstablished (Rej nr f) = f
-is_unasked TimerRecovery (Ua f) = true
-is_unasked TimerRecovery (Dm f) = true
-is_unasked TimerRecovery (Frmr f) = true
-is_unasked state control = false
+-- the SABME or the DISC waits for its answer
+abbrev pub awaits_answer : State → Bool
+awaits_answer AwaitingEstablishment = true
+awaits_answer AwaitingRelease = true
+awaits_answer state = false
+
+-- A response is unasked where nothing waits for it: a UA where no SABME or DISC does, and always one with F=0; a DM and a FRMR
+-- in states 7 and 8; and a supervisory response with F=1 in state 7, where no enquiry is out.
+abbrev pub is_unasked : Control → State → Bool
+is_unasked (Ua true) state = not (awaits_answer state)
+is_unasked (Ua false) state = true
+is_unasked (Dm f) state = is_7_or_8 state
+is_unasked (Frmr f) state = is_7_or_8 state
+is_unasked (Rr nr f) state = is_established state && f
+is_unasked (Rnr nr f) state = is_established state && f
+is_unasked (Rej nr f) state = is_established state && f
+is_unasked control state = false
 
 -- its N(R), where it has one, lies from V(A) to V(S) (3.5.2.3)
 abbrev pub HasValidNumber : Reading → Control → StateVariables → Type 0
@@ -68,7 +70,7 @@ IsNumberedIn r state control m = Unit {0}
 -- no fault in a frame
 abbrev pub IsDueIn : Reading → State → Input → StateVariables → Type 0
 IsDueIn r state (Heard control Command) m = IsNumberedIn r state control m
-IsDueIn r state (Heard control Answer) m = (is_unasked state control ≡ false) × IsNumberedIn r state control m
+IsDueIn r state (Heard control Answer) m = (is_unasked control state ≡ false) × IsNumberedIn r state control m
 IsDueIn r state (Faulty kind) m = ⊥
 IsDueIn r state input m = Unit {0}
 

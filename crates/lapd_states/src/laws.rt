@@ -92,7 +92,9 @@ pub fn messages_are_counted()
 
 /// Of all error reports a step makes only F, the peer establishes the link again, and G, H and I, N200 is reached: those to
 /// which lost frames lead. So it is where what comes is due: each N(R) that is heard is valid, no response comes unasked, and
-/// no frame has a fault (Q.921 5.8, Appendix II). On whole numbers and on tags.
+/// no frame has a fault (Q.921 5.8, Appendix II). On whole numbers and on tags; and what is due on whole numbers is due on
+/// tags, where numbers are near.
 pub fn reports_are_expected()
-    ensures { (r : Reading) (input : Input) (e : End) (s : StepState) → IsDue r input e → step r input e ≡ Ok s → AreExpected s.outs }
+    ensures expected { (r : Reading) (input : Input) (e : End) (s : StepState) → IsDue r input e → step r input e ≡ Ok s → AreExpected s.outs }
+    ensures tags { (input : Input) (e : End) → IsNear input e → IsDue Whole input e → IsDue Tagged (tag_input input) (tag_end e) }
 {}
