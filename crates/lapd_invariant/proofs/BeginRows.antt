@@ -12,7 +12,7 @@ use Rattle.lapd_states.specs.declared.state.State.TheVariants.{TeiAssigned, Awai
 use Rattle.lapd_states.specs.declared.out.Letter.TheVariants as letter
 use Rattle.lapd_states.specs.declared.out.Out.{Out}
 use Rattle.lapd_states.specs.declared.out.Out.TheVariants.{Send, Start, Stop, Dropped, Established, Confirmed, Report}
-use Rattle.lapd_states.specs.AwaitingEstablishment.{confirm_or_indicate, ua_final}
+use Rattle.lapd_states.specs.AwaitingEstablishment.{confirm_or_indicate}
 use Rattle.lapd_states.specs.Close.{is_7_or_8, close}
 use Rattle.lapd_states.specs.End.{StepState, ◌▷◌, waiting}
 use Rattle.lapd_states.specs.Established.{in_7_and_8}
@@ -27,7 +27,7 @@ use Rattle.lapd_invariant.specs.Conjuncts.{IsEmpty, IsHolding, IsNumbering, IsKe
 use Rattle.lapd_invariant.specs.Invariant.{Both}
 use Rattle.lapd_invariant.proofs.Begins.{beginning, IsFresh, by_acceptance, by_asking}
 use Rattle.lapd_invariant.proofs.Closed.{still_sender}
-use Rattle.lapd_invariant.proofs.ClosedRows.{here, ends_released_by_ua}
+use Rattle.lapd_invariant.proofs.ClosedRows.{here}
 use Rattle.lapd_invariant.proofs.Closings.{all_passed, passes_all}
 use Rattle.lapd_invariant.proofs.Goes.{Context, story, occasion, seen, line, told_append}
 use Rattle.lapd_invariant.proofs.Lists.{by_test}
@@ -185,14 +185,6 @@ ends_established c ks s is stays blind b =
   where
     holds : (state : State) (asked leaving : Bool) → state ≡ AwaitingEstablishment → leaving ≡ false → asked ≡ false → is_holding state asked leaving ≡ true
     holds state asked leaving is stays itself = rw (is, stays, itself) refl
-
--- a UA with F=1 in state 5, whether a release waits or not
-pub ends_ua_in_5 : (c : Context) (ks : List Kind) (s : StepState) → s.end.state ≡ AwaitingEstablishment → AreBlind s.outs → Both (seen c s) c.peer (line c s) (Accepts ∷ ks) → Ends c ks (close Whole (ua_final s))
-unfolding ua_final
-ends_ua_in_5 c ks s is blind b =
-    by_test (λ (t : StepState). Ends c ks (close Whole t)) s.end.release_pending _ _
-    (λ pending. ends_released_by_ua c ks s is pending b)
-    (λ stays. ends_established c ks s is stays blind b)
 
 -- ---- A SABME in states 4, 7 and 8.
 

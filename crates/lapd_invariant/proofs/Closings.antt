@@ -1,16 +1,16 @@
 -- The ways in which a side is left closed, over what is seen of it: it asks, it answers, or it says nothing.
-use Rattle.std.proofs.Common.{◌≡◌, ℕ, ◌+◌, ◌-◌, ◌<◌, ◌≤◌, Bool, true, false, List, [], ◌∷◌, ◌++◌, length, refl, sym, subst, arith}
+use Rattle.std.proofs.Common.{◌≡◌, ℕ, ◌+◌, ◌-◌, ◌<◌, ◌≤◌, Bool, true, false, List, [], ◌∷◌, ◌++◌, length, refl, arith}
 use Rattle.lapd_states.specs.declared.state.State.{State}
 use Rattle.lapd_states.specs.declared.state.State.TheVariants.{TeiAssigned, AwaitingEstablishment, AwaitingRelease, MultipleFrameEstablished, TimerRecovery}
 use Rattle.lapd_states.specs.Close.{is_7_or_8}
 use Rattle.lapd_invariant.specs.Kinds.{Kind, Asks, Accepts, Refuses, numbers, tally, ask_of, answer_of}
-use Rattle.lapd_invariant.specs.Parties.{Sender, Party, hearing_now, heard_in, hears}
+use Rattle.lapd_invariant.specs.Parties.{Sender, Party, hears}
 use Rattle.lapd_invariant.specs.Conjuncts.{IsNumbering, IsEmpty, IsKept, is_holding, most_asks}
 use Rattle.lapd_invariant.specs.Invariant.{Both}
-use Rattle.lapd_invariant.proofs.Closed.{still, still_sender, unspoken, quietly, accepting, asks_is_quiet, refuses_is_quiet, Less, same, deaf, closing}
+use Rattle.lapd_invariant.proofs.Closed.{still, still_sender, unspoken, quietly, accepting, asks_is_quiet, refuses_is_quiet, Less, deaf, closing}
 use Rattle.lapd_invariant.proofs.Hearings.{closed_hears_nothing}
 use Rattle.lapd_invariant.proofs.Lists.{tally_more}
-use Rattle.lapd_invariant.proofs.Losses.{less_in, HearsLess, both_less}
+use Rattle.lapd_invariant.proofs.Losses.{both_less}
 use Rattle.lapd_invariant.proofs.Parts.{Part, part_whole, part_first, part_tally}
 
 -- ---- What waits.
@@ -45,10 +45,6 @@ leaving_is_empty false s e = e
 pub empty_where_leaving : (asked : Bool) (s : Sender) → IsKept AwaitingEstablishment asked true s → IsEmpty s
 empty_where_leaving true s e = e
 empty_where_leaving false s e = e
-
-pub holds_where_leaving : (asked : Bool) → is_holding AwaitingEstablishment asked true ≡ true → ⊥
-holds_where_leaving true h = cc
-holds_where_leaving false h = cc
 
 -- ---- It asks: SABME or DISC goes out where nothing of the exchange is under way.
 
@@ -123,12 +119,3 @@ module _ (x y : Party) (out back : List Kind) (state : State) (asked leaving : B
       let asks = tally_more ask_of Accepts out in let answers = tally_more answer_of Accepts out in
       closing x y out (out ++ Accepts ∷ []) (Asks ∷ back) back state asked leaving first next passed rejecting closed (part_first Asks back) (accepting i.closed i.answers i.nothing) kept passed_ holds less
       (omega (arith, asks, one)) (omega (arith, answers, i.asks, i.answers, i.room)) (λ _. i.nothing) b
-
--- ---- What it hears in state 5, where it stays there.
-
-pub less_in_5 : (asked leaving : Bool) (first next passed : ℕ) (x : Party) (back back_was : List Kind) → x.state ≡ AwaitingEstablishment → Part back back_was
-    → leaving ≡ x.leaving → Less AwaitingEstablishment x.state (hears (still AwaitingEstablishment asked leaving first next passed x.takes.rejecting x) back) (hears x back_was)
-less_in_5 asked leaving first next passed x back back_was is part same_leaving = same (sym is)
-    (subst (λ st. HearsLess (heard_in AwaitingEstablishment leaving (hearing_now x back) back) (heard_in st x.leaving (hearing_now x back_was) back_was)) (sym is)
-    (subst (λ l. HearsLess (heard_in AwaitingEstablishment leaving (hearing_now x back) back) (heard_in AwaitingEstablishment l (hearing_now x back_was) back_was)) same_leaving
-    (less_in AwaitingEstablishment leaving (hearing_now x back) (hearing_now x back_was) part (record { vs = refl; va = refl; vr = refl; rejecting = refl; part = part }))))

@@ -12,9 +12,9 @@ use Rattle.lapd_mod128.specs.Counting.{Whole, steps, after}
 use Rattle.lapd_supervision.specs.StateVariables.{StateVariables, status_frame, acknowledgement, without_ack_pending, with_peer_busy, with_own_busy, with_va, acknowledged_count}
 use Rattle.lapd_states.specs.declared.state.State.TheVariants.{TimerRecovery}
 use Rattle.lapd_states.specs.declared.out.Out.{Out}
-use Rattle.lapd_states.specs.declared.out.Out.TheVariants.{Send, Start, Stop, Report, Acknowledged}
+use Rattle.lapd_states.specs.declared.out.Out.TheVariants.{Send, Start, Stop, Acknowledged}
 use Rattle.lapd_states.specs.End.{StepState, runs}
-use Rattle.lapd_states.specs.Procedures.{out_where, counted, put, state_to, rc_to, increment_rc, start, stop, expired, set_peer_busy, set_own_busy, enquiry_response, transmit_enquiry, transmit_rr, acknowledge, ensure_t200}
+use Rattle.lapd_states.specs.Procedures.{out_where, counted, state_to, rc_to, increment_rc, start, stop, expired, set_peer_busy, set_own_busy, enquiry_response, transmit_enquiry, transmit_rr, acknowledge, ensure_t200}
 use Rattle.lapd_world.specs.Histories.{History, Occasion, Story, tell, told, with_acked}
 use Rattle.lapd_world.specs.Line.{Flight, without_info}
 use Rattle.lapd_world.specs.Move.{View, story_after}
@@ -69,10 +69,6 @@ pub quietly : (c : Context) (s t : StepState) (back : List Kind) → story c t �
 quietly c s t back told_so party_so m = moved c t (story c s) (seen c s) (line c s) back told_so party_so refl m
 
 -- ---- Actions of which nothing is seen.
-
-pub goes_report : (c : Context) (letter : _) (s : StepState) (back : List Kind) → Goes c back s → Goes c back (put (Report letter) s)
-unfolding story_after put
-goes_report c letter s back m = quietly c s (put (Report letter) s) back (told_append _ s.outs (Report letter ∷ []) _) refl m
 
 pub goes_rc : (c : Context) (n : ℕ) (s : StepState) (back : List Kind) → Goes c back s → Goes c back (rc_to n s)
 unfolding story_after rc_to

@@ -4,7 +4,7 @@ use Rattle.lapd_states.specs.declared.state.State.{State}
 use Rattle.lapd_states.specs.declared.state.State.TheVariants.{TeiAssigned, AwaitingEstablishment, AwaitingRelease, MultipleFrameEstablished, TimerRecovery}
 use Rattle.lapd_states.specs.Close.{is_7_or_8}
 use Rattle.lapd_invariant.specs.Kinds.{Kind, Accepts, Asks, tally, answer_of, is_acceptance}
-use Rattle.lapd_invariant.specs.Parties.{Party, Hearing, behind, behind_acceptance, hearing_now, hearing_to_come, heard_in, hears, OnHearing, frames_heard}
+use Rattle.lapd_invariant.specs.Parties.{Party, Hearing, behind, behind_acceptance, hearing_now, hearing_to_come, heard_in, hears, OnHearing}
 
 -- ---- Facts of what is heard.
 
@@ -124,7 +124,3 @@ more_in TimerRecovery leaving now ks u other = refl
 
 pub hears_more : (y : Party) (ks : List Kind) (u : Kind) → is_acceptance u ≡ false → hears y (ks ++ u ∷ []) ≡ option_map (one_more u) (hears y ks)
 hears_more y ks u other = more_in y.state y.leaving (hearing_now y ks) ks u other
-
-pub frames_more : (u : Kind) (o : Option Hearing) (P : List Kind → Type 0) → P [] → ((l : List Kind) → P (l ++ u ∷ [])) → P (frames_heard (option_map (one_more u) o))
-frames_more u None P none more = none
-frames_more u (Some h) P none more = more h.frames

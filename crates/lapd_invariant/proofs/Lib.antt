@@ -41,3 +41,4 @@ pub mod ReportsHeard
 pub mod Beginnings
 pub mod Whole
 pub mod Reached
+pub mod Needed

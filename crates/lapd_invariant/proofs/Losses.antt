@@ -79,11 +79,6 @@ on_less P None was less f p = tt
 on_less P (Some n) None less f p = absurd less
 on_less P (Some n) (Some w) less f p = f n w less p
 
-pub frames_less : (now was : Option Hearing) → HearsLess now was → (Part (frames_heard now) (frames_heard was)) ⊎ (frames_heard now ≡ [])
-frames_less None was less = inr refl
-frames_less (Some n) None less = absurd less
-frames_less (Some n) (Some w) less = inl less.part
-
 -- ---- Each conjunct of a part.
 
 pub stream_less : (speaking : Bool) (s : Sender) (received : List Receipt) (vr : ℕ) (rejecting : Bool) {xs ys : List Message} → Part xs ys → IsStream speaking s received vr rejecting ys → IsStream speaking s received vr rejecting xs

@@ -15,7 +15,7 @@ use Rattle.lapd_world.proofs.TaggedMoves.{move_near, run_on_tags, outcomes_on_ta
 use Rattle.lapd_invariant.specs.Invariant.{IsInvariant}
 use Rattle.lapd_invariant.specs.Reports.{IsExpectedOut, AreExpected, ReportsExpected, AllReportsExpected}
 use Rattle.lapd_invariant.proofs.Nearness.{within_by_invariant}
-use Rattle.lapd_invariant.proofs.Whole.{each_move_keeps, each_run_keeps, each_run_is_safe, each_report_is_expected}
+use Rattle.lapd_invariant.proofs.Whole.{each_move_keeps, each_run_is_safe, each_report_is_expected}
 use Rattle.lapd_invariant.proofs.Worlds.{new_holds}
 
 -- each move is near: tags decide as whole numbers do
@@ -57,9 +57,6 @@ module _ (user network : Parameters) (user_window : user.k ≤ 127) (network_win
 
   kept : IsKeptWorld Whole start
   kept = new_world_kept Whole user network user_window network_window
-
-  pub reached_invariant : IsInvariant (run Whole moves (new_world user network))
-  reached_invariant = each_run_keeps moves start begins
 
   pub reached_tags : run Tagged moves (new_world user network) ≡ tag_world (run Whole moves (new_world user network))
   reached_tags = ap (λ w. run Tagged moves w) (sym (new_world_on_tags user network)) ∙ run_on_tags moves start kept (near_moves moves start begins kept)

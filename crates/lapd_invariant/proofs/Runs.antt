@@ -97,11 +97,6 @@ first_gone : (polled : Bool) (low end number : ℕ) (rest : List Message) → Is
 first_gone true low end number rest next = subst (λ l. IsRun low end l) (sym next.1) tt
 first_gone false low end number rest next = run_lower (number + 1) low end rest (omega (arith, next.0)) next.2
 
-pub order_rest : (rejecting : Bool) (low end : ℕ) (m : Message) (ms : List Message) → IsInOrder rejecting low end (m ∷ ms) → IsInOrder rejecting low end ms
-order_rest false low end m ms run = first_gone m.polled low end m.number ms run
-order_rest true low end m ms (inl run) = run_is_order true low end ms (first_gone m.polled low end m.number ms run)
-order_rest true low end m ms (inr junk) = junk.2
-
 -- a hearer that begins to reject
 pub order_is_junk : (rejecting : Bool) (low end : ℕ) (ms : List Message) → IsInOrder rejecting low end ms → IsJunkThenRun low end ms
 order_is_junk true low end ms order = order

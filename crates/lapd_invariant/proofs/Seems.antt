@@ -1,7 +1,6 @@
 -- The actions of the state table on a side that does not stay open, and on its line.
 use Rattle.std.proofs.Common.{◌≡◌, ℕ, zero, suc, ◌+◌, ◌-◌, nat_lt, Bool, true, false, List, [], ◌∷◌, ◌++◌, length, refl, sym, ap, subst, ◌∙◌, arith}
 use Rattle.std.proofs.lemmas.Bool.Decides.{nat_tests}
-use Rattle.std.proofs.lemmas.List.{append-nil}
 use Rattle.lapd_timers.specs.declared.timer.Timer.{Timer}
 use Rattle.lapd_timers.specs.declared.timer.Timer.TheVariants.{T200, T201, T202, T203}
 use Rattle.lapd_frame.specs.declared.Role.{Role}
@@ -110,9 +109,6 @@ seems_clear c s p l w = record { party = ap (λ q. at q) w.party; line = w.line 
 -- all that waits is dropped
 abbrev pub dropping : Party → Party
 dropping p = record p { sends = record (p.sends) { first = length p.sends.given; next = length p.sends.given; passed = p.sends.passed + (length p.sends.given - p.sends.first) } }
-
-nothing_dropped : (l : List ℕ) → l ++ [] ≡ l
-nothing_dropped l = append-nil l
 
 abbrev dropped_history : ℕ → Story → Story
 dropped_history n t = record t { history = with_dropped n t.history }

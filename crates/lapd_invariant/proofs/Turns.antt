@@ -186,11 +186,6 @@ message_left_as false m nr ks polls = record {
 pub message_left : (m : Message) (nr : ℕ) (ks : List Kind) → IsTurned (left_of m.polled nr ∷ ks) (Numbered m nr ∷ ks)
 message_left m nr ks = message_left_as m.polled m nr ks refl
 
--- what it is does not matter where its N(R) alone is read
-pub numbers_left : (polled : Bool) (nr : ℕ) (ks : List Kind) → numbers (left_of polled nr ∷ ks) ≡ nr ∷ numbers ks
-numbers_left true nr ks = refl
-numbers_left false nr ks = refl
-
 pub messages_left : (polled : Bool) (nr : ℕ) (ks : List Kind) → messages (left_of polled nr ∷ ks) ≡ messages ks
 messages_left true nr ks = refl
 messages_left false nr ks = refl

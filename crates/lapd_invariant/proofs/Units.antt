@@ -1,9 +1,7 @@
 -- Unit data goes out, and is heard, in every state, and changes nothing of the link.
 use Rattle.std.proofs.Common.{◌≡◌, ◌⊎◌, inl, inr, ℕ, Bool, true, false, List, [], ◌∷◌, ◌++◌, length, refl, sym, subst, arith}
-use Rattle.lapd_frame.specs.declared.Role.TheVariants.{Command}
-use Rattle.lapd_frame.specs.declared.Control.TheVariants.{Ui}
 use Rattle.lapd_mod128.specs.Counting.{Whole}
-use Rattle.lapd_states.specs.declared.out.Out.TheVariants.{SendUnit, UnitUp}
+use Rattle.lapd_states.specs.declared.out.Out.TheVariants.{SendUnit}
 use Rattle.lapd_states.specs.Close.{is_7_or_8, close}
 use Rattle.lapd_states.specs.End.{StepState, begin}
 use Rattle.lapd_states.specs.Input as input
@@ -16,7 +14,6 @@ use Rattle.lapd_invariant.specs.Kinds.{kinds}
 use Rattle.lapd_invariant.specs.Parties.{Party}
 use Rattle.lapd_invariant.specs.Invariant.{Both}
 use Rattle.lapd_invariant.proofs.Closed.{quietly, unnumbered_is_quiet, same, closing}
-use Rattle.lapd_invariant.proofs.ClosedRows.{passed_over}
 use Rattle.lapd_invariant.proofs.Goes.{Context, story, occasion, seen, line, Goes, told_append, kinds_more}
 use Rattle.lapd_invariant.proofs.Lists.{tally_more}
 use Rattle.lapd_invariant.proofs.Losses.{hears_less}
@@ -72,13 +69,3 @@ unfolding acts takes begin
 keeps_unit_data octets v peer small h =
     let c = context h.base octets 0 v v.incoming peer h.its_base in
     by_refusal octets 0 v h.base h.its_base peer (input.UnitData (length octets)) h (λ _. ends_unit_sent c (kinds v.incoming) (length octets) (begin v.station.end) (begun c (kinds v.incoming) h.both))
-
--- ---- Unit data is heard.
-
-seems_unit_heard : (c : Context) (s : StepState) → Seems c (put UnitUp s) (seen c s) (line c s)
-unfolding story_after put
-seems_unit_heard c s = by_story c (put UnitUp s) (told (occasion c s) (UnitUp ∷ []) (story c s)) (seen c s) (line c s) (told_append _ s.outs (UnitUp ∷ []) _) refl refl
-
-pub ends_unit_heard : (c : Context) (ks : List Kind) (p : Bool) (s : StepState) → Both (seen c s) c.peer (line c s) (Unnumbered ∷ ks) → Ends c ks (close Whole (row Whole s.end.state (input.Heard (Ui p) Command) s))
-unfolding row
-ends_unit_heard c ks p s b = ends_as_seen c ks (put UnitUp s) (seen c s) (line c s) (seems_unit_heard c s) (passed_over c Unnumbered ks s b)

@@ -3,3 +3,4 @@ pub mod Parties
 pub mod Conjuncts
 pub mod Invariant
 pub mod Reports
+pub mod Premises

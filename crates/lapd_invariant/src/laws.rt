@@ -6,9 +6,11 @@ ghost use Rattle.lapd_states.specs.Parameters.{Parameters};
 ghost use Rattle.lapd_world.specs.Kept.{IsKeptWorld};
 ghost use Rattle.lapd_world.specs.Move.{Move};
 ghost use Rattle.lapd_world.specs.Safe.{AreSafe};
+ghost use Rattle.lapd_world.specs.Schedule as worked;
 ghost use Rattle.lapd_world.specs.Tagged.{tag_world, tag_outcome, AreFirstWithin, AreNearMoves};
 ghost use Rattle.lapd_world.specs.World.{World, new_world, world_after, happens, run, outcomes};
 ghost use Rattle.lapd_invariant.specs.Invariant.{IsInvariant};
+ghost use Rattle.lapd_invariant.specs.Premises.{run_freely, hasty, stale, overtaken};
 ghost use Rattle.lapd_invariant.specs.Reports.{ReportsExpected, AllReportsExpected};
 
 /// After every list of moves from a new world, on whole numbers and on tags, in windows of up to 127, whatever each end does
@@ -43,4 +45,13 @@ pub fn the_invariant_tells()
     ensures reports { (move : Move) (w : World) → IsInvariant w → ReportsExpected (happens Whole move w) }
     ensures within { (w : World) → IsInvariant w → AreFirstWithin w }
     ensures near { (moves : List Move) (w : World) → IsInvariant w → IsKeptWorld Whole w → AreNearMoves moves w }
+{}
+
+/// Each premise is needed: where T200 expires although the answer that it waits for is on its way, where what is on the line
+/// outlives a restart, or where one frame overtakes another, a run of some ten moves ends in histories that are not safe. In
+/// each a message is acknowledged that was never received.
+pub fn each_premise_is_needed()
+    ensures t200 { AreSafe (run_freely hasty worked.start) → ⊥ }
+    ensures restart { AreSafe (run_freely stale worked.start) → ⊥ }
+    ensures order { AreSafe (run_freely overtaken worked.start) → ⊥ }
 {}

@@ -3,11 +3,13 @@
 //!
 //! Nothing here runs. The definitions stand in specs/, to be read in this order: `Kinds`, what is read of the frames on
 //! their way; `Parties`, what is read of a side, and what it hears; `Conjuncts`, each a sentence on a few of these values;
-//! `Invariant`, all of them; and `Reports`. The laws below are proved from them: begin with [`every_run_is_safe`].
+//! `Invariant`, all of them; `Reports`; and `Premises`, by which it is seen that each
+//! premise of the moves is needed. The laws below are proved from them: begin with [`every_run_is_safe`].
 #![tactic(auto)]
 
 mod laws;
 
 pub use laws::{
-    every_run_is_safe, every_run_is_the_same_on_tags, the_invariant_is_kept, the_invariant_tells,
+    each_premise_is_needed, every_run_is_safe, every_run_is_the_same_on_tags,
+    the_invariant_is_kept, the_invariant_tells,
 };
