@@ -32,12 +32,10 @@ pub mod Units
 pub mod Restarts
 pub mod Gives
 pub mod Nearness
+pub mod Dues
 pub mod UnderWay
 pub mod Deeds
 pub mod Delivers
-pub mod Reported
-pub mod ReportRows
-pub mod ReportsHeard
 pub mod Beginnings
 pub mod Whole
 pub mod Reached

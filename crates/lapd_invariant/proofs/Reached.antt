@@ -4,6 +4,7 @@ use Rattle.lapd_mod128.specs.Counting.{Reading, Whole, Tagged}
 use Rattle.lapd_states.specs.declared.out.Out.{Out}
 use Rattle.lapd_states.specs.declared.out.Out.TheVariants.{Send, SendMessage}
 use Rattle.lapd_states.specs.Parameters.{Parameters}
+use Rattle.lapd_states.specs.Reports.{IsExpectedOut, AreExpected}
 use Rattle.lapd_states.specs.Tagging.{tag_out}
 use Rattle.lapd_world.specs.Kept.{IsKeptWorld}
 use Rattle.lapd_world.specs.Move.{Move, Refusal}
@@ -13,9 +14,10 @@ use Rattle.lapd_world.specs.World.{World, Happened, new_world, world_after, happ
 use Rattle.lapd_world.proofs.Keeping.{new_world_kept, run_kept}
 use Rattle.lapd_world.proofs.TaggedMoves.{move_near, run_on_tags, outcomes_on_tags, safe_on_tags, new_world_on_tags}
 use Rattle.lapd_invariant.specs.Invariant.{IsInvariant}
-use Rattle.lapd_invariant.specs.Reports.{IsExpectedOut, AreExpected, ReportsExpected, AllReportsExpected}
+use Rattle.lapd_invariant.specs.Reports.{ReportsExpected, AllReportsExpected, AreFirstDue}
+use Rattle.lapd_invariant.proofs.Dues.{due_by_invariant, due_in_tags}
 use Rattle.lapd_invariant.proofs.Nearness.{within_by_invariant}
-use Rattle.lapd_invariant.proofs.Whole.{each_move_keeps, each_run_is_safe, each_report_is_expected}
+use Rattle.lapd_invariant.proofs.Whole.{each_move_keeps, each_run_keeps, each_run_is_safe, each_report_is_expected}
 use Rattle.lapd_invariant.proofs.Worlds.{new_holds}
 
 -- each move is near: tags decide as whole numbers do
@@ -72,8 +74,15 @@ module _ (user network : Parameters) (user_window : user.k ≤ 127) (network_win
   reports_by Whole = reports_of_run moves start begins
   reports_by Tagged = subst (λ rs. AllReportsExpected rs) (sym reached_outcomes) (reports_on_tags (outcomes Whole moves start) (reports_of_run moves start begins))
 
+  due_by : (r : Reading) → AreFirstDue r (run r moves (new_world user network))
+  due_by Whole = due_by_invariant (run Whole moves start) (each_run_keeps moves start begins)
+  due_by Tagged = subst (λ w. AreFirstDue Tagged w) (sym reached_tags) (due_in_tags (run Whole moves start) (each_run_keeps moves start begins))
+
 pub every_run_safe : (r : Reading) (user network : Parameters) → user.k ≤ 127 → network.k ≤ 127 → (moves : List Move) → AreSafe (run r moves (new_world user network))
 every_run_safe r user network u n moves = safe_by user network u n moves r
 
 pub every_run_reports : (r : Reading) (user network : Parameters) → user.k ≤ 127 → network.k ≤ 127 → (moves : List Move) → AllReportsExpected (outcomes r moves (new_world user network))
 every_run_reports r user network u n moves = reports_by user network u n moves r
+
+pub every_run_is_due : (r : Reading) (user network : Parameters) → user.k ≤ 127 → network.k ≤ 127 → (moves : List Move) → AreFirstDue r (run r moves (new_world user network))
+every_run_is_due r user network u n moves = due_by user network u n moves r

@@ -11,15 +11,17 @@ ghost use Rattle.lapd_world.specs.Tagged.{tag_world, tag_outcome, AreFirstWithin
 ghost use Rattle.lapd_world.specs.World.{World, new_world, world_after, happens, run, outcomes};
 ghost use Rattle.lapd_invariant.specs.Invariant.{IsInvariant};
 ghost use Rattle.lapd_invariant.specs.Premises.{run_freely, hasty, stale, overtaken};
-ghost use Rattle.lapd_invariant.specs.Reports.{ReportsExpected, AllReportsExpected};
+ghost use Rattle.lapd_invariant.specs.Reports.{ReportsExpected, AllReportsExpected, AreFirstDue};
 
 /// After every list of moves from a new world, on whole numbers and on tags, in windows of up to 127, whatever each end does
-/// when T200 expires: the histories are safe, each side against the other, and only the reports F, G, H and I ever arose. So
+/// when T200 expires: the histories are safe, each side against the other, and only the reports F, G, H and I ever arose: the
+/// N(R) of the next frame that is delivered is valid, and no response comes unasked. So
 /// what a side received is among what the other was given, in order and once each; within one establishment nothing is
 /// skipped; and what a sender counts as acknowledged was received.
 pub fn every_run_is_safe()
     ensures safe { (r : Reading) (user network : Parameters) → user.k ≤ 127 → network.k ≤ 127 → (moves : List Move) → AreSafe (run r moves (new_world user network)) }
     ensures reports { (r : Reading) (user network : Parameters) → user.k ≤ 127 → network.k ≤ 127 → (moves : List Move) → AllReportsExpected (outcomes r moves (new_world user network)) }
+    ensures due { (r : Reading) (user network : Parameters) → user.k ≤ 127 → network.k ≤ 127 → (moves : List Move) → AreFirstDue r (run r moves (new_world user network)) }
 {}
 
 /// A run on tags is the run on whole numbers, each number in its tag: in what each move comes to, and in the world that is
@@ -43,6 +45,7 @@ pub fn the_invariant_is_kept()
 pub fn the_invariant_tells()
     ensures safe { (w : World) → IsInvariant w → AreSafe w }
     ensures reports { (move : Move) (w : World) → IsInvariant w → ReportsExpected (happens Whole move w) }
+    ensures due { (w : World) → IsInvariant w → AreFirstDue Whole w }
     ensures within { (w : World) → IsInvariant w → AreFirstWithin w }
     ensures near { (moves : List Move) (w : World) → IsInvariant w → IsKeptWorld Whole w → AreNearMoves moves w }
 {}

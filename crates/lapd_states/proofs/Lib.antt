@@ -1,4 +1,5 @@
 pub mod ActionsOnTags
+pub mod DueOnTags
 pub mod EachAction
 pub mod InputsThatCount
 pub mod KeptByStep
@@ -8,6 +9,7 @@ pub mod NumbersOfStep
 pub mod OpenRowsOnTags
 pub mod OrderOfStep
 pub mod PlacesOfStep
+pub mod ReportsOfStep
 pub mod RowsOnTags
 pub mod Sending
 pub mod Soundness

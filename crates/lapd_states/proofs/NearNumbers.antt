@@ -15,7 +15,7 @@ use Rattle.lapd_states.specs.Sound.{IsSoundIn, IsSound}
 use Rattle.lapd_states.specs.Tagging.{HasNearNumbers, HasNumbersWithin}
 use Rattle.lapd_states.proofs.RowsOnTags.{window_of}
 
-window_in : (state : State) (e : End) → IsSoundIn Whole state e → is_7_or_8 state ≡ true → IsWindow e.window.va e.window.vs
+pub window_in : (state : State) (e : End) → IsSoundIn Whole state e → is_7_or_8 state ≡ true → IsWindow e.window.va e.window.vs
 window_in MultipleFrameEstablished e sound is = window_of e.first e.next (length e.given) e.window.va e.window.vs sound
 window_in TimerRecovery e sound is = window_of e.first e.next (length e.given) e.window.va e.window.vs sound
 window_in TeiAssigned e sound is = cc

@@ -10,6 +10,7 @@ ghost use Rattle.lapd_states.specs.End.{End, StepState, new_end};
 ghost use Rattle.lapd_states.specs.Input.{Input};
 ghost use Rattle.lapd_states.specs.Numbers.{AreNumbers, HearsNumbers, AreNumbered};
 ghost use Rattle.lapd_states.specs.Parameters.{Parameters};
+ghost use Rattle.lapd_states.specs.Reports.{AreExpected, IsDue};
 ghost use Rattle.lapd_states.specs.Sound.{IsSound};
 ghost use Rattle.lapd_states.specs.Spoken.{AreSpoken, AreShort};
 ghost use Rattle.lapd_states.specs.Table.{step};
@@ -87,4 +88,13 @@ pub fn messages_are_counted()
     ensures order { (r : Reading) (input : Input) (e : End) (s : StepState) → step r input e ≡ Ok s → AreCountedFirst s.outs }
     ensures unit { (r : Reading) (input : Input) (e : End) (s : StepState) → step r input e ≡ Ok s → unit_ups s.outs ≡ (if hears_unit input then 1 else 0) }
     ensures up { (r : Reading) (input : Input) (e : End) (s : StepState) → step r input e ≡ Ok s → ups s.outs ≡ (if accepts input e then 1 else 0) }
+{}
+
+/// Of all error reports a step makes only F, the peer establishes the link again, and G, H and I, N200 is reached: those to
+/// which lost frames lead. So it is where what comes is due: each N(R) that is heard is valid, no response comes unasked, and
+/// no frame has a fault (Q.921 5.8, Appendix II). On whole numbers and on tags; and what is due on whole numbers is due on
+/// tags, where numbers are near.
+pub fn reports_are_expected()
+    ensures expected { (r : Reading) (input : Input) (e : End) (s : StepState) → IsDue r input e → step r input e ≡ Ok s → AreExpected s.outs }
+    ensures tags { (input : Input) (e : End) → IsNear input e → IsDue Whole input e → IsDue Tagged (tag_input input) (tag_end e) }
 {}
