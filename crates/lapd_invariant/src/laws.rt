@@ -14,10 +14,10 @@ ghost use Rattle.lapd_invariant.specs.Premises.{run_freely, hasty, stale, overta
 ghost use Rattle.lapd_invariant.specs.Reports.{ReportsExpected, AllReportsExpected, AreFirstDue};
 
 /// After every list of moves from a new world, on whole numbers and on tags, in windows of up to 127, whatever each end does
-/// when T200 expires: the histories are safe, each side against the other, and only the reports F, G, H and I ever arose: the
-/// N(R) of the next frame that is delivered is valid, and no response comes unasked. So
-/// what a side received is among what the other was given, in order and once each; within one establishment nothing is
-/// skipped; and what a sender counts as acknowledged was received.
+/// when T200 expires: the histories are safe, each side against the other. So what a side received is among what the other
+/// was given, in order and once each; within one establishment nothing is skipped; and what a sender counts as acknowledged
+/// was received. Only the reports F, G, H and I ever arose; and the N(R) of the next frame that is delivered is valid, and no
+/// response comes unasked.
 pub fn every_run_is_safe()
     ensures safe { (r : Reading) (user network : Parameters) → user.k ≤ 127 → network.k ≤ 127 → (moves : List Move) → AreSafe (run r moves (new_world user network)) }
     ensures reports { (r : Reading) (user network : Parameters) → user.k ≤ 127 → network.k ≤ 127 → (moves : List Move) → AllReportsExpected (outcomes r moves (new_world user network)) }
