@@ -15,10 +15,12 @@ pub mod Counts
 pub mod End
 pub mod Established
 pub mod Input
+pub mod Numbers
 pub mod Out
 pub mod Parameters
 pub mod Procedures
 pub mod Refusal
+pub mod Reports
 pub mod Sound
 pub mod Spoken
 pub mod State

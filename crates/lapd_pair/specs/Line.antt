@@ -1,0 +1,36 @@
+-- One direction of the line, as octets: what is on it, and how it shows the frames on their way.
+use Rattle.std.specs.Prelude.{◌≡◌, ◌+◌, ◌≤◌, ℕ, List, [], ◌∷◌, map, drop, length, Unit}
+use Rattle.std.specs.Vec.{vec_len, vec_capacity}
+use Rattle.lapd_frame.specs.declared.Side.{Side}
+use Rattle.lapd_frame.specs.declared.Role.{Role}
+use Rattle.lapd_frame.specs.declared.Sapi.TheVariants.{Call}
+use Rattle.lapd_frame.specs.declared.Address.{Address}
+use Rattle.lapd_frame.specs.Frame.{Fields, IsFrame, spelling}
+use Rattle.lapd_world.specs.Line.{Flight}
+use Rattle.lapd_pair.specs.declared.line.Line.{Line}
+
+-- the address of the one data link: SAPI 0, TEI 64
+abbrev pub link_address : Role → Address
+link_address role = record { sapi = Call; tei = 64; role = role }
+
+-- the parts of a frame on its way
+abbrev pub fields_of : Flight → Fields
+fields_of frame = record { address = link_address frame.role; control = frame.control; info = frame.info }
+
+-- all are frames of the grammar
+abbrev pub AreFrames : List Flight → Type 0
+AreFrames [] = Unit {0}
+AreFrames (frame ∷ frames) = IsFrame (fields_of frame) × AreFrames frames
+
+-- the octets of the frames on their way, the first of them first
+abbrev pub octets_on : Line → List (List ℕ)
+octets_on line = map (λ frame. frame.items) (drop line.first line.frames.items)
+
+-- what is on the line are the frames on their way, spelled as this side sends them
+pub record IsOn (from : Side) (line : Line) (frames : List Flight) : Type 0 where
+  pub octets : octets_on line ≡ map (λ frame. spelling from (fields_of frame)) frames
+  pub grammar : AreFrames frames
+
+-- so many more frames have room without more memory
+abbrev pub HasRoomFor : ℕ → Line → Type 0
+HasRoomFor n line = vec_len line.frames + n ≤ vec_capacity line.frames

@@ -1,0 +1,9 @@
+//! Two ends of one data link and a line that loses frames, after ITU-T Q.921 (09/97).
+#![tactic(auto)]
+
+mod fate;
+mod history;
+mod received;
+
+pub use fate::{Ending, Fate};
+pub use received::Received;
