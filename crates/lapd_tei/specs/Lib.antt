@@ -1,0 +1,3 @@
+pub mod Message
+pub mod Out
+pub mod Terminal
