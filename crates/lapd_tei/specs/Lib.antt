@@ -1,3 +1,4 @@
+pub mod Assigner
 pub mod Message
 pub mod Out
 pub mod Terminal

@@ -7,6 +7,8 @@
 //! each reference is used once and a TEI is freed only while it is nobody's.
 #![tactic(auto)]
 
+mod assigner;
+mod check;
 mod fault;
 mod kind;
 mod message;
@@ -14,6 +16,7 @@ mod out;
 mod phase;
 mod terminal;
 
+pub use assigner::{Assigner, AssignerEvent};
 pub use fault::TeiFault;
 pub use kind::TeiKind;
 pub use lapd_frame::{Side, Tei};

@@ -59,3 +59,14 @@ pub fn two_outs(first: TeiOut, second: TeiOut) -> TeiOuts
     outs.push(second);
     outs
 }
+
+/// Three outputs, in this order.
+pub fn three_outs(first: TeiOut, second: TeiOut, third: TeiOut) -> TeiOuts
+    ensures { result.items ≡ first ∷ second ∷ third ∷ [] }
+{
+    let mut outs = TeiOuts::new();
+    outs.push(first);
+    outs.push(second);
+    outs.push(third);
+    outs
+}
