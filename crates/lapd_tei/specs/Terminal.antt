@@ -1,5 +1,5 @@
 -- The TEI management of a terminal (Q.921 5.3.2, 5.3.3.3, 5.3.4), a row an equation.
-use Rattle.std.specs.Prelude.{ℕ, ◌+◌, ◌<◌, ◌≤◌, ◌==◌, ◌&&◌, ◌||◌, not, nat_lt, nat_le, if◌then◌else◌, Bool, false, List, [], ◌∷◌, Option, Some, None}
+use Rattle.std.specs.Prelude.{ℕ, ◌+◌, ◌<◌, ◌≤◌, true, ◌==◌, ◌&&◌, ◌||◌, not, nat_lt, nat_le, if◌then◌else◌, Bool, false, List, [], ◌∷◌, Option, Some, None}
 use Rattle.lapd_timers.specs.declared.timer.Timer.TheVariants.{T202}
 use Rattle.lapd_tei.specs.declared.kind.TeiKind.{TeiKind}
 use Rattle.lapd_tei.specs.declared.kind.TeiKind.TheVariants as kind
@@ -102,6 +102,11 @@ abbrev pub reference_of : Phase → Option ℕ
 reference_of Unassigned = None
 reference_of (Awaiting purpose count ri) = Some ri
 reference_of (Assigned by tei) = by
+
+abbrev pub is_awaiting : Phase → Bool
+is_awaiting Unassigned = false
+is_awaiting (Awaiting purpose count ri) = true
+is_awaiting (Assigned by tei) = false
 
 -- as it is made: with a fixed TEI, or with none
 abbrev pub new_terminal : Option ℕ → Phase

@@ -2,9 +2,10 @@ ghost use Rattle.std.specs.Prelude.{◌≡◌};
 ghost use Rattle.lapd_tei.specs.Message.{kind_number, kind_at, may_name_the_group};
 
 /// What a TEI message is for (Q.921 5.3.6.4, Table 8).
-#[derive(Clone, Copy, Debug, PartialEq, Eq)]
+#[derive(Clone, Copy, Debug, Default, PartialEq, Eq)]
 pub enum TeiKind {
     /// Identity request: a terminal asks for a TEI.
+    #[default]
     Request,
     /// Identity assigned.
     Assigned,

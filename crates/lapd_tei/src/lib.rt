@@ -8,19 +8,26 @@
 #![tactic(auto)]
 
 mod assigner;
+mod broadcast;
+mod bus;
+mod bus_move;
 mod check;
 mod fault;
 mod kind;
+mod laws;
 mod message;
 mod out;
 mod phase;
 mod terminal;
 
 pub use assigner::{Assigner, AssignerEvent};
+pub use bus::Bus;
+pub use bus_move::{BusFault, BusMove};
 pub use fault::TeiFault;
 pub use kind::TeiKind;
 pub use lapd_frame::{Side, Tei};
 pub use lapd_timers::Timer;
+pub use laws::{assigner_is_computed, moves_are_computed};
 pub use message::TeiMessage;
 pub use out::{TeiOut, TeiOuts};
 pub use terminal::{Terminal, TerminalEvent};

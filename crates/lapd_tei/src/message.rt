@@ -12,7 +12,7 @@ const MANAGEMENT_ENTITY: u8 = 0x0f;
 const UI: u8 = 0x03;
 
 /// A message of TEI management (Q.921 5.3.6).
-#[derive(Clone, Copy, Debug, PartialEq, Eq)]
+#[derive(Clone, Copy, Debug, Default, PartialEq, Eq)]
 pub struct TeiMessage {
     /// The reference number, Ri. It tells apart terminals that ask at the same time (Q.921 5.3.6.3).
     pub ri: u16,

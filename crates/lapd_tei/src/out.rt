@@ -1,4 +1,5 @@
 ghost use Rattle.std.specs.Prelude.{◌≡◌, [], ◌∷◌};
+ghost use Rattle.lapd_tei.specs.Out.{sent};
 
 use crate::TeiMessage;
 use arrayvec::ArrayVec;
@@ -69,4 +70,17 @@ pub fn three_outs(first: TeiOut, second: TeiOut, third: TeiOut) -> TeiOuts
     outs.push(second);
     outs.push(third);
     outs
+}
+
+/// The messages that are sent by these outputs, in order.
+pub fn sent(outs: &TeiOuts) -> ArrayVec<TeiMessage, 6>
+    ensures { result.items ≡ sent outs.now.items }
+{
+    let mut messages = ArrayVec::new();
+    for out in outs.as_slice() {
+        if let TeiOut::Send(message) = out {
+            messages.push(*message);
+        }
+    }
+    messages
 }

@@ -3,7 +3,7 @@ ghost use Rattle.lapd_timers.specs.declared.timer.Timer.TheVariants.{T202};
 ghost use Rattle.lapd_tei.specs.declared.out.TeiOut.TheVariants.{Send, Start, Gone};
 ghost use Rattle.lapd_tei.specs.declared.phase.Phase.TheVariants.{Unassigned, Awaiting, Assigned};
 ghost use Rattle.lapd_tei.specs.Out.{request};
-ghost use Rattle.lapd_tei.specs.Terminal.{state_number, tei_of, count_of, reference_of, new_terminal, terminal_step, awaiting_hears, assigned_hears, is_automatic};
+ghost use Rattle.lapd_tei.specs.Terminal.{state_number, tei_of, count_of, reference_of, is_awaiting, new_terminal, terminal_step, awaiting_hears, assigned_hears, is_automatic};
 
 use crate::out::{no_outs, one_out, two_outs};
 use crate::phase::{Phase, Purpose};
@@ -120,6 +120,16 @@ impl Terminal {
             Phase::Unassigned => None,
             Phase::Awaiting { ri, .. } => Some(ri),
             Phase::Assigned { by, .. } => by,
+        }
+    }
+
+    /// Whether it waits for a TEI, in state 2 or 3. T202 runs then.
+    pub fn is_awaiting(&self) -> bool
+        ensures { result ≡ is_awaiting self.now }
+    {
+        match self.phase {
+            Phase::Awaiting { .. } => true,
+            Phase::Unassigned | Phase::Assigned { .. } => false,
         }
     }
 

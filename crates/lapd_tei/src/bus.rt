@@ -1,0 +1,255 @@
+ghost use Rattle.std.specs.Prelude.{◌≡◌, ◌≢◌, ◌++◌, map, length, slice_get, option_copied, Ok, Err, IsOk, IfOk, IfErr, OnOk, OnErr};
+ghost use Rattle.lapd_tei.specs.Out.{sent};
+ghost use Rattle.lapd_tei.specs.Bus.{BusState, new_bus, broadcast, bus_step, terminal_has, t201_expires, t202_expires, terminal_hears, drops_down, drops_up, network_hears, assigner_did};
+ghost use Rattle.lapd_tei.specs.Assigner.{assigner_step};
+ghost use Rattle.lapd_tei.specs.declared.bus_move.BusFault.TheVariants as fault;
+
+use crate::broadcast::Broadcast;
+use crate::out::{no_outs, sent};
+use crate::{
+    Assigner, AssignerEvent, BusFault, BusMove, TeiMessage, TeiOuts, Terminal, TerminalEvent,
+};
+use std::alloc::{AllocError, Global};
+use std::marker::Model;
+
+/// Several terminals without a fixed TEI, the assigner of the network side, and the messages on their way between them.
+#[derive(Drop)]
+pub struct Bus {
+    alloc: Global,
+    terminals: Vec<Terminal>,
+    assigner: Assigner,
+    down: Vec<Broadcast>,
+    up: Vec<TeiMessage>,
+}
+
+impl Model for Bus {
+    ghost use Rattle.lapd_tei.specs.Bus.{BusState};
+
+    ghost Value = { BusState };
+
+    ghost view = { λ b. record { terminals = b.terminals.items; assigner = b.assigner; down = b.down.items; up = b.up.items } };
+}
+
+impl Bus {
+    /// A bus of so many terminals, all without a TEI. No TEI is held, and no message is on its way.
+    ///
+    /// # Errors
+    ///
+    /// `AllocError` where memory for the terminals was refused.
+    pub fn new(alloc: Global, terminals: usize) -> Result<Bus, AllocError>
+        ensures { IfOk result (λ bus. bus ≡ new_bus terminals) }
+    {
+        let mut all = vec![in alloc]?;
+        all.resize(terminals, Terminal::new(None))?;
+        Ok(Bus {
+            alloc,
+            terminals: all,
+            assigner: Assigner::new(&[]),
+            down: vec![in alloc]?,
+            up: vec![in alloc]?,
+        })
+    }
+
+    /// The terminal at this place, counted from 0.
+    pub fn terminal(&self, t: usize) -> Option<&Terminal>
+        ensures { option_copied result ≡ slice_get self.now.terminals t }
+    {
+        self.terminals.get(t)
+    }
+
+    /// The assigner of the network side.
+    pub fn assigner(&self) -> &Assigner
+        ensures { result.now ≡ self.now.assigner }
+    {
+        &self.assigner
+    }
+
+    /// Makes one move, and tells the outputs of the terminal or assigner concerned, in order.
+    ///
+    /// # Errors
+    ///
+    /// U1 where the message or terminal is not there or the timer does not run, U2 where the terminal has heard the message
+    /// before, and only else U3 where memory was refused. The bus is unchanged.
+    pub fn apply(&mut self, m: BusMove) -> Result<TeiOuts, BusFault>
+        ensures done { IfOk result (λ outs. bus_step self.old m ≡ Ok (record { now = self.new; outs = outs.items })) }
+        ensures refused { IfErr result (λ f. f ≢ fault.Memory → bus_step self.old m ≡ Err f) }
+        ensures memory { IfErr result (λ f. f ≡ fault.Memory → IsOk (bus_step self.old m)) }
+        ensures unchanged { OnErr result (self.new ≡ self.old) }
+    {
+        match m {
+            BusMove::Ask(t, ri) => self.to_terminal(t, TerminalEvent::Ask(ri)),
+            BusMove::T202(t, ri) => self.expire_t202(t, ri),
+            BusMove::Hear(i, t, ri) => self.hear(i, t, ri),
+            BusMove::Drop(i) => self.drop_down(i),
+            BusMove::HearUp(i) => self.hear_up(i),
+            BusMove::DropUp(i) => self.drop_up(i),
+            BusMove::Check(tei) => self.to_assigner(AssignerEvent::Check(tei)),
+            BusMove::T201 => self.expire_t201(),
+            BusMove::Leave(t) => self.to_terminal(t, TerminalEvent::Leave),
+        }
+    }
+
+    /// An event of a terminal.
+    fn to_terminal(&mut self, t: usize, event: TerminalEvent) -> Result<TeiOuts, BusFault>
+        ensures done { IfOk result (λ outs. terminal_has self.old t (slice_get self.old.terminals t) event ≡ Ok (record { now = self.new; outs = outs.items })) }
+        ensures refused { IfErr result (λ f. f ≢ fault.Memory → terminal_has self.old t (slice_get self.old.terminals t) event ≡ Err f) }
+        ensures memory { IfErr result (λ f. f ≡ fault.Memory → IsOk (terminal_has self.old t (slice_get self.old.terminals t) event)) }
+        ensures unchanged { OnErr result (self.new ≡ self.old) }
+    {
+        let Some(there) = self.terminals.get(t) else {
+            return Err(BusFault::NothingThere);
+        };
+        let mut terminal = *there;
+        let outs = terminal.handle(event);
+        self.put_up(&outs)?;
+        self.terminals[t] = terminal;
+        Ok(outs)
+    }
+
+    /// The messages among these outputs of a terminal are on their way.
+    fn put_up(&mut self, outs: &TeiOuts) -> Result<(), BusFault>
+        ensures done { OnOk result (self.new ≡ record self.old { up = self.old.up ++ sent outs.now.items }) }
+        ensures memory { IfErr result (λ f. f ≡ fault.Memory) }
+        ensures unchanged { OnErr result (self.new ≡ self.old) }
+    {
+        match self.up.extend_from_slice(sent(outs).as_slice()) {
+            Ok(()) => Ok(()),
+            Err(_) => Err(BusFault::Memory),
+        }
+    }
+
+    /// T202 of a terminal expires. It runs in states 2 and 3.
+    fn expire_t202(&mut self, t: usize, ri: u16) -> Result<TeiOuts, BusFault>
+        ensures done { IfOk result (λ outs. t202_expires self.old t ri (slice_get self.old.terminals t) ≡ Ok (record { now = self.new; outs = outs.items })) }
+        ensures refused { IfErr result (λ f. f ≢ fault.Memory → t202_expires self.old t ri (slice_get self.old.terminals t) ≡ Err f) }
+        ensures memory { IfErr result (λ f. f ≡ fault.Memory → IsOk (t202_expires self.old t ri (slice_get self.old.terminals t))) }
+        ensures unchanged { OnErr result (self.new ≡ self.old) }
+    {
+        match self.terminals.get(t) {
+            Some(terminal) if terminal.is_awaiting() => {
+                self.to_terminal(t, TerminalEvent::T202(ri))
+            }
+            _ => Err(BusFault::NothingThere),
+        }
+    }
+
+    /// A terminal hears a message of the network side.
+    fn hear(&mut self, i: usize, t: usize, ri: u16) -> Result<TeiOuts, BusFault>
+        ensures done { IfOk result (λ outs. terminal_hears self.old i t ri (slice_get self.old.down i) (slice_get self.old.terminals t) ≡ Ok (record { now = self.new; outs = outs.items })) }
+        ensures refused { IfErr result (λ f. f ≢ fault.Memory → terminal_hears self.old i t ri (slice_get self.old.down i) (slice_get self.old.terminals t) ≡ Err f) }
+        ensures memory { IfErr result (λ f. f ≡ fault.Memory → IsOk (terminal_hears self.old i t ri (slice_get self.old.down i) (slice_get self.old.terminals t))) }
+        ensures unchanged { OnErr result (self.new ≡ self.old) }
+    {
+        let (Some(broadcast), Some(there)) = (self.down.get(i), self.terminals.get(t)) else {
+            return Err(BusFault::NothingThere);
+        };
+        if broadcast.is_heard_by(t) {
+            return Err(BusFault::HeardBefore);
+        }
+        let mut terminal = *there;
+        let outs = terminal.handle(TerminalEvent::Heard(broadcast.message(), ri));
+        self.put_up(&outs)?;
+        self.terminals[t] = terminal;
+        self.down[i].mark(t);
+        Ok(outs)
+    }
+
+    /// A message of the network side is lost.
+    fn drop_down(&mut self, i: usize) -> Result<TeiOuts, BusFault>
+        ensures done { IfOk result (λ outs. drops_down self.old i (slice_get self.old.down i) ≡ Ok (record { now = self.new; outs = outs.items })) }
+        ensures refused { IfErr result (λ f. drops_down self.old i (slice_get self.old.down i) ≡ Err f) }
+        ensures unchanged { OnErr result (self.new ≡ self.old) }
+    {
+        if i >= self.down.len() {
+            return Err(BusFault::NothingThere);
+        }
+        self.down.remove(i);
+        Ok(no_outs())
+    }
+
+    /// A message of a terminal is lost.
+    fn drop_up(&mut self, i: usize) -> Result<TeiOuts, BusFault>
+        ensures done { IfOk result (λ outs. drops_up self.old i (slice_get self.old.up i) ≡ Ok (record { now = self.new; outs = outs.items })) }
+        ensures refused { IfErr result (λ f. drops_up self.old i (slice_get self.old.up i) ≡ Err f) }
+        ensures unchanged { OnErr result (self.new ≡ self.old) }
+    {
+        if i >= self.up.len() {
+            return Err(BusFault::NothingThere);
+        }
+        self.up.remove(i);
+        Ok(no_outs())
+    }
+
+    /// The assigner hears a message of a terminal.
+    fn hear_up(&mut self, i: usize) -> Result<TeiOuts, BusFault>
+        ensures done { IfOk result (λ outs. network_hears self.old i (slice_get self.old.up i) ≡ Ok (record { now = self.new; outs = outs.items })) }
+        ensures refused { IfErr result (λ f. f ≢ fault.Memory → network_hears self.old i (slice_get self.old.up i) ≡ Err f) }
+        ensures memory { IfErr result (λ f. f ≡ fault.Memory → IsOk (network_hears self.old i (slice_get self.old.up i))) }
+        ensures unchanged { OnErr result (self.new ≡ self.old) }
+    {
+        let Some(there) = self.up.get(i) else {
+            return Err(BusFault::NothingThere);
+        };
+        let message = *there;
+        let outs = self.to_assigner(AssignerEvent::Heard(message))?;
+        self.up.remove(i);
+        Ok(outs)
+    }
+
+    /// T201 expires. It runs during a check.
+    fn expire_t201(&mut self) -> Result<TeiOuts, BusFault>
+        ensures done { IfOk result (λ outs. t201_expires self.old self.old.assigner.check ≡ Ok (record { now = self.new; outs = outs.items })) }
+        ensures refused { IfErr result (λ f. f ≢ fault.Memory → t201_expires self.old self.old.assigner.check ≡ Err f) }
+        ensures memory { IfErr result (λ f. f ≡ fault.Memory → IsOk (t201_expires self.old self.old.assigner.check)) }
+        ensures unchanged { OnErr result (self.new ≡ self.old) }
+    {
+        match self.assigner.check() {
+            Some(_) => self.to_assigner(AssignerEvent::T201),
+            None => Err(BusFault::NothingThere),
+        }
+    }
+
+    /// An event of the assigner.
+    fn to_assigner(&mut self, event: AssignerEvent) -> Result<TeiOuts, BusFault>
+        ensures done { IfOk result (λ outs. assigner_did self.old (assigner_step self.old.assigner event) ≡ record { now = self.new; outs = outs.items }) }
+        ensures memory { IfErr result (λ f. f ≡ fault.Memory) }
+        ensures unchanged { OnErr result (self.new ≡ self.old) }
+    {
+        let mut assigner = self.assigner;
+        let outs = assigner.handle(event);
+        self.put_down(&outs)?;
+        self.assigner = assigner;
+        Ok(outs)
+    }
+
+    /// The messages among these outputs of the assigner are on their way to every terminal.
+    fn put_down(&mut self, outs: &TeiOuts) -> Result<(), BusFault>
+        ensures done { OnOk result (self.new ≡ record self.old { down = self.old.down ++ map (broadcast (length self.old.terminals)) (sent outs.now.items) }) }
+        ensures memory { IfErr result (λ f. f ≡ fault.Memory) }
+        ensures unchanged { OnErr result (self.new ≡ self.old) }
+    {
+        let terminals = self.terminals.len();
+        let Ok(mut fresh) = broadcasts(self.alloc, terminals, sent(outs).as_slice()) else {
+            return Err(BusFault::Memory);
+        };
+        match self.down.append(&mut fresh) {
+            Ok(()) => Ok(()),
+            Err(_) => Err(BusFault::Memory),
+        }
+    }
+}
+
+/// These messages, to so many terminals, of which none has heard them.
+fn broadcasts(
+    alloc: Global,
+    terminals: usize,
+    messages: &[TeiMessage],
+) -> Result<Vec<Broadcast>, AllocError>
+    ensures { IfOk result (λ all. all.items ≡ map (broadcast terminals) messages.now) }
+{
+    let mut all = vec![in alloc]?;
+    for message in messages {
+        all.push(Broadcast::new(alloc, terminals, *message)?)?;
+    }
+    Ok(all)
+}
