@@ -1,1 +1,5 @@
 pub mod Holding
+pub mod Kept
+pub mod TerminalKeeps
+pub mod AssignerKeeps
+pub mod RunKeeps

@@ -1,6 +1,8 @@
-ghost use Rattle.std.specs.Prelude.{◌≡◌, ◌≢◌, ◌++◌, map, length, slice_get, option_copied, Ok, Err, IsOk, IfOk, IfErr, OnOk, OnErr};
+ghost use Rattle.std.specs.Prelude.{◌≡◌, ◌≢◌, ◌<◌, ℕ, List, ◌++◌, take, Some, map, length, slice_get, option_copied, Ok, Err, IsOk, IfOk, IfErr, OnOk, OnErr};
 ghost use Rattle.lapd_tei.specs.Out.{sent};
-ghost use Rattle.lapd_tei.specs.Bus.{BusState, new_bus, broadcast, bus_step, terminal_has, t201_expires, t202_expires, terminal_hears, drops_down, drops_up, network_hears, assigner_did};
+ghost use Rattle.lapd_tei.specs.Bus.{BusState, new_bus, broadcast, bus_step, terminal_has, t201_expires, t202_expires, terminal_hears, drops_down, drops_up, network_hears, assigner_did, run, refusals};
+ghost use Rattle.lapd_tei.specs.Single.{Single, Differ, asked, FreesNobodys};
+ghost use Rattle.lapd_tei.specs.declared.bus_move.BusMove.{BusMove};
 ghost use Rattle.lapd_tei.specs.Assigner.{assigner_step};
 ghost use Rattle.lapd_tei.specs.declared.bus_move.BusFault.TheVariants as fault;
 
@@ -87,6 +89,34 @@ impl Bus {
             BusMove::T201 => self.expire_t201(),
             BusMove::Leave(t) => self.to_terminal(t, TerminalEvent::Leave),
         }
+    }
+
+    /// Makes the moves in turn. Those that are refused by U1 and U2 are passed over, and counted.
+    ///
+    /// No two terminals hold the same TEI then, where the bus came from a new one by moves, these among them, in which each
+    /// reference was used once and a TEI was freed only while no terminal held it and no assignment of it was on its way.
+    ///
+    /// # Errors
+    ///
+    /// The place of the move, counted from 0, at which memory was refused (U3). What was done before stands.
+    pub fn run(&mut self, moves: &[BusMove]) -> Result<u64, usize>
+        ensures done { IfOk result (λ refused. (self.new ≡ run self.old moves.now) × (refused ≡ refusals self.old moves.now)) }
+        ensures memory { IfErr result (λ place. (place < length moves.now) × (self.new ≡ run self.old (take place moves.now))) }
+        ensures stopped { IfErr result (λ place. (m : BusMove) → slice_get moves.now place ≡ Some m → IsOk (bus_step self.new m)) }
+
+        // The law of the TEIs.
+        ensures single { (terminals : ℕ) (before : List BusMove) → self.old ≡ run (new_bus terminals) before → Differ (asked (new_bus terminals) (before ++ moves.now)) → FreesNobodys (new_bus terminals) (before ++ moves.now) → Single self.new }
+    {
+        let mut refused: u64 = 0;
+        for (place, m) in moves.iter().enumerate() {
+            match self.apply(*m) {
+                Ok(_) => {}
+                Err(BusFault::Memory) => return Err(place),
+                Err(BusFault::NothingThere) => refused += 1,
+                Err(BusFault::HeardBefore) => refused += 1,
+            }
+        }
+        Ok(refused)
     }
 
     /// An event of a terminal.
