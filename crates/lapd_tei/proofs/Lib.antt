@@ -1,5 +1,6 @@
 pub mod Holding
 pub mod Kept
+pub mod Named
 pub mod TerminalKeeps
 pub mod AssignerKeeps
 pub mod RunKeeps

@@ -1,5 +1,6 @@
 ghost use Rattle.std.specs.Prelude.{◌≡◌, ◌≢◌, ◌<◌, ℕ, List, ◌++◌, take, Some, map, length, slice_get, option_copied, Ok, Err, IsOk, IfOk, IfErr, OnOk, OnErr};
-ghost use Rattle.lapd_tei.specs.Out.{sent};
+ghost use Rattle.std.specs.List.{All};
+ghost use Rattle.lapd_tei.specs.Out.{sent, IsReadable};
 ghost use Rattle.lapd_tei.specs.Bus.{BusState, new_bus, broadcast, bus_step, terminal_has, t201_expires, t202_expires, terminal_hears, drops_down, drops_up, network_hears, assigner_did, run, refusals};
 ghost use Rattle.lapd_tei.specs.Single.{Single, Differ, asked, FreesNobodys};
 ghost use Rattle.lapd_tei.specs.declared.bus_move.BusMove.{BusMove};
@@ -74,6 +75,7 @@ impl Bus {
     /// before, and only else U3 where memory was refused. The bus is unchanged.
     pub fn apply(&mut self, m: BusMove) -> Result<TeiOuts, BusFault>
         ensures done { IfOk result (λ outs. bus_step self.old m ≡ Ok (record { now = self.new; outs = outs.items })) }
+        ensures readable { IfOk result (λ outs. All IsReadable outs.items) }
         ensures refused { IfErr result (λ f. f ≢ fault.Memory → bus_step self.old m ≡ Err f) }
         ensures memory { IfErr result (λ f. f ≡ fault.Memory → IsOk (bus_step self.old m)) }
         ensures unchanged { OnErr result (self.new ≡ self.old) }
@@ -122,6 +124,7 @@ impl Bus {
     /// An event of a terminal.
     fn to_terminal(&mut self, t: usize, event: TerminalEvent) -> Result<TeiOuts, BusFault>
         ensures done { IfOk result (λ outs. terminal_has self.old t (slice_get self.old.terminals t) event ≡ Ok (record { now = self.new; outs = outs.items })) }
+        ensures readable { IfOk result (λ outs. All IsReadable outs.items) }
         ensures refused { IfErr result (λ f. f ≢ fault.Memory → terminal_has self.old t (slice_get self.old.terminals t) event ≡ Err f) }
         ensures memory { IfErr result (λ f. f ≡ fault.Memory → IsOk (terminal_has self.old t (slice_get self.old.terminals t) event)) }
         ensures unchanged { OnErr result (self.new ≡ self.old) }
@@ -151,6 +154,7 @@ impl Bus {
     /// T202 of a terminal expires. It runs in states 2 and 3.
     fn expire_t202(&mut self, t: usize, ri: u16) -> Result<TeiOuts, BusFault>
         ensures done { IfOk result (λ outs. t202_expires self.old t ri (slice_get self.old.terminals t) ≡ Ok (record { now = self.new; outs = outs.items })) }
+        ensures readable { IfOk result (λ outs. All IsReadable outs.items) }
         ensures refused { IfErr result (λ f. f ≢ fault.Memory → t202_expires self.old t ri (slice_get self.old.terminals t) ≡ Err f) }
         ensures memory { IfErr result (λ f. f ≡ fault.Memory → IsOk (t202_expires self.old t ri (slice_get self.old.terminals t))) }
         ensures unchanged { OnErr result (self.new ≡ self.old) }
@@ -166,6 +170,7 @@ impl Bus {
     /// A terminal hears a message of the network side.
     fn hear(&mut self, i: usize, t: usize, ri: u16) -> Result<TeiOuts, BusFault>
         ensures done { IfOk result (λ outs. terminal_hears self.old i t ri (slice_get self.old.down i) (slice_get self.old.terminals t) ≡ Ok (record { now = self.new; outs = outs.items })) }
+        ensures readable { IfOk result (λ outs. All IsReadable outs.items) }
         ensures refused { IfErr result (λ f. f ≢ fault.Memory → terminal_hears self.old i t ri (slice_get self.old.down i) (slice_get self.old.terminals t) ≡ Err f) }
         ensures memory { IfErr result (λ f. f ≡ fault.Memory → IsOk (terminal_hears self.old i t ri (slice_get self.old.down i) (slice_get self.old.terminals t))) }
         ensures unchanged { OnErr result (self.new ≡ self.old) }
@@ -187,6 +192,7 @@ impl Bus {
     /// A message of the network side is lost.
     fn drop_down(&mut self, i: usize) -> Result<TeiOuts, BusFault>
         ensures done { IfOk result (λ outs. drops_down self.old i (slice_get self.old.down i) ≡ Ok (record { now = self.new; outs = outs.items })) }
+        ensures readable { IfOk result (λ outs. All IsReadable outs.items) }
         ensures refused { IfErr result (λ f. drops_down self.old i (slice_get self.old.down i) ≡ Err f) }
         ensures unchanged { OnErr result (self.new ≡ self.old) }
     {
@@ -200,6 +206,7 @@ impl Bus {
     /// A message of a terminal is lost.
     fn drop_up(&mut self, i: usize) -> Result<TeiOuts, BusFault>
         ensures done { IfOk result (λ outs. drops_up self.old i (slice_get self.old.up i) ≡ Ok (record { now = self.new; outs = outs.items })) }
+        ensures readable { IfOk result (λ outs. All IsReadable outs.items) }
         ensures refused { IfErr result (λ f. drops_up self.old i (slice_get self.old.up i) ≡ Err f) }
         ensures unchanged { OnErr result (self.new ≡ self.old) }
     {
@@ -213,6 +220,7 @@ impl Bus {
     /// The assigner hears a message of a terminal.
     fn hear_up(&mut self, i: usize) -> Result<TeiOuts, BusFault>
         ensures done { IfOk result (λ outs. network_hears self.old i (slice_get self.old.up i) ≡ Ok (record { now = self.new; outs = outs.items })) }
+        ensures readable { IfOk result (λ outs. All IsReadable outs.items) }
         ensures refused { IfErr result (λ f. f ≢ fault.Memory → network_hears self.old i (slice_get self.old.up i) ≡ Err f) }
         ensures memory { IfErr result (λ f. f ≡ fault.Memory → IsOk (network_hears self.old i (slice_get self.old.up i))) }
         ensures unchanged { OnErr result (self.new ≡ self.old) }
@@ -229,6 +237,7 @@ impl Bus {
     /// T201 expires. It runs during a check.
     fn expire_t201(&mut self) -> Result<TeiOuts, BusFault>
         ensures done { IfOk result (λ outs. t201_expires self.old self.old.assigner.check ≡ Ok (record { now = self.new; outs = outs.items })) }
+        ensures readable { IfOk result (λ outs. All IsReadable outs.items) }
         ensures refused { IfErr result (λ f. f ≢ fault.Memory → t201_expires self.old self.old.assigner.check ≡ Err f) }
         ensures memory { IfErr result (λ f. f ≡ fault.Memory → IsOk (t201_expires self.old self.old.assigner.check)) }
         ensures unchanged { OnErr result (self.new ≡ self.old) }
@@ -242,6 +251,7 @@ impl Bus {
     /// An event of the assigner.
     fn to_assigner(&mut self, event: AssignerEvent) -> Result<TeiOuts, BusFault>
         ensures done { IfOk result (λ outs. assigner_did self.old (assigner_step self.old.assigner event) ≡ record { now = self.new; outs = outs.items }) }
+        ensures readable { IfOk result (λ outs. All IsReadable outs.items) }
         ensures memory { IfErr result (λ f. f ≡ fault.Memory) }
         ensures unchanged { OnErr result (self.new ≡ self.old) }
     {

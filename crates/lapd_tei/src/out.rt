@@ -1,5 +1,6 @@
 ghost use Rattle.std.specs.Prelude.{◌≡◌, [], ◌∷◌};
-ghost use Rattle.lapd_tei.specs.Out.{sent};
+ghost use Rattle.std.specs.List.{All};
+ghost use Rattle.lapd_tei.specs.Out.{sent, IsReadable};
 
 use crate::TeiMessage;
 use arrayvec::ArrayVec;
@@ -37,14 +38,16 @@ pub type TeiOuts = ArrayVec<TeiOut, 6>;
 
 /// No output.
 pub fn no_outs() -> TeiOuts
-    ensures { result.items ≡ [] }
+    ensures items { result.items ≡ [] }
+    ensures readable { All IsReadable result.items }
 {
     TeiOuts::new()
 }
 
 /// One output.
 pub fn one_out(out: TeiOut) -> TeiOuts
-    ensures { result.items ≡ out ∷ [] }
+    ensures items { result.items ≡ out ∷ [] }
+    ensures readable { IsReadable out → All IsReadable result.items }
 {
     let mut outs = TeiOuts::new();
     outs.push(out);
@@ -53,7 +56,8 @@ pub fn one_out(out: TeiOut) -> TeiOuts
 
 /// Two outputs, in this order.
 pub fn two_outs(first: TeiOut, second: TeiOut) -> TeiOuts
-    ensures { result.items ≡ first ∷ second ∷ [] }
+    ensures items { result.items ≡ first ∷ second ∷ [] }
+    ensures readable { IsReadable first → IsReadable second → All IsReadable result.items }
 {
     let mut outs = TeiOuts::new();
     outs.push(first);
@@ -63,7 +67,8 @@ pub fn two_outs(first: TeiOut, second: TeiOut) -> TeiOuts
 
 /// Three outputs, in this order.
 pub fn three_outs(first: TeiOut, second: TeiOut, third: TeiOut) -> TeiOuts
-    ensures { result.items ≡ first ∷ second ∷ third ∷ [] }
+    ensures items { result.items ≡ first ∷ second ∷ third ∷ [] }
+    ensures readable { IsReadable first → IsReadable second → IsReadable third → All IsReadable result.items }
 {
     let mut outs = TeiOuts::new();
     outs.push(first);

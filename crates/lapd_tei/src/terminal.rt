@@ -2,8 +2,9 @@ ghost use Rattle.std.specs.Prelude.{◌≡◌, ◌<◌, [], ◌∷◌, IfSome};
 ghost use Rattle.lapd_timers.specs.declared.timer.Timer.TheVariants.{T202};
 ghost use Rattle.lapd_tei.specs.declared.out.TeiOut.TheVariants.{Send, Start, Gone};
 ghost use Rattle.lapd_tei.specs.declared.phase.Phase.TheVariants.{Unassigned, Awaiting, Assigned};
-ghost use Rattle.lapd_tei.specs.Out.{request};
-ghost use Rattle.lapd_tei.specs.Terminal.{state_number, tei_of, count_of, reference_of, is_awaiting, new_terminal, terminal_step, awaiting_hears, assigned_hears, is_automatic};
+ghost use Rattle.std.specs.List.{All};
+ghost use Rattle.lapd_tei.specs.Out.{request, IsReadable};
+ghost use Rattle.lapd_tei.specs.Terminal.{state_number, tei_of, count_of, reference_of, is_awaiting, new_terminal, terminal_step, awaiting_hears, assigned_hears, is_automatic, IsTerminal};
 
 use crate::out::{no_outs, one_out, two_outs};
 use crate::phase::{Phase, Purpose};
@@ -138,6 +139,7 @@ impl Terminal {
     pub fn handle(&mut self, event: TerminalEvent) -> TeiOuts
         ensures now { self.new ≡ (terminal_step self.old event).now }
         ensures outs { result.items ≡ (terminal_step self.old event).outs }
+        ensures readable { All IsReadable result.items }
     {
         let (phase, outs) = step(self.phase, event);
         self.phase = phase;
@@ -147,8 +149,10 @@ impl Terminal {
 
 /// The terminal after an event, and its outputs.
 fn step(phase: Phase, event: TerminalEvent) -> (Phase, TeiOuts)
+    requires { IsTerminal phase }
     ensures now { result.0 ≡ (terminal_step phase event).now }
     ensures outs { result.1.items ≡ (terminal_step phase event).outs }
+    ensures readable { All IsReadable result.1.items }
 {
     match phase {
         Phase::Unassigned => unassigned(event),
@@ -161,6 +165,7 @@ fn step(phase: Phase, event: TerminalEvent) -> (Phase, TeiOuts)
 fn unassigned(event: TerminalEvent) -> (Phase, TeiOuts)
     ensures now { result.0 ≡ (terminal_step Unassigned event).now }
     ensures outs { result.1.items ≡ (terminal_step Unassigned event).outs }
+    ensures readable { All IsReadable result.1.items }
 {
     match event {
         TerminalEvent::Ask(ri) => ask(Purpose::Assignment, 1, ri),
@@ -173,6 +178,7 @@ fn unassigned(event: TerminalEvent) -> (Phase, TeiOuts)
 fn awaiting(purpose: Purpose, count: u8, ri: u16, event: TerminalEvent) -> (Phase, TeiOuts)
     ensures now { result.0 ≡ (terminal_step (Awaiting purpose count ri) event).now }
     ensures outs { result.1.items ≡ (terminal_step (Awaiting purpose count ri) event).outs }
+    ensures readable { All IsReadable result.1.items }
 {
     match event {
         TerminalEvent::Ask(_) => (Phase::Awaiting { purpose, count, ri }, no_outs()),
@@ -194,8 +200,10 @@ fn awaiting(purpose: Purpose, count: u8, ri: u16, event: TerminalEvent) -> (Phas
 
 /// State 4.
 fn assigned(by: Option<u16>, tei: Tei, event: TerminalEvent) -> (Phase, TeiOuts)
+    requires { tei < 127 }
     ensures now { result.0 ≡ (terminal_step (Assigned by tei) event).now }
     ensures outs { result.1.items ≡ (terminal_step (Assigned by tei) event).outs }
+    ensures readable { All IsReadable result.1.items }
 {
     match event {
         TerminalEvent::Heard(message, ri) => assigned_hears(by, tei, message, ri),
@@ -208,6 +216,7 @@ fn assigned(by: Option<u16>, tei: Tei, event: TerminalEvent) -> (Phase, TeiOuts)
 fn ask(purpose: Purpose, count: u8, ri: u16) -> (Phase, TeiOuts)
     ensures now { result.0 ≡ Awaiting purpose count ri }
     ensures outs { result.1.items ≡ Send (request ri) ∷ Start T202 ∷ [] }
+    ensures readable { All IsReadable result.1.items }
 {
     let request = TeiMessage {
         ri,
@@ -222,6 +231,7 @@ fn ask(purpose: Purpose, count: u8, ri: u16) -> (Phase, TeiOuts)
 fn gone(tei: Tei) -> (Phase, TeiOuts)
     ensures now { result.0 ≡ Unassigned }
     ensures outs { result.1.items ≡ Gone tei ∷ [] }
+    ensures readable { All IsReadable result.1.items }
 {
     (Phase::Unassigned, one_out(TeiOut::Gone(tei)))
 }
@@ -230,6 +240,7 @@ fn gone(tei: Tei) -> (Phase, TeiOuts)
 fn awaiting_hears(purpose: Purpose, count: u8, ri: u16, message: TeiMessage) -> (Phase, TeiOuts)
     ensures now { result.0 ≡ (awaiting_hears purpose count ri message.kind message.ri message.ai).now }
     ensures outs { result.1.items ≡ (awaiting_hears purpose count ri message.kind message.ri message.ai).outs }
+    ensures readable { All IsReadable result.1.items }
 {
     match (message.kind, Tei::new(message.ai)) {
         (TeiKind::Assigned, Some(tei)) if message.ri == ri && is_automatic(message.ai) => {
@@ -241,9 +252,12 @@ fn awaiting_hears(purpose: Purpose, count: u8, ri: u16, message: TeiMessage) -> 
 }
 
 /// A terminal with a TEI hears a message, and may answer by the reference `ri`.
+#[tactic(auto, using(crate::proofs::Named::one_is_named))]
 fn assigned_hears(by: Option<u16>, tei: Tei, message: TeiMessage, ri: u16) -> (Phase, TeiOuts)
+    requires { tei < 127 }
     ensures now { result.0 ≡ (assigned_hears by tei message.kind message.ri message.ai ri).now }
     ensures outs { result.1.items ≡ (assigned_hears by tei message.kind message.ri message.ai ri).outs }
+    ensures readable { All IsReadable result.1.items }
 {
     let own = message.ai == tei.value();
     let named = own || message.ai == Tei::group().value();
