@@ -4,3 +4,4 @@ pub mod Named
 pub mod TerminalKeeps
 pub mod AssignerKeeps
 pub mod RunKeeps
+pub mod Witnesses

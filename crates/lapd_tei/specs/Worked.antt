@@ -2,7 +2,7 @@
 use Rattle.std.specs.Prelude.{ℕ, zero, suc, List, [], ◌∷◌, Result, Ok, Err}
 use Rattle.lapd_tei.specs.declared.out.TeiOut.{TeiOut}
 use Rattle.lapd_tei.specs.declared.bus_move.BusMove.{BusMove}
-use Rattle.lapd_tei.specs.declared.bus_move.BusMove.TheVariants.{Ask, T202, Hear, HearUp, Check, T201, Leave}
+use Rattle.lapd_tei.specs.declared.bus_move.BusMove.TheVariants.{Ask, T202, Hear, Drop, HearUp, Check, T201, Leave}
 use Rattle.lapd_tei.specs.declared.bus_move.BusFault.{BusFault}
 use Rattle.lapd_tei.specs.declared.assigner.AssignerEvent.{AssignerEvent}
 use Rattle.lapd_tei.specs.declared.assigner.AssignerEvent.TheVariants as event
@@ -47,3 +47,21 @@ responded (suc n) = event.Heard (check_response 0x5678 64) ∷ responded n
 
 abbrev pub check_with : ℕ → List AssignerEvent
 check_with n = event.Check 64 ∷ responded n
+
+-- ---- Runs by which the premises of the law are tried.
+
+-- a TEI is got, given up, freed by a check, and got by another terminal
+abbrev pub got_by_another : List BusMove
+got_by_another = Ask 0 1 ∷ HearUp 0 ∷ Hear 0 0 2 ∷ Leave 0 ∷ Drop 0 ∷ Check 64 ∷ T201 ∷ T201 ∷ Ask 1 3 ∷ HearUp 0 ∷ Hear 2 1 4 ∷ []
+
+-- two terminals ask by one reference
+abbrev pub one_reference : List BusMove
+one_reference = Ask 0 7 ∷ Ask 1 7 ∷ HearUp 0 ∷ Hear 0 0 1 ∷ Hear 0 1 2 ∷ []
+
+-- a check frees a TEI that a terminal holds, as the terminal does not hear it
+abbrev pub freed_while_held : List BusMove
+freed_while_held = Ask 0 1 ∷ HearUp 0 ∷ Hear 0 0 2 ∷ Check 64 ∷ T201 ∷ T201 ∷ Ask 1 3 ∷ HearUp 0 ∷ Hear 3 1 4 ∷ []
+
+-- a check frees a TEI whose assignment is still on its way
+abbrev pub freed_on_its_way : List BusMove
+freed_on_its_way = Ask 0 1 ∷ HearUp 0 ∷ Check 64 ∷ T201 ∷ T201 ∷ Ask 1 2 ∷ HearUp 0 ∷ Hear 0 0 3 ∷ Hear 3 1 4 ∷ []

@@ -1,11 +1,11 @@
 //! Laws by which the definitions are tried. They do nothing when they are called.
 
-ghost use Rattle.std.specs.Prelude.{◌≡◌, ◌++◌, [], ◌∷◌, Ok, Err, Some};
+ghost use Rattle.std.specs.Prelude.{ℕ, List, ◌≡◌, ◌++◌, [], ◌∷◌, Ok, Err, Some};
 ghost use Rattle.lapd_timers.specs.declared.timer.Timer.TheVariants as timer;
 ghost use Rattle.lapd_frame.specs.declared.Side.TheVariants as side;
 ghost use Rattle.lapd_frame.specs.Frame.{spelling};
 ghost use Rattle.lapd_tei.specs.declared.out.TeiOut.TheVariants as out;
-ghost use Rattle.lapd_tei.specs.declared.phase.Phase.TheVariants.{Assigned};
+ghost use Rattle.lapd_tei.specs.declared.phase.Phase.TheVariants.{Unassigned, Assigned};
 ghost use Rattle.lapd_tei.specs.declared.bus_move.BusFault.TheVariants.{NothingThere, HeardBefore};
 ghost use Rattle.lapd_tei.specs.Message.{frame_of_message};
 ghost use Rattle.lapd_tei.specs.Out.{request, assigned, denied, check_request, check_response, remove};
@@ -13,7 +13,9 @@ ghost use Rattle.lapd_tei.specs.Bus.{new_bus, run, refusals};
 ghost use Rattle.lapd_tei.specs.Assigner.{nothing_held, known_held};
 ghost use Rattle.lapd_tei.specs.declared.assigner.AssignerEvent.TheVariants as event;
 ghost use Rattle.lapd_tei.specs.declared.bus_move.BusMove.TheVariants.{Ask, HearUp};
-ghost use Rattle.lapd_tei.specs.Worked.{answers, check_with, results, two_ask, vain_check, three_times, served};
+ghost use Rattle.lapd_tei.specs.Worked.{answers, check_with, results, two_ask, vain_check, three_times, served, got_by_another, one_reference, freed_while_held, freed_on_its_way};
+ghost use Rattle.lapd_tei.specs.Single.{Single, Differ, asked, FreesNobodys};
+ghost use Rattle.lapd_tei.specs.declared.bus_move.BusMove.{BusMove};
 
 /// Two terminals ask for a TEI; each hears the assignment that is for it, and the other does not take it. A check that no
 /// terminal answers frees the TEI. A terminal that nobody answers asks three times, and gives up.
@@ -39,4 +41,27 @@ pub fn assigner_is_computed()
     ensures check_octets { spelling side.Network (frame_of_message (check_request 64)) ≡ 0xFE ∷ 0xFF ∷ 0x03 ∷ 0x0F ∷ 0x00 ∷ 0x00 ∷ 0x04 ∷ 0x81 ∷ [] }
     ensures response_octets { spelling side.User (frame_of_message (check_response 0x5678 64)) ≡ 0xFC ∷ 0xFF ∷ 0x03 ∷ 0x0F ∷ 0x56 ∷ 0x78 ∷ 0x05 ∷ 0x81 ∷ [] }
     ensures remove_octets { spelling side.Network (frame_of_message (remove 64)) ≡ 0xFE ∷ 0xFF ∷ 0x03 ∷ 0x0F ∷ 0x00 ∷ 0x00 ∷ 0x06 ∷ 0x81 ∷ [] }
+{}
+
+/// The law of the TEIs, over the definitions: after every run from a new bus no two terminals hold the same TEI, where the
+/// references of the requests differ and a TEI is freed only while no terminal holds it and no assignment of it is on its
+/// way. It holds for lost, repeated and overtaking messages, timers that expire at any moment, and terminals that leave and
+/// ask again.
+pub fn terminals_are_single()
+    ensures { (terminals : ℕ) (moves : List BusMove) → Differ (asked (new_bus terminals) moves) → FreesNobodys (new_bus terminals) moves → Single (run (new_bus terminals) moves) }
+{}
+
+/// Both premises are met by a run in which a TEI comes to another terminal after it was freed.
+pub fn premises_can_be_met()
+    ensures references { Differ (asked (new_bus 2) got_by_another) }
+    ensures freeing { FreesNobodys (new_bus 2) got_by_another }
+    ensures got { (run (new_bus 2) got_by_another).terminals ≡ Unassigned ∷ Assigned (Some 3) 64 ∷ [] }
+{}
+
+/// Neither premise can go: where two requests have one reference, where a check frees a TEI that a terminal holds, and where
+/// one frees a TEI whose assignment is on its way, two terminals come to hold the same TEI.
+pub fn premises_are_needed()
+    ensures references { Single (run (new_bus 2) one_reference) → ⊥ }
+    ensures holders { Single (run (new_bus 2) freed_while_held) → ⊥ }
+    ensures assignments { Single (run (new_bus 2) freed_on_its_way) → ⊥ }
 {}

@@ -27,7 +27,10 @@ pub use fault::TeiFault;
 pub use kind::TeiKind;
 pub use lapd_frame::{Side, Tei};
 pub use lapd_timers::Timer;
-pub use laws::{assigner_is_computed, moves_are_computed};
+pub use laws::{
+    assigner_is_computed, moves_are_computed, premises_are_needed, premises_can_be_met,
+    terminals_are_single,
+};
 pub use message::TeiMessage;
 pub use out::{TeiOut, TeiOuts};
 pub use terminal::{Terminal, TerminalEvent};
