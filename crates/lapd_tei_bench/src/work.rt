@@ -6,7 +6,7 @@ use lapd_timers::{Durations, TimerSet};
 /// What is done.
 #[derive(Clone, Copy, Debug, PartialEq, Eq)]
 pub enum Work {
-    /// All four timers run, and it is asked which of them is due.
+    /// All four timers run, and the one that is due is started anew.
     Due,
     /// A terminal asks for a TEI, gets it and leaves: three steps.
     Terminal,
@@ -45,8 +45,10 @@ fn due(times: u32) -> u64 {
     timers.start(Timer::T201, 200);
     timers.start(Timer::T200, 300);
     let mut outputs: u64 = 0;
-    for now in 0..times {
-        if timers.due(10_000 + u64::from(now)).is_some() {
+    for number in 0..times {
+        let now = u64::from(number) * 256;
+        if let Some(timer) = timers.due(now) {
+            timers.start(timer, now);
             outputs = outputs.wrapping_add(1);
         }
     }
