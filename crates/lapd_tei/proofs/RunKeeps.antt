@@ -18,7 +18,7 @@ use Rattle.lapd_tei.specs.declared.bus_move.BusMove.TheVariants as move
 use Rattle.lapd_tei.specs.Out.{sent}
 use Rattle.lapd_tei.specs.Terminal.{terminal_step}
 use Rattle.lapd_tei.specs.Bus.{BusState, Broadcast, new_bus, terminal_has, t202_expires, t201_expires, terminal_hears, hears, with_mark, heard_by, drops_down, drops_up, network_hears, without_up, bus_step, moved, done, run, refusal, refusals}
-use Rattle.lapd_tei.specs.Single.{Single, references, asked, Differ, IsNobodys, FreesNobodys}
+use Rattle.lapd_tei.specs.Single.{Single, references, asked, Differ, IsNobodys, FreesNobodys, MeetsPremises}
 use Rattle.lapd_tei.proofs.Kept.{Sits, Fits, Kept, single_from_kept, differ_rest, differ_front}
 use Rattle.lapd_tei.proofs.TerminalKeeps.{HearsFitting, terminal_kept}
 use Rattle.lapd_tei.proofs.AssignerKeeps.{Goes, all_at, timer_goes, check_goes, hears_goes}
@@ -151,6 +151,9 @@ new_bus_kept terminals rest = record {
 pub law : (terminals : ℕ) (ms : List BusMove) → Differ (asked (new_bus terminals) ms) → FreesNobodys (new_bus terminals) ms → Single (run (new_bus terminals) ms)
 law terminals ms differ nobodys = single_from_kept (run (new_bus terminals) ms) [] (run_keeps (new_bus terminals) ms (new_bus_kept terminals (asked (new_bus terminals) ms)) differ nobodys)
 
+pub law_of_teis : (terminals : ℕ) (ms : List BusMove) → MeetsPremises terminals ms → Single (run (new_bus terminals) ms)
+law_of_teis terminals ms met = law terminals ms met.references met.freeing
+
 -- ---- A run in parts.
 
 pub run_append : (b : BusState) (ms ns : List BusMove) → run b (ms ++ ns) ≡ run (run b ms) ns
@@ -228,8 +231,8 @@ more_refused b now next ms n refused after m fault within is h step stays same =
 
 -- the law of the TEIs, at this place of the moves of a bus that earlier moves left
 pub single_at : (terminals : ℕ) (before ms : List BusMove) (n : ℕ) (old now : BusState) → old ≡ run (new_bus terminals) before → now ≡ run old (take n ms)
-    → Differ (asked (new_bus terminals) (before ++ ms)) → FreesNobodys (new_bus terminals) (before ++ ms) → Single now
-single_at terminals before ms n old now was is differ nobodys =
+    → MeetsPremises terminals (before ++ ms) → Single now
+single_at terminals before ms n old now was is met =
     let whole : before ++ ms ≡ (before ++ take n ms) ++ drop n ms = ap (λ l. before ++ l) (sym (take-append-drop n ms)) ∙ sym (append_assoc before (take n ms) (drop n ms)) in
     let here : run (new_bus terminals) (before ++ take n ms) ≡ now = run_append (new_bus terminals) before (take n ms) ∙ (ap (λ x. run x (take n ms)) (sym was) ∙ sym is) in
-    subst Single here (law_within terminals (before ++ take n ms) (drop n ms) (subst (λ l. Differ (asked (new_bus terminals) l)) whole differ) (subst (FreesNobodys (new_bus terminals)) whole nobodys))
+    subst Single here (law_within terminals (before ++ take n ms) (drop n ms) (subst (λ l. Differ (asked (new_bus terminals) l)) whole met.references) (subst (FreesNobodys (new_bus terminals)) whole met.freeing))

@@ -10,6 +10,7 @@ use Rattle.lapd_tei.specs.declared.phase.Phase.{Phase}
 use Rattle.lapd_tei.specs.declared.phase.Phase.TheVariants.{Unassigned, Awaiting}
 use Rattle.lapd_tei.specs.declared.terminal.TerminalEvent.{TerminalEvent}
 use Rattle.lapd_tei.specs.declared.terminal.TerminalEvent.TheVariants as event
+use Rattle.lapd_tei.specs.declared.assigner.AssignerEvent.{AssignerEvent}
 use Rattle.lapd_tei.specs.declared.assigner.AssignerEvent.TheVariants as assigner
 use Rattle.lapd_tei.specs.declared.check.Check.{Check}
 use Rattle.lapd_tei.specs.declared.bus_move.BusMove.{BusMove}
@@ -63,15 +64,24 @@ abbrev pub terminal_has : BusState → ℕ → Option Phase → TerminalEvent �
 terminal_has b t None e = Err NothingThere
 terminal_has b t (Some phase) e = Ok (terminal_did b t (terminal_step phase e))
 
+abbrev pub to_terminal : BusState → ℕ → TerminalEvent → Result BusStep BusFault
+to_terminal b t e = terminal_has b t (slice_get b.terminals t) e
+
 -- T202 runs while a TEI is awaited
 abbrev pub t202_expires : BusState → ℕ → ℕ → Option Phase → Result BusStep BusFault
 t202_expires b t ri (Some (Awaiting purpose count own)) = Ok (terminal_did b t (terminal_step (Awaiting purpose count own) (event.T202 ri)))
 t202_expires b t ri other = Err NothingThere
 
+abbrev pub expire_t202 : BusState → ℕ → ℕ → Result BusStep BusFault
+expire_t202 b t ri = t202_expires b t ri (slice_get b.terminals t)
+
 -- T201 runs during a check
 abbrev pub t201_expires : BusState → Option Check → Result BusStep BusFault
 t201_expires b None = Err NothingThere
 t201_expires b (Some check) = Ok (assigner_did b (assigner_step b.assigner assigner.T201))
+
+abbrev pub expire_t201 : BusState → Result BusStep BusFault
+expire_t201 b = t201_expires b b.assigner.check
 
 -- the terminal has heard this message now
 abbrev pub heard_by : ℕ → Broadcast → Broadcast
@@ -89,10 +99,16 @@ abbrev pub terminal_hears : BusState → ℕ → ℕ → ℕ → Option Broadcas
 terminal_hears b i t ri (Some f) (Some phase) = hears b i t ri f phase (slice_index_or f.heard t false)
 terminal_hears b i t ri f phase = Err NothingThere
 
+abbrev pub hear : BusState → ℕ → ℕ → ℕ → Result BusStep BusFault
+hear b i t ri = terminal_hears b i t ri (slice_get b.down i) (slice_get b.terminals t)
+
 -- a message is dropped, where it is there
 abbrev pub drops_down : BusState → ℕ → Option Broadcast → Result BusStep BusFault
 drops_down b i None = Err NothingThere
 drops_down b i (Some f) = Ok (record { now = record { terminals = b.terminals; assigner = b.assigner; down = remove b.down i; up = b.up }; outs = [] })
+
+abbrev pub drop_down : BusState → ℕ → Result BusStep BusFault
+drop_down b i = drops_down b i (slice_get b.down i)
 
 abbrev pub without_up : BusState → ℕ → BusState
 without_up b i = record { terminals = b.terminals; assigner = b.assigner; down = b.down; up = remove b.up i }
@@ -101,22 +117,32 @@ abbrev pub drops_up : BusState → ℕ → Option TeiMessage → Result BusStep 
 drops_up b i None = Err NothingThere
 drops_up b i (Some m) = Ok (record { now = without_up b i; outs = [] })
 
+abbrev pub drop_up : BusState → ℕ → Result BusStep BusFault
+drop_up b i = drops_up b i (slice_get b.up i)
+
 -- the assigner hears a message, which leaves
 abbrev pub network_hears : BusState → ℕ → Option TeiMessage → Result BusStep BusFault
 network_hears b i None = Err NothingThere
 network_hears b i (Some m) = Ok (assigner_did (without_up b i) (assigner_step b.assigner (assigner.Heard m)))
 
+abbrev pub hear_up : BusState → ℕ → Result BusStep BusFault
+hear_up b i = network_hears b i (slice_get b.up i)
+
+-- an event of the assigner
+abbrev pub to_assigner : BusState → AssignerEvent → BusStep
+to_assigner b e = assigner_did b (assigner_step b.assigner e)
+
 -- One move: the bus after it with the outputs of its row, or the reason why it is refused.
 abbrev pub bus_step : BusState → BusMove → Result BusStep BusFault
-bus_step b (move.Ask t ri) = terminal_has b t (slice_get b.terminals t) (event.Ask ri)
-bus_step b (move.T202 t ri) = t202_expires b t ri (slice_get b.terminals t)
-bus_step b (move.Hear i t ri) = terminal_hears b i t ri (slice_get b.down i) (slice_get b.terminals t)
-bus_step b (move.Drop i) = drops_down b i (slice_get b.down i)
-bus_step b (move.HearUp i) = network_hears b i (slice_get b.up i)
-bus_step b (move.DropUp i) = drops_up b i (slice_get b.up i)
-bus_step b (move.Check tei) = Ok (assigner_did b (assigner_step b.assigner (assigner.Check tei)))
-bus_step b move.T201 = t201_expires b b.assigner.check
-bus_step b (move.Leave t) = terminal_has b t (slice_get b.terminals t) event.Leave
+bus_step b (move.Ask t ri) = to_terminal b t (event.Ask ri)
+bus_step b (move.T202 t ri) = expire_t202 b t ri
+bus_step b (move.Hear i t ri) = hear b i t ri
+bus_step b (move.Drop i) = drop_down b i
+bus_step b (move.HearUp i) = hear_up b i
+bus_step b (move.DropUp i) = drop_up b i
+bus_step b (move.Check tei) = Ok (to_assigner b (assigner.Check tei))
+bus_step b move.T201 = expire_t201 b
+bus_step b (move.Leave t) = to_terminal b t event.Leave
 
 -- a refused move changes nothing
 abbrev pub done : BusState → Result BusStep BusFault → BusStep

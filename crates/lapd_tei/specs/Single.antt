@@ -11,7 +11,7 @@ use Rattle.lapd_tei.specs.declared.phase.Phase.{Phase}
 use Rattle.lapd_tei.specs.declared.bus_move.BusMove.{BusMove}
 use Rattle.lapd_tei.specs.Out.{sent}
 use Rattle.lapd_tei.specs.Terminal.{tei_of}
-use Rattle.lapd_tei.specs.Bus.{BusState, moved}
+use Rattle.lapd_tei.specs.Bus.{BusState, new_bus, moved}
 
 -- the terminal at this place holds this TEI
 pub record Holds (b : BusState) (place n : ℕ) : Type 0 where
@@ -65,3 +65,8 @@ pub record IsNobodys (b : BusState) (n : ℕ) : Type 0 where
 abbrev pub FreesNobodys : BusState → List BusMove → Type 0
 FreesNobodys b [] = Unit {0}
 FreesNobodys b (m ∷ ms) = AllByRecursion (IsNobodys b) (freed (moved b m).outs) × FreesNobodys (moved b m).now ms
+
+-- both, over these moves from a new bus of so many terminals on
+pub record MeetsPremises (terminals : ℕ) (moves : List BusMove) : Type 0 where
+  pub references : Differ (asked (new_bus terminals) moves)
+  pub freeing : FreesNobodys (new_bus terminals) moves

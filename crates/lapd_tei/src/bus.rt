@@ -1,10 +1,9 @@
 ghost use Rattle.std.specs.Prelude.{◌≡◌, ◌≢◌, ◌<◌, ℕ, List, ◌++◌, take, Some, map, length, slice_get, option_copied, Ok, Err, IsOk, IfOk, IfErr, OnOk, OnErr};
 ghost use Rattle.std.specs.List.{All};
 ghost use Rattle.lapd_tei.specs.Out.{sent, IsReadable};
-ghost use Rattle.lapd_tei.specs.Bus.{BusState, new_bus, broadcast, bus_step, terminal_has, t201_expires, t202_expires, terminal_hears, drops_down, drops_up, network_hears, assigner_did, run, refusals};
-ghost use Rattle.lapd_tei.specs.Single.{Single, Differ, asked, FreesNobodys};
+ghost use Rattle.lapd_tei.specs.Bus.{new_bus, broadcast, bus_step, to_terminal, expire_t202, hear, drop_down, drop_up, hear_up, expire_t201, to_assigner, run, refusals};
+ghost use Rattle.lapd_tei.specs.Single.{Single, MeetsPremises};
 ghost use Rattle.lapd_tei.specs.declared.bus_move.BusMove.{BusMove};
-ghost use Rattle.lapd_tei.specs.Assigner.{assigner_step};
 ghost use Rattle.lapd_tei.specs.declared.bus_move.BusFault.TheVariants as fault;
 
 use crate::broadcast::Broadcast;
@@ -107,7 +106,8 @@ impl Bus {
         ensures stopped { IfErr result (λ place. (m : BusMove) → slice_get moves.now place ≡ Some m → IsOk (bus_step self.new m)) }
 
         // The law of the TEIs.
-        ensures single { (terminals : ℕ) (before : List BusMove) → self.old ≡ run (new_bus terminals) before → Differ (asked (new_bus terminals) (before ++ moves.now)) → FreesNobodys (new_bus terminals) (before ++ moves.now) → Single self.new }
+        ensures single { (terminals : ℕ) (before : List BusMove) → self.old ≡ run (new_bus terminals) before
+            → MeetsPremises terminals (before ++ moves.now) → Single self.new }
     {
         let mut refused: u64 = 0;
         for (place, m) in moves.iter().enumerate() {
@@ -123,10 +123,10 @@ impl Bus {
 
     /// An event of a terminal.
     fn to_terminal(&mut self, t: usize, event: TerminalEvent) -> Result<TeiOuts, BusFault>
-        ensures done { IfOk result (λ outs. terminal_has self.old t (slice_get self.old.terminals t) event ≡ Ok (record { now = self.new; outs = outs.items })) }
+        ensures done { IfOk result (λ outs. to_terminal self.old t event ≡ Ok (record { now = self.new; outs = outs.items })) }
         ensures readable { IfOk result (λ outs. All IsReadable outs.items) }
-        ensures refused { IfErr result (λ f. f ≢ fault.Memory → terminal_has self.old t (slice_get self.old.terminals t) event ≡ Err f) }
-        ensures memory { IfErr result (λ f. f ≡ fault.Memory → IsOk (terminal_has self.old t (slice_get self.old.terminals t) event)) }
+        ensures refused { IfErr result (λ f. f ≢ fault.Memory → to_terminal self.old t event ≡ Err f) }
+        ensures memory { IfErr result (λ f. f ≡ fault.Memory → IsOk (to_terminal self.old t event)) }
         ensures unchanged { OnErr result (self.new ≡ self.old) }
     {
         let Some(there) = self.terminals.get(t) else {
@@ -153,10 +153,10 @@ impl Bus {
 
     /// T202 of a terminal expires. It runs in states 2 and 3.
     fn expire_t202(&mut self, t: usize, ri: u16) -> Result<TeiOuts, BusFault>
-        ensures done { IfOk result (λ outs. t202_expires self.old t ri (slice_get self.old.terminals t) ≡ Ok (record { now = self.new; outs = outs.items })) }
+        ensures done { IfOk result (λ outs. expire_t202 self.old t ri ≡ Ok (record { now = self.new; outs = outs.items })) }
         ensures readable { IfOk result (λ outs. All IsReadable outs.items) }
-        ensures refused { IfErr result (λ f. f ≢ fault.Memory → t202_expires self.old t ri (slice_get self.old.terminals t) ≡ Err f) }
-        ensures memory { IfErr result (λ f. f ≡ fault.Memory → IsOk (t202_expires self.old t ri (slice_get self.old.terminals t))) }
+        ensures refused { IfErr result (λ f. f ≢ fault.Memory → expire_t202 self.old t ri ≡ Err f) }
+        ensures memory { IfErr result (λ f. f ≡ fault.Memory → IsOk (expire_t202 self.old t ri)) }
         ensures unchanged { OnErr result (self.new ≡ self.old) }
     {
         match self.terminals.get(t) {
@@ -169,10 +169,10 @@ impl Bus {
 
     /// A terminal hears a message of the network side.
     fn hear(&mut self, i: usize, t: usize, ri: u16) -> Result<TeiOuts, BusFault>
-        ensures done { IfOk result (λ outs. terminal_hears self.old i t ri (slice_get self.old.down i) (slice_get self.old.terminals t) ≡ Ok (record { now = self.new; outs = outs.items })) }
+        ensures done { IfOk result (λ outs. hear self.old i t ri ≡ Ok (record { now = self.new; outs = outs.items })) }
         ensures readable { IfOk result (λ outs. All IsReadable outs.items) }
-        ensures refused { IfErr result (λ f. f ≢ fault.Memory → terminal_hears self.old i t ri (slice_get self.old.down i) (slice_get self.old.terminals t) ≡ Err f) }
-        ensures memory { IfErr result (λ f. f ≡ fault.Memory → IsOk (terminal_hears self.old i t ri (slice_get self.old.down i) (slice_get self.old.terminals t))) }
+        ensures refused { IfErr result (λ f. f ≢ fault.Memory → hear self.old i t ri ≡ Err f) }
+        ensures memory { IfErr result (λ f. f ≡ fault.Memory → IsOk (hear self.old i t ri)) }
         ensures unchanged { OnErr result (self.new ≡ self.old) }
     {
         let (Some(broadcast), Some(there)) = (self.down.get(i), self.terminals.get(t)) else {
@@ -191,9 +191,9 @@ impl Bus {
 
     /// A message of the network side is lost.
     fn drop_down(&mut self, i: usize) -> Result<TeiOuts, BusFault>
-        ensures done { IfOk result (λ outs. drops_down self.old i (slice_get self.old.down i) ≡ Ok (record { now = self.new; outs = outs.items })) }
+        ensures done { IfOk result (λ outs. drop_down self.old i ≡ Ok (record { now = self.new; outs = outs.items })) }
         ensures readable { IfOk result (λ outs. All IsReadable outs.items) }
-        ensures refused { IfErr result (λ f. drops_down self.old i (slice_get self.old.down i) ≡ Err f) }
+        ensures refused { IfErr result (λ f. drop_down self.old i ≡ Err f) }
         ensures unchanged { OnErr result (self.new ≡ self.old) }
     {
         if i >= self.down.len() {
@@ -205,9 +205,9 @@ impl Bus {
 
     /// A message of a terminal is lost.
     fn drop_up(&mut self, i: usize) -> Result<TeiOuts, BusFault>
-        ensures done { IfOk result (λ outs. drops_up self.old i (slice_get self.old.up i) ≡ Ok (record { now = self.new; outs = outs.items })) }
+        ensures done { IfOk result (λ outs. drop_up self.old i ≡ Ok (record { now = self.new; outs = outs.items })) }
         ensures readable { IfOk result (λ outs. All IsReadable outs.items) }
-        ensures refused { IfErr result (λ f. drops_up self.old i (slice_get self.old.up i) ≡ Err f) }
+        ensures refused { IfErr result (λ f. drop_up self.old i ≡ Err f) }
         ensures unchanged { OnErr result (self.new ≡ self.old) }
     {
         if i >= self.up.len() {
@@ -219,10 +219,10 @@ impl Bus {
 
     /// The assigner hears a message of a terminal.
     fn hear_up(&mut self, i: usize) -> Result<TeiOuts, BusFault>
-        ensures done { IfOk result (λ outs. network_hears self.old i (slice_get self.old.up i) ≡ Ok (record { now = self.new; outs = outs.items })) }
+        ensures done { IfOk result (λ outs. hear_up self.old i ≡ Ok (record { now = self.new; outs = outs.items })) }
         ensures readable { IfOk result (λ outs. All IsReadable outs.items) }
-        ensures refused { IfErr result (λ f. f ≢ fault.Memory → network_hears self.old i (slice_get self.old.up i) ≡ Err f) }
-        ensures memory { IfErr result (λ f. f ≡ fault.Memory → IsOk (network_hears self.old i (slice_get self.old.up i))) }
+        ensures refused { IfErr result (λ f. f ≢ fault.Memory → hear_up self.old i ≡ Err f) }
+        ensures memory { IfErr result (λ f. f ≡ fault.Memory → IsOk (hear_up self.old i)) }
         ensures unchanged { OnErr result (self.new ≡ self.old) }
     {
         let Some(there) = self.up.get(i) else {
@@ -236,10 +236,10 @@ impl Bus {
 
     /// T201 expires. It runs during a check.
     fn expire_t201(&mut self) -> Result<TeiOuts, BusFault>
-        ensures done { IfOk result (λ outs. t201_expires self.old self.old.assigner.check ≡ Ok (record { now = self.new; outs = outs.items })) }
+        ensures done { IfOk result (λ outs. expire_t201 self.old ≡ Ok (record { now = self.new; outs = outs.items })) }
         ensures readable { IfOk result (λ outs. All IsReadable outs.items) }
-        ensures refused { IfErr result (λ f. f ≢ fault.Memory → t201_expires self.old self.old.assigner.check ≡ Err f) }
-        ensures memory { IfErr result (λ f. f ≡ fault.Memory → IsOk (t201_expires self.old self.old.assigner.check)) }
+        ensures refused { IfErr result (λ f. f ≢ fault.Memory → expire_t201 self.old ≡ Err f) }
+        ensures memory { IfErr result (λ f. f ≡ fault.Memory → IsOk (expire_t201 self.old)) }
         ensures unchanged { OnErr result (self.new ≡ self.old) }
     {
         match self.assigner.check() {
@@ -250,7 +250,7 @@ impl Bus {
 
     /// An event of the assigner.
     fn to_assigner(&mut self, event: AssignerEvent) -> Result<TeiOuts, BusFault>
-        ensures done { IfOk result (λ outs. assigner_did self.old (assigner_step self.old.assigner event) ≡ record { now = self.new; outs = outs.items }) }
+        ensures done { IfOk result (λ outs. to_assigner self.old event ≡ record { now = self.new; outs = outs.items }) }
         ensures readable { IfOk result (λ outs. All IsReadable outs.items) }
         ensures memory { IfErr result (λ f. f ≡ fault.Memory) }
         ensures unchanged { OnErr result (self.new ≡ self.old) }

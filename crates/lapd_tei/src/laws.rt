@@ -14,7 +14,7 @@ ghost use Rattle.lapd_tei.specs.Assigner.{nothing_held, known_held};
 ghost use Rattle.lapd_tei.specs.declared.assigner.AssignerEvent.TheVariants as event;
 ghost use Rattle.lapd_tei.specs.declared.bus_move.BusMove.TheVariants.{Ask, HearUp};
 ghost use Rattle.lapd_tei.specs.Worked.{answers, check_with, results, two_ask, vain_check, three_times, served, got_by_another, one_reference, freed_while_held, freed_on_its_way};
-ghost use Rattle.lapd_tei.specs.Single.{Single, Differ, asked, FreesNobodys};
+ghost use Rattle.lapd_tei.specs.Single.{Single, MeetsPremises};
 ghost use Rattle.lapd_tei.specs.declared.bus_move.BusMove.{BusMove};
 
 /// Two terminals ask for a TEI; each hears the assignment that is for it, and the other does not take it. A check that no
@@ -48,13 +48,12 @@ pub fn assigner_is_computed()
 /// way. It holds for lost, repeated and overtaking messages, timers that expire at any moment, and terminals that leave and
 /// ask again.
 pub fn terminals_are_single()
-    ensures { (terminals : ℕ) (moves : List BusMove) → Differ (asked (new_bus terminals) moves) → FreesNobodys (new_bus terminals) moves → Single (run (new_bus terminals) moves) }
+    ensures { (terminals : ℕ) (moves : List BusMove) → MeetsPremises terminals moves → Single (run (new_bus terminals) moves) }
 {}
 
 /// Both premises are met by a run in which a TEI comes to another terminal after it was freed.
 pub fn premises_can_be_met()
-    ensures references { Differ (asked (new_bus 2) got_by_another) }
-    ensures freeing { FreesNobodys (new_bus 2) got_by_another }
+    ensures met { MeetsPremises 2 got_by_another }
     ensures got { (run (new_bus 2) got_by_another).terminals ≡ Unassigned ∷ Assigned (Some 3) 64 ∷ [] }
 {}
 

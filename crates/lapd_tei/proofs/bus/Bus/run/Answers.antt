@@ -17,9 +17,9 @@ loop-place-preserved c =
     ]
 
 pub returns-in-Err-Memory-clause-single : goal.returns-in-Err-Memory-clause-single
-returns-in-Err-Memory-clause-single c = λ terminals before was differ nobodys.
-    single_at terminals before c.args.moves.now c.loop-place.place c.args.self.now c.apply.new.self was (c.in-Err-Memory.ensures.unchanged ∙ c.loop-place.invariant.so_far) differ nobodys
+returns-in-Err-Memory-clause-single c = λ terminals before was met.
+    single_at terminals before c.args.moves.now c.loop-place.place c.args.self.now c.apply.new.self was (c.in-Err-Memory.ensures.unchanged ∙ c.loop-place.invariant.so_far) met
 
 pub returns-clause-single : goal.returns-clause-single
-returns-clause-single c = λ terminals before was differ nobodys.
-    single_at terminals before c.args.moves.now c.loop-place.place c.args.self.now c.loop-place.self was c.loop-place.invariant.so_far differ nobodys
+returns-clause-single c = λ terminals before was met.
+    single_at terminals before c.args.moves.now c.loop-place.place c.args.self.now c.loop-place.self was c.loop-place.invariant.so_far met
