@@ -1,3 +1,11 @@
 pub mod Fates
 pub mod Histories
 pub mod Line
+pub mod Marked
+pub mod Moves
+pub mod Pair
+pub mod PairFault
+pub mod Runs
+pub mod Setup
+pub mod Station
+pub mod Telling

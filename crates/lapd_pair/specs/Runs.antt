@@ -1,0 +1,56 @@
+-- What the calls of a pair come to, by the moves of the world.
+use Rattle.std.specs.Prelude.{◌≡◌, ◌+◌, ℕ, true, List, [], ◌∷◌, take, map, slice_get, Some, Result, Ok, Err, is_ok}
+use Rattle.lapd_invariant.specs.Reports.{AllReportsExpected}
+use Rattle.lapd_mod128.specs.Counting.{Whole, Tagged}
+use Rattle.lapd_states.specs.declared.out.Out.{Out}
+use Rattle.lapd_states.specs.Parameters.{Parameters}
+use Rattle.lapd_world.specs.Move as world
+use Rattle.lapd_world.specs.Move.{Refusal}
+use Rattle.lapd_world.specs.Safe.{AreSafe}
+use Rattle.lapd_world.specs.Tagged.{tag_world, tag_outcome}
+use Rattle.lapd_world.specs.World.{World, Happened, new_world, happens, world_after, run, outcomes}
+use Rattle.lapd_pair.specs.Pair.{StandForWorld}
+use Rattle.lapd_pair.specs.declared.pair.Pair.{Pair}
+
+-- a pair stands for a world
+abbrev pub PairStandsFor : Pair → World → Type 0
+PairStandsFor p w = StandForWorld p.user p.network p.to_user p.to_network w
+
+-- the move was admitted, with these outputs, and the pair stands for the world after it
+pub record HasHappened (p : Pair) (outcome : Result Happened Refusal) (outs : List Out) : Type 0 where
+  pub happened : Happened
+  pub is : outcome ≡ Ok happened
+  pub same : happened.outs ≡ outs
+  pub stands : PairStandsFor p happened.world
+
+-- how many of these moves are refused, one after another
+abbrev pub refused_of : Result Happened Refusal → ℕ
+refused_of (Ok happened) = 0
+refused_of (Err refusal) = 1
+
+abbrev pub refusals : List world.Move → World → ℕ
+refusals [] w = 0
+refusals (move ∷ moves) w = refused_of (happens Tagged move w) + refusals moves (world_after w (happens Tagged move w))
+
+-- A run found no memory for the move at this place: the pair stands for the world that the moves before it lead to, and
+-- that move is admitted there.
+pub record HasStoppedAt (at : ℕ) (moves : List world.Move) (p : Pair) (w : World) : Type 0 where
+  pub move : world.Move
+  pub there : slice_get moves at ≡ Some move
+  pub before : PairStandsFor p (run Tagged (take at moves) w)
+  pub admitted : is_ok (happens Tagged move (run Tagged (take at moves) w)) ≡ true
+
+-- A pair that some moves have led to, as every pair is.
+--   stands   it stands for the world that these moves lead to, its numbers being tags;
+--   same     that is the world of whole numbers, each number in its tag, and so is what each move came to;
+--   safe     its histories are safe, each side against the other;
+--   reports  no report but F, G, H and I ever arose.
+pub record IsSafePair (p : Pair) : Type 0 where
+  pub user : Parameters
+  pub network : Parameters
+  pub moves : List world.Move
+  pub stands : PairStandsFor p (run Tagged moves (new_world user network))
+  pub same : run Tagged moves (new_world user network) ≡ tag_world (run Whole moves (new_world user network))
+  pub same_outcomes : outcomes Tagged moves (new_world user network) ≡ map tag_outcome (outcomes Whole moves (new_world user network))
+  pub safe : AreSafe (run Tagged moves (new_world user network))
+  pub reports : AllReportsExpected (outcomes Tagged moves (new_world user network))

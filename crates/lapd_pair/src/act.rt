@@ -1,0 +1,231 @@
+//! What each move comes to at the side whose move it is.
+
+ghost use Rattle.std.specs.Prelude.{◌≡◌, ◌≤◌, [], true, length, IfOk, IfErr, OnErr};
+ghost use Rattle.lapd_frame.specs.Frame.{n201};
+ghost use Rattle.lapd_link.specs.Link.{setup_of, is_address_of};
+ghost use Rattle.lapd_mod128.specs.Counting.{Tagged};
+ghost use Rattle.lapd_states.specs.Input.{Give, UnitData, input_of};
+ghost use Rattle.lapd_world.specs.Line.{Flight};
+ghost use Rattle.lapd_world.specs.Move.{takes, hears, delivers, loses, expires_200, expires_203, acts, busy_input, quietly, restarts};
+ghost use Rattle.lapd_pair.specs.Line.{fields_of};
+ghost use Rattle.lapd_pair.specs.Moves.{move_of};
+ghost use Rattle.lapd_pair.specs.Station.{Acts, RefusesAs, ShowsAsBefore, ActsInView, RefusesInView, ShowsViewAsBefore, IsAsked};
+
+use crate::line::Line;
+use crate::moves::Move;
+use crate::pair_fault::PairFault;
+use crate::station::{Station, new_link};
+use lapd_frame::{Frame, read};
+use lapd_link::{Event, Outs, Timer};
+use std::alloc::Global;
+
+impl Station {
+    /// What this move comes to, `inward` being the line to this side, and `outward` that to the other.
+    ///
+    /// # Errors
+    ///
+    /// P1 to P5. What this side and the line show is unchanged.
+    pub fn act(
+        &mut self,
+        alloc: Global,
+        deed: &Move,
+        inward: &mut Line,
+        outward: &mut Line,
+    ) -> Result<Outs, PairFault>
+        ensures ok { IfOk result (ActsInView self.old inward.old outward.old self.new inward.new outward.new (λ side v. acts Tagged side (move_of deed.now).deed v)) }
+        ensures err { IfErr result (RefusesInView self.old inward.old outward.old (λ side v. acts Tagged side (move_of deed.now).deed v)) }
+        ensures unchanged { OnErr result (ShowsViewAsBefore self.old inward.old outward.old self.new inward.new outward.new) }
+    {
+        match deed {
+            Move::Give(_, message) => self.take_message(alloc, message, outward),
+            Move::Establish(_) => self.take(Event::Establish, &[], outward),
+            Move::Release(_) => self.take(Event::Release, &[], outward),
+            Move::Deliver(_) => self.deliver(alloc, inward, outward),
+            Move::Lose(_, place) => self.lose(*place, inward, outward),
+            Move::Expire200(_) => self.expire_200(inward, outward),
+            Move::Expire203(_) => self.expire_203(outward),
+            Move::Busy(_, on) => self.set_busy(*on, outward),
+            Move::Unit(_, octets) => self.take_unit(octets, outward),
+            Move::Restart(_) => self.restart(alloc, inward, outward),
+        }
+    }
+
+    /// A request of layer 3, or an expiry. `octets` are the unit data to be sent.
+    fn take(&mut self, event: Event, octets: &[u8], outward: &mut Line) -> Result<Outs, PairFault>
+        requires asked { IsAsked (input_of event) octets.now }
+        ensures ok { IfOk result (Acts self.old outward.old self.new outward.new (λ side v. takes Tagged (input_of event.entry) octets.now v)) }
+        ensures err { IfErr result (RefusesAs self.old (λ side v. takes Tagged (input_of event.entry) octets.now v)) }
+        ensures unchanged { OnErr result (ShowsAsBefore self.old outward.old self.new outward.new) }
+    {
+        if let Some(fault) = self.link.refusal(&event) {
+            return Err(PairFault::Refused(fault));
+        }
+        let Ok(()) = self.make_room(outward) else {
+            return Err(PairFault::Memory);
+        };
+        self.step(event, octets, None, outward)
+    }
+
+    /// Its receiver becomes busy, or is no longer.
+    fn set_busy(&mut self, on: bool, outward: &mut Line) -> Result<Outs, PairFault>
+        ensures ok { IfOk result (Acts self.old outward.old self.new outward.new (λ side v. takes Tagged (busy_input on) [] v)) }
+        ensures err { IfErr result (RefusesAs self.old (λ side v. takes Tagged (busy_input on) [] v)) }
+        ensures unchanged { OnErr result (ShowsAsBefore self.old outward.old self.new outward.new) }
+    {
+        if on {
+            self.take(Event::BusyOn, &[], outward)
+        } else {
+            self.take(Event::BusyOff, &[], outward)
+        }
+    }
+
+    /// Unit data of layer 3.
+    fn take_unit(&mut self, octets: &[u8], outward: &mut Line) -> Result<Outs, PairFault>
+        ensures ok { IfOk result (Acts self.old outward.old self.new outward.new (λ side v. takes Tagged (UnitData (length octets.now)) octets.now v)) }
+        ensures err { IfErr result (RefusesAs self.old (λ side v. takes Tagged (UnitData (length octets.now)) octets.now v)) }
+        ensures unchanged { OnErr result (ShowsAsBefore self.old outward.old self.new outward.new) }
+    {
+        self.take(Event::Unit(octets.len()), octets, outward)
+    }
+
+    /// A message of layer 3.
+    fn take_message(
+        &mut self,
+        alloc: Global,
+        message: &[u8],
+        outward: &mut Line,
+    ) -> Result<Outs, PairFault>
+        ensures ok { IfOk result (Acts self.old outward.old self.new outward.new (λ side v. takes Tagged (Give message.now) [] v)) }
+        ensures err { IfErr result (RefusesAs self.old (λ side v. takes Tagged (Give message.now) [] v)) }
+        ensures unchanged { OnErr result (ShowsAsBefore self.old outward.old self.new outward.new) }
+    {
+        if let Some(fault) = self.link.give_refusal(message.len()) {
+            return Err(PairFault::Refused(fault));
+        }
+        let Ok(kept) = Vec::from_slice(alloc, message) else {
+            return Err(PairFault::Memory);
+        };
+        let Ok(queued) = Vec::from_slice(alloc, message) else {
+            return Err(PairFault::Memory);
+        };
+        let Ok(()) = self.make_room_for_message(outward) else {
+            return Err(PairFault::Memory);
+        };
+        self.give(queued, kept, outward)
+    }
+
+    /// A frame of the other side.
+    fn hear(
+        &mut self,
+        alloc: Global,
+        frame: &Frame<'_>,
+        outward: &mut Line,
+    ) -> Result<Outs, PairFault>
+        requires for_link { is_address_of (setup_of self.old.link) frame.now.address ≡ true }
+        ensures ok { IfOk result (λ outs. (flight : Flight) → fields_of flight ≡ frame.now → length flight.info ≤ n201 → Acts self.old outward.old self.new outward.new (λ side v. hears Tagged flight v) outs) }
+        ensures err { IfErr result (λ fault. (flight : Flight) → fields_of flight ≡ frame.now → RefusesAs self.old (λ side v. hears Tagged flight v) fault) }
+        ensures unchanged { OnErr result (ShowsAsBefore self.old outward.old self.new outward.new) }
+    {
+        let Ok(copy) = Vec::from_slice(alloc, frame.info()) else {
+            return Err(PairFault::Memory);
+        };
+        let Ok(()) = self.make_room(outward) else {
+            return Err(PairFault::Memory);
+        };
+        self.step(Event::Heard(frame), frame.info(), Some(copy), outward)
+    }
+
+    /// The first frame on its way is taken off the line, and heard.
+    fn deliver(
+        &mut self,
+        alloc: Global,
+        inward: &mut Line,
+        outward: &mut Line,
+    ) -> Result<Outs, PairFault>
+        ensures ok { IfOk result (ActsInView self.old inward.old outward.old self.new inward.new outward.new (λ side v. delivers Tagged v.incoming v)) }
+        ensures err { IfErr result (RefusesInView self.old inward.old outward.old (λ side v. delivers Tagged v.incoming v)) }
+        ensures unchanged { OnErr result (ShowsViewAsBefore self.old inward.old outward.old self.new inward.new outward.new) }
+    {
+        let Some(octets) = inward.first() else {
+            return Err(PairFault::NothingThere);
+        };
+        let Ok(frame) = read(octets, self.link.side().other()) else {
+            return Err(PairFault::NothingThere);
+        };
+        if !self.link.is_for(&frame.address()) {
+            return Err(PairFault::NothingThere);
+        }
+        match self.hear(alloc, &frame, outward) {
+            Ok(outs) => {
+                inward.take_first();
+                Ok(outs)
+            }
+            Err(fault) => Err(fault),
+        }
+    }
+
+    /// T200 expires, where it runs and nothing that it waits for is on its way.
+    fn expire_200(&mut self, inward: &Line, outward: &mut Line) -> Result<Outs, PairFault>
+        ensures ok { IfOk result (ActsInView self.old inward.now outward.old self.new inward.now outward.new (λ side v. expires_200 Tagged side v)) }
+        ensures err { IfErr result (RefusesInView self.old inward.now outward.old (λ side v. expires_200 Tagged side v)) }
+        ensures unchanged { OnErr result (ShowsViewAsBefore self.old inward.now outward.old self.new inward.now outward.new) }
+    {
+        if !self.link.running(Timer::T200) {
+            return Err(PairFault::NotRunning);
+        }
+        let side = self.link.side();
+        if let Some(place) = outward.first_poll(side) {
+            return Err(PairFault::NotYet(side.other(), place));
+        }
+        if let Some(place) = inward.first_final(side.other()) {
+            return Err(PairFault::NotYet(side, place));
+        }
+        self.take(Event::T200, &[], outward)
+    }
+
+    /// T203 expires, where it runs.
+    fn expire_203(&mut self, outward: &mut Line) -> Result<Outs, PairFault>
+        ensures ok { IfOk result (Acts self.old outward.old self.new outward.new (λ side v. expires_203 Tagged v)) }
+        ensures err { IfErr result (RefusesAs self.old (λ side v. expires_203 Tagged v)) }
+        ensures unchanged { OnErr result (ShowsAsBefore self.old outward.old self.new outward.new) }
+    {
+        if !self.link.running(Timer::T203) {
+            return Err(PairFault::NotRunning);
+        }
+        self.take(Event::T203, &[], outward)
+    }
+
+    /// It starts anew, and what is on the line is dropped in both directions.
+    fn restart(
+        &mut self,
+        alloc: Global,
+        inward: &mut Line,
+        outward: &mut Line,
+    ) -> Result<Outs, PairFault>
+        ensures ok { IfOk result (ActsInView self.old inward.old outward.old self.new inward.new outward.new (λ side v. quietly (restarts v))) }
+        ensures err { IfErr result (RefusesInView self.old inward.old outward.old (λ side v. quietly (restarts v))) }
+        ensures unchanged { OnErr result (ShowsViewAsBefore self.old inward.old outward.old self.new inward.new outward.new) }
+    {
+        let Ok(link) = new_link(alloc, self.link.side(), self.link.params()) else {
+            return Err(PairFault::Memory);
+        };
+        self.link = link;
+        self.history.discard_rest();
+        inward.clear();
+        outward.clear();
+        Ok(Outs::new())
+    }
+
+    /// The frame at this place is lost.
+    fn lose(&self, place: usize, inward: &mut Line, outward: &Line) -> Result<Outs, PairFault>
+        ensures ok { IfOk result (ActsInView self.now inward.old outward.now self.now inward.new outward.now (λ side v. loses place v)) }
+        ensures err { IfErr result (RefusesInView self.now inward.old outward.now (λ side v. loses place v)) }
+        ensures unchanged { OnErr result (inward.new ≡ inward.old) }
+    {
+        if inward.lose(place) {
+            Ok(Outs::new())
+        } else {
+            Err(PairFault::NothingThere)
+        }
+    }
+}

@@ -1,0 +1,203 @@
+//! Two ends of one data link, and the line between them.
+
+ghost use Rattle.std.specs.Prelude.{◌≡◌, ◌≤◌, ◌<◌, ◌+◌, ℕ, List, [], ◌∷◌, map, take, length, true, IfOk, IfErr, OnErr, is_ok};
+ghost use Rattle.lapd_mod128.specs.Counting.{Tagged};
+ghost use Rattle.lapd_pair.specs.Pair.{IsReached};
+
+use crate::fate::Fate;
+use crate::frame_octets::FrameOctets;
+use crate::line::Line;
+use crate::moves::Move;
+use crate::pair_fault::{PairFault, RunFault};
+use crate::received::Received;
+use crate::station::Station;
+use lapd_frame::Side;
+use lapd_link::{Link, Outs, Params};
+use std::alloc::{AllocError, Global};
+
+/// Two ends of one data link of SAPI 0 and TEI 64, user and network, and the line between them, which keeps the order of
+/// frames and may lose any. What each side received, and what became of what it was given, is kept.
+#[derive(Drop)]
+pub struct Pair {
+    alloc: Global,
+    user: Station,
+    network: Station,
+    to_user: Line,
+    to_network: Line,
+    ghost reached: { ∥ IsReached user network to_user to_network ∥₁ },
+}
+
+impl Pair {
+    ghost use Rattle.lapd_world.specs.World.{World, new_world, happens, run};
+    ghost use Rattle.lapd_pair.specs.Moves.{move_of, IsRefusedAs};
+    ghost use Rattle.lapd_pair.specs.Runs.{PairStandsFor, HasHappened, HasStoppedAt, IsSafePair, refusals};
+
+    /// Both ends in state 4, and nothing on the line.
+    ///
+    /// # Errors
+    ///
+    /// `AllocError` where the memory of an I queue was refused.
+    pub fn new(alloc: Global, user: Params, network: Params) -> Result<Pair, AllocError>
+        ensures stands { IfOk result (λ pair. PairStandsFor pair (new_world user network)) }
+    {
+        Ok(Pair {
+            alloc,
+            user: Station::new(alloc, Side::User, user)?,
+            network: Station::new(alloc, Side::Network, network)?,
+            to_user: Line::new(alloc),
+            to_network: Line::new(alloc),
+        })
+    }
+
+    /// One move, and the outputs of the step that it comes to, in order. What it puts on the line is read by
+    /// [`Pair::line`].
+    ///
+    /// After it the histories are safe, each side against the other, as after every call: what a side received is among
+    /// what the other was given, in order and once each; within one establishment nothing is skipped; and what a sender
+    /// counts as acknowledged was received.
+    ///
+    /// # Errors
+    ///
+    /// P1 for a `Deliver` or `Lose` of a frame that is not there, P2 for a timer that does not run, P3 for T200 while what
+    /// it waits for is on the line, P4 where the link refuses, and P5, after these, where memory was refused. The pair is
+    /// unchanged.
+    pub fn apply(&mut self, deed: &Move) -> Result<Outs, PairFault>
+        ensures ok { IfOk result (λ outs. (w : World) → PairStandsFor self.old w → HasHappened self.new (happens Tagged (move_of deed.now) w) outs.items) }
+        ensures err { IfErr result (λ fault. (w : World) → PairStandsFor self.old w → IsRefusedAs fault (happens Tagged (move_of deed.now) w)) }
+        ensures unchanged { OnErr result ((w : World) → PairStandsFor self.old w → PairStandsFor self.new w) }
+        ensures safe { ∥ IsSafePair self.new ∥₁ }
+    {
+        match deed.side() {
+            Side::User => self
+                .user
+                .act(self.alloc, deed, &mut self.to_user, &mut self.to_network),
+            Side::Network => self
+                .network
+                .act(self.alloc, deed, &mut self.to_network, &mut self.to_user),
+        }
+    }
+
+    /// All moves, one after another, and how many were refused. A move that is refused by P1 to P4 is skipped. After it,
+    /// however it ends, the histories are safe, as after [`Pair::apply`].
+    ///
+    /// # Errors
+    ///
+    /// `RunFault` where memory was refused, with the place of that move. What was done before stands.
+    pub fn run(&mut self, moves: &[Move]) -> Result<u64, RunFault>
+        ensures ok { IfOk result (λ refused. (w : World) → PairStandsFor self.old w
+            → PairStandsFor self.new (run Tagged (map move_of moves.now) w) × (refused ≡ refusals (map move_of moves.now) w)) }
+        ensures err { IfErr result (λ fault. (w : World) → PairStandsFor self.old w → HasStoppedAt fault.at (map move_of moves.now) self.new w) }
+        ensures safe { ∥ IsSafePair self.new ∥₁ }
+    {
+        let mut refused = 0;
+        for (at, deed) in moves.iter().enumerate() {
+            match self.apply(deed) {
+                Ok(_) => {}
+                Err(fault) => {
+                    if fault.is_memory() {
+                        return Err(RunFault { at });
+                    }
+                    refused += 1;
+                }
+            }
+        }
+        Ok(refused)
+    }
+}
+
+/// What a pair shows.
+impl Pair {
+    ghost use Rattle.lapd_link.specs.Link.{LinkStandsFor, setup_of};
+    ghost use Rattle.lapd_frame.specs.Address.{other_side};
+    ghost use Rattle.lapd_frame.specs.Frame.{spelling};
+    ghost use Rattle.lapd_world.specs.World.{World, left, view_of};
+    ghost use Rattle.lapd_pair.specs.Histories.{of_received, octets_and_establishment, fates_of};
+    ghost use Rattle.lapd_pair.specs.Line.{fields_of};
+    ghost use Rattle.lapd_pair.specs.Runs.{PairStandsFor};
+    ghost use Rattle.lapd_pair.specs.Setup.{setup_for};
+    ghost use Rattle.lapd_pair.specs.Station.{IsStation};
+
+    /// This side.
+    fn station(&self, side: Side) -> &Station
+        ensures { (w : World) → PairStandsFor self.now w → IsStation side result.now (view_of side w).station }
+    {
+        match side {
+            Side::User => &self.user,
+            Side::Network => &self.network,
+        }
+    }
+
+    /// The messages that this side's layer 3 gave and that were accepted, in order.
+    pub fn given(&self, side: Side) -> &[Vec<u8>]
+        ensures { (w : World) → PairStandsFor self.now w → map (λ message. message.items) result.now ≡ (view_of side w).station.end.given }
+    {
+        self.station(side).history.given()
+    }
+
+    /// The messages that this side's layer 3 received, in order.
+    pub fn received(&self, side: Side) -> &[Received]
+        ensures { (w : World) → PairStandsFor self.now w → map of_received result.now ≡ map octets_and_establishment (view_of side w).station.history.received }
+    {
+        self.station(side).history.received()
+    }
+
+    /// The unit data that this side's layer 3 received, in order.
+    pub fn units(&self, side: Side) -> &[Vec<u8>]
+        ensures { (w : World) → PairStandsFor self.now w → map (λ unit. unit.items) result.now ≡ (view_of side w).station.history.units }
+    {
+        self.station(side).history.units()
+    }
+
+    /// What became of each message of [`Pair::given`].
+    pub fn fates(&self, side: Side) -> &[Fate]
+        ensures { (w : World) → PairStandsFor self.now w → result.now ≡ fates_of (length (view_of side w).station.end.given) (view_of side w).station.history }
+    {
+        self.station(side).history.fates()
+    }
+
+    /// For each establishment of this side, how many messages it had received before it.
+    pub fn begun(&self, side: Side) -> &[u64]
+        ensures { (w : World) → PairStandsFor self.now w → result.now ≡ (view_of side w).station.history.begun }
+    {
+        self.station(side).history.begun()
+    }
+
+    /// How many messages of this side were acknowledged.
+    pub fn acknowledged(&self, side: Side) -> u64
+        ensures { (w : World) → PairStandsFor self.now w → result ≡ length (view_of side w).station.history.acked }
+    {
+        self.station(side).history.acknowledged()
+    }
+
+    /// How many messages of this side were dropped. They may or may not have been received.
+    pub fn dropped(&self, side: Side) -> u64
+        ensures { (w : World) → PairStandsFor self.now w → result ≡ length (view_of side w).station.history.dropped }
+    {
+        self.station(side).history.dropped()
+    }
+
+    /// How many messages of both sides are neither acknowledged nor dropped.
+    pub fn left(&self) -> u64
+        ensures { (w : World) → PairStandsFor self.now w → result ≡ left w }
+    {
+        self.user.history.waiting() as u64 + self.network.history.waiting() as u64
+    }
+
+    /// The octets of the frames on their way to this side, the first of them first.
+    pub fn line(&self, to: Side) -> &[FrameOctets]
+        ensures { (w : World) → PairStandsFor self.now w → map (λ frame. frame.items) result.now ≡ map (λ frame. spelling (other_side to) (fields_of frame)) (view_of to w).incoming }
+    {
+        match to {
+            Side::User => self.to_user.frames(),
+            Side::Network => self.to_network.frames(),
+        }
+    }
+
+    /// This side's end of the link, of SAPI 0 and TEI 64.
+    pub fn link(&self, side: Side) -> &Link
+        ensures end { (w : World) → PairStandsFor self.now w → LinkStandsFor result.now (view_of side w).station.end }
+        ensures setup { (w : World) → PairStandsFor self.now w → setup_of result.now ≡ setup_for side }
+    {
+        &self.station(side).link
+    }
+}
