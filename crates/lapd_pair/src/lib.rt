@@ -1,4 +1,11 @@
-//! Two ends of one data link and a line that loses frames, after ITU-T Q.921 (09/97).
+//! Two ends of one data link, after ITU-T Q.921 (09/97), and the line between them, which keeps order and may lose any
+//! frame.
+//!
+//! [`Pair`] is both: begin there. [`Pair::apply`] makes one [`Move`], as a message given or a frame delivered or lost, and
+//! [`Pair::run`] a list of them. Octets go over the line, and real links ([`lapd_link::Link`]) read and write them. What
+//! each side received ([`Received`]) and what became of what it was given ([`Fate`]) is kept. After every call these
+//! histories are safe, each side against the other: what a side received is among what the other was given, in order and
+//! once each; within one establishment nothing is skipped; and what a sender counts as acknowledged was received.
 #![tactic(auto)]
 
 mod act;
