@@ -83,6 +83,10 @@ unit_room = record no_room { unit_data = 1 }
 abbrev pub beginning_room : Room
 beginning_room = record no_room { beginnings = 1 }
 
+-- what a frame may bring: a message or unit data
+abbrev pub data_room : Room
+data_room = record { messages = 0; receipts = 1; unit_data = 1; beginnings = 0 }
+
 -- as much as one step may need
 abbrev pub step_room : Room
 step_room = record { messages = 0; receipts = 1; unit_data = 1; beginnings = 1 }

@@ -1,3 +1,10 @@
 pub mod Fates
 pub mod Histories
 pub mod Line
+pub mod Marked
+pub mod Moves
+pub mod Pair
+pub mod Runs
+pub mod Setup
+pub mod Station
+pub mod Telling

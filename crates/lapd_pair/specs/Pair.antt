@@ -1,0 +1,26 @@
+-- How a pair shows a world, and what its calls come to.
+use Rattle.std.specs.Prelude.{List}
+use Rattle.lapd_frame.specs.declared.Side.TheVariants.{User, Network}
+use Rattle.lapd_mod128.specs.Counting.{Tagged}
+use Rattle.lapd_states.specs.Parameters.{Parameters}
+use Rattle.lapd_world.specs.Kept.{IsKeptWorld}
+use Rattle.lapd_world.specs.Move.{Move}
+use Rattle.lapd_world.specs.World.{World, new_world, run}
+use Rattle.lapd_pair.specs.Line.{IsOn}
+use Rattle.lapd_pair.specs.Station.{IsStation}
+use Rattle.lapd_pair.specs.declared.line.Line.{Line}
+use Rattle.lapd_pair.specs.declared.station.Station.{Station}
+
+-- Both sides show those of the world, and what is on the line are the world's frames, spelled. What a world keeps under all
+-- moves holds of it.
+pub record StandForWorld (user_side network_side : Station) (line_to_user line_to_network : Line) (w : World) : Type 0 where
+  pub user : IsStation User user_side w.user
+  pub network : IsStation Network network_side w.network
+  pub to_user : IsOn Network line_to_user w.to_user
+  pub to_network : IsOn User line_to_network w.to_network
+  pub kept : IsKeptWorld Tagged w
+
+-- The world that some moves lead to, from a new one.
+abbrev pub IsReached : Station → Station → Line → Line → Type 0
+IsReached user network to_user to_network =
+    (user_parameters : Parameters) × (network_parameters : Parameters) × (moves : List Move) × StandForWorld user network to_user to_network (run Tagged moves (new_world user_parameters network_parameters))

@@ -1,0 +1,31 @@
+-- What the calls of a pair come to, by the moves of the world.
+use Rattle.std.specs.Prelude.{◌≡◌, ◌+◌, ℕ, List, [], ◌∷◌, Result, Ok, Err}
+use Rattle.lapd_mod128.specs.Counting.{Tagged}
+use Rattle.lapd_states.specs.declared.out.Out.{Out}
+use Rattle.lapd_world.specs.Move as world
+use Rattle.lapd_world.specs.Move.{Refusal}
+use Rattle.lapd_world.specs.World.{World, Happened, happens, world_after}
+use Rattle.lapd_pair.specs.Moves.{move_of}
+use Rattle.lapd_pair.specs.Pair.{StandForWorld}
+use Rattle.lapd_pair.specs.declared.moves.Move.{Move}
+use Rattle.lapd_pair.specs.declared.pair.Pair.{Pair}
+
+-- a pair stands for a world
+abbrev pub PairStandsFor : Pair → World → Type 0
+PairStandsFor p w = StandForWorld p.user p.network p.to_user p.to_network w
+
+-- the move was admitted, with these outputs, and the pair stands for the world after it
+pub record HasHappened (p : Pair) (outcome : Result Happened Refusal) (outs : List Out) : Type 0 where
+  pub happened : Happened
+  pub is : outcome ≡ Ok happened
+  pub same : happened.outs ≡ outs
+  pub stands : PairStandsFor p happened.world
+
+-- how many of these moves are refused, one after another
+abbrev pub refused_of : Result Happened Refusal → ℕ
+refused_of (Ok happened) = 0
+refused_of (Err refusal) = 1
+
+abbrev pub refusals : List world.Move → World → ℕ
+refusals [] w = 0
+refusals (move ∷ moves) w = refused_of (happens Tagged move w) + refusals moves (world_after w (happens Tagged move w))

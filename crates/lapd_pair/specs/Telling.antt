@@ -1,0 +1,55 @@
+-- How the outputs of a step are told one after another: what each puts on the line, what each writes down, and what a side
+-- shows while some are still to be told.
+use Rattle.std.specs.Prelude.{◌≡◌, ◌≤◌, ◌+◌, ℕ, List, ◌∷◌, Option, Some, None, length, Vec}
+use Rattle.lapd_frame.specs.declared.Side.{Side}
+use Rattle.lapd_frame.specs.Frame.{n201}
+use Rattle.lapd_link.specs.Link.{LinkStandsFor, setup_of}
+use Rattle.lapd_states.specs.declared.out.Out.{Out}
+use Rattle.lapd_states.specs.declared.out.Out.TheVariants.{Send, SendMessage, SendUnit, Up, UnitUp, Acknowledged, Dropped}
+use Rattle.lapd_states.specs.Counts.{ups, unit_ups}
+use Rattle.lapd_states.specs.End.{End}
+use Rattle.lapd_states.specs.Spoken.{AreShort}
+use Rattle.lapd_world.specs.Histories.{History, Occasion, Story, message_frame, unit_frame, with_sending, with_receipt, with_unit, with_acked, with_dropped}
+use Rattle.lapd_world.specs.Kept.{AreSettled, AreInOrder}
+use Rattle.lapd_world.specs.Line.{Flight, without_info, sent_behind}
+use Rattle.lapd_pair.specs.Histories.{IsHistory}
+use Rattle.lapd_pair.specs.Line.{IsOn}
+use Rattle.lapd_pair.specs.Setup.{setup_for}
+use Rattle.lapd_pair.specs.declared.line.Line.{Line}
+use Rattle.lapd_pair.specs.declared.station.Station.{Station}
+
+-- what an output puts on the line; the first message that waits stands at `passed`
+abbrev pub line_told : Occasion → ℕ → Out → List Flight → List Flight
+line_told o passed (Send role control) line = sent_behind line (without_info role control)
+line_told o passed (SendMessage n control) line = sent_behind line (message_frame o control (passed + n))
+line_told o passed SendUnit line = sent_behind line (unit_frame o.octets)
+line_told o passed out line = line
+
+-- what it writes down
+abbrev pub history_told : Occasion → Out → History → History
+history_told o (SendMessage n control) h = with_sending (h.passed + n) o.establishment h
+history_told o Up h = with_receipt (record { octets = o.octets; establishment = o.establishment; place = o.place }) h
+history_told o UnitUp h = with_unit o.octets h
+history_told o (Acknowledged n) h = with_acked n h
+history_told o (Dropped n) h = with_dropped n h
+history_told o out h = h
+
+-- the copy that was made of the octets just delivered, for the one time that they go up
+abbrev pub IsCopy : List ℕ → ℕ → Option (Vec ℕ Global) → Type 0
+IsCopy octets n None = n ≡ 0
+IsCopy octets n (Some copy) = (n ≤ 1) × (copy.items ≡ octets)
+
+-- While `rest` is still to be told: `e` is the end after the step, `t` is what was told so far, and `copy` is held for what
+-- goes up.
+pub record IsTelling (side : Side) (e : End) (o : Occasion) (rest : List Out) (s : Station) (outward : Line) (copy : Option (Vec ℕ Global)) (t : Story) : Type 0 where
+  pub link : LinkStandsFor s.link e
+  pub setup : setup_of s.link ≡ setup_for side
+  pub history : IsHistory s.history e.given t.history
+  pub line : IsOn side outward t.line
+  pub order : AreInOrder e t.history.passed rest
+  pub settled : AreSettled t.history
+  pub begun : length t.history.begun ≡ o.establishment
+  pub given : o.given ≡ e.given
+  pub short : AreShort e.given
+  pub fits : length o.octets ≤ n201
+  pub copied : IsCopy o.octets (ups rest + unit_ups rest) copy

@@ -1,0 +1,34 @@
+ghost use Rattle.std.specs.Prelude.{◌≡◌};
+
+use lapd_frame::Side;
+use lapd_link::LinkFault;
+use thiserror::Error;
+
+/// Why a move is refused. The pair is unchanged.
+#[derive(Clone, Copy, Debug, PartialEq, Eq, Error)]
+pub enum PairFault {
+    /// P1: no such frame is on the line.
+    #[error("P1 NothingThere")]
+    NothingThere,
+    /// P2: the timer does not run.
+    #[error("P2 NotRunning")]
+    NotRunning,
+    /// P3: T200 may not expire yet. A command with P=1 of its end, or the response with F=1 to it, is on its way to this
+    /// side, at this place of that direction, counted from 0.
+    #[error("P3 NotYet {0} {1}")]
+    NotYet(Side, usize),
+    /// P4: the link refuses the request.
+    #[error("{0}")]
+    Refused(LinkFault),
+    /// P5: memory was refused.
+    #[error("P5 Memory")]
+    Memory,
+}
+
+/// A run that ended for want of memory. What was done before stands.
+#[derive(Clone, Copy, Debug, PartialEq, Eq, Error)]
+#[error("no memory for move {at}")]
+pub struct RunFault {
+    /// The place of the move that found no memory, counted from 0.
+    pub at: usize,
+}
