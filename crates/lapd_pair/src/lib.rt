@@ -2,6 +2,8 @@
 #![tactic(auto)]
 
 mod fate;
+mod frame_octets;
+mod line;
 mod received;
 
 pub use fate::{Ending, Fate};
