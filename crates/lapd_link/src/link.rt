@@ -36,8 +36,11 @@ pub struct Link {
 }
 
 impl Link {
-    ghost use Rattle.lapd_states.specs.End.{new_end};
+    ghost use Rattle.std.specs.Prelude.{ℕ, List, length};
+    ghost use Rattle.lapd_states.specs.Begins.{begins};
+    ghost use Rattle.lapd_states.specs.End.{End, new_end};
     ghost use Rattle.lapd_states.specs.Input.{input_of, Give};
+    ghost use Rattle.lapd_states.specs.Refusal.{refused};
     ghost use Rattle.lapd_link.specs.Link.{LinkStandsFor, Setup, setup_of, Steps, Refuses, IsForLink, is_address_of};
 
     /// A link in state 4, of this side, for `sapi` (not management) and `tei` (not the group TEI). It takes the memory
@@ -160,6 +163,32 @@ impl Link {
         }
     }
 
+    /// Why [`Link::handle`] would refuse this event; `None` where it would not.
+    pub fn refusal(&self, event: &Event) -> Option<LinkFault>
+        ensures { (e : End) → LinkStandsFor self.now e → result ≡ refused (input_of event.now) e }
+    {
+        self.machine.refuses(event)
+    }
+
+    /// Why [`Link::give`] would refuse a message of so many octets; `None` where it would not.
+    pub fn give_refusal(&self, len: usize) -> Option<LinkFault>
+        ensures { (message : List ℕ) (e : End) → length message ≡ len → LinkStandsFor self.now e → result ≡ refused (Give message) e }
+    {
+        match self.machine.refuses_message(len) {
+            Some(fault) => Some(fault),
+            None if self.queue().len() == self.room() => Some(LinkFault::QueueFull),
+            None => None,
+        }
+    }
+
+    /// Whether an establishment begins with this event: with a SABME in states 4, 7 and 8, and with the answer to this
+    /// end's own in state 5, where no release waits for it (Q.921 5.5.1.2).
+    pub fn begins(&self, event: &Event) -> bool
+        ensures { (e : End) → LinkStandsFor self.now e → result ≡ begins e.state e.release_pending (input_of event.now) }
+    {
+        self.machine.begins(event)
+    }
+
     /// Whether frames with this address are the link's.
     pub fn is_for(&self, address: &Address) -> bool
         ensures { result ≡ is_address_of (setup_of self.now) address.now }
@@ -228,6 +257,13 @@ impl Link {
         ensures { (e : End) → LinkStandsFor self.now e → IsTail e.given e.first e.next result.now }
     {
         &self.machine.queue
+    }
+
+    /// What it was made with.
+    pub fn params(&self) -> Params
+        ensures { (e : End) → LinkStandsFor self.now e → result ≡ e.parameters }
+    {
+        self.machine.params
     }
 
     /// How many messages its queue has room for, 1 to 1,024.

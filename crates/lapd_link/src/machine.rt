@@ -11,6 +11,7 @@ use lapd_supervision::Window;
 
 mod awaiting_establishment;
 mod awaiting_release;
+mod begins;
 mod close;
 mod dispatcher;
 mod established;

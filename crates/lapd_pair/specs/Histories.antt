@@ -1,18 +1,15 @@
--- How the histories of a side that are kept show those of the world.
-use Rattle.std.specs.Prelude.{◌≡◌, ◌+◌, ◌==◌, ◌≤◌, ℕ, Bool, if◌then◌else◌, List, map, length, ◌×◌}
-use Rattle.std.specs.List.{range_with_len, list_any}
+-- How the histories of a side that are kept show those of the world, and the room for more.
+use Rattle.std.specs.Prelude.{◌≡◌, ◌+◌, ◌≤◌, ℕ, if◌then◌else◌, List, map, length}
+use Rattle.std.specs.List.{range_with_len}
 use Rattle.std.specs.Vec.{vec_len, vec_capacity}
 use Rattle.lapd_world.specs.Histories as world
 use Rattle.lapd_world.specs.Histories.{Receipt}
+use Rattle.lapd_world.specs.Kept.{is_one_of}
 use Rattle.lapd_pair.specs.declared.history.History.{History}
 use Rattle.lapd_pair.specs.declared.received.Received.{Received}
 use Rattle.lapd_pair.specs.declared.fate.Fate.{Fate}
 use Rattle.lapd_pair.specs.declared.fate.Ending.{Ending}
 use Rattle.lapd_pair.specs.declared.fate.Ending.TheVariants.{Waiting, Acked, Dropped}
-
--- the place is one of these
-abbrev pub is_one_of : List ℕ → ℕ → Bool
-is_one_of places place = list_any (λ p. p == place) places
 
 -- what became of the message at this place, as far as acknowledgements and drops are written down
 abbrev pub ending_at : world.History → ℕ → Ending
@@ -34,11 +31,74 @@ abbrev pub of_received : Received → List ℕ × ℕ
 of_received message = (message.octets.items, message.establishment)
 
 -- The histories kept are those of a side that was given these messages.
-pub record IsHistory (kept : History) (given : List (List ℕ)) (h : world.History) : Type 0 where
-  pub given : map (λ message. message.items) kept.given.items ≡ given
+pub record IsHistory (kept : History) (messages : List (List ℕ)) (h : world.History) : Type 0 where
+  pub given : map (λ message. message.items) kept.given.items ≡ messages
   pub received : map of_received kept.received.items ≡ map octets_and_establishment h.received
   pub units : map (λ unit. unit.items) kept.units.items ≡ h.units
-  pub fates : kept.fates.items ≡ fates_of (length given) h
+  pub fates : kept.fates.items ≡ fates_of (length messages) h
   pub begun : kept.begun.items ≡ h.begun
   pub acknowledged : kept.acknowledged ≡ length h.acked
   pub dropped : kept.dropped ≡ length h.dropped
+
+-- Nothing is written down: all items are equal, and only the room for more may differ.
+pub record AreSame (old new : History) : Type 0 where
+  pub given : new.given.items ≡ old.given.items
+  pub received : new.received.items ≡ old.received.items
+  pub units : new.units.items ≡ old.units.items
+  pub fates : new.fates.items ≡ old.fates.items
+  pub begun : new.begun.items ≡ old.begun.items
+  pub acknowledged : new.acknowledged ≡ old.acknowledged
+  pub dropped : new.dropped ≡ old.dropped
+
+-- All that is written down but fates is equal.
+pub record AreSameButFates (old new : History) : Type 0 where
+  pub given : new.given.items ≡ old.given.items
+  pub received : new.received.items ≡ old.received.items
+  pub units : new.units.items ≡ old.units.items
+  pub begun : new.begun.items ≡ old.begun.items
+  pub acknowledged : new.acknowledged ≡ old.acknowledged
+  pub dropped : new.dropped ≡ old.dropped
+
+-- ---- Room that needs no more memory.
+
+-- for so many messages given, messages received, units of data received, and establishments
+pub record Room : Type 0 where
+  pub messages : ℕ
+  pub receipts : ℕ
+  pub unit_data : ℕ
+  pub beginnings : ℕ
+
+abbrev pub no_room : Room
+no_room = record { messages = 0; receipts = 0; unit_data = 0; beginnings = 0 }
+
+abbrev pub message_room : Room
+message_room = record no_room { messages = 1 }
+
+abbrev pub receipt_room : Room
+receipt_room = record no_room { receipts = 1 }
+
+abbrev pub unit_room : Room
+unit_room = record no_room { unit_data = 1 }
+
+abbrev pub beginning_room : Room
+beginning_room = record no_room { beginnings = 1 }
+
+-- as much as one step may need
+abbrev pub step_room : Room
+step_room = record { messages = 0; receipts = 1; unit_data = 1; beginnings = 1 }
+
+-- there is so much
+pub record HasRoom (room : Room) (h : History) : Type 0 where
+  pub given : vec_len h.given + room.messages ≤ vec_capacity h.given
+  pub fates : vec_len h.fates + room.messages ≤ vec_capacity h.fates
+  pub received : vec_len h.received + room.receipts ≤ vec_capacity h.received
+  pub units : vec_len h.units + room.unit_data ≤ vec_capacity h.units
+  pub begun : vec_len h.begun + room.beginnings ≤ vec_capacity h.begun
+
+-- there is less than before by so much, at most
+pub record TakesRoom (room : Room) (old new : History) : Type 0 where
+  pub given : vec_len new.given + vec_capacity old.given ≤ vec_len old.given + vec_capacity new.given + room.messages
+  pub fates : vec_len new.fates + vec_capacity old.fates ≤ vec_len old.fates + vec_capacity new.fates + room.messages
+  pub received : vec_len new.received + vec_capacity old.received ≤ vec_len old.received + vec_capacity new.received + room.receipts
+  pub units : vec_len new.units + vec_capacity old.units ≤ vec_len old.units + vec_capacity new.units + room.unit_data
+  pub begun : vec_len new.begun + vec_capacity old.begun ≤ vec_len old.begun + vec_capacity new.begun + room.beginnings

@@ -1,3 +1,4 @@
+pub mod Fates
 pub mod Histories
 pub mod Line
 pub mod Marked

@@ -7,6 +7,14 @@ pub struct Fate {
     pub end: Ending,
 }
 
+impl Fate {
+    /// Of a message that was just given: it was never sent, and waits.
+    pub(crate) const NEW: Fate = Fate {
+        sent_in: None,
+        end: Ending::Waiting,
+    };
+}
+
 /// Whether a message is acknowledged, dropped, or neither.
 #[derive(Clone, Copy, Debug, PartialEq, Eq)]
 pub enum Ending {

@@ -3,6 +3,7 @@
 
 mod fate;
 mod frame_octets;
+mod history;
 mod line;
 mod received;
 

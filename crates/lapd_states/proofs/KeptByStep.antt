@@ -62,9 +62,9 @@ quiet_where true out h = h
 quiet_where false out h = (tt, refl)
 
 put_is_quiet : (out : Out) → IsPut out → AreQuiet (out ∷ [])
-put_is_quiet (Send role control) h = ((h, tt), refl)
+put_is_quiet (Send role control) h = ((h.0, tt), refl)
 put_is_quiet SendUnit h = ((tt, tt), refl)
-put_is_quiet UnitUp h = ((tt, tt), refl)
+put_is_quiet UnitUp h = absurd h
 put_is_quiet Established h = ((tt, tt), refl)
 put_is_quiet Confirmed h = ((tt, tt), refl)
 put_is_quiet Released h = ((tt, tt), refl)
@@ -162,10 +162,11 @@ module _ (r : Reading) (e : End) (n : ℕ) (gives begins takes : Bool) (Fits : T
   timed T202 on s h = h
   timed T203 on s h = h
 
-  pub kept : KeptByActions r IsKept IsKept (λ message. (gives ≡ true) × (Fits → length message ≤ n201)) (begins ≡ true) (takes ≡ true)
+  pub kept : KeptByActions r IsKept IsKept (λ message. (gives ≡ true) × (Fits → length message ≤ n201)) (begins ≡ true) (takes ≡ true) (Unit {0}) (Unit {0}) (λ nr. Unit {0})
   unfolding put state_to rc_to increment_rc layer3_initiated_to release_pending_to start stop expired clear_exception_conditions zero_state_variables set_peer_busy set_own_busy enquiry_response transmit_enquiry retransmit_last_i_frame transmit_rr queue_up discard_i_queue acknowledge invoke_retransmission discard_unacknowledged i_frame_ns transmit_i_frame ensure_t200
   kept = record {
     puts = λ out s ok h. added (out ∷ []) (put_is_quiet out ok) h;
+    unit_ups = λ s u h. added (UnitUp ∷ []) ((tt, tt), refl) h;
     states = λ state s h. h;
     rcs = λ k s h. h;
     increments = λ s h. h;
@@ -180,7 +181,7 @@ module _ (r : Reading) (e : End) (n : ℕ) (gives begins takes : Bool) (Fits : T
     owns = λ on s h. added (Send Answer (status_frame false (with_own_busy on s.end.window)) ∷ []) ((status_is_spoken Answer false (with_own_busy on s.end.window), tt), refl) h;
     responds = λ s h. added (Send Answer (status_frame true s.end.window) ∷ []) ((status_is_spoken Answer true s.end.window, tt), refl) h;
     enquires = λ s h. added (Send Command (status_frame true s.end.window) ∷ Start T200 ∷ []) ((status_is_spoken Command true s.end.window, (tt, tt)), refl) h;
-    repeats = λ s h. added (SendMessage (s.end.next - 1 - s.end.first) (last_i_frame r s.end.window) ∷ Start T200 ∷ []) ((last_i_frame_is_spoken r s.end.window, (tt, tt)), refl) h;
+    repeats = λ s g h. added (SendMessage (s.end.next - 1 - s.end.first) (last_i_frame r s.end.window) ∷ Start T200 ∷ []) ((last_i_frame_is_spoken r s.end.window, (tt, tt)), refl) h;
     queues = λ message s given h. record {
       same_parameters = h.same_parameters;
       same_given = λ no. let yes = given.0 in cc;
@@ -200,13 +201,13 @@ module _ (r : Reading) (e : End) (n : ℕ) (gives begins takes : Bool) (Fits : T
       same_ups = λ no. cc;
     };
     follows = λ s h. h;
-    acknowledges = λ nr s valid h. added (counted (acknowledged_count r nr s.end.window) Acknowledged) (quiet_where (nat_lt 0 (acknowledged_count r nr s.end.window)) (Acknowledged (acknowledged_count r nr s.end.window)) ((tt, tt), refl)) h;
-    retransmits = λ nr s valid h. h;
+    acknowledges = λ nr s number valid h. added (counted (acknowledged_count r nr s.end.window) Acknowledged) (quiet_where (nat_lt 0 (acknowledged_count r nr s.end.window)) (Acknowledged (acknowledged_count r nr s.end.window)) ((tt, tt), refl)) h;
+    retransmits = λ nr s number valid h. h;
     rcs_then = λ k s h. h;
     states_then = λ state s h. h;
     starts_then = λ timer s h. added (Start timer ∷ []) ((tt, tt), refl) (timed timer true s h);
     stops_then = λ timer s h. added (out_where (runs timer s.end) (Stop timer)) (quiet_where (runs timer s.end) (Stop timer) ((tt, tt), refl)) (timed timer false s h);
-    sends = λ s go h. added _ ((i_frame_is_spoken s.end.window, tt), refl) h;
+    sends = λ s g go h. added _ ((i_frame_is_spoken s.end.window, tt), refl) h;
     ensures_t200 = λ s h. added (if s.end.t200 then [] else Start T200 ∷ []) (unless_quiet s.end.t200 (Start T200 ∷ []) ((tt, tt), refl))
         (added (if s.end.t200 then [] else out_where s.end.t203 (Stop T203)) (unless_quiet s.end.t200 (out_where s.end.t203 (Stop T203)) (quiet_where s.end.t203 (Stop T203) ((tt, tt), refl))) h);
     tells = λ s h. added (Send Answer (acknowledgement s.end.window) ∷ []) ((rr_is_spoken s.end.window, tt), refl) h;
@@ -232,14 +233,14 @@ KeptBy r input e s = IsKept r e 0 (is_give input) (begins e.state e.release_pend
 pub kept_by_row : (r : Reading) (input : Input) (e : End) → KeptBy r input e (row r e.state input (begin e))
 unfolding begin
 kept_by_row r input e =
-    row_keeps r (KeptBy r input e) (KeptBy r input e) _ _ _ (kept r e 0 (is_give input) (begins e.state e.release_pending input) (is_taken e.state input) (Fits input)) e.state input (begin e)
-    (λ message same. (rw same refl, λ fit. fit message same)) (λ b. b) (λ opened ns nr p same. rw same opened)
+    row_keeps r (KeptBy r input e) (KeptBy r input e) _ _ _ _ _ _ (kept r e 0 (is_give input) (begins e.state e.release_pending input) (is_taken e.state input) (Fits input)) e.state input (begin e)
+    (λ message same. (rw same refl, λ fit. fit message same)) (λ b. b) (λ opened ns nr p same. rw same opened) (λ u. tt) (λ there same. tt) (λ nr same. tt)
     (record { same_parameters = refl; same_given = λ _. refl; short = λ _ before. before; same_establishment = λ _. refl; spoken = tt; same_ups = λ _. refl })
 
 -- the end of a step keeps all of this
 pub closed : (r : Reading) (s : StepState) → AreSpoken s.outs → IsKept r s.end (ups s.outs) false false false (Unit {0}) (close r s)
 closed r s spoken =
-    close_keeps r (IsKept r s.end (ups s.outs) false false false (Unit {0})) (IsKept r s.end (ups s.outs) false false false (Unit {0})) _ _ _ (kept r s.end (ups s.outs) false false false (Unit {0})) s
+    close_keeps r (IsKept r s.end (ups s.outs) false false false (Unit {0})) (IsKept r s.end (ups s.outs) false false false (Unit {0})) _ _ _ _ _ _ (kept r s.end (ups s.outs) false false false (Unit {0})) s tt
     (record { same_parameters = refl; same_given = λ _. refl; short = λ _ before. before; same_establishment = λ _. refl; spoken = spoken; same_ups = λ _. refl })
 
 abbrev Done : StepState → Result StepState LinkFault
@@ -255,8 +256,8 @@ taken (Some fault) s t h = cc
 
 pub kept_by_close : (r : Reading) (input : Input) (e : End) → KeptBy r input e (close r (row r e.state input (begin e)))
 kept_by_close r input e =
-    close_keeps r (KeptBy r input e) (KeptBy r input e) _ _ _ (kept r e 0 (is_give input) (begins e.state e.release_pending input) (is_taken e.state input) (Fits input))
-    (row r e.state input (begin e)) (kept_by_row r input e)
+    close_keeps r (KeptBy r input e) (KeptBy r input e) _ _ _ _ _ _ (kept r e 0 (is_give input) (begins e.state e.release_pending input) (is_taken e.state input) (Fits input))
+    (row r e.state input (begin e)) tt (kept_by_row r input e)
 
 pub kept_by_step : (r : Reading) (input : Input) (e : End) (s : StepState) → step r input e ≡ Ok s → KeptBy r input e s
 unfolding step

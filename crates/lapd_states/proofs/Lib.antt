@@ -2,6 +2,8 @@ pub mod ActionsOnTags
 pub mod EachAction
 pub mod InputsThatCount
 pub mod KeptByStep
+pub mod MessagesThere
+pub mod NumbersOfStep
 pub mod OpenRowsOnTags
 pub mod OrderOfStep
 pub mod PlacesOfStep
@@ -9,4 +11,5 @@ pub mod RowsOnTags
 pub mod Sending
 pub mod Soundness
 pub mod StepOnTags
+pub mod UnitsOfStep
 pub mod WorkedRows

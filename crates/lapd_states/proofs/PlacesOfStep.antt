@@ -41,7 +41,7 @@ leaving_both (Report letter ∷ xs) ys = leaving_both xs ys
 put_leaves_none : (out : Out) → IsPut out → leaving (out ∷ []) ≡ 0
 put_leaves_none (Send role control) h = refl
 put_leaves_none SendUnit h = refl
-put_leaves_none UnitUp h = refl
+put_leaves_none UnitUp h = absurd h
 put_leaves_none Established h = refl
 put_leaves_none Confirmed h = refl
 put_leaves_none Released h = refl
@@ -122,10 +122,11 @@ module _ (r : Reading) (from : ℕ) where
   timed_then T202 on s h = h
   timed_then T203 on s h = h
 
-  pub places : KeptByActions r Before Then (λ message. Unit {0}) (Unit {0}) (Unit {0})
+  pub places : KeptByActions r Before Then (λ message. Unit {0}) (Unit {0}) (Unit {0}) (Unit {0}) (Unit {0}) (λ nr. Unit {0})
   unfolding put retransmit_last_i_frame state_to rc_to increment_rc layer3_initiated_to release_pending_to start stop expired clear_exception_conditions zero_state_variables set_peer_busy set_own_busy enquiry_response transmit_enquiry transmit_rr queue_up discard_i_queue acknowledge invoke_retransmission discard_unacknowledged i_frame_ns transmit_i_frame ensure_t200
   places = record {
     puts = λ out s ok h. placed (out ∷ []) (put_leaves_none out ok) h;
+    unit_ups = λ s u h. placed (UnitUp ∷ []) refl h;
     states = λ state s h. h;
     rcs = λ k s h. h;
     increments = λ s h. h;
@@ -140,7 +141,7 @@ module _ (r : Reading) (from : ℕ) where
     owns = λ on s h. placed (Send Answer (status_frame false (with_own_busy on s.end.window)) ∷ []) refl h;
     responds = λ s h. placed (Send Answer (status_frame true s.end.window) ∷ []) refl h;
     enquires = λ s h. placed (Send Command (status_frame true s.end.window) ∷ Start T200 ∷ []) refl h;
-    repeats = λ s h. moved (SendMessage (s.end.next - 1 - s.end.first) (last_i_frame r s.end.window) ∷ Start T200 ∷ []) refl (record { place = h.place });
+    repeats = λ s g h. moved (SendMessage (s.end.next - 1 - s.end.first) (last_i_frame r s.end.window) ∷ Start T200 ∷ []) refl (record { place = h.place });
     queues = λ message s given h. record { place = h.place; within = omega (arith, length-append s.end.given (message ∷ []), h.within) };
     discards = λ s h. record {
       place = omega (arith, leaving_both s.outs (counted (waiting s.end) Dropped), dropped_all (waiting s.end), h.place, h.within);
@@ -150,14 +151,14 @@ module _ (r : Reading) (from : ℕ) where
     takes = λ ns p s t h. placed (response_of (i_frame_response r ns p s.end.window)) (none_of_response (i_frame_response r ns p s.end.window))
         (placed (out_where (is_accepted ns s.end.window) Up) (none_where (is_accepted ns s.end.window) Up refl) h);
     follows = λ s h. record { place = h.place };
-    acknowledges = λ nr s valid h. let n = acknowledged_count r nr s.end.window in
+    acknowledges = λ nr s number valid h. let n = acknowledged_count r nr s.end.window in
         record { place = omega (arith, leaving_both s.outs (counted n Acknowledged), acknowledged_where n (nat_lt 0 n) refl, h.place) };
-    retransmits = λ nr s valid h. h;
+    retransmits = λ nr s number valid h. h;
     rcs_then = λ k s h. h;
     states_then = λ state s h. h;
     starts_then = λ timer s h. moved (Start timer ∷ []) refl (timed_then timer true s h);
     stops_then = λ timer s h. moved (out_where (runs timer s.end) (Stop timer)) (none_where (runs timer s.end) (Stop timer) refl) (timed_then timer false s h);
-    sends = λ s go h. moved (SendMessage (s.end.next - s.end.first) (next_i_frame s.end.window) ∷ []) refl h;
+    sends = λ s g go h. moved (SendMessage (s.end.next - s.end.first) (next_i_frame s.end.window) ∷ []) refl h;
     ensures_t200 = λ s h. moved (if s.end.t200 then [] else Start T200 ∷ []) (none_unless s.end.t200 (Start T200 ∷ []) refl)
         (moved (if s.end.t200 then [] else out_where s.end.t203 (Stop T203)) (none_unless s.end.t200 (out_where s.end.t203 (Stop T203)) (none_where s.end.t203 (Stop T203) refl)) h);
     tells = λ s h. moved (Send Answer (acknowledgement s.end.window) ∷ []) refl h;
@@ -166,11 +167,11 @@ module _ (r : Reading) (from : ℕ) where
 placed_by_row : (r : Reading) (input : Input) (e : End) → e.first ≤ length e.given → Then r e.first (row r e.state input (begin e))
 unfolding begin
 placed_by_row r input e within =
-    row_keeps r (Before r e.first) (Then r e.first) _ _ _ (places r e.first) e.state input (begin e) (λ message same. tt) (λ b. tt) (λ opened ns nr p same. tt)
+    row_keeps r (Before r e.first) (Then r e.first) _ _ _ _ _ _ (places r e.first) e.state input (begin e) (λ message same. tt) (λ b. tt) (λ opened ns nr p same. tt) (λ u. tt) (λ there same. tt) (λ nr same. tt)
     (record { place = omega arith; within = within })
 
 pub first_after : (r : Reading) (input : Input) (e : End) (s : StepState) → e.first ≤ length e.given → step r input e ≡ Ok s → s.end.first ≡ e.first + leaving s.outs
 unfolding step
 first_after r input e s within done =
     let is = (taken (refused input e) (close r (row r e.state input (begin e))) s done).1 in
-    sym (subst (Then r e.first) is (close_keeps r (Before r e.first) (Then r e.first) _ _ _ (places r e.first) (row r e.state input (begin e)) (placed_by_row r input e within))).place
+    sym (subst (Then r e.first) is (close_keeps r (Before r e.first) (Then r e.first) _ _ _ _ _ _ (places r e.first) (row r e.state input (begin e)) tt (placed_by_row r input e within))).place

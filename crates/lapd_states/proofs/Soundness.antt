@@ -360,7 +360,7 @@ sound_row r state (Give message) s q sound = sound_by_state r state (Give messag
 
 -- ---- The end of a step.
 
-established_is : (state : State) → is_established state ≡ true → state ≡ MultipleFrameEstablished
+pub established_is : (state : State) → is_established state ≡ true → state ≡ MultipleFrameEstablished
 established_is TeiAssigned h = cc
 established_is AwaitingEstablishment h = cc
 established_is AwaitingRelease h = cc

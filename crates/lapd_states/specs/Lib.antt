@@ -15,6 +15,7 @@ pub mod Counts
 pub mod End
 pub mod Established
 pub mod Input
+pub mod Numbers
 pub mod Out
 pub mod Parameters
 pub mod Procedures

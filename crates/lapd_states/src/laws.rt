@@ -1,11 +1,12 @@
 //! Laws of the whole state table, over its definitions. They do nothing when they are called.
 
-ghost use Rattle.std.specs.Prelude.{◌≡◌, ◌≤◌, ◌+◌, ◌++◌, true, false, ℕ, if◌then◌else◌, length, Ok};
+ghost use Rattle.std.specs.Prelude.{◌≡◌, ◌≤◌, ◌+◌, ◌-◌, ◌++◌, true, false, ℕ, if◌then◌else◌, length, Ok};
 ghost use Rattle.lapd_mod128.specs.Counting.{Reading, Whole, Tagged};
 ghost use Rattle.lapd_states.specs.Begins.{begins, HasBegun};
-ghost use Rattle.lapd_states.specs.Counts.{ups, leaving, AreCountedFirst, messages_of, accepts};
+ghost use Rattle.lapd_states.specs.Counts.{ups, unit_ups, leaving, AreCountedFirst, ArePlaced, messages_of, accepts, hears_unit};
 ghost use Rattle.lapd_states.specs.End.{End, StepState, new_end};
 ghost use Rattle.lapd_states.specs.Input.{Input};
+ghost use Rattle.lapd_states.specs.Numbers.{AreNumbers, HearsNumbers, AreNumbered};
 ghost use Rattle.lapd_states.specs.Parameters.{Parameters};
 ghost use Rattle.lapd_states.specs.Sound.{IsSound};
 ghost use Rattle.lapd_states.specs.Spoken.{AreSpoken, AreShort};
@@ -43,6 +44,21 @@ pub fn sent_frames_are_in_the_grammar()
     ensures short { (r : Reading) (input : Input) (e : End) (s : StepState) → AreShort e.given → step r input e ≡ Ok s → AreShort s.end.given }
 {}
 
+/// Each message that goes out is there: its place, counted from the first that waits, is one of so many as wait after the
+/// step. So it is where all sent messages are outstanding and the state variables are numbers of the reading, in windows of
+/// up to 127 (Q.921 5.6.1, 5.6.7).
+pub fn sent_messages_are_there()
+    ensures { (r : Reading) (input : Input) (e : End) (s : StepState) → e.parameters.k ≤ 127 → IsSound r e → AreNumbers r e.window
+        → step r input e ≡ Ok s → ArePlaced (length s.end.given - s.end.first) s.outs }
+{}
+
+/// On tags, the state variables stay tags and each frame that goes out carries tags, where those that come do (Q.921
+/// 3.5.2.1). On whole numbers this says nothing.
+pub fn numbers_stay()
+    ensures own { (r : Reading) (input : Input) (e : End) (s : StepState) → AreNumbers r e.window → HearsNumbers r input → step r input e ≡ Ok s → AreNumbers r s.end.window }
+    ensures sent { (r : Reading) (input : Input) (e : End) (s : StepState) → AreNumbers r e.window → HearsNumbers r input → step r input e ≡ Ok s → AreNumbered r s.outs }
+{}
+
 /// A step begins one establishment or none: one by a SABME command in states 4, 7 and 8, and by a UA with F=1 in state 5
 /// where no release waits for it (Q.921 5.5.1.2). Then the end is in state 7 with V(A) and V(R) at 0.
 pub fn establishments_are_counted()
@@ -53,12 +69,13 @@ pub fn establishments_are_counted()
 {}
 
 /// Messages are told of rightly. Those given stay, and one that is accepted comes behind them; the place of the first
-/// that waits moves by as many as the step tells to be acknowledged or dropped, before any message goes out; and the information of a frame goes to
-/// layer 3 once where states 7 and 8 accept it, and else never (Q.921 5.6.2, 5.6.3.2).
+/// that waits moves by as many as the step tells to be acknowledged or dropped, before any message goes out; and the information of an I frame goes to
+/// layer 3 once where states 7 and 8 accept it, that of a UI once, and else never (Q.921 5.6.2, 5.6.3.2).
 pub fn messages_are_counted()
     ensures given { (r : Reading) (input : Input) (e : End) (s : StepState) → step r input e ≡ Ok s → s.end.given ≡ e.given ++ messages_of input }
     ensures first { (r : Reading) (input : Input) (e : End) (s : StepState) → e.first ≤ length e.given → step r input e ≡ Ok s
         → s.end.first ≡ e.first + leaving s.outs }
     ensures order { (r : Reading) (input : Input) (e : End) (s : StepState) → step r input e ≡ Ok s → AreCountedFirst s.outs }
+    ensures unit { (r : Reading) (input : Input) (e : End) (s : StepState) → step r input e ≡ Ok s → unit_ups s.outs ≡ (if hears_unit input then 1 else 0) }
     ensures up { (r : Reading) (input : Input) (e : End) (s : StepState) → step r input e ≡ Ok s → ups s.outs ≡ (if accepts input e then 1 else 0) }
 {}

@@ -1,18 +1,26 @@
 //! Laws by which the definitions are tried. They do nothing when they are called.
 
-ghost use Rattle.std.specs.Prelude.{◌≡◌, true, false, [], ◌∷◌, ◌++◌, Err};
+ghost use Rattle.std.specs.Prelude.{◌≡◌, ◌≤◌, ℕ, true, false, List, [], ◌∷◌, ◌++◌, length, None, Ok, Err};
 ghost use Rattle.lapd_frame.specs.declared.Side.TheVariants as side;
 ghost use Rattle.lapd_frame.specs.declared.Role.TheVariants.{Command, Answer};
 ghost use Rattle.lapd_frame.specs.declared.Control.TheVariants.{I, Rr, Rnr, Disc};
 ghost use Rattle.lapd_mod128.specs.Counting.{Reading};
 ghost use Rattle.lapd_states.specs.declared.event.LinkFault.TheVariants.{NotEstablished};
+ghost use Rattle.lapd_states.specs.declared.out.Out.{Out};
+ghost use Rattle.lapd_states.specs.Counts.{ups};
+ghost use Rattle.lapd_states.specs.End.{End, StepState};
+ghost use Rattle.lapd_states.specs.Input.{Input};
+ghost use Rattle.lapd_states.specs.Spoken.{AreShort};
+ghost use Rattle.lapd_states.specs.Table.{step};
+ghost use Rattle.lapd_frame.specs.Frame.{n201};
 ghost use Rattle.lapd_states.specs.Parameters.{Parameters};
-ghost use Rattle.lapd_world.specs.Histories.{unit_frame};
+ghost use Rattle.lapd_world.specs.Histories.{Occasion, Story, unit_frame, tell};
+ghost use Rattle.lapd_world.specs.Kept.{AreSettled, IsKept, AreProper, IsKeptWorld, AreInOrder, is_heard};
 ghost use Rattle.lapd_world.specs.Line.{without_info};
-ghost use Rattle.lapd_world.specs.Move.{Deed, Give, Release, Deliver, Lose, Expire200, Expire203, Busy, UnitData, NothingThere, NotRunning, NotYet, Refused};
+ghost use Rattle.lapd_world.specs.Move.{Move, Station, Deed, Give, Release, Deliver, Lose, Expire200, Expire203, Busy, UnitData, NothingThere, NotRunning, NotYet, Refused};
 ghost use Rattle.lapd_world.specs.Safe.{IsSafe, AreSafe};
 ghost use Rattle.lapd_world.specs.Schedule.{figures, of_user, of_network, start, establishing, losing, schedule, restarting, user_in_recovery, user_at_end, network_at_end, user_restarted, receipt, one_message, two_messages, three_messages, in_first, in_first_but};
-ghost use Rattle.lapd_world.specs.World.{World, swapped, happens, world_after, left, new_world, run};
+ghost use Rattle.lapd_world.specs.World.{World, Happened, swapped, happens, world_after, left, new_world, run};
 
 /// On whole numbers and on tags: a message is lost, T200 expires, the enquiry is answered, and the message is sent again;
 /// a second is lost, and dropped by a second establishment; a third is received. What was received, acknowledged, dropped
@@ -80,4 +88,33 @@ pub fn wrong_histories_are_not_safe()
     ensures missing { IsSafe two_messages in_first [] (receipt 1 1 (2 ∷ []) ∷ []) → ⊥ }
     ensures unreceived { IsSafe one_message in_first (0 ∷ []) [] → ⊥ }
     ensures altered { IsSafe one_message in_first [] (receipt 0 1 (2 ∷ []) ∷ []) → ⊥ }
+{}
+
+/// Every world keeps what is written in `IsKeptWorld`: a new one with windows of up to 127 has it, an admitted move leaves
+/// it, and so does every run. On whole numbers and on tags.
+pub fn worlds_are_kept()
+    ensures begins { (r : Reading) (user network : Parameters) → user.k ≤ 127 → network.k ≤ 127 → IsKeptWorld r (new_world user network) }
+    ensures stays { (r : Reading) (move : Move) (w : World) (happened : Happened) → IsKeptWorld r w → happens r move w ≡ Ok happened → IsKeptWorld r happened.world }
+    ensures runs { (r : Reading) (moves : List Move) (w : World) → IsKeptWorld r w → IsKeptWorld r (run r moves w) }
+{}
+
+/// What a step of a side puts out is in order, and leads from its history to the end after the step; the information of a
+/// frame goes up once at most, and only of a frame that is heard.
+pub fn outputs_are_in_order()
+    ensures order { (r : Reading) (input : Input) (station : Station) (s : StepState) → IsKept r station → step r input station.end ≡ Ok s → AreInOrder s.end station.history.passed s.outs }
+    ensures up { (r : Reading) (input : Input) (e : End) (s : StepState) → step r input e ≡ Ok s → ups s.outs ≤ 1 }
+    ensures unheard { (r : Reading) (input : Input) (e : End) (s : StepState) → is_heard input ≡ false → step r input e ≡ Ok s → ups s.outs ≡ 0 }
+{}
+
+/// One output is told: those behind it are still in order; the places acknowledged or dropped are still those before the
+/// first that waits; no establishment begins; no message was sent that was not given; and what is on the line is in the
+/// grammar.
+pub fn outputs_are_told()
+    ensures rest { (e : End) (o : Occasion) (out : Out) (outs : List Out) (t : Story) → AreInOrder e t.history.passed (out ∷ outs) → AreInOrder e (tell o out t).history.passed outs }
+    ensures settled { (o : Occasion) (out : Out) (t : Story) → AreSettled t.history → AreSettled (tell o out t).history }
+    ensures begun { (o : Occasion) (out : Out) (t : Story) → (tell o out t).history.begun ≡ t.history.begun }
+    ensures unsent { (e : End) (o : Occasion) (out : Out) (outs : List Out) (t : Story) → AreInOrder e t.history.passed (out ∷ outs)
+        → ((place : ℕ) → length e.given ≤ place → t.history.sent_in place ≡ None) → (place : ℕ) → length e.given ≤ place → (tell o out t).history.sent_in place ≡ None }
+    ensures proper { (e : End) (o : Occasion) (out : Out) (outs : List Out) (t : Story) → AreInOrder e t.history.passed (out ∷ outs) → AreShort o.given → length o.octets ≤ n201
+        → AreProper t.line → AreProper (tell o out t).line }
 {}

@@ -3,13 +3,15 @@
 //!
 //! Nothing here runs. The definitions stand in specs/, to be read in this order: `Line`, one direction of the line;
 //! `Histories`, what a side received, sent, had acknowledged and dropped; `Move`, what a side does or what happens to it,
-//! and when that is admitted; `World`, both ends, and a run of moves; and `Safe`. Each holds on whole numbers and on the
-//! tags that frames carry. The laws below try them on worked moves: begin with [`schedule_is_computed`].
+//! and when that is admitted; `World`, both ends, and a run of moves; `Kept`, what every world keeps; and `Safe`. Each holds
+//! on whole numbers and on the tags that frames carry. The laws below try them on worked moves: begin with
+//! [`schedule_is_computed`]; and say what every run keeps: [`worlds_are_kept`].
 #![tactic(auto)]
 
 mod laws;
 
 pub use laws::{
-    moves_are_computed, new_worlds_are_safe, refusals_are_computed, schedule_is_computed,
-    schedule_is_safe, sides_are_alike, wrong_histories_are_not_safe,
+    moves_are_computed, new_worlds_are_safe, outputs_are_in_order, outputs_are_told,
+    refusals_are_computed, schedule_is_computed, schedule_is_safe, sides_are_alike,
+    worlds_are_kept, wrong_histories_are_not_safe,
 };
