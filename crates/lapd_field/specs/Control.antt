@@ -39,6 +39,20 @@ IsControl (Ua f) = Unit {0}
 IsControl (Frmr f) = Unit {0}
 IsControl (Xid pf) = Unit {0}
 
+-- its P or F bit (Q.921 3.5.1)
+abbrev pub poll_final : Control → Bool
+poll_final (I ns nr p) = p
+poll_final (Rr nr pf) = pf
+poll_final (Rnr nr pf) = pf
+poll_final (Rej nr pf) = pf
+poll_final (Sabme p) = p
+poll_final (Dm f) = f
+poll_final (Ui p) = p
+poll_final (Disc p) = p
+poll_final (Ua f) = f
+poll_final (Frmr f) = f
+poll_final (Xid pf) = pf
+
 -- An I or S field has two octets: its first is even, or ends in the bits 01 (Q.921 3.4, Table 4).
 abbrev pub has_second : ℕ → Bool
 has_second first = if first % 2 == 0 then true else first % 4 == 1

@@ -38,7 +38,8 @@ impl Address {
 
     /// The two octets of the address, in a frame that `from` sends.
     pub fn write(&self, from: Side) -> [u8; 2]
-        ensures { result ≡ address_octets from self.now }
+        ensures octets { result ≡ address_octets from self.now }
+        ensures grammar { IsAddress self.now }
     {
         let set = match (from, self.role) {
             (Side::Network, Role::Command) | (Side::User, Role::Answer) => 2,

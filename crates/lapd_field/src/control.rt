@@ -1,5 +1,5 @@
-ghost use Rattle.std.specs.Prelude.{◌≡◌, ◌+◌, ◌*◌, ◌<◌, [], ◌∷◌, ◌++◌, take, length, List, ℕ, IfOk};
-ghost use Rattle.lapd_field.specs.Control.{bit, control_octets, control_at, numbered_at, unnumbered_at, has_second, IsControl};
+ghost use Rattle.std.specs.Prelude.{◌≡◌, ◌+◌, ◌*◌, ◌<◌, ◌≤◌, [], ◌∷◌, ◌++◌, take, length, List, ℕ, IfOk};
+ghost use Rattle.lapd_field.specs.Control.{bit, control_octets, control_at, numbered_at, unnumbered_at, has_second, poll_final, IsControl};
 
 use crate::{FieldFault, Number};
 use arrayvec::ArrayVec;
@@ -55,7 +55,8 @@ impl Control {
 
     /// The one or two octets of the field.
     pub fn write(&self) -> ArrayVec<u8, 2>
-        ensures { result.items ≡ control_octets self.now }
+        ensures octets { result.items ≡ control_octets self.now }
+        ensures grammar { IsControl self.now }
     {
         match *self {
             Control::I { ns, nr, p } => two_octets(ns.value() * 2, nr, p),
@@ -69,6 +70,21 @@ impl Control {
             Control::Ua { f } => one_octet(0x63, f),
             Control::Frmr { f } => one_octet(0x87, f),
             Control::Xid { pf } => one_octet(0xaf, pf),
+        }
+    }
+
+    /// Its P bit, where it is of a command, or its F bit, where it is of a response (Q.921 3.5.1).
+    pub fn poll_final(&self) -> bool
+        ensures { result ≡ poll_final self.now }
+    {
+        match *self {
+            Control::I { p, .. } | Control::Sabme { p } | Control::Ui { p } | Control::Disc { p } =>
+                p,
+            Control::Rr { pf, .. }
+            | Control::Rnr { pf, .. }
+            | Control::Rej { pf, .. }
+            | Control::Xid { pf } => pf,
+            Control::Dm { f } | Control::Ua { f } | Control::Frmr { f } => f,
         }
     }
 }
@@ -134,7 +150,8 @@ fn one_octet(octet: u8, pf: bool) -> ArrayVec<u8, 2>
 
 /// The octets of an I or S frame.
 fn two_octets(first: u8, nr: Number, pf: bool) -> ArrayVec<u8, 2>
-    ensures { result.items ≡ first ∷ (nr * 2 + bit pf) ∷ [] }
+    ensures octets { result.items ≡ first ∷ (nr * 2 + bit pf) ∷ [] }
+    ensures grammar { nr ≤ 127 }
 {
     let mut octets = ArrayVec::new();
     octets.push(first);

@@ -1,6 +1,6 @@
 ghost use Rattle.std.specs.Prelude.{◌≡◌, ◌++◌, ◌+◌, ◌≤◌, length, take, drop, IfOk, IfErr, Ok, Err, Some, None, option_map, ℕ};
 ghost use Rattle.std.specs.Result.{result_err};
-ghost use Rattle.lapd_field.specs.Control.{control_octets};
+ghost use Rattle.lapd_field.specs.Control.{IsControl, control_octets};
 ghost use Rattle.lapd_frame.specs.Frame.{Fields, IsFrame, content_fault, frame_of, spelling};
 ghost use Rattle.lapd_frame.specs.Reading.{frame_at, first_fault, frame_of_fields, address_of};
 
@@ -91,6 +91,7 @@ pub fn write(frame: &Frame<'_>, from: Side, out: &mut [u8; MOST_OCTETS]) -> usiz
     ensures written { out.new ≡ spelling from frame.now ++ drop result out.old }
     ensures len { result ≡ length (spelling from frame.now) }
     ensures at_most { result ≤ 264 }
+    ensures grammar { IsFrame frame.now }
 {
     let address = frame.address.write(from);
     put(out, 0, &address);
@@ -104,6 +105,7 @@ fn put_control(out: &mut [u8; 264], control: &Control) -> usize
     ensures written { out.new ≡ take 2 out.old ++ control_octets control.now ++ drop (2 + result) out.old }
     ensures len { result ≡ length (control_octets control.now) }
     ensures at_most { result ≤ 2 }
+    ensures grammar { IsControl control.now }
 {
     let octets = control.write();
     match octets.as_slice() {

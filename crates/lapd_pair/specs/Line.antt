@@ -1,5 +1,5 @@
 -- One direction of the line, as octets: what is on it, and how it shows the frames on their way.
-use Rattle.std.specs.Prelude.{◌≡◌, ◌+◌, ◌≤◌, ℕ, List, [], ◌∷◌, map, drop, length, Unit}
+use Rattle.std.specs.Prelude.{◌≡◌, ◌+◌, ◌≤◌, ℕ, List, [], ◌∷◌, map, drop}
 use Rattle.std.specs.Vec.{vec_len, vec_capacity}
 use Rattle.lapd_frame.specs.declared.Side.{Side}
 use Rattle.lapd_frame.specs.declared.Role.{Role}
@@ -34,3 +34,8 @@ pub record IsOn (from : Side) (line : Line) (frames : List Flight) : Type 0 wher
 -- so many more frames have room without more memory
 abbrev pub HasRoomFor : ℕ → Line → Type 0
 HasRoomFor n line = vec_len line.frames + n ≤ vec_capacity line.frames
+
+-- these are the octets of the first frame on its way
+abbrev pub IsFirst : Side → List ℕ → List Flight → Type 0
+IsFirst from octets [] = ⊥
+IsFirst from octets (frame ∷ rest) = (octets ≡ spelling from (fields_of frame)) × IsFrame (fields_of frame)

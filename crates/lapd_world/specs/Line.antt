@@ -5,7 +5,7 @@ use Rattle.std.specs.Prelude.{ℕ, Bool, not, ◌&&◌, List, [], ◌∷◌, ◌
 use Rattle.std.specs.List.{position, remove}
 use Rattle.lapd_frame.specs.declared.Role.{Role}
 use Rattle.lapd_frame.specs.declared.Control.{Control}
-use Rattle.lapd_frame.specs.declared.Control.TheVariants.{I, Rr, Rnr, Rej, Sabme, Dm, Ui, Disc, Ua, Frmr, Xid}
+use Rattle.lapd_frame.specs.Control.{poll_final}
 use Rattle.lapd_frame.specs.Reading.{is_command}
 
 -- A frame on its way: command or response, control field and information. The address is left out, since all frames are of
@@ -28,20 +28,6 @@ sent_behind line frame = line ++ frame ∷ []
 -- losing: without the one at this position, counted from 0
 abbrev pub without_lost : ℕ → List Flight → List Flight
 without_lost at line = remove line at
-
--- the P or F bit of a control field (Q.921 3.5.1)
-abbrev pub poll_final : Control → Bool
-poll_final (I ns nr p) = p
-poll_final (Rr nr pf) = pf
-poll_final (Rnr nr pf) = pf
-poll_final (Rej nr pf) = pf
-poll_final (Sabme p) = p
-poll_final (Dm f) = f
-poll_final (Ui p) = p
-poll_final (Disc p) = p
-poll_final (Ua f) = f
-poll_final (Frmr f) = f
-poll_final (Xid pf) = pf
 
 -- a command with P=1, of whatever kind
 abbrev pub is_poll : Flight → Bool

@@ -1,0 +1,22 @@
+-- Frames that ask for an answer or give it: commands with P=1, and responses with F=1 (Q.921 3.5.1).
+use Rattle.std.specs.Prelude.{Bool, false, not, ◌&&◌, Result, Ok, Err}
+use Rattle.lapd_frame.specs.declared.Role.{Role}
+use Rattle.lapd_frame.specs.declared.Role.TheVariants.{Command, Answer}
+use Rattle.lapd_frame.specs.declared.FrameFault.{FrameFault}
+use Rattle.lapd_frame.specs.Control.{poll_final}
+use Rattle.lapd_frame.specs.Frame.{Fields}
+use Rattle.lapd_frame.specs.Reading.{is_command}
+
+-- a role is this one
+abbrev pub is_role : Role → Role → Bool
+is_role Command role = is_command role
+is_role Answer role = not (is_command role)
+
+-- a frame of this role with its P or F bit set
+abbrev pub is_marked : Role → Fields → Bool
+is_marked role f = is_role role f.address.role && poll_final f.control
+
+-- what is read is such a frame; octets that are no frame are not
+abbrev pub is_read_marked : Role → Result Fields FrameFault → Bool
+is_read_marked role (Ok f) = is_marked role f
+is_read_marked role (Err fault) = false
