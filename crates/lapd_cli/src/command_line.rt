@@ -22,6 +22,8 @@ pub use words::{WordsFault, words};
 pub enum Chosen {
     /// Answers a script as one link of this side, made with these parameters.
     Answer { side: Side, params: Params },
+    /// Makes the moves of a script on two ends, made with these parameters, and the line between them.
+    Pair { user: Params, network: Params },
     /// Prints octets as trace lines.
     Decode,
 }
@@ -61,6 +63,7 @@ pub fn choose<'a, S: AsStr>(alloc: Global, words: &'a [S]) -> Result<Chosen, Unc
     // A word for a subcommand is required, and the parser takes those of `program` alone.
     match matches.subcommand() {
         Some(("answer", given)) => answer_chosen(given),
+        Some(("pair", given)) => pair_chosen(given),
         _ => Ok(Chosen::Decode),
     }
 }
@@ -70,7 +73,18 @@ fn answer_chosen<'a>(given: &ArgMatches<'a>) -> Result<Chosen, Unchosen<'a>> {
     match params_given(given) {
         Ok(params) => Ok(Chosen::Answer {
             side: side_given(given),
-            params: params.with_recovery(recovery_given(given)),
+            params: params.with_recovery(recovery_given(given, "recovery")),
+        }),
+        Err(fault) => Err(Unchosen::OutOfRange(fault)),
+    }
+}
+
+// What the options of `pair` choose.
+fn pair_chosen<'a>(given: &ArgMatches<'a>) -> Result<Chosen, Unchosen<'a>> {
+    match params_given(given) {
+        Ok(params) => Ok(Chosen::Pair {
+            user: params.with_recovery(recovery_given(given, "recovery-user")),
+            network: params.with_recovery(recovery_given(given, "recovery-net")),
         }),
         Err(fault) => Err(Unchosen::OutOfRange(fault)),
     }
@@ -83,8 +97,9 @@ fn side_given(given: &ArgMatches<'_>) -> Side {
     }
 }
 
-fn recovery_given(given: &ArgMatches<'_>) -> Recovery {
-    match given.get_str("recovery") {
+// The recovery that the option of this name chooses.
+fn recovery_given(given: &ArgMatches<'_>, option: &str) -> Recovery {
+    match given.get_str(option) {
         Some("last") => Recovery::LastMessage,
         _ => Recovery::Enquiry,
     }
@@ -126,6 +141,7 @@ fn program<'a>(alloc: Global) -> Result<Command<'a>, Error> {
         .subcommand_required(true)
         .disable_help_subcommand(true)
         .subcommand(answer_command(alloc)?)?
+        .subcommand(pair_command(alloc)?)?
         .subcommand(decode_command(alloc))?;
     Ok(program)
 }
@@ -138,7 +154,22 @@ fn answer_command<'a>(alloc: Global) -> Result<Command<'a>, AllocError> {
         .arg(K.arg(alloc))?
         .arg(N200.arg(alloc))?
         .arg(ROOM.arg(alloc))?
-        .arg(recovery_option(alloc))
+        .arg(recovery_option(alloc, "recovery", help::RECOVERY))
+}
+
+fn pair_command<'a>(alloc: Global) -> Result<Command<'a>, AllocError> {
+    Command::new(alloc, "pair")
+        .about(help::PAIR_ABOUT)
+        .after_help(help::PAIR)
+        .arg(K.arg(alloc))?
+        .arg(N200.arg(alloc))?
+        .arg(ROOM.arg(alloc))?
+        .arg(recovery_option(
+            alloc,
+            "recovery-user",
+            help::RECOVERY_USER,
+        ))?
+        .arg(recovery_option(alloc, "recovery-net", help::RECOVERY_NET))
 }
 
 fn decode_command<'a>(alloc: Global) -> Command<'a> {
@@ -161,11 +192,11 @@ fn side_option<'a>(alloc: Global) -> Arg<'a> {
 
 static RECOVERIES: [&str; 2] = ["enquiry", "last"];
 
-fn recovery_option<'a>(alloc: Global) -> Arg<'a> {
-    Arg::new(alloc, "recovery")
-        .long("recovery")
+fn recovery_option<'a>(alloc: Global, name: &'static str, help: &'static str) -> Arg<'a> {
+    Arg::new(alloc, name)
+        .long(name)
         .value_name("RECOVERY")
-        .help("What T200 sends in state 7: an enquiry, or the last message again")
+        .help(help)
         .action(ArgAction::Set)
         .value_parser(RECOVERIES.as_slice())
         .default_value("enquiry")
