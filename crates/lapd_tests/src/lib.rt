@@ -17,6 +17,8 @@ mod devices;
 #[cfg(test)]
 mod links;
 #[cfg(test)]
+mod pairs;
+#[cfg(test)]
 mod queues;
 #[cfg(test)]
 mod reports;
