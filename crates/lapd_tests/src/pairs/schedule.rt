@@ -152,11 +152,11 @@ impl<'a> Walk<'a> {
 
 /// Whether enough happened: messages were received and acknowledged in many establishments, and some were dropped.
 fn is_lively(pair: &Pair, side: Side) -> bool {
-    pair.received(side).len() > 300
-        && pair.acknowledged(side) > 300
-        && pair.dropped(side) > 50
-        && pair.begun(side).len() > 20
-        && !pair.units(side).is_empty()
+    pair.received(side).len() > 250
+        && pair.acknowledged(side) > 200
+        && pair.dropped(side) > 100
+        && pair.begun(side).len() > 50
+        && pair.units(side).len() > 20
 }
 
 fn runs_so(alloc: Global, row: &str, user: Recovery, network: Recovery) -> Result<(), Fail> {
