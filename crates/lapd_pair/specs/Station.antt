@@ -1,5 +1,6 @@
 -- How one side shows a side of the world, and what it sees of the line.
 use Rattle.std.specs.Prelude.{◌≡◌, ℕ, List, [], length, Option, Some, None, Result, Ok, Vec}
+use Rattle.std.specs.declared.alloc.Global.{Global}
 use Rattle.lapd_frame.specs.declared.Side.{Side}
 use Rattle.lapd_frame.specs.Address.{other_side}
 use Rattle.lapd_link.specs.Link.{LinkStandsFor, setup_of}

@@ -1,6 +1,6 @@
 //! What each move comes to at the side whose move it is.
 
-ghost use Rattle.std.specs.Prelude.{◌≡◌, ◌≤◌, ℕ, List, [], ◌∷◌, IfOk, IfErr, OnErr, length};
+ghost use Rattle.std.specs.Prelude.{◌≡◌, ◌≤◌, ℕ, List, [], ◌∷◌, true, IfOk, IfErr, OnErr, length};
 ghost use Rattle.lapd_frame.specs.declared.Side.{Side};
 ghost use Rattle.lapd_frame.specs.Address.{other_side};
 ghost use Rattle.lapd_link.specs.Link.{IsForLink, setup_of, is_address_of};
