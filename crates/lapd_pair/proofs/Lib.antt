@@ -1,4 +1,6 @@
+pub mod Acts
 pub mod Fates
 pub mod Lines
 pub mod Room
+pub mod Steps
 pub mod Telling
