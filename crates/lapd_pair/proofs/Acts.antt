@@ -129,16 +129,17 @@ request_refused i octets old made (Err fault) station h = λ side v shown. h oct
 
 -- ---- A frame.
 
-pub frame_acts : (f : Fields) (copy : Vec ℕ Global) (old made new : Station) (outward outward_made outward_new : Line) (r : Result (ArrayVec Out) PairFault)
-    → length f.info ≤ n201 → copy.items ≡ f.info → StationsSame old made → LinesSame outward outward_made
-    → IfOk r (StepsTo (input.Heard f.control f.address.role) f.info (Some copy) made outward_made new outward_new)
-    → IfOk r (λ outs. (flight : Flight) → fields_of flight ≡ f → Acts old outward new outward_new (λ side v. hears Tagged flight v) outs)
+pub frame_acts : (f : Fields) (octets : List ℕ) (copy : Vec ℕ Global) (old made new : Station) (outward outward_made outward_new : Line) (r : Result (ArrayVec Out) PairFault)
+    → octets ≡ f.info → copy.items ≡ f.info → StationsSame old made → LinesSame outward outward_made
+    → IfOk r (StepsTo (input.Heard f.control f.address.role) octets (Some copy) made outward_made new outward_new)
+    → IfOk r (λ outs. (flight : Flight) → fields_of flight ≡ f → length flight.info ≤ n201 → Acts old outward new outward_new (λ side v. hears Tagged flight v) outs)
 unfolding hears
-frame_acts f copy old made new outward outward_made outward_new (Err fault) short same station line h = tt
-frame_acts f copy old made new outward outward_made outward_new (Ok outs) short same station line h = λ flight is.
-    let Is : Fields → Type 0 = λ g. (length g.info ≤ n201) × (copy.items ≡ g.info) × StepsTo (input.Heard g.control g.address.role) g.info (Some copy) made outward_made new outward_new outs in
-    let all = subst Is (sym is) (short, same, h) in
-    λ side v kept shown on. all.2 side flight.place v kept (station side v.station shown) (line side v.outgoing on) all.0 all.1
+frame_acts f octets copy old made new outward outward_made outward_new (Err fault) whole same station line h = tt
+frame_acts f octets copy old made new outward outward_made outward_new (Ok outs) whole same station line h = λ flight is short.
+    let Is : Fields → Type 0 = λ g. (copy.items ≡ g.info) × StepsTo (input.Heard g.control g.address.role) g.info (Some copy) made outward_made new outward_new outs in
+    let told = subst (λ (info : List ℕ). StepsTo (input.Heard f.control f.address.role) info (Some copy) made outward_made new outward_new outs) whole h in
+    let all = subst Is (sym is) (same, told) in
+    λ side v kept shown on. all.1 side flight.place v kept (station side v.station shown) (line side v.outgoing on) short all.0
 
 pub frame_refused : (f : Fields) (old made : Station) (r : Result (ArrayVec Out) PairFault) → StationsSame old made → IfErr r (StepRefuses (input.Heard f.control f.address.role) made)
     → IfErr r (λ fault. (flight : Flight) → fields_of flight ≡ f → RefusesAs old (λ side v. hears Tagged flight v) fault)

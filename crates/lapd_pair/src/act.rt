@@ -1,6 +1,7 @@
 //! What each move comes to at the side whose move it is.
 
-ghost use Rattle.std.specs.Prelude.{◌≡◌, [], true, IfOk, IfErr, OnErr};
+ghost use Rattle.std.specs.Prelude.{◌≡◌, ◌≤◌, [], true, length, IfOk, IfErr, OnErr};
+ghost use Rattle.lapd_frame.specs.Frame.{n201};
 ghost use Rattle.lapd_link.specs.Link.{setup_of, is_address_of};
 ghost use Rattle.lapd_mod128.specs.Counting.{Tagged};
 ghost use Rattle.lapd_states.specs.Input.{Give, input_of};
@@ -84,7 +85,7 @@ impl Station {
     /// A frame of the other side.
     fn hear(&mut self, alloc: Global, frame: &Frame<'_>, outward: &mut Line) -> Result<Outs, PairFault>
         requires for_link { is_address_of (setup_of self.old.link) frame.now.address ≡ true }
-        ensures ok { IfOk result (λ outs. (flight : Flight) → fields_of flight ≡ frame.now → Acts self.old outward.old self.new outward.new (λ side v. hears Tagged flight v) outs) }
+        ensures ok { IfOk result (λ outs. (flight : Flight) → fields_of flight ≡ frame.now → length flight.info ≤ n201 → Acts self.old outward.old self.new outward.new (λ side v. hears Tagged flight v) outs) }
         ensures err { IfErr result (λ fault. (flight : Flight) → fields_of flight ≡ frame.now → RefusesAs self.old (λ side v. hears Tagged flight v) fault) }
         ensures unchanged { OnErr result (ShowsAsBefore self.old outward.old self.new outward.new) }
     {

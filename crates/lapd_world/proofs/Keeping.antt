@@ -163,7 +163,7 @@ where_five : {X : Type 0} (five : Bool) (len : ℕ) (fault : X) → (len == 5) �
 where_five true len fault is h = grind (arith, nat_tests)
 where_five false len fault is h = cc
 
-content_is_short : (role : Role) (control : Control) (len : ℕ) → content_fault role control len ≡ None → len ≤ n201
+pub content_is_short : (role : Role) (control : Control) (len : ℕ) → content_fault role control len ≡ None → len ≤ n201
 content_is_short Command (I ns nr p) len h = where_long (nat_lt 260 len) len _ refl h
 content_is_short Answer (I ns nr p) len h = cc
 content_is_short role (Rr nr pf) len h = where_some (nat_lt 0 len) len _ refl h
