@@ -4,3 +4,4 @@ pub mod Lines
 pub mod Room
 pub mod Steps
 pub mod Telling
+pub mod Views

@@ -113,9 +113,13 @@ impl Station {
         if !self.link.is_for(&frame.address()) {
             return Err(PairFault::NothingThere);
         }
-        let outs = self.hear(alloc, &frame, outward)?;
-        inward.take_first();
-        Ok(outs)
+        match self.hear(alloc, &frame, outward) {
+            Ok(outs) => {
+                inward.take_first();
+                Ok(outs)
+            }
+            Err(fault) => Err(fault),
+        }
     }
 
     /// T200 expires, where it runs and nothing that it waits for is on its way.
