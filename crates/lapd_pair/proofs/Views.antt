@@ -1,5 +1,6 @@
 -- What a move comes to, with what is on its way to its side.
-use Rattle.std.proofs.Common.{◌≡◌, ◌≤◌, ◌+◌, ℕ, Bool, true, false, if◌then◌else◌, List, [], ◌∷◌, length, Option, Some, None, Result, Ok, Err, IfOk, IfErr, OnErr, refl, sym, ap, ◌∙◌, subst, arith}
+use Rattle.std.proofs.Common.{◌≡◌, ◌≤◌, ◌+◌, ℕ, Bool, true, false, if◌then◌else◌, List, [], ◌∷◌, length, Option, Some, None, Vec, nat_lt, Result, Ok, Err, IfOk, IfErr, OnErr, refl, sym, ap, ◌∙◌, subst, arith}
+use Rattle.std.specs.declared.alloc.Global.{Global}
 use Rattle.arrayvec.specs.ArrayVec.{ArrayVec}
 use Rattle.lapd_timers.specs.declared.timer.Timer.TheVariants.{T200, T203}
 use Rattle.lapd_frame.specs.declared.Side.{Side}
@@ -15,15 +16,17 @@ use Rattle.lapd_states.specs.Input as input
 use Rattle.lapd_states.specs.Input.{Input, Expiry}
 use Rattle.lapd_states.specs.Table.{step}
 use Rattle.lapd_world.specs.Kept.{IsKept}
-use Rattle.lapd_world.specs.Line.{Flight, first_poll, first_final}
+use Rattle.lapd_world.specs.Line.{Flight, without_lost, first_poll, first_final}
 use Rattle.lapd_world.specs.Move as world
-use Rattle.lapd_world.specs.Move.{View, Acted, Refusal, Refused, NothingThere, NotRunning, NotYet, view_after, stepped, hears, takes, delivers, unless_under_way, expires_200, expires_203}
+use Rattle.lapd_world.specs.Move.{View, Acted, Refusal, Refused, NothingThere, NotRunning, NotYet, view_after, stepped, hears, takes, delivers, busy_input, quietly, loses, restarts, acts, expires_200, expires_203}
 use Rattle.lapd_world.proofs.Keeping.{content_is_short}
 use Rattle.lapd_pair.specs.declared.line.Line.{Line}
+use Rattle.lapd_pair.specs.declared.moves.Move.{Move}
+use Rattle.lapd_pair.specs.declared.moves.Move.TheVariants as moves
 use Rattle.lapd_pair.specs.declared.pair_fault.PairFault.{PairFault}
 use Rattle.lapd_pair.specs.declared.station.Station.{Station}
 use Rattle.lapd_pair.specs.Line.{fields_of, IsOn, IsFirst}
-use Rattle.lapd_pair.specs.Moves.{IsRefusedAs}
+use Rattle.lapd_pair.specs.Moves.{move_of, IsRefusedAs}
 use Rattle.lapd_pair.specs.Station.{IsStation, IsView, IsActed, IsDone, Acts, RefusesAs, ShowsAsBefore, ActsInView, RefusesInView, ShowsViewAsBefore}
 use Rattle.lapd_pair.proofs.Lines.{first_is_read}
 
@@ -180,3 +183,75 @@ delivery_refused side v frame rest old inward outward fault is shown refuses = s
 -- the side that sends on the line to this one
 pub sender_shown : (side own other : Side) (s : Station) (t : world.Station) → own ≡ s.link.side → other ≡ other_side own → IsStation side s t → other_side side ≡ other
 sender_shown side own other s t mine theirs shown = sym (theirs ∙ ap other_side (side_shown side own s t mine shown))
+
+-- ---- Which deed a move is.
+
+expiry_where : (running : Bool) (side : Side) (v : View) (acted : Acted) → (if running then takes Tagged (Expiry T203) [] v else Refuses NotRunning) ≡ Did acted → acted.view.incoming ≡ v.incoming
+expiry_where true side v acted is = request_takes_none (Expiry T203) [] side v acted is
+expiry_where false side v acted is = cc
+
+pub expiry_takes_none : TakesNone (λ side v. expires_203 Tagged v)
+unfolding expires_203
+expiry_takes_none side v acted is = expiry_where v.station.end.t203 side v acted is
+
+pub give_is : (deed : Move) (to : Side) (message : Vec ℕ Global) → deed ≡ moves.Give to message → (side : Side) (v : View) → acts Tagged side (move_of deed).deed v ≡ takes Tagged (input.Give message.items) [] v
+unfolding acts
+give_is deed to message is side v = rw is refl
+
+pub establish_is : (deed : Move) (to : Side) → deed ≡ moves.Establish to → (side : Side) (v : View) → acts Tagged side (move_of deed).deed v ≡ takes Tagged input.Establish [] v
+unfolding acts
+establish_is deed to is side v = rw is refl
+
+pub release_is : (deed : Move) (to : Side) → deed ≡ moves.Release to → (side : Side) (v : View) → acts Tagged side (move_of deed).deed v ≡ takes Tagged input.Release [] v
+unfolding acts
+release_is deed to is side v = rw is refl
+
+pub deliver_is : (deed : Move) (to : Side) → deed ≡ moves.Deliver to → (side : Side) (v : View) → acts Tagged side (move_of deed).deed v ≡ delivers Tagged v.incoming v
+unfolding acts
+deliver_is deed to is side v = rw is refl
+
+pub lose_is : (deed : Move) (to : Side) (at : ℕ) → deed ≡ moves.Lose to at → (side : Side) (v : View) → acts Tagged side (move_of deed).deed v ≡ loses at v
+unfolding acts
+lose_is deed to at is side v = rw is refl
+
+pub expire_200_is : (deed : Move) (to : Side) → deed ≡ moves.Expire200 to → (side : Side) (v : View) → acts Tagged side (move_of deed).deed v ≡ expires_200 Tagged side v
+unfolding acts
+expire_200_is deed to is side v = rw is refl
+
+pub expire_203_is : (deed : Move) (to : Side) → deed ≡ moves.Expire203 to → (side : Side) (v : View) → acts Tagged side (move_of deed).deed v ≡ expires_203 Tagged v
+unfolding acts
+expire_203_is deed to is side v = rw is refl
+
+pub busy_is : (deed : Move) (to : Side) (on : Bool) → deed ≡ moves.Busy to on → (side : Side) (v : View) → acts Tagged side (move_of deed).deed v ≡ takes Tagged (busy_input on) [] v
+unfolding acts
+busy_is deed to on is side v = rw is refl
+
+pub unit_as : (deed : Move) (to : Side) (unit : Vec ℕ Global) (octets : List ℕ) → deed ≡ moves.Unit to unit → octets ≡ unit.items → (side : Side) (v : View) → acts Tagged side (move_of deed).deed v ≡ takes Tagged (input.UnitData (length octets)) octets v
+unfolding acts
+unit_as deed to unit octets is same side v = rw (is, same) refl
+
+pub restart_is : (deed : Move) (to : Side) → deed ≡ moves.Restart to → (side : Side) (v : View) → acts Tagged side (move_of deed).deed v ≡ quietly (restarts v)
+unfolding acts
+restart_is deed to is side v = rw is refl
+
+-- ---- A loss.
+
+pub lost_there : (at : ℕ) (v : View) → nat_lt at (length v.incoming) ≡ true → loses at v ≡ quietly (record v { incoming = without_lost at v.incoming })
+unfolding loses
+lost_there at v h = rw h refl
+
+pub lost_nowhere : (at : ℕ) (v : View) → nat_lt at (length v.incoming) ≡ false → loses at v ≡ Refuses NothingThere
+unfolding loses
+lost_nowhere at v h = rw h refl
+
+pub lost_shown : (side : Side) (at : ℕ) (v : View) (s : Station) (inward inward_new outward : Line) → nat_lt at (length v.incoming) ≡ true → IsView side s inward outward v → IsOn (other_side side) inward_new (without_lost at v.incoming)
+    → IsDone side s inward_new outward (loses at v) []
+lost_shown side at v s inward inward_new outward there shown left = record {
+  acted = record { view = record v { incoming = without_lost at v.incoming }; outs = [] };
+  is = lost_there at v there;
+  same = refl;
+  view = record { station = shown.station; incoming = left; outgoing = shown.outgoing };
+}
+
+pub given_as : (deed : Move) (to : Side) (message : Vec ℕ Global) (octets : List ℕ) → deed ≡ moves.Give to message → octets ≡ message.items → (side : Side) (v : View) → acts Tagged side (move_of deed).deed v ≡ takes Tagged (input.Give octets) [] v
+given_as deed to message octets is same side v = give_is deed to message is side v ∙ ap (λ (m : List ℕ). takes Tagged (input.Give m) [] v) (sym same)

@@ -4,9 +4,9 @@ ghost use Rattle.std.specs.Prelude.{◌≡◌, ◌≤◌, [], true, length, IfOk
 ghost use Rattle.lapd_frame.specs.Frame.{n201};
 ghost use Rattle.lapd_link.specs.Link.{setup_of, is_address_of};
 ghost use Rattle.lapd_mod128.specs.Counting.{Tagged};
-ghost use Rattle.lapd_states.specs.Input.{Give, input_of};
+ghost use Rattle.lapd_states.specs.Input.{Give, UnitData, input_of};
 ghost use Rattle.lapd_world.specs.Line.{Flight};
-ghost use Rattle.lapd_world.specs.Move.{takes, hears, delivers, loses, expires_200, expires_203, acts, quietly, restarts};
+ghost use Rattle.lapd_world.specs.Move.{takes, hears, delivers, loses, expires_200, expires_203, acts, busy_input, quietly, restarts};
 ghost use Rattle.lapd_pair.specs.Line.{fields_of};
 ghost use Rattle.lapd_pair.specs.Moves.{move_of};
 ghost use Rattle.lapd_pair.specs.Station.{Acts, RefusesAs, ShowsAsBefore, ActsInView, RefusesInView, ShowsViewAsBefore, IsAsked};
@@ -38,9 +38,8 @@ impl Station {
             Move::Lose(_, place) => self.lose(*place, inward, outward),
             Move::Expire200(_) => self.expire_200(inward, outward),
             Move::Expire203(_) => self.expire_203(outward),
-            Move::Busy(_, true) => self.take(Event::BusyOn, &[], outward),
-            Move::Busy(_, false) => self.take(Event::BusyOff, &[], outward),
-            Move::Unit(_, octets) => self.take(Event::Unit(octets.len()), octets, outward),
+            Move::Busy(_, on) => self.set_busy(*on, outward),
+            Move::Unit(_, octets) => self.take_unit(octets, outward),
             Move::Restart(_) => self.restart(alloc, inward, outward),
         }
     }
@@ -59,6 +58,28 @@ impl Station {
             return Err(PairFault::Memory);
         };
         self.step(event, octets, None, outward)
+    }
+
+    /// Its receiver becomes busy, or is no longer.
+    fn set_busy(&mut self, on: bool, outward: &mut Line) -> Result<Outs, PairFault>
+        ensures ok { IfOk result (Acts self.old outward.old self.new outward.new (λ side v. takes Tagged (busy_input on) [] v)) }
+        ensures err { IfErr result (RefusesAs self.old (λ side v. takes Tagged (busy_input on) [] v)) }
+        ensures unchanged { OnErr result (ShowsAsBefore self.old outward.old self.new outward.new) }
+    {
+        if on {
+            self.take(Event::BusyOn, &[], outward)
+        } else {
+            self.take(Event::BusyOff, &[], outward)
+        }
+    }
+
+    /// Unit data of layer 3.
+    fn take_unit(&mut self, octets: &[u8], outward: &mut Line) -> Result<Outs, PairFault>
+        ensures ok { IfOk result (Acts self.old outward.old self.new outward.new (λ side v. takes Tagged (UnitData (length octets.now)) octets.now v)) }
+        ensures err { IfErr result (RefusesAs self.old (λ side v. takes Tagged (UnitData (length octets.now)) octets.now v)) }
+        ensures unchanged { OnErr result (ShowsAsBefore self.old outward.old self.new outward.new) }
+    {
+        self.take(Event::Unit(octets.len()), octets, outward)
     }
 
     /// A message of layer 3.
