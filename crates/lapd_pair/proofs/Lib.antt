@@ -1,6 +1,7 @@
 pub mod Acts
 pub mod Fates
 pub mod Lines
+pub mod Pairs
 pub mod Restarted
 pub mod Room
 pub mod Steps

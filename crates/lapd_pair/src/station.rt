@@ -55,7 +55,8 @@ impl Station {
 
     /// A side in state 4 to which nothing has happened yet.
     pub fn new(alloc: Global, side: Side, params: Params) -> Result<Station, AllocError>
-        ensures { IfOk result (λ s. IsStation side s (new_station params)) }
+        ensures station { IfOk result (λ s. IsStation side s (new_station params)) }
+        ensures window { params.k ≤ 127 }
     {
         Ok(Station {
             link: new_link(alloc, side, params)?,
