@@ -1,42 +1,53 @@
-use Rattle.std.proofs.Common.{rules, ◌≡◌, ◌≤◌, ◌<◌, ◌+◌, ℕ, List, [], ◌∷◌, map, take, length, true, IfOk, IfErr, OnErr, is_ok, ◌-◌, ◌*◌, ◌/◌, ◌%◌, Bool, false, nat_eq, nat_lt, ◌++◌, slice_index_or, slice_set, bit_and, bit_or, Fits, w8, w32, w64, Bor, MutBor}
-use Rattle.lapd_mod128.specs.Counting.{Tagged}
-use Rattle.lapd_pair.specs.Pair.{IsReached}
-use Rattle.lapd_link.specs.Link.{LinkStandsFor}
-use Rattle.lapd_world.specs.World.{World, new_world, happens, run, left, view_of}
-use Rattle.lapd_pair.specs.Histories.{of_received, octets_and_establishment, fates_of}
-use Rattle.lapd_pair.specs.Line.{fields_of}
-use Rattle.lapd_pair.specs.Moves.{move_of, IsRefusedAs}
-use Rattle.lapd_pair.specs.Runs.{PairStandsFor, HasHappened, refusals}
+use Rattle.std.proofs.Common.{sym, ◌∙◌}
+use Rattle.lapd_pair.specs.Moves.{move_of}
+use Rattle.lapd_pair.proofs.Acts.{if_ok, if_err, on_err}
+use Rattle.lapd_pair.proofs.Pairs.{user_did, network_did, user_refused, network_refused, user_still, network_still, user_reached, network_reached}
 use Rattle.lapd_pair.proofs.pair.Pair.apply.Goals as goal
 
--- src/pair.rt:69:27
 pub invariant_of-self : goal.invariant_of-self
-invariant_of-self c = ?
+invariant_of-self c =
+    let p = c.args.self.now in
+    record { reached = user_reached (move_of c.args.deed.now) p.user p.network c.act.new.self p.to_user p.to_network c.act.new.inward c.act.new.outward c.act.result (sym c.side.ensures ∙ c.in-User.is) c.act.ensures.ok c.act.ensures.unchanged p.reached }
 
--- src/pair.rt:70:30
 pub invariant_of-self-in-Network : goal.invariant_of-self-in-Network
-invariant_of-self-in-Network c = ?
+invariant_of-self-in-Network c =
+    let p = c.args.self.now in
+    let a = c.act-in-Network in
+    record { reached = network_reached (move_of c.args.deed.now) p.user p.network a.new.self p.to_user p.to_network a.new.outward a.new.inward a.result (sym c.side.ensures ∙ c.in-Network.is) a.ensures.ok a.ensures.unchanged p.reached }
 
--- src/pair.rt:63:5
 pub returns-in-User-clause-ok : goal.returns-in-User-clause-ok
-returns-in-User-clause-ok c = ?
+returns-in-User-clause-ok c =
+    let p = c.args.self.now in
+    if_ok _ _ c.act.result (λ outs acts w s.
+      let d = user_did (move_of c.args.deed.now) w p.user p.network c.act.new.self p.to_user p.to_network c.act.new.inward c.act.new.outward outs (sym c.side.ensures ∙ c.in-User.is) s acts in
+      record { happened = d.happened; is = d.is; same = d.same; stands = d.stand }) c.act.ensures.ok
 
--- src/pair.rt:63:5
 pub returns-in-User-clause-err : goal.returns-in-User-clause-err
-returns-in-User-clause-err c = ?
+returns-in-User-clause-err c =
+    let p = c.args.self.now in
+    if_err _ _ c.act.result (λ fault refuses w s. user_refused (move_of c.args.deed.now) w p.user p.network p.to_user p.to_network fault (sym c.side.ensures ∙ c.in-User.is) s refuses) c.act.ensures.err
 
--- src/pair.rt:63:5
 pub returns-in-User-clause-unchanged : goal.returns-in-User-clause-unchanged
-returns-in-User-clause-unchanged c = ?
+returns-in-User-clause-unchanged c =
+    let p = c.args.self.now in
+    on_err _ _ c.act.result (λ shows w s. user_still w p.user p.network c.act.new.self p.to_user p.to_network c.act.new.inward c.act.new.outward s shows) c.act.ensures.unchanged
 
--- src/pair.rt:63:5
 pub returns-in-Network-clause-ok : goal.returns-in-Network-clause-ok
-returns-in-Network-clause-ok c = ?
+returns-in-Network-clause-ok c =
+    let p = c.args.self.now in
+    let a = c.act-in-Network in
+    if_ok _ _ a.result (λ outs acts w s.
+      let d = network_did (move_of c.args.deed.now) w p.user p.network a.new.self p.to_user p.to_network a.new.outward a.new.inward outs (sym c.side.ensures ∙ c.in-Network.is) s acts in
+      record { happened = d.happened; is = d.is; same = d.same; stands = d.stand }) a.ensures.ok
 
--- src/pair.rt:63:5
 pub returns-in-Network-clause-err : goal.returns-in-Network-clause-err
-returns-in-Network-clause-err c = ?
+returns-in-Network-clause-err c =
+    let p = c.args.self.now in
+    let a = c.act-in-Network in
+    if_err _ _ a.result (λ fault refuses w s. network_refused (move_of c.args.deed.now) w p.user p.network p.to_user p.to_network fault (sym c.side.ensures ∙ c.in-Network.is) s refuses) a.ensures.err
 
--- src/pair.rt:63:5
 pub returns-in-Network-clause-unchanged : goal.returns-in-Network-clause-unchanged
-returns-in-Network-clause-unchanged c = ?
+returns-in-Network-clause-unchanged c =
+    let p = c.args.self.now in
+    let a = c.act-in-Network in
+    on_err _ _ a.result (λ shows w s. network_still w p.user p.network a.new.self p.to_user p.to_network a.new.outward a.new.inward s shows) a.ensures.unchanged
