@@ -4,6 +4,7 @@ pub mod Lines
 pub mod Pairs
 pub mod Restarted
 pub mod Room
+pub mod Runs
 pub mod Steps
 pub mod Telling
 pub mod Views

@@ -112,11 +112,11 @@ network_still w user network after to_user to_network to_user_after to_network_a
 
 -- ---- What was reached by moves is so again.
 
-run_more : (moves : List Move) (m : Move) (w : World) → run Tagged (moves ++ m ∷ []) w ≡ world_after (run Tagged moves w) (happens Tagged m (run Tagged moves w))
+pub run_more : (moves : List Move) (m : Move) (w : World) → run Tagged (moves ++ m ∷ []) w ≡ world_after (run Tagged moves w) (happens Tagged m (run Tagged moves w))
 run_more [] m w = refl
 run_more (first ∷ moves) m w = run_more moves m (world_after w (happens Tagged first w))
 
-after_did : (w : World) (outcome : Result Happened Refusal) (happened : Happened) → outcome ≡ Happens happened → happened.world ≡ world_after w outcome
+pub after_did : (w : World) (outcome : Result Happened Refusal) (happened : Happened) → outcome ≡ Happens happened → happened.world ≡ world_after w outcome
 after_did w outcome happened is = rw is refl
 
 reached_more : (user network : Station) (to_user to_network : Line) (user_parameters network_parameters : Parameters) (moves : List Move) (m : Move) (outs : List Out)

@@ -193,7 +193,7 @@ give_acted side message copy copy_after v outs before now after outward outward_
     let given : s.end.given ≡ e.given ++ message ∷ [] = given_after Tagged (input.Give message) e s done.1 in
     let unsent = kept.unsent (length e.given) (omega arith) in
     let history : IsHistory now.history s.end.given (with_beginning e.establishments s.end.establishments v.station.history) =
-      rw given (unless_begun (e.establishments == s.end.establishments) now.history (e.given ++ message ∷ []) v.station.history (length v.station.history.received) equal (gives e.given v.station.history kept.settled unsent shown.history)) in
+    rw given (unless_begun (e.establishments == s.end.establishments) now.history (e.given ++ message ∷ []) v.station.history (length v.station.history.received) equal (gives e.given v.station.history kept.settled unsent shown.history)) in
     let start = telling_begins side 0 (input.Give message) [] copy v s before now outward kept shown on (omega arith) none done.1 done.3 setup history in
     let telling = tells_of [] outs s.outs now outward copy after outward_after copy_after (sym done.2) tells in
     acted_by side 0 [] copy_after v s after outward_after (step Tagged (input.Give message) e) outs done.1 done.2 (telling side s.end (occasion_of [] 0 s) (story_before v s) refl start)

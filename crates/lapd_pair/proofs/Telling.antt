@@ -115,7 +115,7 @@ written_message side e o out rest s line copy t after n control is does h = rw i
 pub written_acknowledged : (side : Side) (e : End) (o : Occasion) (out : Out) (rest : List Out) (s : Station) (line : Line) (copy : Option (Vec ℕ Global)) (t : Story) (after : History) (n : ℕ)
     → out ≡ Acknowledged n → ((messages : List (List ℕ)) (h : world.History) → AreSettled h → h.passed + n ≤ length messages → IsHistory s.history messages h → IsHistory after messages (with_acked n h))
     → IsTelling side e o (out ∷ rest) s line copy t → IsHistory after e.given (history_told o out t.history)
-written_acknowledged side e o out rest s line copy t after n is does h = 
+written_acknowledged side e o out rest s line copy t after n is does h =
     let there = leaving_within e t.history.passed out rest h.within h.order in
     let told : t.history.passed + leaving (Acknowledged n ∷ []) ≤ length e.given = rw is at there in
     let few : t.history.passed + n ≤ length e.given = omega (arith, told) in
@@ -124,7 +124,7 @@ written_acknowledged side e o out rest s line copy t after n is does h =
 pub written_dropped : (side : Side) (e : End) (o : Occasion) (out : Out) (rest : List Out) (s : Station) (line : Line) (copy : Option (Vec ℕ Global)) (t : Story) (after : History) (n : ℕ)
     → out ≡ Dropped n → ((messages : List (List ℕ)) (h : world.History) → AreSettled h → h.passed + n ≤ length messages → IsHistory s.history messages h → IsHistory after messages (with_dropped n h))
     → IsTelling side e o (out ∷ rest) s line copy t → IsHistory after e.given (history_told o out t.history)
-written_dropped side e o out rest s line copy t after n is does h = 
+written_dropped side e o out rest s line copy t after n is does h =
     let there = leaving_within e t.history.passed out rest h.within h.order in
     let told : t.history.passed + leaving (Dropped n ∷ []) ≤ length e.given = rw is at there in
     let few : t.history.passed + n ≤ length e.given = omega (arith, told) in
@@ -132,7 +132,7 @@ written_dropped side e o out rest s line copy t after n is does h =
 
 pub written_receipt : (side : Side) (e : End) (o : Occasion) (out : Out) (rest : List Out) (s : Station) (line : Line) (copy : Option (Vec ℕ Global)) (t : Story) (after : History) (octets : Vec ℕ Global)
     → out ≡ Up → copy ≡ Some octets → ((messages : List (List ℕ)) (h : world.History) (establishment place : ℕ) → length h.begun ≡ establishment → IsHistory s.history messages h
-        → IsHistory after messages (with_receipt (record { octets = octets.items; establishment = establishment; place = place }) h))
+    → IsHistory after messages (with_receipt (record { octets = octets.items; establishment = establishment; place = place }) h))
     → IsTelling side e o (out ∷ rest) s line copy t → IsHistory after e.given (history_told o out t.history)
 written_receipt side e o out rest s line copy t after octets is held does h =
     let same : octets.items ≡ o.octets = copied_octets o.octets _ copy octets held h.copied in

@@ -25,7 +25,13 @@ impl Station {
     /// # Errors
     ///
     /// P1 to P5. What this side and the line show is unchanged.
-    pub fn act(&mut self, alloc: Global, deed: &Move, inward: &mut Line, outward: &mut Line) -> Result<Outs, PairFault>
+    pub fn act(
+        &mut self,
+        alloc: Global,
+        deed: &Move,
+        inward: &mut Line,
+        outward: &mut Line,
+    ) -> Result<Outs, PairFault>
         ensures ok { IfOk result (ActsInView self.old inward.old outward.old self.new inward.new outward.new (λ side v. acts Tagged side (move_of deed.now).deed v)) }
         ensures err { IfErr result (RefusesInView self.old inward.old outward.old (λ side v. acts Tagged side (move_of deed.now).deed v)) }
         ensures unchanged { OnErr result (ShowsViewAsBefore self.old inward.old outward.old self.new inward.new outward.new) }
@@ -83,7 +89,12 @@ impl Station {
     }
 
     /// A message of layer 3.
-    fn take_message(&mut self, alloc: Global, message: &[u8], outward: &mut Line) -> Result<Outs, PairFault>
+    fn take_message(
+        &mut self,
+        alloc: Global,
+        message: &[u8],
+        outward: &mut Line,
+    ) -> Result<Outs, PairFault>
         ensures ok { IfOk result (Acts self.old outward.old self.new outward.new (λ side v. takes Tagged (Give message.now) [] v)) }
         ensures err { IfErr result (RefusesAs self.old (λ side v. takes Tagged (Give message.now) [] v)) }
         ensures unchanged { OnErr result (ShowsAsBefore self.old outward.old self.new outward.new) }
@@ -104,7 +115,12 @@ impl Station {
     }
 
     /// A frame of the other side.
-    fn hear(&mut self, alloc: Global, frame: &Frame<'_>, outward: &mut Line) -> Result<Outs, PairFault>
+    fn hear(
+        &mut self,
+        alloc: Global,
+        frame: &Frame<'_>,
+        outward: &mut Line,
+    ) -> Result<Outs, PairFault>
         requires for_link { is_address_of (setup_of self.old.link) frame.now.address ≡ true }
         ensures ok { IfOk result (λ outs. (flight : Flight) → fields_of flight ≡ frame.now → length flight.info ≤ n201 → Acts self.old outward.old self.new outward.new (λ side v. hears Tagged flight v) outs) }
         ensures err { IfErr result (λ fault. (flight : Flight) → fields_of flight ≡ frame.now → RefusesAs self.old (λ side v. hears Tagged flight v) fault) }
@@ -120,7 +136,12 @@ impl Station {
     }
 
     /// The first frame on its way is taken off the line, and heard.
-    fn deliver(&mut self, alloc: Global, inward: &mut Line, outward: &mut Line) -> Result<Outs, PairFault>
+    fn deliver(
+        &mut self,
+        alloc: Global,
+        inward: &mut Line,
+        outward: &mut Line,
+    ) -> Result<Outs, PairFault>
         ensures ok { IfOk result (ActsInView self.old inward.old outward.old self.new inward.new outward.new (λ side v. delivers Tagged v.incoming v)) }
         ensures err { IfErr result (RefusesInView self.old inward.old outward.old (λ side v. delivers Tagged v.incoming v)) }
         ensures unchanged { OnErr result (ShowsViewAsBefore self.old inward.old outward.old self.new inward.new outward.new) }
@@ -175,7 +196,12 @@ impl Station {
     }
 
     /// It starts anew, and what is on the line is dropped in both directions.
-    fn restart(&mut self, alloc: Global, inward: &mut Line, outward: &mut Line) -> Result<Outs, PairFault>
+    fn restart(
+        &mut self,
+        alloc: Global,
+        inward: &mut Line,
+        outward: &mut Line,
+    ) -> Result<Outs, PairFault>
         ensures ok { IfOk result (ActsInView self.old inward.old outward.old self.new inward.new outward.new (λ side v. quietly (restarts v))) }
         ensures err { IfErr result (RefusesInView self.old inward.old outward.old (λ side v. quietly (restarts v))) }
         ensures unchanged { OnErr result (ShowsViewAsBefore self.old inward.old outward.old self.new inward.new outward.new) }

@@ -136,7 +136,13 @@ impl Station {
     }
 
     /// Tells all outputs of a step, one after another.
-    fn carry_out(&mut self, outs: &[Out], octets: &[u8], copy: &mut Option<Vec<u8>>, outward: &mut Line)
+    fn carry_out(
+        &mut self,
+        outs: &[Out],
+        octets: &[u8],
+        copy: &mut Option<Vec<u8>>,
+        outward: &mut Line,
+    )
         requires line_room { HasRoomFor (length outs.now) outward.old }
         requires history_room { IfSome copy.old (λ _. HasRoom data_room self.old.history) }
         ensures shows { (side : Side) (e : End) (o : Occasion) (t : Story) → octets.now ≡ o.octets
@@ -164,7 +170,13 @@ impl Station {
 
     /// One step of the state table, for any event. The frames of its outputs go on the line, and the rest is written down.
     /// `octets` are those of the frame that is heard, with a copy of them for layer 3, or the unit data to be sent.
-    pub fn step(&mut self, event: Event, octets: &[u8], copy: Option<Vec<u8>>, outward: &mut Line) -> Result<Outs, PairFault>
+    pub fn step(
+        &mut self,
+        event: Event,
+        octets: &[u8],
+        copy: Option<Vec<u8>>,
+        outward: &mut Line,
+    ) -> Result<Outs, PairFault>
         requires for_link { IsForLink self.old.link event }
         requires line_room { HasRoomFor 136 outward.old }
         requires history_room { HasRoom step_room self.old.history }
@@ -187,7 +199,12 @@ impl Station {
     }
 
     /// A message of layer 3, of which the history gets a copy.
-    pub fn give(&mut self, message: Vec<u8>, copy: Vec<u8>, outward: &mut Line) -> Result<Outs, PairFault>
+    pub fn give(
+        &mut self,
+        message: Vec<u8>,
+        copy: Vec<u8>,
+        outward: &mut Line,
+    ) -> Result<Outs, PairFault>
         requires line_room { HasRoomFor 136 outward.old }
         requires history_room { HasRoom message_room self.old.history }
         ensures ok { IfOk result (λ outs. (side : Side) (v : View) → IsKept Tagged v.station → IsStation side self.old v.station → IsOn side outward.old v.outgoing

@@ -19,8 +19,8 @@ pub returns-in-User-clause-ok : goal.returns-in-User-clause-ok
 returns-in-User-clause-ok c =
     let p = c.args.self.now in
     if_ok _ _ c.act.result (λ outs acts w s.
-      let d = user_did (move_of c.args.deed.now) w p.user p.network c.act.new.self p.to_user p.to_network c.act.new.inward c.act.new.outward outs (sym c.side.ensures ∙ c.in-User.is) s acts in
-      record { happened = d.happened; is = d.is; same = d.same; stands = d.stand }) c.act.ensures.ok
+    let d = user_did (move_of c.args.deed.now) w p.user p.network c.act.new.self p.to_user p.to_network c.act.new.inward c.act.new.outward outs (sym c.side.ensures ∙ c.in-User.is) s acts in
+    record { happened = d.happened; is = d.is; same = d.same; stands = d.stand }) c.act.ensures.ok
 
 pub returns-in-User-clause-err : goal.returns-in-User-clause-err
 returns-in-User-clause-err c =
@@ -37,8 +37,8 @@ returns-in-Network-clause-ok c =
     let p = c.args.self.now in
     let a = c.act-in-Network in
     if_ok _ _ a.result (λ outs acts w s.
-      let d = network_did (move_of c.args.deed.now) w p.user p.network a.new.self p.to_user p.to_network a.new.outward a.new.inward outs (sym c.side.ensures ∙ c.in-Network.is) s acts in
-      record { happened = d.happened; is = d.is; same = d.same; stands = d.stand }) a.ensures.ok
+    let d = network_did (move_of c.args.deed.now) w p.user p.network a.new.self p.to_user p.to_network a.new.outward a.new.inward outs (sym c.side.ensures ∙ c.in-Network.is) s acts in
+    record { happened = d.happened; is = d.is; same = d.same; stands = d.stand }) a.ensures.ok
 
 pub returns-in-Network-clause-err : goal.returns-in-Network-clause-err
 returns-in-Network-clause-err c =

@@ -1,8 +1,7 @@
 use Rattle.std.proofs.Common.{[], length}
-use Rattle.lapd_frame.specs.declared.Side.{Side}
 use Rattle.lapd_mod128.specs.Counting.{Tagged}
 use Rattle.lapd_states.specs.Input.{Establish, Release, UnitData, Give}
-use Rattle.lapd_world.specs.Move.{View, takes, delivers, loses, busy_input, quietly, restarts, acts, expires_200, expires_203}
+use Rattle.lapd_world.specs.Move.{takes, delivers, loses, busy_input, quietly, restarts, acts, expires_200, expires_203}
 use Rattle.lapd_pair.specs.Moves.{move_of}
 use Rattle.lapd_pair.proofs.Views.{request_takes_none, expiry_takes_none, acts_in_view, refuses_in_view, shows_view, acts_as_in_view, refuses_as_in_view, given_as, establish_is, release_is, deliver_is, lose_is, expire_200_is, expire_203_is, busy_is, unit_as, restart_is}
 use Rattle.lapd_pair.proofs.station.Station.act.Goals as goal
@@ -10,7 +9,7 @@ use Rattle.lapd_pair.proofs.station.Station.act.Goals as goal
 pub returns-in-Give-clause-ok : goal.returns-in-Give-clause-ok
 returns-in-Give-clause-ok c =
     acts_as_in_view (λ side v. takes Tagged (Give c.deref.result.now) [] v) (λ side v. acts Tagged side (move_of c.args.deed.now).deed v) c.args.self.now c.take_message.new.self c.args.inward.now c.args.outward.now c.args.inward.now c.take_message.new.outward c.take_message.result (λ side v shown. given_as c.args.deed.now c.in-Give.field-0 c.in-Give.message c.deref.result.now c.in-Give.is c.deref.ensures.value side v)
-      (acts_in_view (λ side v. takes Tagged (Give c.deref.result.now) [] v) c.args.self.now c.take_message.new.self c.args.inward.now c.args.outward.now c.take_message.new.outward c.take_message.result (request_takes_none (Give c.deref.result.now) []) c.take_message.ensures.ok)
+    (acts_in_view (λ side v. takes Tagged (Give c.deref.result.now) [] v) c.args.self.now c.take_message.new.self c.args.inward.now c.args.outward.now c.take_message.new.outward c.take_message.result (request_takes_none (Give c.deref.result.now) []) c.take_message.ensures.ok)
 
 pub returns-in-Give-clause-err : goal.returns-in-Give-clause-err
 returns-in-Give-clause-err c =
@@ -22,7 +21,7 @@ returns-in-Give-clause-unchanged c = shows_view c.args.self.now c.take_message.n
 pub returns-in-Establish-clause-ok : goal.returns-in-Establish-clause-ok
 returns-in-Establish-clause-ok c =
     acts_as_in_view (λ side v. takes Tagged Establish [] v) (λ side v. acts Tagged side (move_of c.args.deed.now).deed v) c.args.self.now c.take.new.self c.args.inward.now c.args.outward.now c.args.inward.now c.take.new.outward c.take.result (λ side v shown. establish_is c.args.deed.now c.in-Establish.field-0 c.in-Establish.is side v)
-      (acts_in_view (λ side v. takes Tagged Establish [] v) c.args.self.now c.take.new.self c.args.inward.now c.args.outward.now c.take.new.outward c.take.result (request_takes_none Establish []) c.take.ensures.ok)
+    (acts_in_view (λ side v. takes Tagged Establish [] v) c.args.self.now c.take.new.self c.args.inward.now c.args.outward.now c.take.new.outward c.take.result (request_takes_none Establish []) c.take.ensures.ok)
 
 pub returns-in-Establish-clause-err : goal.returns-in-Establish-clause-err
 returns-in-Establish-clause-err c =
@@ -34,7 +33,7 @@ returns-in-Establish-clause-unchanged c = shows_view c.args.self.now c.take.new.
 pub returns-in-Release-clause-ok : goal.returns-in-Release-clause-ok
 returns-in-Release-clause-ok c =
     acts_as_in_view (λ side v. takes Tagged Release [] v) (λ side v. acts Tagged side (move_of c.args.deed.now).deed v) c.args.self.now c.take-in-Release.new.self c.args.inward.now c.args.outward.now c.args.inward.now c.take-in-Release.new.outward c.take-in-Release.result (λ side v shown. release_is c.args.deed.now c.in-Release.field-0 c.in-Release.is side v)
-      (acts_in_view (λ side v. takes Tagged Release [] v) c.args.self.now c.take-in-Release.new.self c.args.inward.now c.args.outward.now c.take-in-Release.new.outward c.take-in-Release.result (request_takes_none Release []) c.take-in-Release.ensures.ok)
+    (acts_in_view (λ side v. takes Tagged Release [] v) c.args.self.now c.take-in-Release.new.self c.args.inward.now c.args.outward.now c.take-in-Release.new.outward c.take-in-Release.result (request_takes_none Release []) c.take-in-Release.ensures.ok)
 
 pub returns-in-Release-clause-err : goal.returns-in-Release-clause-err
 returns-in-Release-clause-err c =
@@ -46,7 +45,7 @@ returns-in-Release-clause-unchanged c = shows_view c.args.self.now c.take-in-Rel
 pub returns-in-Expire203-clause-ok : goal.returns-in-Expire203-clause-ok
 returns-in-Expire203-clause-ok c =
     acts_as_in_view (λ side v. expires_203 Tagged v) (λ side v. acts Tagged side (move_of c.args.deed.now).deed v) c.args.self.now c.expire_203.new.self c.args.inward.now c.args.outward.now c.args.inward.now c.expire_203.new.outward c.expire_203.result (λ side v shown. expire_203_is c.args.deed.now c.in-Expire203.field-0 c.in-Expire203.is side v)
-      (acts_in_view (λ side v. expires_203 Tagged v) c.args.self.now c.expire_203.new.self c.args.inward.now c.args.outward.now c.expire_203.new.outward c.expire_203.result expiry_takes_none c.expire_203.ensures.ok)
+    (acts_in_view (λ side v. expires_203 Tagged v) c.args.self.now c.expire_203.new.self c.args.inward.now c.args.outward.now c.expire_203.new.outward c.expire_203.result expiry_takes_none c.expire_203.ensures.ok)
 
 pub returns-in-Expire203-clause-err : goal.returns-in-Expire203-clause-err
 returns-in-Expire203-clause-err c =
@@ -58,7 +57,7 @@ returns-in-Expire203-clause-unchanged c = shows_view c.args.self.now c.expire_20
 pub returns-in-Busy-clause-ok : goal.returns-in-Busy-clause-ok
 returns-in-Busy-clause-ok c =
     acts_as_in_view (λ side v. takes Tagged (busy_input c.in-Busy.on) [] v) (λ side v. acts Tagged side (move_of c.args.deed.now).deed v) c.args.self.now c.set_busy.new.self c.args.inward.now c.args.outward.now c.args.inward.now c.set_busy.new.outward c.set_busy.result (λ side v shown. busy_is c.args.deed.now c.in-Busy.field-0 c.in-Busy.on c.in-Busy.is side v)
-      (acts_in_view (λ side v. takes Tagged (busy_input c.in-Busy.on) [] v) c.args.self.now c.set_busy.new.self c.args.inward.now c.args.outward.now c.set_busy.new.outward c.set_busy.result (request_takes_none (busy_input c.in-Busy.on) []) c.set_busy.ensures.ok)
+    (acts_in_view (λ side v. takes Tagged (busy_input c.in-Busy.on) [] v) c.args.self.now c.set_busy.new.self c.args.inward.now c.args.outward.now c.set_busy.new.outward c.set_busy.result (request_takes_none (busy_input c.in-Busy.on) []) c.set_busy.ensures.ok)
 
 pub returns-in-Busy-clause-err : goal.returns-in-Busy-clause-err
 returns-in-Busy-clause-err c =
@@ -70,7 +69,7 @@ returns-in-Busy-clause-unchanged c = shows_view c.args.self.now c.set_busy.new.s
 pub returns-in-Unit-clause-ok : goal.returns-in-Unit-clause-ok
 returns-in-Unit-clause-ok c =
     acts_as_in_view (λ side v. takes Tagged (UnitData (length c.deref-in-Unit.result.now)) c.deref-in-Unit.result.now v) (λ side v. acts Tagged side (move_of c.args.deed.now).deed v) c.args.self.now c.take_unit.new.self c.args.inward.now c.args.outward.now c.args.inward.now c.take_unit.new.outward c.take_unit.result (λ side v shown. unit_as c.args.deed.now c.in-Unit.field-0 c.in-Unit.octets c.deref-in-Unit.result.now c.in-Unit.is c.deref-in-Unit.ensures.value side v)
-      (acts_in_view (λ side v. takes Tagged (UnitData (length c.deref-in-Unit.result.now)) c.deref-in-Unit.result.now v) c.args.self.now c.take_unit.new.self c.args.inward.now c.args.outward.now c.take_unit.new.outward c.take_unit.result (request_takes_none (UnitData (length c.deref-in-Unit.result.now)) c.deref-in-Unit.result.now) c.take_unit.ensures.ok)
+    (acts_in_view (λ side v. takes Tagged (UnitData (length c.deref-in-Unit.result.now)) c.deref-in-Unit.result.now v) c.args.self.now c.take_unit.new.self c.args.inward.now c.args.outward.now c.take_unit.new.outward c.take_unit.result (request_takes_none (UnitData (length c.deref-in-Unit.result.now)) c.deref-in-Unit.result.now) c.take_unit.ensures.ok)
 
 pub returns-in-Unit-clause-err : goal.returns-in-Unit-clause-err
 returns-in-Unit-clause-err c =

@@ -1,7 +1,6 @@
-use Rattle.std.proofs.Common.{◌≡◌, List, Err, refl, sym, subst}
+use Rattle.std.proofs.Common.{Err, refl, sym, subst}
 use Rattle.lapd_frame.specs.declared.Side.{Side}
 use Rattle.lapd_frame.specs.Address.{other_side}
-use Rattle.lapd_world.specs.Line.{Flight}
 use Rattle.lapd_pair.specs.Line.{IsFirst}
 use Rattle.lapd_pair.proofs.Views.{Read, none_delivered, sender_shown, unread, read_of, same_read, delivered, delivery_refused}
 use Rattle.lapd_pair.proofs.station.Station.deliver.Goals as goal

@@ -1,4 +1,4 @@
-use Rattle.std.proofs.Common.{◌≡◌, List, sym, ◌∙◌}
+use Rattle.std.proofs.Common.{◌∙◌}
 use Rattle.lapd_pair.proofs.Acts.{hears_goes, frame_acts, frame_refused, shows_still}
 use Rattle.lapd_pair.proofs.station.Station.hear.Goals as goal
 

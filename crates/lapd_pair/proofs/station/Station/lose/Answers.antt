@@ -1,4 +1,4 @@
-use Rattle.std.proofs.Common.{◌≡◌, List, sym, ◌∙◌, subst}
+use Rattle.std.proofs.Common.{List, sym, ◌∙◌, subst}
 use Rattle.lapd_frame.specs.Address.{other_side}
 use Rattle.lapd_states.specs.declared.out.Out.{Out}
 use Rattle.lapd_world.specs.Move.{loses}

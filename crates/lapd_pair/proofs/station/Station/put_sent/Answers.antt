@@ -1,4 +1,4 @@
-use Rattle.std.proofs.Common.{refl, sym, ◌∙◌}
+use Rattle.std.proofs.Common.{sym, ◌∙◌}
 use Rattle.lapd_pair.proofs.Telling.{sent_on, sent_nothing}
 use Rattle.lapd_pair.proofs.station.Station.put_sent.Goals as goal
 

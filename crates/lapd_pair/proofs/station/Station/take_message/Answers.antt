@@ -1,4 +1,4 @@
-use Rattle.std.proofs.Common.{◌≡◌, List, [], refl, sym, ◌∙◌}
+use Rattle.std.proofs.Common.{[], refl, sym, ◌∙◌}
 use Rattle.lapd_states.specs.Input.{Give}
 use Rattle.lapd_pair.proofs.Acts.{takes_refused, takes_goes, message_acts, message_refused, shows_still}
 use Rattle.lapd_pair.proofs.station.Station.take_message.Goals as goal

@@ -1,5 +1,5 @@
-use Rattle.std.proofs.Common.{refl, sym, ◌∙◌}
-use Rattle.lapd_pair.proofs.Telling.{written_message, written_acknowledged, written_dropped, written_receipt, written_unit}
+use Rattle.std.proofs.Common.{sym, ◌∙◌}
+use Rattle.lapd_pair.proofs.Telling.{written_message, written_acknowledged, written_dropped, written_receipt}
 use Rattle.lapd_pair.proofs.station.Station.write_down.Goals as goal
 
 pub returns-in-SendMessage-clause-shows : goal.returns-in-SendMessage-clause-shows
