@@ -9,7 +9,8 @@ use Rattle.lapd_frame.specs.declared.Control.TheVariants.{I, Rr, Rnr, Rej, Sabme
 use Rattle.lapd_frame.specs.Reading.{is_command}
 use Rattle.lapd_states.specs.declared.state.State.{State}
 use Rattle.lapd_states.specs.declared.state.State.TheVariants.{TeiAssigned, AwaitingEstablishment, AwaitingRelease, MultipleFrameEstablished, TimerRecovery}
-use Rattle.lapd_world.specs.Line.{Flight, poll_final, is_poll, is_final, first_poll, first_final}
+use Rattle.lapd_world.specs.Line.{Flight, is_poll, is_final, first_poll, first_final}
+use Rattle.lapd_frame.specs.Control.{poll_final}
 use Rattle.lapd_invariant.specs.Kinds.{Kind, kind, kind_of, kinds, tally, ask_of, answer_of, poll_of, final_of}
 use Rattle.lapd_invariant.specs.Parties.{Party, Hearing, behind, behind_acceptance, hearing_now, hearing_to_come, heard_in, hears, frames_heard}
 use Rattle.lapd_invariant.specs.Conjuncts.{Each}
