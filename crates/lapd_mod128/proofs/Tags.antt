@@ -30,6 +30,10 @@ unfolding number_after
 tag_of_number_after zero a = refl
 tag_of_number_after (suc n) a = rw (tag_of_after (number_after Whole n a), tag_of_number_after n a)
 
+-- at most one below, and less than k above
+pub next_is_near : (x y k : ℕ) → k ≤ 127 → y ≤ x + 1 → x < y + k → AreNear x y
+next_is_near x y k small below above = record { above = omega (arith, small, above); below = omega (arith, below) }
+
 -- near numbers with one tag are one number
 pub near_tags_are_equal : (x y : ℕ) → AreNear x y → tag x ≡ tag y → x ≡ y
 unfolding tag

@@ -84,6 +84,13 @@ pub fn counting_on_tags()
     ensures many { (n a : ℕ) → tag (number_after Whole n a) ≡ number_after Tagged n (tag a) }
 {}
 
+/// A number that is at most one below another, and less than k above it, is near it in windows of up to 127: so an N(S)
+/// comes near V(R) (Q.921 5.6.2, 5.9.5).
+#[tactic(auto, using(crate::proofs::Tags::next_is_near))]
+pub fn next_is_near()
+    ensures { (x y k : ℕ) → k ≤ 127 → y ≤ x + 1 → x < y + k → AreNear x y }
+{}
+
 /// Near numbers are equal where their tags are.
 #[tactic(auto, using(crate::proofs::Tags::near_tags_are_equal, crate::proofs::Tags::equality_on_tags))]
 pub fn equality_on_tags()

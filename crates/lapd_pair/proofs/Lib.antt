@@ -1,3 +1,10 @@
+pub mod Acts
 pub mod Fates
 pub mod Lines
+pub mod Pairs
+pub mod Restarted
 pub mod Room
+pub mod Runs
+pub mod Steps
+pub mod Telling
+pub mod Views

@@ -4,6 +4,7 @@ pub mod Line
 pub mod Marked
 pub mod Moves
 pub mod Pair
+pub mod PairFault
 pub mod Runs
 pub mod Setup
 pub mod Station

@@ -1,10 +1,10 @@
 -- What the calls of a pair come to, by the moves of the world.
-use Rattle.std.specs.Prelude.{◌≡◌, ◌+◌, ℕ, List, [], ◌∷◌, Result, Ok, Err}
+use Rattle.std.specs.Prelude.{◌≡◌, ◌+◌, ℕ, true, List, [], ◌∷◌, take, slice_get, Some, Result, Ok, Err, is_ok}
 use Rattle.lapd_mod128.specs.Counting.{Tagged}
 use Rattle.lapd_states.specs.declared.out.Out.{Out}
 use Rattle.lapd_world.specs.Move as world
 use Rattle.lapd_world.specs.Move.{Refusal}
-use Rattle.lapd_world.specs.World.{World, Happened, happens, world_after}
+use Rattle.lapd_world.specs.World.{World, Happened, happens, world_after, run}
 use Rattle.lapd_pair.specs.Moves.{move_of}
 use Rattle.lapd_pair.specs.Pair.{StandForWorld}
 use Rattle.lapd_pair.specs.declared.moves.Move.{Move}
@@ -29,3 +29,11 @@ refused_of (Err refusal) = 1
 abbrev pub refusals : List world.Move → World → ℕ
 refusals [] w = 0
 refusals (move ∷ moves) w = refused_of (happens Tagged move w) + refusals moves (world_after w (happens Tagged move w))
+
+-- A run found no memory for the move at this place: the pair stands for the world that the moves before it lead to, and
+-- that move is admitted there.
+pub record HasStoppedAt (at : ℕ) (moves : List world.Move) (p : Pair) (w : World) : Type 0 where
+  pub move : world.Move
+  pub there : slice_get moves at ≡ Some move
+  pub before : PairStandsFor p (run Tagged (take at moves) w)
+  pub admitted : is_ok (happens Tagged move (run Tagged (take at moves) w)) ≡ true

@@ -1,6 +1,7 @@
 -- How the outputs of a step are told one after another: what each puts on the line, what each writes down, and what a side
 -- shows while some are still to be told.
 use Rattle.std.specs.Prelude.{◌≡◌, ◌≤◌, ◌+◌, ℕ, List, ◌∷◌, Option, Some, None, length, Vec}
+use Rattle.std.specs.declared.alloc.Global.{Global}
 use Rattle.lapd_frame.specs.declared.Side.{Side}
 use Rattle.lapd_frame.specs.Frame.{n201}
 use Rattle.lapd_link.specs.Link.{LinkStandsFor, setup_of}
@@ -18,12 +19,17 @@ use Rattle.lapd_pair.specs.Setup.{setup_for}
 use Rattle.lapd_pair.specs.declared.line.Line.{Line}
 use Rattle.lapd_pair.specs.declared.station.Station.{Station}
 
--- what an output puts on the line; the first message that waits stands at `passed`
-abbrev pub line_told : Occasion → ℕ → Out → List Flight → List Flight
-line_told o passed (Send role control) line = sent_behind line (without_info role control)
-line_told o passed (SendMessage n control) line = sent_behind line (message_frame o control (passed + n))
-line_told o passed SendUnit line = sent_behind line (unit_frame o.octets)
-line_told o passed out line = line
+-- the frame that an output is; the first message that waits stands at `passed`
+abbrev pub flight_of : Occasion → ℕ → Out → Option Flight
+flight_of o passed (Send role control) = Some (without_info role control)
+flight_of o passed (SendMessage n control) = Some (message_frame o control (passed + n))
+flight_of o passed SendUnit = Some (unit_frame o.octets)
+flight_of o passed out = None
+
+-- behind those on their way, where it is one
+abbrev pub with_sent : Option Flight → List Flight → List Flight
+with_sent None line = line
+with_sent (Some flight) line = sent_behind line flight
 
 -- what it writes down
 abbrev pub history_told : Occasion → Out → History → History
@@ -47,6 +53,7 @@ pub record IsTelling (side : Side) (e : End) (o : Occasion) (rest : List Out) (s
   pub history : IsHistory s.history e.given t.history
   pub line : IsOn side outward t.line
   pub order : AreInOrder e t.history.passed rest
+  pub within : e.first ≤ length e.given
   pub settled : AreSettled t.history
   pub begun : length t.history.begun ≡ o.establishment
   pub given : o.given ≡ e.given

@@ -1,18 +1,15 @@
 //! What each move comes to at the side whose move it is.
 
-ghost use Rattle.std.specs.Prelude.{◌≡◌, ◌≤◌, ℕ, List, [], ◌∷◌, IfOk, IfErr, OnErr, length};
-ghost use Rattle.lapd_frame.specs.declared.Side.{Side};
-ghost use Rattle.lapd_frame.specs.Address.{other_side};
-ghost use Rattle.lapd_link.specs.Link.{IsForLink, setup_of, is_address_of};
+ghost use Rattle.std.specs.Prelude.{◌≡◌, ◌≤◌, [], true, length, IfOk, IfErr, OnErr};
+ghost use Rattle.lapd_frame.specs.Frame.{n201};
+ghost use Rattle.lapd_link.specs.Link.{setup_of, is_address_of};
 ghost use Rattle.lapd_mod128.specs.Counting.{Tagged};
-ghost use Rattle.lapd_states.specs.Input.{Give, input_of};
-ghost use Rattle.lapd_world.specs.Kept.{IsKept};
-ghost use Rattle.lapd_world.specs.Line.{Flight, without_lost};
-ghost use Rattle.lapd_world.specs.Move as world;
-ghost use Rattle.lapd_world.specs.Move.{View, takes, hears, delivers, loses, expires_200, expires_203, acts, quietly, restarts};
-ghost use Rattle.lapd_pair.specs.Line.{IsOn, fields_of};
-ghost use Rattle.lapd_pair.specs.Moves.{move_of, IsRefusedAs};
-ghost use Rattle.lapd_pair.specs.Station.{IsStation, IsView, IsActed, IsDone, IsAsked};
+ghost use Rattle.lapd_states.specs.Input.{Give, UnitData, input_of};
+ghost use Rattle.lapd_world.specs.Line.{Flight};
+ghost use Rattle.lapd_world.specs.Move.{takes, hears, delivers, loses, expires_200, expires_203, acts, busy_input, quietly, restarts};
+ghost use Rattle.lapd_pair.specs.Line.{fields_of};
+ghost use Rattle.lapd_pair.specs.Moves.{move_of};
+ghost use Rattle.lapd_pair.specs.Station.{Acts, RefusesAs, ShowsAsBefore, ActsInView, RefusesInView, ShowsViewAsBefore, IsAsked};
 
 use crate::line::Line;
 use crate::moves::Move;
@@ -22,43 +19,33 @@ use lapd_frame::{Frame, read};
 use lapd_link::{Event, Outs, Timer};
 use std::alloc::Global;
 
-/// The frame at this place is lost.
-fn lose(place: usize, inward: &mut Line) -> Result<Outs, PairFault>
-    ensures ok { IfOk result (λ outs. (from : Side) (v : View) → IsOn from inward.old v.incoming
-        → (loses place v ≡ quietly (record v { incoming = without_lost place v.incoming })) × (outs.items ≡ []) × IsOn from inward.new (without_lost place v.incoming)) }
-    ensures err { IfErr result (λ fault. (from : Side) (v : View) → IsOn from inward.old v.incoming → IsRefusedAs fault (loses place v)) }
-    ensures unchanged { OnErr result (inward.new ≡ inward.old) }
-{
-    if inward.lose(place) {
-        Ok(Outs::new())
-    } else {
-        Err(PairFault::NothingThere)
-    }
-}
-
 impl Station {
     /// What this move comes to, `inward` being the line to this side, and `outward` that to the other.
     ///
     /// # Errors
     ///
     /// P1 to P5. What this side and the line show is unchanged.
-    pub fn act(&mut self, alloc: Global, deed: &Move, inward: &mut Line, outward: &mut Line) -> Result<Outs, PairFault>
-        ensures ok { IfOk result (λ outs. (side : Side) (v : View) → IsKept Tagged v.station → IsView side self.old inward.old outward.old v
-            → IsDone side self.new inward.new outward.new (acts Tagged side (move_of deed.now).deed v) outs.items) }
-        ensures err { IfErr result (λ fault. (side : Side) (v : View) → IsKept Tagged v.station → IsView side self.old inward.old outward.old v → IsRefusedAs fault (acts Tagged side (move_of deed.now).deed v)) }
-        ensures unchanged { OnErr result ((side : Side) (v : View) → IsView side self.old inward.old outward.old v → IsView side self.new inward.new outward.new v) }
+    pub fn act(
+        &mut self,
+        alloc: Global,
+        deed: &Move,
+        inward: &mut Line,
+        outward: &mut Line,
+    ) -> Result<Outs, PairFault>
+        ensures ok { IfOk result (ActsInView self.old inward.old outward.old self.new inward.new outward.new (λ side v. acts Tagged side (move_of deed.now).deed v)) }
+        ensures err { IfErr result (RefusesInView self.old inward.old outward.old (λ side v. acts Tagged side (move_of deed.now).deed v)) }
+        ensures unchanged { OnErr result (ShowsViewAsBefore self.old inward.old outward.old self.new inward.new outward.new) }
     {
         match deed {
             Move::Give(_, message) => self.take_message(alloc, message, outward),
             Move::Establish(_) => self.take(Event::Establish, &[], outward),
             Move::Release(_) => self.take(Event::Release, &[], outward),
             Move::Deliver(_) => self.deliver(alloc, inward, outward),
-            Move::Lose(_, place) => lose(*place, inward),
+            Move::Lose(_, place) => self.lose(*place, inward, outward),
             Move::Expire200(_) => self.expire_200(inward, outward),
             Move::Expire203(_) => self.expire_203(outward),
-            Move::Busy(_, true) => self.take(Event::BusyOn, &[], outward),
-            Move::Busy(_, false) => self.take(Event::BusyOff, &[], outward),
-            Move::Unit(_, octets) => self.take(Event::Unit(octets.len()), octets, outward),
+            Move::Busy(_, on) => self.set_busy(*on, outward),
+            Move::Unit(_, octets) => self.take_unit(octets, outward),
             Move::Restart(_) => self.restart(alloc, inward, outward),
         }
     }
@@ -66,11 +53,9 @@ impl Station {
     /// A request of layer 3, or an expiry. `octets` are the unit data to be sent.
     fn take(&mut self, event: Event, octets: &[u8], outward: &mut Line) -> Result<Outs, PairFault>
         requires asked { IsAsked (input_of event) octets.now }
-        ensures ok { IfOk result (λ outs. (side : Side) (v : View) → IsKept Tagged v.station → IsStation side self.old v.station → IsOn side outward.old v.outgoing
-            → IsActed side self.new outward.new (takes Tagged (input_of event.entry) octets.now v) outs.items) }
-        ensures err { IfErr result (λ fault. (side : Side) (v : View) → IsStation side self.old v.station → IsRefusedAs fault (takes Tagged (input_of event.entry) octets.now v)) }
-        ensures station { OnErr result ((side : Side) (t : world.Station) → IsStation side self.old t → IsStation side self.new t) }
-        ensures line { OnErr result ((from : Side) (frames : List Flight) → IsOn from outward.old frames → IsOn from outward.new frames) }
+        ensures ok { IfOk result (Acts self.old outward.old self.new outward.new (λ side v. takes Tagged (input_of event.entry) octets.now v)) }
+        ensures err { IfErr result (RefusesAs self.old (λ side v. takes Tagged (input_of event.entry) octets.now v)) }
+        ensures unchanged { OnErr result (ShowsAsBefore self.old outward.old self.new outward.new) }
     {
         if let Some(fault) = self.link.refusal(&event) {
             return Err(PairFault::Refused(fault));
@@ -81,13 +66,38 @@ impl Station {
         self.step(event, octets, None, outward)
     }
 
+    /// Its receiver becomes busy, or is no longer.
+    fn set_busy(&mut self, on: bool, outward: &mut Line) -> Result<Outs, PairFault>
+        ensures ok { IfOk result (Acts self.old outward.old self.new outward.new (λ side v. takes Tagged (busy_input on) [] v)) }
+        ensures err { IfErr result (RefusesAs self.old (λ side v. takes Tagged (busy_input on) [] v)) }
+        ensures unchanged { OnErr result (ShowsAsBefore self.old outward.old self.new outward.new) }
+    {
+        if on {
+            self.take(Event::BusyOn, &[], outward)
+        } else {
+            self.take(Event::BusyOff, &[], outward)
+        }
+    }
+
+    /// Unit data of layer 3.
+    fn take_unit(&mut self, octets: &[u8], outward: &mut Line) -> Result<Outs, PairFault>
+        ensures ok { IfOk result (Acts self.old outward.old self.new outward.new (λ side v. takes Tagged (UnitData (length octets.now)) octets.now v)) }
+        ensures err { IfErr result (RefusesAs self.old (λ side v. takes Tagged (UnitData (length octets.now)) octets.now v)) }
+        ensures unchanged { OnErr result (ShowsAsBefore self.old outward.old self.new outward.new) }
+    {
+        self.take(Event::Unit(octets.len()), octets, outward)
+    }
+
     /// A message of layer 3.
-    fn take_message(&mut self, alloc: Global, message: &[u8], outward: &mut Line) -> Result<Outs, PairFault>
-        ensures ok { IfOk result (λ outs. (side : Side) (v : View) → IsKept Tagged v.station → IsStation side self.old v.station → IsOn side outward.old v.outgoing
-            → IsActed side self.new outward.new (takes Tagged (Give message.now) [] v) outs.items) }
-        ensures err { IfErr result (λ fault. (side : Side) (v : View) → IsStation side self.old v.station → IsRefusedAs fault (takes Tagged (Give message.now) [] v)) }
-        ensures station { OnErr result ((side : Side) (t : world.Station) → IsStation side self.old t → IsStation side self.new t) }
-        ensures line { OnErr result ((from : Side) (frames : List Flight) → IsOn from outward.old frames → IsOn from outward.new frames) }
+    fn take_message(
+        &mut self,
+        alloc: Global,
+        message: &[u8],
+        outward: &mut Line,
+    ) -> Result<Outs, PairFault>
+        ensures ok { IfOk result (Acts self.old outward.old self.new outward.new (λ side v. takes Tagged (Give message.now) [] v)) }
+        ensures err { IfErr result (RefusesAs self.old (λ side v. takes Tagged (Give message.now) [] v)) }
+        ensures unchanged { OnErr result (ShowsAsBefore self.old outward.old self.new outward.new) }
     {
         if let Some(fault) = self.link.give_refusal(message.len()) {
             return Err(PairFault::Refused(fault));
@@ -105,13 +115,16 @@ impl Station {
     }
 
     /// A frame of the other side.
-    fn hear(&mut self, alloc: Global, frame: &Frame<'_>, outward: &mut Line) -> Result<Outs, PairFault>
+    fn hear(
+        &mut self,
+        alloc: Global,
+        frame: &Frame<'_>,
+        outward: &mut Line,
+    ) -> Result<Outs, PairFault>
         requires for_link { is_address_of (setup_of self.old.link) frame.now.address ≡ true }
-        ensures ok { IfOk result (λ outs. (side : Side) (v : View) (flight : Flight) → fields_of flight ≡ frame.now → IsKept Tagged v.station → IsStation side self.old v.station → IsOn side outward.old v.outgoing
-            → IsActed side self.new outward.new (hears Tagged flight v) outs.items) }
-        ensures err { IfErr result (λ fault. (side : Side) (v : View) (flight : Flight) → fields_of flight ≡ frame.now → IsStation side self.old v.station → IsRefusedAs fault (hears Tagged flight v)) }
-        ensures station { OnErr result ((side : Side) (t : world.Station) → IsStation side self.old t → IsStation side self.new t) }
-        ensures line { OnErr result ((from : Side) (frames : List Flight) → IsOn from outward.old frames → IsOn from outward.new frames) }
+        ensures ok { IfOk result (λ outs. (flight : Flight) → fields_of flight ≡ frame.now → length flight.info ≤ n201 → Acts self.old outward.old self.new outward.new (λ side v. hears Tagged flight v) outs) }
+        ensures err { IfErr result (λ fault. (flight : Flight) → fields_of flight ≡ frame.now → RefusesAs self.old (λ side v. hears Tagged flight v) fault) }
+        ensures unchanged { OnErr result (ShowsAsBefore self.old outward.old self.new outward.new) }
     {
         let Ok(copy) = Vec::from_slice(alloc, frame.info()) else {
             return Err(PairFault::Memory);
@@ -123,11 +136,15 @@ impl Station {
     }
 
     /// The first frame on its way is taken off the line, and heard.
-    fn deliver(&mut self, alloc: Global, inward: &mut Line, outward: &mut Line) -> Result<Outs, PairFault>
-        ensures ok { IfOk result (λ outs. (side : Side) (v : View) → IsKept Tagged v.station → IsView side self.old inward.old outward.old v
-            → IsDone side self.new inward.new outward.new (delivers Tagged v.incoming v) outs.items) }
-        ensures err { IfErr result (λ fault. (side : Side) (v : View) → IsKept Tagged v.station → IsView side self.old inward.old outward.old v → IsRefusedAs fault (delivers Tagged v.incoming v)) }
-        ensures unchanged { OnErr result ((side : Side) (v : View) → IsView side self.old inward.old outward.old v → IsView side self.new inward.new outward.new v) }
+    fn deliver(
+        &mut self,
+        alloc: Global,
+        inward: &mut Line,
+        outward: &mut Line,
+    ) -> Result<Outs, PairFault>
+        ensures ok { IfOk result (ActsInView self.old inward.old outward.old self.new inward.new outward.new (λ side v. delivers Tagged v.incoming v)) }
+        ensures err { IfErr result (RefusesInView self.old inward.old outward.old (λ side v. delivers Tagged v.incoming v)) }
+        ensures unchanged { OnErr result (ShowsViewAsBefore self.old inward.old outward.old self.new inward.new outward.new) }
     {
         let Some(octets) = inward.first() else {
             return Err(PairFault::NothingThere);
@@ -138,18 +155,20 @@ impl Station {
         if !self.link.is_for(&frame.address()) {
             return Err(PairFault::NothingThere);
         }
-        let outs = self.hear(alloc, &frame, outward)?;
-        inward.take_first();
-        Ok(outs)
+        match self.hear(alloc, &frame, outward) {
+            Ok(outs) => {
+                inward.take_first();
+                Ok(outs)
+            }
+            Err(fault) => Err(fault),
+        }
     }
 
     /// T200 expires, where it runs and nothing that it waits for is on its way.
     fn expire_200(&mut self, inward: &Line, outward: &mut Line) -> Result<Outs, PairFault>
-        ensures ok { IfOk result (λ outs. (side : Side) (v : View) → IsKept Tagged v.station → IsView side self.old inward.now outward.old v
-            → IsActed side self.new outward.new (expires_200 Tagged side v) outs.items) }
-        ensures err { IfErr result (λ fault. (side : Side) (v : View) → IsView side self.old inward.now outward.old v → IsRefusedAs fault (expires_200 Tagged side v)) }
-        ensures station { OnErr result ((side : Side) (t : world.Station) → IsStation side self.old t → IsStation side self.new t) }
-        ensures line { OnErr result ((from : Side) (frames : List Flight) → IsOn from outward.old frames → IsOn from outward.new frames) }
+        ensures ok { IfOk result (ActsInView self.old inward.now outward.old self.new inward.now outward.new (λ side v. expires_200 Tagged side v)) }
+        ensures err { IfErr result (RefusesInView self.old inward.now outward.old (λ side v. expires_200 Tagged side v)) }
+        ensures unchanged { OnErr result (ShowsViewAsBefore self.old inward.now outward.old self.new inward.now outward.new) }
     {
         if !self.link.running(Timer::T200) {
             return Err(PairFault::NotRunning);
@@ -166,11 +185,9 @@ impl Station {
 
     /// T203 expires, where it runs.
     fn expire_203(&mut self, outward: &mut Line) -> Result<Outs, PairFault>
-        ensures ok { IfOk result (λ outs. (side : Side) (v : View) → IsKept Tagged v.station → IsStation side self.old v.station → IsOn side outward.old v.outgoing
-            → IsActed side self.new outward.new (expires_203 Tagged v) outs.items) }
-        ensures err { IfErr result (λ fault. (side : Side) (v : View) → IsStation side self.old v.station → IsRefusedAs fault (expires_203 Tagged v)) }
-        ensures station { OnErr result ((side : Side) (t : world.Station) → IsStation side self.old t → IsStation side self.new t) }
-        ensures line { OnErr result ((from : Side) (frames : List Flight) → IsOn from outward.old frames → IsOn from outward.new frames) }
+        ensures ok { IfOk result (Acts self.old outward.old self.new outward.new (λ side v. expires_203 Tagged v)) }
+        ensures err { IfErr result (RefusesAs self.old (λ side v. expires_203 Tagged v)) }
+        ensures unchanged { OnErr result (ShowsAsBefore self.old outward.old self.new outward.new) }
     {
         if !self.link.running(Timer::T203) {
             return Err(PairFault::NotRunning);
@@ -179,11 +196,15 @@ impl Station {
     }
 
     /// It starts anew, and what is on the line is dropped in both directions.
-    fn restart(&mut self, alloc: Global, inward: &mut Line, outward: &mut Line) -> Result<Outs, PairFault>
-        ensures ok { IfOk result (λ outs. (side : Side) (v : View) → IsKept Tagged v.station → IsView side self.old inward.old outward.old v
-            → IsDone side self.new inward.new outward.new (quietly (restarts v)) outs.items) }
-        ensures err { IfErr result (λ fault. (v : View) → IsRefusedAs fault (quietly (restarts v))) }
-        ensures unchanged { OnErr result ((self.new ≡ self.old) × (inward.new ≡ inward.old) × (outward.new ≡ outward.old)) }
+    fn restart(
+        &mut self,
+        alloc: Global,
+        inward: &mut Line,
+        outward: &mut Line,
+    ) -> Result<Outs, PairFault>
+        ensures ok { IfOk result (ActsInView self.old inward.old outward.old self.new inward.new outward.new (λ side v. quietly (restarts v))) }
+        ensures err { IfErr result (RefusesInView self.old inward.old outward.old (λ side v. quietly (restarts v))) }
+        ensures unchanged { OnErr result (ShowsViewAsBefore self.old inward.old outward.old self.new inward.new outward.new) }
     {
         let Ok(link) = new_link(alloc, self.link.side(), self.link.params()) else {
             return Err(PairFault::Memory);
@@ -193,5 +214,18 @@ impl Station {
         inward.clear();
         outward.clear();
         Ok(Outs::new())
+    }
+
+    /// The frame at this place is lost.
+    fn lose(&self, place: usize, inward: &mut Line, outward: &Line) -> Result<Outs, PairFault>
+        ensures ok { IfOk result (ActsInView self.now inward.old outward.now self.now inward.new outward.now (λ side v. loses place v)) }
+        ensures err { IfErr result (RefusesInView self.now inward.old outward.now (λ side v. loses place v)) }
+        ensures unchanged { OnErr result (inward.new ≡ inward.old) }
+    {
+        if inward.lose(place) {
+            Ok(Outs::new())
+        } else {
+            Err(PairFault::NothingThere)
+        }
     }
 }

@@ -28,12 +28,9 @@ pub struct Pair {
 }
 
 impl Pair {
-    ghost use Rattle.lapd_link.specs.Link.{LinkStandsFor};
-    ghost use Rattle.lapd_world.specs.World.{World, new_world, happens, run, left, view_of};
-    ghost use Rattle.lapd_pair.specs.Histories.{of_received, octets_and_establishment, fates_of};
-    ghost use Rattle.lapd_pair.specs.Line.{fields_of};
+    ghost use Rattle.lapd_world.specs.World.{World, new_world, happens, run};
     ghost use Rattle.lapd_pair.specs.Moves.{move_of, IsRefusedAs};
-    ghost use Rattle.lapd_pair.specs.Runs.{PairStandsFor, HasHappened, refusals};
+    ghost use Rattle.lapd_pair.specs.Runs.{PairStandsFor, HasHappened, HasStoppedAt, refusals};
 
     /// Both ends in state 4, and nothing on the line.
     ///
@@ -66,8 +63,133 @@ impl Pair {
         ensures unchanged { OnErr result ((w : World) → PairStandsFor self.old w → PairStandsFor self.new w) }
     {
         match deed.side() {
-            Side::User => self.user.act(self.alloc, deed, &mut self.to_user, &mut self.to_network),
-            Side::Network => self.network.act(self.alloc, deed, &mut self.to_network, &mut self.to_user),
+            Side::User => self
+                .user
+                .act(self.alloc, deed, &mut self.to_user, &mut self.to_network),
+            Side::Network => self
+                .network
+                .act(self.alloc, deed, &mut self.to_network, &mut self.to_user),
         }
+    }
+
+    /// All moves, one after another, and how many were refused. A move that is refused by P1 to P4 is skipped.
+    ///
+    /// # Errors
+    ///
+    /// `RunFault` where memory was refused, with the place of that move. What was done before stands.
+    pub fn run(&mut self, moves: &[Move]) -> Result<u64, RunFault>
+        ensures ok { IfOk result (λ refused. (w : World) → PairStandsFor self.old w
+            → PairStandsFor self.new (run Tagged (map move_of moves.now) w) × (refused ≡ refusals (map move_of moves.now) w)) }
+        ensures err { IfErr result (λ fault. (w : World) → PairStandsFor self.old w → HasStoppedAt fault.at (map move_of moves.now) self.new w) }
+    {
+        let mut refused = 0;
+        for (at, deed) in moves.iter().enumerate() {
+            match self.apply(deed) {
+                Ok(_) => {}
+                Err(fault) => {
+                    if fault.is_memory() {
+                        return Err(RunFault { at });
+                    }
+                    refused += 1;
+                }
+            }
+        }
+        Ok(refused)
+    }
+}
+
+/// What a pair shows.
+impl Pair {
+    ghost use Rattle.lapd_link.specs.Link.{LinkStandsFor};
+    ghost use Rattle.lapd_frame.specs.Address.{other_side};
+    ghost use Rattle.lapd_frame.specs.Frame.{spelling};
+    ghost use Rattle.lapd_world.specs.World.{World, left, view_of};
+    ghost use Rattle.lapd_pair.specs.Histories.{of_received, octets_and_establishment, fates_of};
+    ghost use Rattle.lapd_pair.specs.Line.{fields_of};
+    ghost use Rattle.lapd_pair.specs.Runs.{PairStandsFor};
+    ghost use Rattle.lapd_pair.specs.Station.{IsStation};
+
+    /// This side.
+    fn station(&self, side: Side) -> &Station
+        ensures { (w : World) → PairStandsFor self.now w → IsStation side result.now (view_of side w).station }
+    {
+        match side {
+            Side::User => &self.user,
+            Side::Network => &self.network,
+        }
+    }
+
+    /// The messages that this side's layer 3 gave and that were accepted, in order.
+    pub fn given(&self, side: Side) -> &[Vec<u8>]
+        ensures { (w : World) → PairStandsFor self.now w → map (λ message. message.items) result.now ≡ (view_of side w).station.end.given }
+    {
+        self.station(side).history.given()
+    }
+
+    /// The messages that this side's layer 3 received, in order.
+    pub fn received(&self, side: Side) -> &[Received]
+        ensures { (w : World) → PairStandsFor self.now w → map of_received result.now ≡ map octets_and_establishment (view_of side w).station.history.received }
+    {
+        self.station(side).history.received()
+    }
+
+    /// The unit data that this side's layer 3 received, in order.
+    pub fn units(&self, side: Side) -> &[Vec<u8>]
+        ensures { (w : World) → PairStandsFor self.now w → map (λ unit. unit.items) result.now ≡ (view_of side w).station.history.units }
+    {
+        self.station(side).history.units()
+    }
+
+    /// What became of each message of [`Pair::given`].
+    pub fn fates(&self, side: Side) -> &[Fate]
+        ensures { (w : World) → PairStandsFor self.now w → result.now ≡ fates_of (length (view_of side w).station.end.given) (view_of side w).station.history }
+    {
+        self.station(side).history.fates()
+    }
+
+    /// For each establishment of this side, how many messages it had received before it.
+    pub fn begun(&self, side: Side) -> &[u64]
+        ensures { (w : World) → PairStandsFor self.now w → result.now ≡ (view_of side w).station.history.begun }
+    {
+        self.station(side).history.begun()
+    }
+
+    /// How many messages of this side were acknowledged.
+    pub fn acknowledged(&self, side: Side) -> u64
+        ensures { (w : World) → PairStandsFor self.now w → result ≡ length (view_of side w).station.history.acked }
+    {
+        self.station(side).history.acknowledged()
+    }
+
+    /// How many messages of this side were dropped. They may or may not have been received.
+    pub fn dropped(&self, side: Side) -> u64
+        ensures { (w : World) → PairStandsFor self.now w → result ≡ length (view_of side w).station.history.dropped }
+    {
+        self.station(side).history.dropped()
+    }
+
+    /// How many messages of both sides are neither acknowledged nor dropped.
+    pub fn left(&self) -> u64
+        ensures { (w : World) → PairStandsFor self.now w → result ≡ left w }
+    {
+        self.user.history.waiting() as u64 + self.network.history.waiting() as u64
+    }
+
+    /// The octets of the frames on their way to this side, the first of them first.
+    pub fn line(&self, to: Side) -> &[FrameOctets]
+        ensures { (w : World) → PairStandsFor self.now w → map (λ frame. frame.items) result.now ≡ map (λ frame. spelling (other_side to) (fields_of frame)) (view_of to w).incoming }
+    {
+        match to {
+            Side::User => self.to_user.frames(),
+            Side::Network => self.to_network.frames(),
+        }
+    }
+
+    /// This side's end of the link, of SAPI 0 and TEI 64.
+    pub fn link(&self, side: Side) -> &Link
+        ensures end { (w : World) → PairStandsFor self.now w → LinkStandsFor result.now (view_of side w).station.end }
+        ensures setup { (w : World) → PairStandsFor self.now w → setup_of result.now ≡ setup_for side }
+    {
+        &self.station(side).link
     }
 }

@@ -1,4 +1,5 @@
 ghost use Rattle.std.specs.Prelude.{◌≡◌};
+ghost use Rattle.lapd_pair.specs.PairFault.{is_memory};
 
 use lapd_frame::Side;
 use lapd_link::LinkFault;
@@ -23,6 +24,21 @@ pub enum PairFault {
     /// P5: memory was refused.
     #[error("P5 Memory")]
     Memory,
+}
+
+impl PairFault {
+    /// Whether memory was refused. Every other fault refuses the move itself.
+    pub fn is_memory(self) -> bool
+        ensures { result ≡ is_memory self }
+    {
+        match self {
+            PairFault::Memory => true,
+            PairFault::NothingThere
+            | PairFault::NotRunning
+            | PairFault::NotYet(_, _)
+            | PairFault::Refused(_) => false,
+        }
+    }
 }
 
 /// A run that ended for want of memory. What was done before stands.

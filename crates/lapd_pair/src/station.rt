@@ -1,6 +1,7 @@
 //! One side of a pair: its end of the link, and what is written down of it.
 
 ghost use Rattle.std.specs.Prelude.{◌≡◌, ◌≤◌, ◌+◌, ◌==◌, not, ℕ, List, [], ◌∷◌, Option, Vec, IfOk, IfErr, IfSome, OnOk, OnErr, length};
+ghost use Rattle.std.specs.declared.alloc.Global.{Global};
 ghost use Rattle.lapd_frame.specs.declared.Side.{Side};
 ghost use Rattle.lapd_frame.specs.Frame.{n201};
 ghost use Rattle.lapd_link.specs.Link.{LinkStandsFor, setup_of, IsForLink};
@@ -50,11 +51,12 @@ impl Station {
     ghost use Rattle.lapd_pair.specs.Histories.{IsHistory, HasRoom, step_room, data_room, message_room};
     ghost use Rattle.lapd_pair.specs.Station.{IsStation, IsActed, IsHanded};
     ghost use Rattle.lapd_pair.specs.Moves.{IsRefusedAs};
-    ghost use Rattle.lapd_pair.specs.Telling.{IsTelling, IsCopy, line_told, history_told};
+    ghost use Rattle.lapd_pair.specs.Telling.{IsTelling, IsCopy, flight_of, with_sent, history_told};
 
     /// A side in state 4 to which nothing has happened yet.
     pub fn new(alloc: Global, side: Side, params: Params) -> Result<Station, AllocError>
-        ensures { IfOk result (λ s. IsStation side s (new_station params)) }
+        ensures station { IfOk result (λ s. IsStation side s (new_station params)) }
+        ensures window { params.k ≤ 127 }
     {
         Ok(Station {
             link: new_link(alloc, side, params)?,
@@ -90,7 +92,7 @@ impl Station {
     fn put_sent(&self, out: &Out, octets: &[u8], outward: &mut Line)
         requires { HasRoomFor 1 outward.old }
         ensures shows { (side : Side) (e : End) (o : Occasion) (rest : List states.Out) (copy : Option (Vec ℕ Global)) (t : Story) → octets.now ≡ o.octets
-            → IsTelling side e o (out.now ∷ rest) self.now outward.old copy t → IsOn side outward.new (line_told o t.history.passed out.now t.line) }
+            → IsTelling side e o (out.now ∷ rest) self.now outward.old copy t → IsOn side outward.new (with_sent (flight_of o t.history.passed out.now) t.line) }
         ensures room { (n : ℕ) → HasRoomFor (n + 1) outward.old → HasRoomFor n outward.new }
     {
         if let Some(frame) = self.link.frame(out, octets) {
@@ -134,11 +136,17 @@ impl Station {
     }
 
     /// Tells all outputs of a step, one after another.
-    fn carry_out(&mut self, outs: &Outs, octets: &[u8], copy: &mut Option<Vec<u8>>, outward: &mut Line)
-        requires line_room { HasRoomFor 136 outward.old }
+    fn carry_out(
+        &mut self,
+        outs: &[Out],
+        octets: &[u8],
+        copy: &mut Option<Vec<u8>>,
+        outward: &mut Line,
+    )
+        requires line_room { HasRoomFor (length outs.now) outward.old }
         requires history_room { IfSome copy.old (λ _. HasRoom data_room self.old.history) }
         ensures shows { (side : Side) (e : End) (o : Occasion) (t : Story) → octets.now ≡ o.octets
-            → IsTelling side e o outs.now.items self.old outward.old copy.old t → IsTelling side e o [] self.new outward.new copy.new (told o outs.now.items t) }
+            → IsTelling side e o outs.now self.old outward.old copy.old t → IsTelling side e o [] self.new outward.new copy.new (told o outs.now t) }
         ensures link { self.new.link ≡ self.old.link }
     {
         for out in outs {
@@ -162,7 +170,13 @@ impl Station {
 
     /// One step of the state table, for any event. The frames of its outputs go on the line, and the rest is written down.
     /// `octets` are those of the frame that is heard, with a copy of them for layer 3, or the unit data to be sent.
-    pub fn step(&mut self, event: Event, octets: &[u8], copy: Option<Vec<u8>>, outward: &mut Line) -> Result<Outs, PairFault>
+    pub fn step(
+        &mut self,
+        event: Event,
+        octets: &[u8],
+        copy: Option<Vec<u8>>,
+        outward: &mut Line,
+    ) -> Result<Outs, PairFault>
         requires for_link { IsForLink self.old.link event }
         requires line_room { HasRoomFor 136 outward.old }
         requires history_room { HasRoom step_room self.old.history }
@@ -177,7 +191,7 @@ impl Station {
         match self.link.handle(event) {
             Ok(outs) => {
                 self.note_beginning(begins);
-                self.carry_out(&outs, octets, &mut copy, outward);
+                self.carry_out(outs.as_slice(), octets, &mut copy, outward);
                 Ok(outs)
             }
             Err(fault) => Err(PairFault::Refused(fault)),
@@ -185,7 +199,12 @@ impl Station {
     }
 
     /// A message of layer 3, of which the history gets a copy.
-    pub fn give(&mut self, message: Vec<u8>, copy: Vec<u8>, outward: &mut Line) -> Result<Outs, PairFault>
+    pub fn give(
+        &mut self,
+        message: Vec<u8>,
+        copy: Vec<u8>,
+        outward: &mut Line,
+    ) -> Result<Outs, PairFault>
         requires line_room { HasRoomFor 136 outward.old }
         requires history_room { HasRoom message_room self.old.history }
         ensures ok { IfOk result (λ outs. (side : Side) (v : View) → IsKept Tagged v.station → IsStation side self.old v.station → IsOn side outward.old v.outgoing
@@ -197,7 +216,7 @@ impl Station {
         match self.link.give(message) {
             Ok(outs) => {
                 self.history.give(copy);
-                self.carry_out(&outs, &[], &mut None, outward);
+                self.carry_out(outs.as_slice(), &[], &mut None, outward);
                 Ok(outs)
             }
             Err(refused) => Err(PairFault::Refused(refused.fault)),

@@ -1,12 +1,15 @@
 pub mod ActionsOnTags
+pub mod DueOnTags
 pub mod EachAction
 pub mod InputsThatCount
 pub mod KeptByStep
 pub mod MessagesThere
+pub mod NearNumbers
 pub mod NumbersOfStep
 pub mod OpenRowsOnTags
 pub mod OrderOfStep
 pub mod PlacesOfStep
+pub mod ReportsOfStep
 pub mod RowsOnTags
 pub mod Sending
 pub mod Soundness

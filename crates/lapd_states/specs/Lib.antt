@@ -20,6 +20,7 @@ pub mod Out
 pub mod Parameters
 pub mod Procedures
 pub mod Refusal
+pub mod Reports
 pub mod Sound
 pub mod Spoken
 pub mod State

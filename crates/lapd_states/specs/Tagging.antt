@@ -1,5 +1,5 @@
 -- How a step on tags stands for the step on numbers without a bound.
-use Rattle.std.specs.Prelude.{◌≡◌, ◌≤◌, true, map, Result, Ok, Err}
+use Rattle.std.specs.Prelude.{◌≡◌, ℕ, ◌+◌, ◌<◌, ◌≤◌, true, map, Result, Ok, Err}
 use Rattle.lapd_frame.specs.declared.Control.{Control}
 use Rattle.lapd_frame.specs.declared.Control.TheVariants.{I, Rr, Rnr, Rej}
 use Rattle.lapd_mod128.specs.Counting.{Whole, AreNear}
@@ -44,6 +44,18 @@ HasNearNumbers control m = Unit {0}
 abbrev pub IsHeardNear : Input → StateVariables → Type 0
 IsHeardNear (Heard control role) m = HasNearNumbers control m
 IsHeardNear input m = Unit {0}
+
+-- Bounds by which they are near, where k is the window of the sender: N(S) is at most one below V(R) and less than k above it,
+-- and N(R) is one from V(A) to V(S).
+abbrev pub LiesFromVaToVs : ℕ → StateVariables → Type 0
+LiesFromVaToVs nr m = (m.va ≤ nr) × (nr ≤ m.vs)
+
+abbrev pub HasNumbersWithin : ℕ → Control → StateVariables → Type 0
+HasNumbersWithin k (I ns nr p) m = (m.vr ≤ ns + 1) × (ns < m.vr + k) × LiesFromVaToVs nr m
+HasNumbersWithin k (Rr nr pf) m = LiesFromVaToVs nr m
+HasNumbersWithin k (Rnr nr pf) m = LiesFromVaToVs nr m
+HasNumbersWithin k (Rej nr pf) m = LiesFromVaToVs nr m
+HasNumbersWithin k control m = Unit {0}
 
 -- Where tags decide as numbers without a bound do: the window has at most 127 places, the messages of the end are in
 -- order, and what it hears in states 7 and 8 has numbers near its own.

@@ -1,17 +1,20 @@
 //! Laws of the whole state table, over its definitions. They do nothing when they are called.
 
 ghost use Rattle.std.specs.Prelude.{◌≡◌, ◌≤◌, ◌+◌, ◌-◌, ◌++◌, true, false, ℕ, if◌then◌else◌, length, Ok};
+ghost use Rattle.lapd_frame.specs.declared.Control.{Control};
 ghost use Rattle.lapd_mod128.specs.Counting.{Reading, Whole, Tagged};
 ghost use Rattle.lapd_states.specs.Begins.{begins, HasBegun};
+ghost use Rattle.lapd_states.specs.Close.{is_7_or_8};
 ghost use Rattle.lapd_states.specs.Counts.{ups, unit_ups, leaving, AreCountedFirst, ArePlaced, messages_of, accepts, hears_unit};
 ghost use Rattle.lapd_states.specs.End.{End, StepState, new_end};
 ghost use Rattle.lapd_states.specs.Input.{Input};
 ghost use Rattle.lapd_states.specs.Numbers.{AreNumbers, HearsNumbers, AreNumbered};
 ghost use Rattle.lapd_states.specs.Parameters.{Parameters};
+ghost use Rattle.lapd_states.specs.Reports.{AreExpected, IsDue};
 ghost use Rattle.lapd_states.specs.Sound.{IsSound};
 ghost use Rattle.lapd_states.specs.Spoken.{AreSpoken, AreShort};
 ghost use Rattle.lapd_states.specs.Table.{step};
-ghost use Rattle.lapd_states.specs.Tagging.{tag_input, tag_end, tag_result, IsNear};
+ghost use Rattle.lapd_states.specs.Tagging.{tag_input, tag_end, tag_result, HasNearNumbers, HasNumbersWithin, IsNear};
 
 /// Over every list of events, from a new end on, all messages that are sent and neither acknowledged nor dropped are
 /// outstanding: in states 7 and 8, as many as steps lead from V(A) to V(S), so that message number n of the present
@@ -34,6 +37,13 @@ pub fn parameters_stay()
 /// of V(S) (Q.921 3.5.2, 5.9.5).
 pub fn tags_decide()
     ensures { (input : Input) (e : End) → IsNear input e → step Tagged (tag_input input) (tag_end e) ≡ tag_result (step Whole input e) }
+{}
+
+/// In states 7 and 8 numbers are near where an N(S) lies at most one below V(R) and less than k above it, and an N(R) from
+/// V(A) to V(S): k is the window of the sender, up to 127, and all sent messages are outstanding (Q.921 3.5.2, 5.9.5).
+pub fn numbers_within_are_near()
+    ensures { (k : ℕ) (control : Control) (e : End) → k ≤ 127 → IsSound Whole e → is_7_or_8 e.state ≡ true
+        → HasNumbersWithin k control e.window → HasNearNumbers control e.window }
 {}
 
 /// What a step sends is in the grammar of frames: each frame without information, and each I command with any message of
@@ -78,4 +88,13 @@ pub fn messages_are_counted()
     ensures order { (r : Reading) (input : Input) (e : End) (s : StepState) → step r input e ≡ Ok s → AreCountedFirst s.outs }
     ensures unit { (r : Reading) (input : Input) (e : End) (s : StepState) → step r input e ≡ Ok s → unit_ups s.outs ≡ (if hears_unit input then 1 else 0) }
     ensures up { (r : Reading) (input : Input) (e : End) (s : StepState) → step r input e ≡ Ok s → ups s.outs ≡ (if accepts input e then 1 else 0) }
+{}
+
+/// Of all error reports a step makes only F, the peer establishes the link again, and G, H and I, N200 is reached: those to
+/// which lost frames lead. So it is where what comes is due: each N(R) that is heard is valid, no response comes unasked, and
+/// no frame has a fault (Q.921 5.8, Appendix II). On whole numbers and on tags; and what is due on whole numbers is due on
+/// tags, where numbers are near.
+pub fn reports_are_expected()
+    ensures expected { (r : Reading) (input : Input) (e : End) (s : StepState) → IsDue r input e → step r input e ≡ Ok s → AreExpected s.outs }
+    ensures tags { (input : Input) (e : End) → IsNear input e → IsDue Whole input e → IsDue Tagged (tag_input input) (tag_end e) }
 {}

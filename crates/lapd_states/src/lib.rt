@@ -20,7 +20,8 @@ pub use lapd_frame::{
 pub use lapd_timers::Timer;
 pub use laws::{
     all_sent_are_outstanding, establishments_are_counted, messages_are_counted, numbers_stay,
-    parameters_stay, sent_frames_are_in_the_grammar, sent_messages_are_there, tags_decide,
+    numbers_within_are_near, parameters_stay, reports_are_expected, sent_frames_are_in_the_grammar,
+    sent_messages_are_there, tags_decide,
 };
 pub use out::{Letter, Out};
 pub use params::Params;

@@ -70,6 +70,12 @@ may_send_on_tags k m window = rw (outstanding_on_tags m window) refl
 
 -- ---- An N(R) comes
 
+pub within_is_near : (nr va vs : ℕ) → va ≤ nr → nr ≤ vs → vs ≤ va + 127 → IsNearWindow nr va vs
+within_is_near nr va vs low high most = record {
+  near_va = record { above = omega (arith, low); below = omega (arith, high, most) };
+  near_vs = record { above = omega (arith, high); below = omega (arith, low, most) };
+}
+
 pub is_valid_nr_on_tags : (nr : ℕ) (m : StateVariables) → IsWindow m.va m.vs → IsNearWindow nr m.va m.vs → is_valid_nr Tagged (tag nr) (tag_variables m) ≡ is_valid_nr Whole nr m
 unfolding tag_variables is_valid_nr
 is_valid_nr_on_tags nr m window near =

@@ -60,6 +60,12 @@ pub fn receiving_on_tags()
         option_map tag_control (i_frame_response Whole ns p m) ≡ i_frame_response Tagged (tag ns) p (tag_variables m) }
 {}
 
+/// An N(R) from V(A) to V(S) lies within 127 of both, where at most 127 I frames are outstanding (Q.921 3.5.2.3, 5.9.5).
+#[tactic(auto, using(crate::proofs::Tagging::within_is_near))]
+pub fn within_is_near()
+    ensures { (nr va vs : ℕ) → va ≤ nr → nr ≤ vs → vs ≤ va + 127 → IsNearWindow nr va vs }
+{}
+
 /// An N(R) is taken on tags as on whole numbers, where at most 127 I frames are outstanding and it lies within 127 of
 /// V(A) and V(S).
 pub fn acknowledging_on_tags()

@@ -50,7 +50,7 @@ awaiting_within r true leaving first next given va vs h = omega (arith, h.places
 awaiting_within r false true first next given va vs h = omega (arith, h.places, h.within)
 awaiting_within r false false first next given va vs h = omega (arith, h.places, h.within)
 
-first_within : (r : Reading) (state : State) (e : End) → IsSoundIn r state e → e.first ≤ length e.given
+pub first_within : (r : Reading) (state : State) (e : End) → IsSoundIn r state e → e.first ≤ length e.given
 first_within r TeiAssigned e h = omega (arith, h.places, h.within)
 first_within r AwaitingEstablishment e h = awaiting_within r e.layer3_initiated e.release_pending e.first e.next (length e.given) e.window.va e.window.vs h
 first_within r AwaitingRelease e h = omega (arith, h.places, h.within)
@@ -80,7 +80,7 @@ pub none_goes_up : (r : Reading) (input : Input) (e : End) (s : StepState) → i
 none_goes_up r input e s unheard done = rw (ups_after r input e s done, unheard_is_not_accepted input e unheard) refl
 
 -- an establishment begins, or none does
-counted_by : (r : Reading) (input : Input) (e : End) (s : StepState) (test : Bool) → begins e.state e.release_pending input ≡ test → step r input e ≡ Ok s
+pub counted_by : (r : Reading) (input : Input) (e : End) (s : StepState) (test : Bool) → begins e.state e.release_pending input ≡ test → step r input e ≡ Ok s
     → (s.end.establishments ≡ e.establishments) ⊎ (s.end.establishments ≡ e.establishments + 1)
 counted_by r input e s true is done = inr (begun_by_step r input e s is done).counted
 counted_by r input e s false is done = inl (begun_by_no_step r input e s is done)
@@ -91,7 +91,7 @@ begun_where true before now begun received is counted h = grind (arith, nat_test
 begun_where false before now begun received is counted (inl h) = grind (arith, nat_tests)
 begun_where false before now begun received is counted (inr h) = omega (arith, length-append begun (received ∷ []), counted, h)
 
-begun_counted : (before now : ℕ) (h : History) → length h.begun ≡ before → (now ≡ before) ⊎ (now ≡ before + 1) → length (with_beginning before now h).begun ≡ now
+pub begun_counted : (before now : ℕ) (h : History) → length h.begun ≡ before → (now ≡ before) ⊎ (now ≡ before + 1) → length (with_beginning before now h).begun ≡ now
 begun_counted before now h counted either = begun_where (before == now) before now h.begun (length h.received) refl counted either
 
 still_unsent : (few many : ℕ) (sent_in : ℕ → Option ℕ) → few ≤ many → AreUnsentFrom few sent_in → AreUnsentFrom many sent_in
@@ -163,7 +163,7 @@ where_five : {X : Type 0} (five : Bool) (len : ℕ) (fault : X) → (len == 5) �
 where_five true len fault is h = grind (arith, nat_tests)
 where_five false len fault is h = cc
 
-content_is_short : (role : Role) (control : Control) (len : ℕ) → content_fault role control len ≡ None → len ≤ n201
+pub content_is_short : (role : Role) (control : Control) (len : ℕ) → content_fault role control len ≡ None → len ≤ n201
 content_is_short Command (I ns nr p) len h = where_long (nat_lt 260 len) len _ refl h
 content_is_short Answer (I ns nr p) len h = cc
 content_is_short role (Rr nr pf) len h = where_some (nat_lt 0 len) len _ refl h

@@ -5,4 +5,5 @@ pub mod Schedules
 pub mod Settling
 pub mod Settled
 pub mod Swaps
+pub mod TaggedMoves
 pub mod Telling

@@ -82,12 +82,12 @@ carried_behind : (r : Reading) (frames : List Flight) (frame : Flight) → Carry
 carried_behind r [] frame carried has = (has, tt)
 carried_behind r (first ∷ frames) frame carried has = (carried.0, carried_behind r frames frame carried.1 has)
 
-message_is_short : (messages : List (List ℕ)) (at : ℕ) → AreShort messages → length (get_or messages at []) ≤ n201
+pub message_is_short : (messages : List (List ℕ)) (at : ℕ) → AreShort messages → length (get_or messages at []) ≤ n201
 message_is_short [] at short = omega arith
 message_is_short (message ∷ messages) zero short = short.0
 message_is_short (message ∷ messages) (suc at) short = message_is_short messages at short.1
 
-unit_is_proper : (len : ℕ) → len ≤ n201 → at_most_n201 len ≡ None
+pub unit_is_proper : (len : ℕ) → len ≤ n201 → at_most_n201 len ≡ None
 unit_is_proper len short = let no : nat_lt 260 len ≡ false = grind (arith, nat_tests) in rw no refl
 
 pub proper_then : (e : End) (o : Occasion) (out : Out) (outs : List Out) (t : Story) → AreInOrder e t.history.passed (out ∷ outs) → AreShort o.given → length o.octets ≤ n201

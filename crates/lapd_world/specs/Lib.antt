@@ -4,4 +4,5 @@ pub mod Line
 pub mod Move
 pub mod Safe
 pub mod Schedule
+pub mod Tagged
 pub mod World

@@ -61,6 +61,11 @@ abbrev pub run : Reading → List Move → World → World
 run r [] w = w
 run r (move ∷ moves) w = run r moves (world_after w (happens r move w))
 
+-- what each of them comes to, in turn
+abbrev pub outcomes : Reading → List Move → World → List (Result Happened Refusal)
+outcomes r [] w = []
+outcomes r (move ∷ moves) w = happens r move w ∷ outcomes r moves (world_after w (happens r move w))
+
 -- how many of a side's messages are neither acknowledged nor dropped
 abbrev pub left_of : Station → ℕ
 left_of s = length (filter (λ place. not (list_any (λ p. p == place) s.history.acked) && not (list_any (λ p. p == place) s.history.dropped)) (range_with_len 0 (length s.end.given)))

@@ -1,10 +1,10 @@
 //! Laws by which the definitions are tried. They do nothing when they are called.
 
-ghost use Rattle.std.specs.Prelude.{◌≡◌, ◌≤◌, ℕ, true, false, List, [], ◌∷◌, ◌++◌, length, None, Ok, Err};
+ghost use Rattle.std.specs.Prelude.{◌≡◌, ◌↔◌, ◌≤◌, ℕ, true, false, List, [], ◌∷◌, ◌++◌, map, length, None, Ok, Err};
 ghost use Rattle.lapd_frame.specs.declared.Side.TheVariants as side;
 ghost use Rattle.lapd_frame.specs.declared.Role.TheVariants.{Command, Answer};
 ghost use Rattle.lapd_frame.specs.declared.Control.TheVariants.{I, Rr, Rnr, Disc};
-ghost use Rattle.lapd_mod128.specs.Counting.{Reading};
+ghost use Rattle.lapd_mod128.specs.Counting.{Reading, Whole, Tagged};
 ghost use Rattle.lapd_states.specs.declared.event.LinkFault.TheVariants.{NotEstablished};
 ghost use Rattle.lapd_states.specs.declared.out.Out.{Out};
 ghost use Rattle.lapd_states.specs.Counts.{ups};
@@ -20,7 +20,8 @@ ghost use Rattle.lapd_world.specs.Line.{without_info};
 ghost use Rattle.lapd_world.specs.Move.{Move, Station, Deed, Give, Release, Deliver, Lose, Expire200, Expire203, Busy, UnitData, NothingThere, NotRunning, NotYet, Refused};
 ghost use Rattle.lapd_world.specs.Safe.{IsSafe, AreSafe};
 ghost use Rattle.lapd_world.specs.Schedule.{figures, of_user, of_network, start, establishing, losing, schedule, restarting, user_in_recovery, user_at_end, network_at_end, user_restarted, receipt, one_message, two_messages, three_messages, in_first, in_first_but};
-ghost use Rattle.lapd_world.specs.World.{World, Happened, swapped, happens, world_after, left, new_world, run};
+ghost use Rattle.lapd_world.specs.Tagged.{tag_world, tag_outcome, IsNearMove, AreFirstWithin, AreNearMoves};
+ghost use Rattle.lapd_world.specs.World.{World, Happened, swapped, happens, world_after, left, new_world, run, outcomes};
 
 /// On whole numbers and on tags: a message is lost, T200 expires, the enquiry is answered, and the message is sent again;
 /// a second is lost, and dropped by a second establishment; a third is received. What was received, acknowledged, dropped
@@ -117,4 +118,22 @@ pub fn outputs_are_told()
         → ((place : ℕ) → length e.given ≤ place → t.history.sent_in place ≡ None) → (place : ℕ) → length e.given ≤ place → (tell o out t).history.sent_in place ≡ None }
     ensures proper { (e : End) (o : Occasion) (out : Out) (outs : List Out) (t : Story) → AreInOrder e t.history.passed (out ∷ outs) → AreShort o.given → length o.octets ≤ n201
         → AreProper t.line → AreProper (tell o out t).line }
+{}
+
+/// A move on tags does what it does on whole numbers: it is refused for the same reason, or it leaves the same world and puts
+/// out the same, each number in its tag. So it is where the world is one that moves keep, and a frame that is delivered and
+/// heard in states 7 and 8 carries numbers near those of the end (Q.921 3.5.2, 5.9.5), as it does within the bounds of the
+/// windows. And so does a run of such moves: in what each of them comes to, and in the world that is left.
+pub fn tags_move_as_whole_numbers()
+    ensures moves { (move : Move) (w : World) → IsKeptWorld Whole w → IsNearMove move w → happens Tagged move (tag_world w) ≡ tag_outcome (happens Whole move w) }
+    ensures near { (move : Move) (w : World) → IsKeptWorld Whole w → AreFirstWithin w → IsNearMove move w }
+    ensures runs { (moves : List Move) (w : World) → IsKeptWorld Whole w → AreNearMoves moves w → run Tagged moves (tag_world w) ≡ tag_world (run Whole moves w) }
+    ensures outcomes { (moves : List Move) (w : World) → IsKeptWorld Whole w → AreNearMoves moves w → outcomes Tagged moves (tag_world w) ≡ map tag_outcome (outcomes Whole moves w) }
+{}
+
+/// Tags are not read where it is said what is safe, nor what is left; and a new world is its own, since all counters are 0.
+pub fn tags_are_not_read()
+    ensures safe { (w : World) → AreSafe (tag_world w) ↔ AreSafe w }
+    ensures left { (w : World) → left (tag_world w) ≡ left w }
+    ensures begins { (user network : Parameters) → tag_world (new_world user network) ≡ new_world user network }
 {}

@@ -1,0 +1,56 @@
+-- A move of either side, and a run of moves.
+use Rattle.std.proofs.Common.{◌≡◌, ℕ, nat_lt, List, [], ◌∷◌, length, Result, Ok, Err, refl}
+use Rattle.lapd_frame.specs.declared.Side.{Side}
+use Rattle.lapd_frame.specs.declared.Side.TheVariants as side
+use Rattle.lapd_mod128.specs.Counting.{Whole}
+use Rattle.lapd_world.specs.Move.{Deed, Lose, Move, Acted, Refusal, acts, loses}
+use Rattle.lapd_world.specs.World.{World, swapped, view_of, with_view, in_world, world_after, happens, run}
+use Rattle.lapd_world.proofs.Swaps.{network_alike}
+use Rattle.lapd_invariant.specs.Kinds.{kinds}
+use Rattle.lapd_invariant.specs.Parties.{party}
+use Rattle.lapd_invariant.specs.Invariant.{IsInvariant}
+use Rattle.lapd_invariant.proofs.Lists.{by_test}
+use Rattle.lapd_invariant.proofs.Losses.{both_less}
+use Rattle.lapd_invariant.proofs.Parts.{part_whole, part_lost}
+use Rattle.lapd_invariant.proofs.Sounds.{stays_sound}
+use Rattle.lapd_invariant.proofs.Worlds.{Holds, Keeps, left_by, exchanged}
+
+-- a frame is lost
+pub keeps_lose : (at : ℕ) → Keeps (Lose at)
+unfolding acts loses
+keeps_lose at v peer small h = by_test (λ (r : Result Acted Refusal). Holds (left_by v r) peer) (nat_lt at (length v.incoming)) _ _
+    (λ _. record { base = h.base; its_base = h.its_base; both = both_less (party h.base v.station) (party h.its_base peer) (part_whole (kinds v.outgoing)) (part_lost at v.incoming) h.both }) (λ _. h)
+
+-- ---- Moves.
+
+after_by_user : (w : World) (r : Result Acted Refusal) → world_after w (in_world side.User w r) ≡ with_view side.User (left_by (view_of side.User w) r) w
+after_by_user w (Ok acted) = refl
+after_by_user w (Err refusal) = refl
+
+pub user_keeps : (deed : Deed) → Keeps deed → (w : World) → IsInvariant w → IsInvariant (world_after w (happens Whole (record { side = side.User; deed = deed }) w))
+unfolding happens
+user_keeps deed keeps w i =
+    let v = view_of side.User w in
+    let h : Holds v w.network = record { base = i.user_base; its_base = i.network_base; both = i.both } in
+    let after : Holds (left_by v (acts Whole side.User deed v)) w.network = keeps v w.network i.user_window h in
+    let sound = stays_sound v i.user_window i.user_sound deed in
+    rw (after_by_user w (acts Whole side.User deed v)) (record {
+      user_base = after.base;
+      network_base = after.its_base;
+      both = after.both;
+      user_sound = sound.sound;
+      network_sound = i.network_sound;
+      user_window = rw sound.parameters i.user_window;
+      network_window = i.network_window;
+    })
+
+pub network_keeps : (deed : Deed) → Keeps deed → (w : World) → IsInvariant w → IsInvariant (world_after w (happens Whole (record { side = side.Network; deed = deed }) w))
+network_keeps deed keeps w i = rw (network_alike Whole deed w) (exchanged (world_after (swapped w) (happens Whole (record { side = side.User; deed = deed }) (swapped w))) (user_keeps deed keeps (swapped w) (exchanged w i)))
+
+pub move_keeps : (who : Side) (deed : Deed) → Keeps deed → (w : World) → IsInvariant w → IsInvariant (world_after w (happens Whole (record { side = who; deed = deed }) w))
+move_keeps side.User deed keeps w i = user_keeps deed keeps w i
+move_keeps side.Network deed keeps w i = network_keeps deed keeps w i
+
+pub run_keeps : ((deed : Deed) → Keeps deed) → (moves : List Move) (w : World) → IsInvariant w → IsInvariant (run Whole moves w)
+run_keeps keeps [] w i = i
+run_keeps keeps (move ∷ moves) w i = run_keeps keeps moves (world_after w (happens Whole move w)) (move_keeps move.side move.deed (keeps move.deed) w i)

@@ -1,0 +1,88 @@
+-- What holds after every run of moves from a new world, on whole numbers and on tags.
+use Rattle.std.proofs.Common.{◌≡◌, ◌≤◌, List, [], ◌∷◌, map, Result, Ok, Err, sym, ap, subst, ◌∙◌}
+use Rattle.lapd_mod128.specs.Counting.{Reading, Whole, Tagged}
+use Rattle.lapd_states.specs.declared.out.Out.{Out}
+use Rattle.lapd_states.specs.declared.out.Out.TheVariants.{Send, SendMessage}
+use Rattle.lapd_states.specs.Parameters.{Parameters}
+use Rattle.lapd_states.specs.Reports.{IsExpectedOut, AreExpected}
+use Rattle.lapd_states.specs.Tagging.{tag_out}
+use Rattle.lapd_world.specs.Kept.{IsKeptWorld}
+use Rattle.lapd_world.specs.Move.{Move, Refusal}
+use Rattle.lapd_world.specs.Safe.{AreSafe}
+use Rattle.lapd_world.specs.Tagged.{tag_world, tag_outcome, AreNearMoves}
+use Rattle.lapd_world.specs.World.{World, Happened, new_world, world_after, happens, run, outcomes}
+use Rattle.lapd_world.proofs.Keeping.{new_world_kept, run_kept}
+use Rattle.lapd_world.proofs.TaggedMoves.{move_near, run_on_tags, outcomes_on_tags, safe_on_tags, new_world_on_tags}
+use Rattle.lapd_invariant.specs.Invariant.{IsInvariant}
+use Rattle.lapd_invariant.specs.Reports.{ReportsExpected, AllReportsExpected, AreFirstDue}
+use Rattle.lapd_invariant.proofs.Dues.{due_by_invariant, due_in_tags}
+use Rattle.lapd_invariant.proofs.Nearness.{within_by_invariant}
+use Rattle.lapd_invariant.proofs.Whole.{each_move_keeps, each_run_keeps, each_run_is_safe, each_report_is_expected}
+use Rattle.lapd_invariant.proofs.Worlds.{new_holds}
+
+-- each move is near: tags decide as whole numbers do
+pub near_moves : (moves : List Move) (w : World) → IsInvariant w → IsKeptWorld Whole w → AreNearMoves moves w
+near_moves [] w i kept = tt
+near_moves (move ∷ moves) w i kept = (move_near move w kept (within_by_invariant w i), near_moves moves (world_after w (happens Whole move w)) (each_move_keeps move w i) (run_kept Whole (move ∷ []) w kept))
+
+pub reports_of_run : (moves : List Move) (w : World) → IsInvariant w → AllReportsExpected (outcomes Whole moves w)
+reports_of_run [] w i = tt
+reports_of_run (move ∷ moves) w i = (each_report_is_expected move w i, reports_of_run moves (world_after w (happens Whole move w)) (each_move_keeps move w i))
+
+-- ---- On tags.
+
+out_on_tags : (out : Out) → IsExpectedOut out → IsExpectedOut (tag_out out)
+out_on_tags (Send role control) e = tt
+out_on_tags (SendMessage place control) e = tt
+out_on_tags out e = e
+
+outs_on_tags : (outs : List Out) → AreExpected outs → AreExpected (map tag_out outs)
+outs_on_tags [] e = tt
+outs_on_tags (out ∷ outs) e = (out_on_tags out e.0, outs_on_tags outs e.1)
+
+outcome_on_tags : (r : Result Happened Refusal) → ReportsExpected r → ReportsExpected (tag_outcome r)
+outcome_on_tags (Ok happened) e = outs_on_tags happened.outs e
+outcome_on_tags (Err refusal) e = tt
+
+reports_on_tags : (rs : List (Result Happened Refusal)) → AllReportsExpected rs → AllReportsExpected (map tag_outcome rs)
+reports_on_tags [] e = tt
+reports_on_tags (r ∷ rs) e = (outcome_on_tags r e.0, reports_on_tags rs e.1)
+
+-- ---- From a new world.
+
+module _ (user network : Parameters) (user_window : user.k ≤ 127) (network_window : network.k ≤ 127) (moves : List Move) where
+  abbrev start : World
+  start = new_world user network
+
+  begins : IsInvariant start
+  begins = new_holds user network user_window network_window
+
+  kept : IsKeptWorld Whole start
+  kept = new_world_kept Whole user network user_window network_window
+
+  pub reached_tags : run Tagged moves (new_world user network) ≡ tag_world (run Whole moves (new_world user network))
+  reached_tags = ap (λ w. run Tagged moves w) (sym (new_world_on_tags user network)) ∙ run_on_tags moves start kept (near_moves moves start begins kept)
+
+  pub reached_outcomes : outcomes Tagged moves (new_world user network) ≡ map tag_outcome (outcomes Whole moves (new_world user network))
+  reached_outcomes = ap (λ w. outcomes Tagged moves w) (sym (new_world_on_tags user network)) ∙ outcomes_on_tags moves start kept (near_moves moves start begins kept)
+
+  safe_by : (r : Reading) → AreSafe (run r moves (new_world user network))
+  safe_by Whole = each_run_is_safe moves start begins
+  safe_by Tagged = subst (λ w. AreSafe w) (sym reached_tags) ((safe_on_tags (run Whole moves start)).1 (each_run_is_safe moves start begins))
+
+  reports_by : (r : Reading) → AllReportsExpected (outcomes r moves (new_world user network))
+  reports_by Whole = reports_of_run moves start begins
+  reports_by Tagged = subst (λ rs. AllReportsExpected rs) (sym reached_outcomes) (reports_on_tags (outcomes Whole moves start) (reports_of_run moves start begins))
+
+  due_by : (r : Reading) → AreFirstDue r (run r moves (new_world user network))
+  due_by Whole = due_by_invariant (run Whole moves start) (each_run_keeps moves start begins)
+  due_by Tagged = subst (λ w. AreFirstDue Tagged w) (sym reached_tags) (due_in_tags (run Whole moves start) (each_run_keeps moves start begins))
+
+pub every_run_safe : (r : Reading) (user network : Parameters) → user.k ≤ 127 → network.k ≤ 127 → (moves : List Move) → AreSafe (run r moves (new_world user network))
+every_run_safe r user network u n moves = safe_by user network u n moves r
+
+pub every_run_reports : (r : Reading) (user network : Parameters) → user.k ≤ 127 → network.k ≤ 127 → (moves : List Move) → AllReportsExpected (outcomes r moves (new_world user network))
+every_run_reports r user network u n moves = reports_by user network u n moves r
+
+pub every_run_is_due : (r : Reading) (user network : Parameters) → user.k ≤ 127 → network.k ≤ 127 → (moves : List Move) → AreFirstDue r (run r moves (new_world user network))
+every_run_is_due r user network u n moves = due_by user network u n moves r

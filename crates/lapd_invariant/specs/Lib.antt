@@ -1,0 +1,6 @@
+pub mod Kinds
+pub mod Parties
+pub mod Conjuncts
+pub mod Invariant
+pub mod Reports
+pub mod Premises

@@ -1,0 +1,60 @@
+//! Laws of the invariant. They do nothing when they are called.
+
+ghost use Rattle.std.specs.Prelude.{◌≡◌, ◌≤◌, ℕ, List, map};
+ghost use Rattle.lapd_mod128.specs.Counting.{Reading, Whole, Tagged};
+ghost use Rattle.lapd_states.specs.Parameters.{Parameters};
+ghost use Rattle.lapd_world.specs.Kept.{IsKeptWorld};
+ghost use Rattle.lapd_world.specs.Move.{Move};
+ghost use Rattle.lapd_world.specs.Safe.{AreSafe};
+ghost use Rattle.lapd_world.specs.Schedule as worked;
+ghost use Rattle.lapd_world.specs.Tagged.{tag_world, tag_outcome, AreFirstWithin, AreNearMoves};
+ghost use Rattle.lapd_world.specs.World.{World, new_world, world_after, happens, run, outcomes};
+ghost use Rattle.lapd_invariant.specs.Invariant.{IsInvariant};
+ghost use Rattle.lapd_invariant.specs.Premises.{run_freely, hasty, stale, overtaken};
+ghost use Rattle.lapd_invariant.specs.Reports.{ReportsExpected, AllReportsExpected, AreFirstDue};
+
+/// After every list of moves from a new world, on whole numbers and on tags, in windows of up to 127, whatever each end does
+/// when T200 expires: the histories are safe, each side against the other. So what a side received is among what the other
+/// was given, in order and once each; within one establishment nothing is skipped; and what a sender counts as acknowledged
+/// was received. Only the reports F, G, H and I ever arose; and the N(R) of the next frame that is delivered is valid, and no
+/// response comes unasked.
+pub fn every_run_is_safe()
+    ensures safe { (r : Reading) (user network : Parameters) → user.k ≤ 127 → network.k ≤ 127 → (moves : List Move) → AreSafe (run r moves (new_world user network)) }
+    ensures reports { (r : Reading) (user network : Parameters) → user.k ≤ 127 → network.k ≤ 127 → (moves : List Move) → AllReportsExpected (outcomes r moves (new_world user network)) }
+    ensures due { (r : Reading) (user network : Parameters) → user.k ≤ 127 → network.k ≤ 127 → (moves : List Move) → AreFirstDue r (run r moves (new_world user network)) }
+{}
+
+/// A run on tags is the run on whole numbers, each number in its tag: in what each move comes to, and in the world that is
+/// left. In windows of up to 127 tags decide as whole numbers do (Q.921 3.5.2, 5.9.5).
+pub fn every_run_is_the_same_on_tags()
+    ensures worlds { (user network : Parameters) → user.k ≤ 127 → network.k ≤ 127 → (moves : List Move)
+        → run Tagged moves (new_world user network) ≡ tag_world (run Whole moves (new_world user network)) }
+    ensures outcomes { (user network : Parameters) → user.k ≤ 127 → network.k ≤ 127 → (moves : List Move)
+        → outcomes Tagged moves (new_world user network) ≡ map tag_outcome (outcomes Whole moves (new_world user network)) }
+{}
+
+/// The invariant holds of a new world, each move keeps it, and so does every run.
+pub fn the_invariant_is_kept()
+    ensures begins { (user network : Parameters) → user.k ≤ 127 → network.k ≤ 127 → IsInvariant (new_world user network) }
+    ensures stays { (move : Move) (w : World) → IsInvariant w → IsInvariant (world_after w (happens Whole move w)) }
+    ensures runs { (moves : List Move) (w : World) → IsInvariant w → IsInvariant (run Whole moves w) }
+{}
+
+/// Where it holds, the histories are safe; a move reports nothing but F, G, H and I; and the first frame on its way to a
+/// side carries numbers near those of that side, so that each of a list of moves does on tags what it does on whole numbers.
+pub fn the_invariant_tells()
+    ensures safe { (w : World) → IsInvariant w → AreSafe w }
+    ensures reports { (move : Move) (w : World) → IsInvariant w → ReportsExpected (happens Whole move w) }
+    ensures due { (w : World) → IsInvariant w → AreFirstDue Whole w }
+    ensures within { (w : World) → IsInvariant w → AreFirstWithin w }
+    ensures near { (moves : List Move) (w : World) → IsInvariant w → IsKeptWorld Whole w → AreNearMoves moves w }
+{}
+
+/// Each premise is needed: where T200 expires although the answer that it waits for is on its way, where what is on the line
+/// outlives a restart, or where one frame overtakes another, a run of some ten moves ends in histories that are not safe. In
+/// each a message is acknowledged that was never received.
+pub fn each_premise_is_needed()
+    ensures t200 { AreSafe (run_freely hasty worked.start) → ⊥ }
+    ensures restart { AreSafe (run_freely stale worked.start) → ⊥ }
+    ensures order { AreSafe (run_freely overtaken worked.start) → ⊥ }
+{}

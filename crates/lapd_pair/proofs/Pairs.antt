@@ -1,0 +1,155 @@
+-- What a pair stands for after a move of one of its sides.
+use Rattle.std.proofs.Common.{◌≡◌, ◌≤◌, List, [], ◌∷◌, ◌++◌, Result, Ok, Err, IfOk, IfErr, OnErr, refl, sym, ap, ◌∙◌, subst}
+use Rattle.std.proofs.Math.Logic.{∥∥₁_map}
+use Rattle.arrayvec.specs.ArrayVec.{ArrayVec}
+use Rattle.lapd_frame.specs.declared.Side.{Side}
+use Rattle.lapd_frame.specs.declared.Side.TheVariants.{User, Network}
+use Rattle.lapd_mod128.specs.Counting.{Tagged}
+use Rattle.lapd_states.specs.declared.out.Out.{Out}
+use Rattle.lapd_states.specs.Parameters.{Parameters}
+use Rattle.lapd_world.specs.Move.{Move, View, Refusal, Acted, acts}
+use Rattle.lapd_world.specs.World.{World, Happened, view_of, with_view, in_world, happens, world_after, new_station, new_world, run}
+use Rattle.lapd_world.proofs.Keeping.{move_kept, new_world_kept}
+use Rattle.lapd_pair.specs.declared.line.Line.{Line}
+use Rattle.lapd_pair.specs.declared.pair_fault.PairFault.{PairFault}
+use Rattle.lapd_pair.specs.declared.pair_fault.PairFault.TheVariants as fault
+use Rattle.lapd_pair.specs.declared.station.Station.{Station}
+use Rattle.lapd_pair.specs.Line.{IsOn}
+use Rattle.lapd_pair.specs.Moves.{IsRefusedAs}
+use Rattle.lapd_pair.specs.Pair.{StandForWorld, IsReached}
+use Rattle.lapd_pair.specs.Station.{IsStation, IsView, IsDone, ActsInView, RefusesInView, ShowsViewAsBefore}
+
+-- ---- A new pair.
+
+pub new_stands : (user_parameters network_parameters : Parameters) (user network : Station) (to_user to_network : Line) → user_parameters.k ≤ 127 → network_parameters.k ≤ 127
+    → IsStation User user (new_station user_parameters) → IsStation Network network (new_station network_parameters) → IsOn Network to_user [] → IsOn User to_network []
+    → StandForWorld user network to_user to_network (new_world user_parameters network_parameters)
+new_stands user_parameters network_parameters user network to_user to_network small_user small_network is_user is_network none_to_user none_to_network =
+    record { user = is_user; network = is_network; to_user = none_to_user; to_network = none_to_network; kept = new_world_kept Tagged user_parameters network_parameters small_user small_network }
+
+-- ---- A move.
+
+abbrev Happens : Happened → Result Happened Refusal
+Happens happened = Ok happened
+
+-- it was admitted, with these outputs, and leads to this world
+pub record Did (user network : Station) (to_user to_network : Line) (outcome : Result Happened Refusal) (outs : List Out) : Type 0 where
+  pub happened : Happened
+  pub is : outcome ≡ Happens happened
+  pub same : happened.outs ≡ outs
+  pub stand : StandForWorld user network to_user to_network happened.world
+
+-- what the user sees, and the network
+pub user_sees : {user network : Station} {to_user to_network : Line} {w : World} → StandForWorld user network to_user to_network w → IsView User user to_user to_network (view_of User w)
+user_sees s = record { station = s.user; incoming = s.to_user; outgoing = s.to_network }
+
+pub network_sees : {user network : Station} {to_user to_network : Line} {w : World} → StandForWorld user network to_user to_network w → IsView Network network to_network to_user (view_of Network w)
+network_sees s = record { station = s.network; incoming = s.to_network; outgoing = s.to_user }
+
+of_side : (m : Move) (w : World) (who : Side) → m.side ≡ who → happens Tagged m w ≡ in_world who w (acts Tagged who m.deed (view_of who w))
+unfolding happens
+of_side m w who is = rw is refl
+
+in_world_did : (who : Side) (w : World) (outcome : Result Acted Refusal) (acted : Acted) → outcome ≡ Ok acted → in_world who w outcome ≡ Happens (record { world = with_view who acted.view w; outs = acted.outs })
+in_world_did who w outcome acted is = rw is refl
+
+pub user_did : (m : Move) (w : World) (user network after : Station) (to_user to_network to_user_after to_network_after : Line) (outs : ArrayVec Out) → m.side ≡ User → StandForWorld user network to_user to_network w
+    → ActsInView user to_user to_network after to_user_after to_network_after (λ side v. acts Tagged side m.deed v) outs → Did after network to_user_after to_network_after (happens Tagged m w) outs.items
+user_did m w user network after to_user to_network to_user_after to_network_after outs is s acts_so =
+    let d = acts_so User (view_of User w) s.kept.user (user_sees s) in
+    let happened : Happened = record { world = with_view User d.acted.view w; outs = d.acted.outs } in
+    let it = of_side m w User is ∙ in_world_did User w (acts Tagged User m.deed (view_of User w)) d.acted d.is in
+    record {
+      happened = happened;
+      is = it;
+      same = d.same;
+      stand = record { user = d.view.station; network = s.network; to_user = d.view.incoming; to_network = d.view.outgoing; kept = move_kept Tagged m w happened s.kept it };
+    }
+
+pub network_did : (m : Move) (w : World) (user network after : Station) (to_user to_network to_user_after to_network_after : Line) (outs : ArrayVec Out) → m.side ≡ Network → StandForWorld user network to_user to_network w
+    → ActsInView network to_network to_user after to_network_after to_user_after (λ side v. acts Tagged side m.deed v) outs → Did user after to_user_after to_network_after (happens Tagged m w) outs.items
+network_did m w user network after to_user to_network to_user_after to_network_after outs is s acts_so =
+    let d = acts_so Network (view_of Network w) s.kept.network (network_sees s) in
+    let happened : Happened = record { world = with_view Network d.acted.view w; outs = d.acted.outs } in
+    let it = of_side m w Network is ∙ in_world_did Network w (acts Tagged Network m.deed (view_of Network w)) d.acted d.is in
+    record {
+      happened = happened;
+      is = it;
+      same = d.same;
+      stand = record { user = s.user; network = d.view.station; to_user = d.view.outgoing; to_network = d.view.incoming; kept = move_kept Tagged m w happened s.kept it };
+    }
+
+-- a refusal of the side is one of the world
+refused_so : (fault : PairFault) (who : Side) (w : World) (outcome : Result Acted Refusal) → IsRefusedAs fault outcome → IsRefusedAs fault (in_world who w outcome)
+refused_so fault.NothingThere who w outcome h = rw h refl
+refused_so fault.NotRunning who w outcome h = rw h refl
+refused_so (fault.NotYet side at) who w outcome h = rw h refl
+refused_so (fault.Refused why) who w outcome h = rw h refl
+refused_so fault.Memory who w (Ok acted) h = refl
+refused_so fault.Memory who w (Err refusal) h = cc
+
+pub user_refused : (m : Move) (w : World) (user network : Station) (to_user to_network : Line) (fault : PairFault) → m.side ≡ User → StandForWorld user network to_user to_network w
+    → RefusesInView user to_user to_network (λ side v. acts Tagged side m.deed v) fault → IsRefusedAs fault (happens Tagged m w)
+user_refused m w user network to_user to_network fault is s refuses =
+    subst (λ (x : Result Happened Refusal). IsRefusedAs fault x) (sym (of_side m w User is)) (refused_so fault User w (acts Tagged User m.deed (view_of User w)) (refuses User (view_of User w) (user_sees s)))
+
+pub network_refused : (m : Move) (w : World) (user network : Station) (to_user to_network : Line) (fault : PairFault) → m.side ≡ Network → StandForWorld user network to_user to_network w
+    → RefusesInView network to_network to_user (λ side v. acts Tagged side m.deed v) fault → IsRefusedAs fault (happens Tagged m w)
+network_refused m w user network to_user to_network fault is s refuses =
+    subst (λ (x : Result Happened Refusal). IsRefusedAs fault x) (sym (of_side m w Network is)) (refused_so fault Network w (acts Tagged Network m.deed (view_of Network w)) (refuses Network (view_of Network w) (network_sees s)))
+
+pub user_still : (w : World) (user network after : Station) (to_user to_network to_user_after to_network_after : Line) → StandForWorld user network to_user to_network w → ShowsViewAsBefore user to_user to_network after to_user_after to_network_after
+    → StandForWorld after network to_user_after to_network_after w
+user_still w user network after to_user to_network to_user_after to_network_after s shows =
+    let v = shows User (view_of User w) (user_sees s) in
+    record { user = v.station; network = s.network; to_user = v.incoming; to_network = v.outgoing; kept = s.kept }
+
+pub network_still : (w : World) (user network after : Station) (to_user to_network to_user_after to_network_after : Line) → StandForWorld user network to_user to_network w → ShowsViewAsBefore network to_network to_user after to_network_after to_user_after
+    → StandForWorld user after to_user_after to_network_after w
+network_still w user network after to_user to_network to_user_after to_network_after s shows =
+    let v = shows Network (view_of Network w) (network_sees s) in
+    record { user = s.user; network = v.station; to_user = v.outgoing; to_network = v.incoming; kept = s.kept }
+
+-- ---- What was reached by moves is so again.
+
+pub run_more : (moves : List Move) (m : Move) (w : World) → run Tagged (moves ++ m ∷ []) w ≡ world_after (run Tagged moves w) (happens Tagged m (run Tagged moves w))
+run_more [] m w = refl
+run_more (first ∷ moves) m w = run_more moves m (world_after w (happens Tagged first w))
+
+pub after_did : (w : World) (outcome : Result Happened Refusal) (happened : Happened) → outcome ≡ Happens happened → happened.world ≡ world_after w outcome
+after_did w outcome happened is = rw is refl
+
+reached_more : (user network : Station) (to_user to_network : Line) (user_parameters network_parameters : Parameters) (moves : List Move) (m : Move) (outs : List Out)
+    → Did user network to_user to_network (happens Tagged m (run Tagged moves (new_world user_parameters network_parameters))) outs → IsReached user network to_user to_network
+reached_more user network to_user to_network user_parameters network_parameters moves m outs d =
+    let start = new_world user_parameters network_parameters in
+    let there = after_did (run Tagged moves start) (happens Tagged m (run Tagged moves start)) d.happened d.is ∙ sym (run_more moves m start) in
+    (user_parameters, network_parameters, moves ++ m ∷ [], subst (StandForWorld user network to_user to_network) there d.stand)
+
+user_reaches : (m : Move) (user network after : Station) (to_user to_network to_user_after to_network_after : Line) (r : Result (ArrayVec Out) PairFault) → m.side ≡ User
+    → IfOk r (ActsInView user to_user to_network after to_user_after to_network_after (λ side v. acts Tagged side m.deed v)) → OnErr r (ShowsViewAsBefore user to_user to_network after to_user_after to_network_after)
+    → IsReached user network to_user to_network → IsReached after network to_user_after to_network_after
+user_reaches m user network after to_user to_network to_user_after to_network_after (Ok outs) is acts_so shows x =
+    reached_more after network to_user_after to_network_after x.0 x.1 x.2 m outs.items (user_did m (run Tagged x.2 (new_world x.0 x.1)) user network after to_user to_network to_user_after to_network_after outs is x.3 acts_so)
+user_reaches m user network after to_user to_network to_user_after to_network_after (Err fault) is acts_so shows x =
+    (x.0, x.1, x.2, user_still (run Tagged x.2 (new_world x.0 x.1)) user network after to_user to_network to_user_after to_network_after x.3 shows)
+
+network_reaches : (m : Move) (user network after : Station) (to_user to_network to_user_after to_network_after : Line) (r : Result (ArrayVec Out) PairFault) → m.side ≡ Network
+    → IfOk r (ActsInView network to_network to_user after to_network_after to_user_after (λ side v. acts Tagged side m.deed v)) → OnErr r (ShowsViewAsBefore network to_network to_user after to_network_after to_user_after)
+    → IsReached user network to_user to_network → IsReached user after to_user_after to_network_after
+network_reaches m user network after to_user to_network to_user_after to_network_after (Ok outs) is acts_so shows x =
+    reached_more user after to_user_after to_network_after x.0 x.1 x.2 m outs.items (network_did m (run Tagged x.2 (new_world x.0 x.1)) user network after to_user to_network to_user_after to_network_after outs is x.3 acts_so)
+network_reaches m user network after to_user to_network to_user_after to_network_after (Err fault) is acts_so shows x =
+    (x.0, x.1, x.2, network_still (run Tagged x.2 (new_world x.0 x.1)) user network after to_user to_network to_user_after to_network_after x.3 shows)
+
+pub user_reached : (m : Move) (user network after : Station) (to_user to_network to_user_after to_network_after : Line) (r : Result (ArrayVec Out) PairFault) → m.side ≡ User
+    → IfOk r (ActsInView user to_user to_network after to_user_after to_network_after (λ side v. acts Tagged side m.deed v)) → OnErr r (ShowsViewAsBefore user to_user to_network after to_user_after to_network_after)
+    → ∥ IsReached user network to_user to_network ∥₁ → ∥ IsReached after network to_user_after to_network_after ∥₁
+user_reached m user network after to_user to_network to_user_after to_network_after r is acts_so shows reached =
+    ∥∥₁_map reached (λ x. user_reaches m user network after to_user to_network to_user_after to_network_after r is acts_so shows x)
+
+pub network_reached : (m : Move) (user network after : Station) (to_user to_network to_user_after to_network_after : Line) (r : Result (ArrayVec Out) PairFault) → m.side ≡ Network
+    → IfOk r (ActsInView network to_network to_user after to_network_after to_user_after (λ side v. acts Tagged side m.deed v)) → OnErr r (ShowsViewAsBefore network to_network to_user after to_network_after to_user_after)
+    → ∥ IsReached user network to_user to_network ∥₁ → ∥ IsReached user after to_user_after to_network_after ∥₁
+network_reached m user network after to_user to_network to_user_after to_network_after r is acts_so shows reached =
+    ∥∥₁_map reached (λ x. network_reaches m user network after to_user to_network to_user_after to_network_after r is acts_so shows x)

@@ -1,0 +1,115 @@
+-- What a pair stands for after a run.
+use Rattle.std.proofs.Common.{◌≡◌, ◌≤◌, ◌<◌, ◌+◌, ℕ, true, false, List, [], ◌∷◌, ◌++◌, length, map, take, drop, get_or, slice_get, Some, Result, Ok, Err, is_ok, refl, sym, ap, ◌∙◌, subst, arith}
+use Rattle.std.proofs.lemmas.List.{length-map, drop_more, take_more}
+use Rattle.std.proofs.lemmas.Option.{slice_get-get_or}
+use Rattle.lapd_mod128.specs.Counting.{Tagged}
+use Rattle.lapd_states.specs.declared.out.Out.{Out}
+use Rattle.lapd_world.specs.Move.{Move, Refusal}
+use Rattle.lapd_world.specs.World.{World, Happened, happens, world_after, run}
+use Rattle.lapd_pair.specs.declared.pair.Pair.{Pair}
+use Rattle.lapd_pair.specs.declared.pair_fault.PairFault.{PairFault}
+use Rattle.lapd_pair.specs.declared.pair_fault.PairFault.TheVariants as fault
+use Rattle.lapd_pair.specs.Moves.{IsRefusedAs}
+use Rattle.lapd_pair.specs.PairFault.{is_memory}
+use Rattle.lapd_pair.specs.Runs.{PairStandsFor, HasHappened, HasStoppedAt, refused_of, refusals}
+use Rattle.lapd_pair.proofs.Pairs.{run_more, after_did}
+
+-- as many moves as this are done, and so many of them were refused
+pub record AreDone (before : Pair) (moves : List Move) (at refused : ℕ) (now : Pair) : Type 0 where
+  pub stands : (w : World) → PairStandsFor before w → PairStandsFor now (run Tagged (take at moves) w)
+  pub counted : (w : World) → PairStandsFor before w → refused + refusals (drop at moves) (run Tagged (take at moves) w) ≡ refusals moves w
+  pub few : refused ≤ at
+
+pub none_done : (p : Pair) (moves : List Move) → AreDone p moves 0 0 p
+none_done p moves = record { stands = λ w s. s; counted = λ w s. omega arith; few = omega arith }
+
+-- the next move leads to the world after it
+next : (moves : List Move) (at : ℕ) (m : Move) (w : World) → take (at + 1) moves ≡ take at moves ++ m ∷ [] → run Tagged (take (at + 1) moves) w ≡ world_after (run Tagged (take at moves) w) (happens Tagged m (run Tagged (take at moves) w))
+next moves at m w split = ap (λ (ms : List Move). run Tagged ms w) split ∙ run_more (take at moves) m w
+
+refused_more : (moves rest : List Move) (at : ℕ) (m : Move) (u : World) → drop at moves ≡ m ∷ rest → refusals (drop at moves) u ≡ refused_of (happens Tagged m u) + refusals rest (world_after u (happens Tagged m u))
+refused_more moves rest at m u split = ap (λ (ms : List Move). refusals ms u) split
+
+admitted_one : (outcome : Result Happened Refusal) (happened : Happened) → outcome ≡ Ok happened → refused_of outcome ≡ 0
+admitted_one outcome happened is = rw is refl
+
+pub one_done : (before now after : Pair) (moves : List Move) (at refused : ℕ) (m : Move) (outs : List Out) → at < length moves → get_or moves at m ≡ m
+    → ((w : World) → PairStandsFor now w → HasHappened after (happens Tagged m w) outs) → AreDone before moves at refused now → AreDone before moves (at + 1) refused after
+one_done before now after moves at refused m outs within is happened done =
+    let left = drop_more moves at m within ∙ ap (λ (x : Move). x ∷ drop (at + 1) moves) is in
+    let gone = take_more moves at m within ∙ ap (λ (x : Move). take at moves ++ x ∷ []) is in
+    record {
+      stands = λ w s.
+          let u = run Tagged (take at moves) w in
+          let h = happened u (done.stands w s) in
+          subst (PairStandsFor after) (after_did u (happens Tagged m u) h.happened h.is ∙ sym (next moves at m w gone)) h.stands;
+      counted = λ w s.
+          let u = run Tagged (take at moves) w in
+          let h = happened u (done.stands w s) in
+          let more = refused_more moves (drop (at + 1) moves) at m u left in
+          let none = admitted_one (happens Tagged m u) h.happened h.is in
+          let before_it = done.counted w s in
+          rw (next moves at m w gone) (omega (arith, more, none, before_it));
+      few = omega (arith, done.few);
+    }
+
+-- what is refused changes nothing, and is counted
+refused_is : (why : PairFault) (u : World) (outcome : Result Happened Refusal) → is_memory why ≡ false → IsRefusedAs why outcome → (refused_of outcome ≡ 1) × (world_after u outcome ≡ u)
+refused_is fault.Memory u outcome skipped is = cc
+refused_is fault.NothingThere u outcome skipped is = rw is (refl, refl)
+refused_is fault.NotRunning u outcome skipped is = rw is (refl, refl)
+refused_is (fault.NotYet side at) u outcome skipped is = rw is (refl, refl)
+refused_is (fault.Refused why) u outcome skipped is = rw is (refl, refl)
+
+admitted_is : (why : PairFault) (outcome : Result Happened Refusal) → is_memory why ≡ true → IsRefusedAs why outcome → is_ok outcome ≡ true
+admitted_is fault.Memory outcome memory is = is
+admitted_is fault.NothingThere outcome memory is = cc
+admitted_is fault.NotRunning outcome memory is = cc
+admitted_is (fault.NotYet side at) outcome memory is = cc
+admitted_is (fault.Refused why) outcome memory is = cc
+
+pub one_skipped : (before now after : Pair) (moves : List Move) (at refused : ℕ) (m : Move) (why : PairFault) → at < length moves → get_or moves at m ≡ m → is_memory why ≡ false
+    → ((w : World) → PairStandsFor now w → IsRefusedAs why (happens Tagged m w)) → ((w : World) → PairStandsFor now w → PairStandsFor after w) → AreDone before moves at refused now → AreDone before moves (at + 1) (refused + 1) after
+one_skipped before now after moves at refused m why within is skipped refuses same done =
+    let left = drop_more moves at m within ∙ ap (λ (x : Move). x ∷ drop (at + 1) moves) is in
+    let gone = take_more moves at m within ∙ ap (λ (x : Move). take at moves ++ x ∷ []) is in
+    record {
+      stands = λ w s.
+          let u = run Tagged (take at moves) w in
+          let it = refused_is why u (happens Tagged m u) skipped (refuses u (done.stands w s)) in
+          subst (PairStandsFor after) (sym (next moves at m w gone ∙ it.1)) (same u (done.stands w s));
+      counted = λ w s.
+          let u = run Tagged (take at moves) w in
+          let it = refused_is why u (happens Tagged m u) skipped (refuses u (done.stands w s)) in
+          let more = refused_more moves (drop (at + 1) moves) at m u left in
+          let one = it.0 in
+          let before_it = done.counted w s in
+          rw (next moves at m w gone) (omega (arith, more, one, before_it));
+      few = omega (arith, done.few);
+    }
+
+pub stopped : (before now after : Pair) (moves : List Move) (at refused : ℕ) (m : Move) (why : PairFault) → at < length moves → get_or moves at m ≡ m → is_memory why ≡ true
+    → ((w : World) → PairStandsFor now w → IsRefusedAs why (happens Tagged m w)) → ((w : World) → PairStandsFor now w → PairStandsFor after w) → AreDone before moves at refused now
+    → (w : World) → PairStandsFor before w → HasStoppedAt at moves after w
+stopped before now after moves at refused m why within is memory admitted same done w s = record {
+  move = m;
+  there = slice_get-get_or moves at m within ∙ ap (λ (x : Move). Some x) is;
+  before = same (run Tagged (take at moves) w) (done.stands w s);
+  admitted = admitted_is why (happens Tagged m (run Tagged (take at moves) w)) memory (admitted (run Tagged (take at moves) w) (done.stands w s));
+}
+
+take_all : (moves : List Move) → take (length moves) moves ≡ moves
+take_all [] = refl
+take_all (m ∷ moves) = ap (λ (ms : List Move). m ∷ ms) (take_all moves)
+
+drop_all : (moves : List Move) → drop (length moves) moves ≡ []
+drop_all [] = refl
+drop_all (m ∷ moves) = drop_all moves
+
+pub all_done : (before now : Pair) (moves : List Move) (at refused : ℕ) → at ≡ length moves → AreDone before moves at refused now → (w : World) → PairStandsFor before w → PairStandsFor now (run Tagged moves w) × (refused ≡ refusals moves w)
+all_done before now moves at refused end done w s =
+    let all : take at moves ≡ moves = rw end (take_all moves) in
+    let none : drop at moves ≡ [] = rw end (drop_all moves) in
+    let count = done.counted w s in
+    let left : refusals (drop at moves) (run Tagged (take at moves) w) ≡ 0 = ap (λ (ms : List Move). refusals ms (run Tagged (take at moves) w)) none in
+    (subst (λ (ms : List Move). PairStandsFor now (run Tagged ms w)) all (done.stands w s), omega (arith, count, left))

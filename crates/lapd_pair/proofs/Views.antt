@@ -1,0 +1,257 @@
+-- What a move comes to, with what is on its way to its side.
+use Rattle.std.proofs.Common.{◌≡◌, ◌≤◌, ◌+◌, ℕ, Bool, true, false, if◌then◌else◌, List, [], ◌∷◌, length, Option, Some, None, Vec, nat_lt, Result, Ok, Err, IfOk, IfErr, OnErr, refl, sym, ap, ◌∙◌, subst, arith}
+use Rattle.std.specs.declared.alloc.Global.{Global}
+use Rattle.arrayvec.specs.ArrayVec.{ArrayVec}
+use Rattle.lapd_timers.specs.declared.timer.Timer.TheVariants.{T200, T203}
+use Rattle.lapd_frame.specs.declared.Side.{Side}
+use Rattle.lapd_frame.specs.declared.FrameFault.{FrameFault}
+use Rattle.lapd_frame.specs.Address.{other_side}
+use Rattle.lapd_frame.specs.Frame.{Fields, IsFrame, n201, spelling}
+use Rattle.lapd_link.specs.Link.{Setup, setup_of, LinkStandsFor}
+use Rattle.lapd_mod128.specs.Counting.{Tagged}
+use Rattle.lapd_states.specs.declared.event.LinkFault.{LinkFault}
+use Rattle.lapd_states.specs.declared.out.Out.{Out}
+use Rattle.lapd_states.specs.End.{End, StepState}
+use Rattle.lapd_states.specs.Input as input
+use Rattle.lapd_states.specs.Input.{Input, Expiry}
+use Rattle.lapd_states.specs.Table.{step}
+use Rattle.lapd_world.specs.Kept.{IsKept}
+use Rattle.lapd_world.specs.Line.{Flight, without_lost, first_poll, first_final}
+use Rattle.lapd_world.specs.Move as world
+use Rattle.lapd_world.specs.Move.{View, Acted, Refusal, Refused, NothingThere, NotRunning, NotYet, view_after, stepped, hears, takes, delivers, busy_input, quietly, loses, restarts, acts, expires_200, expires_203}
+use Rattle.lapd_world.proofs.Keeping.{content_is_short}
+use Rattle.lapd_pair.specs.declared.line.Line.{Line}
+use Rattle.lapd_pair.specs.declared.moves.Move.{Move}
+use Rattle.lapd_pair.specs.declared.moves.Move.TheVariants as moves
+use Rattle.lapd_pair.specs.declared.pair_fault.PairFault.{PairFault}
+use Rattle.lapd_pair.specs.declared.station.Station.{Station}
+use Rattle.lapd_pair.specs.Line.{fields_of, IsOn, IsFirst}
+use Rattle.lapd_pair.specs.Moves.{move_of, IsRefusedAs}
+use Rattle.lapd_pair.specs.Station.{IsStation, IsView, IsActed, IsDone, Acts, RefusesAs, ShowsAsBefore, ActsInView, RefusesInView, ShowsViewAsBefore}
+use Rattle.lapd_pair.proofs.Lines.{first_is_read}
+
+abbrev Deed : Type 0
+Deed = Side → View → Result Acted Refusal
+
+-- ---- A step takes nothing off the line.
+
+abbrev Did : Acted → Result Acted Refusal
+Did acted = Ok acted
+
+same_acted : (a b : Acted) → Did a ≡ Did b → a ≡ b
+same_acted a b h = cc
+
+stepped_takes_none : (octets : List ℕ) (place : ℕ) (v : View) (result : Result StepState LinkFault) (acted : Acted) → stepped octets place v result ≡ Did acted → acted.view.incoming ≡ v.incoming
+unfolding view_after
+stepped_takes_none octets place v (Ok s) acted is = ap (λ (a : Acted). a.view.incoming) (sym (same_acted (record { view = view_after octets place v s; outs = s.outs }) acted is))
+stepped_takes_none octets place v (Err fault) acted is = cc
+
+-- what comes of a deed leaves what is on its way to the side as it is
+abbrev pub TakesNone : Deed → Type 0
+TakesNone deed = (side : Side) (v : View) (acted : Acted) → deed side v ≡ Did acted → acted.view.incoming ≡ v.incoming
+
+pub request_takes_none : (i : Input) (octets : List ℕ) → TakesNone (λ side v. takes Tagged i octets v)
+unfolding takes
+request_takes_none i octets side v acted is = stepped_takes_none octets 0 v (step Tagged i v.station.end) acted is
+
+-- ---- From a side to what it sees.
+
+pub acts_in_view : (deed : Deed) (old new : Station) (inward outward outward_new : Line) (r : Result (ArrayVec Out) PairFault) → TakesNone deed
+    → IfOk r (Acts old outward new outward_new deed) → IfOk r (ActsInView old inward outward new inward outward_new deed)
+acts_in_view deed old new inward outward outward_new (Err fault) none h = tt
+acts_in_view deed old new inward outward outward_new (Ok outs) none h = λ side v kept shown.
+    let a = h side v kept shown.station shown.outgoing in
+    record {
+      acted = a.acted;
+      is = a.is;
+      same = a.same;
+      view = record { station = a.station; incoming = subst (IsOn (other_side side) inward) (sym (none side v a.acted a.is)) shown.incoming; outgoing = a.outgoing };
+    }
+
+pub refuses_in_view : (deed : Deed) (old : Station) (inward outward : Line) (r : Result (ArrayVec Out) PairFault) → IfErr r (RefusesAs old deed) → IfErr r (RefusesInView old inward outward deed)
+refuses_in_view deed old inward outward (Ok outs) h = tt
+refuses_in_view deed old inward outward (Err fault) h = λ side v shown. h side v shown.station
+
+pub shows_view : (old new : Station) (inward outward outward_new : Line) (r : Result (ArrayVec Out) PairFault) → OnErr r (ShowsAsBefore old outward new outward_new)
+    → OnErr r (ShowsViewAsBefore old inward outward new inward outward_new)
+shows_view old new inward outward outward_new (Ok outs) h = tt
+shows_view old new inward outward outward_new (Err fault) h = λ side v shown.
+    record { station = h.station side v.station shown.station; incoming = shown.incoming; outgoing = h.line side v.outgoing shown.outgoing }
+
+-- ---- A deed that comes to another, where the side shows what it does.
+
+pub acts_as : (these those : Deed) (old new : Station) (outward outward_new : Line) (r : Result (ArrayVec Out) PairFault) → ((side : Side) (v : View) → IsStation side old v.station → those side v ≡ these side v)
+    → IfOk r (Acts old outward new outward_new these) → IfOk r (Acts old outward new outward_new those)
+acts_as these those old new outward outward_new (Err fault) same h = tt
+acts_as these those old new outward outward_new (Ok outs) same h = λ side v kept shown on. subst (λ (x : Result Acted Refusal). IsActed side new outward_new x outs.items) (sym (same side v shown)) (h side v kept shown on)
+
+pub refuses_as : (these those : Deed) (old : Station) (r : Result (ArrayVec Out) PairFault) → ((side : Side) (v : View) → IsStation side old v.station → those side v ≡ these side v)
+    → IfErr r (RefusesAs old these) → IfErr r (RefusesAs old those)
+refuses_as these those old (Ok outs) same h = tt
+refuses_as these those old (Err fault) same h = λ side v shown. subst (λ (x : Result Acted Refusal). IsRefusedAs fault x) (sym (same side v shown)) (h side v shown)
+
+pub acts_as_in_view : (these those : Deed) (old new : Station) (inward outward inward_new outward_new : Line) (r : Result (ArrayVec Out) PairFault) → ((side : Side) (v : View) → IsView side old inward outward v → those side v ≡ these side v)
+    → IfOk r (ActsInView old inward outward new inward_new outward_new these) → IfOk r (ActsInView old inward outward new inward_new outward_new those)
+acts_as_in_view these those old new inward outward inward_new outward_new (Err fault) same h = tt
+acts_as_in_view these those old new inward outward inward_new outward_new (Ok outs) same h = λ side v kept shown. subst (λ (x : Result Acted Refusal). IsDone side new inward_new outward_new x outs.items) (sym (same side v shown)) (h side v kept shown)
+
+pub refuses_as_in_view : (these those : Deed) (old : Station) (inward outward : Line) (r : Result (ArrayVec Out) PairFault) → ((side : Side) (v : View) → IsView side old inward outward v → those side v ≡ these side v)
+    → IfErr r (RefusesInView old inward outward these) → IfErr r (RefusesInView old inward outward those)
+refuses_as_in_view these those old inward outward (Ok outs) same h = tt
+refuses_as_in_view these those old inward outward (Err fault) same h = λ side v shown. subst (λ (x : Result Acted Refusal). IsRefusedAs fault x) (sym (same side v shown)) (h side v shown)
+
+-- ---- Expiries.
+
+abbrev pub Refuses : Refusal → Result Acted Refusal
+Refuses refusal = Err refusal
+
+pub stands_203 : (v : View) → v.station.end.t203 ≡ false → expires_203 Tagged v ≡ Err NotRunning
+unfolding expires_203
+stands_203 v h = rw h refl
+
+pub runs_203 : (v : View) → v.station.end.t203 ≡ true → expires_203 Tagged v ≡ takes Tagged (Expiry T203) [] v
+unfolding expires_203
+runs_203 v h = rw h refl
+
+pub stands_200 : (side : Side) (v : View) → v.station.end.t200 ≡ false → expires_200 Tagged side v ≡ Err NotRunning
+unfolding expires_200
+stands_200 side v h = rw h refl
+
+pub polls_200 : (side : Side) (v : View) (at : ℕ) → v.station.end.t200 ≡ true → first_poll v.outgoing ≡ Some at → expires_200 Tagged side v ≡ Err (NotYet (other_side side) at)
+unfolding expires_200
+polls_200 side v at h poll = rw (h, poll) refl
+
+pub finals_200 : (side : Side) (v : View) (at : ℕ) → v.station.end.t200 ≡ true → first_poll v.outgoing ≡ None → first_final v.incoming ≡ Some at → expires_200 Tagged side v ≡ Err (NotYet side at)
+unfolding expires_200
+finals_200 side v at h poll final = rw (h, poll, final) refl
+
+pub runs_200 : (side : Side) (v : View) → v.station.end.t200 ≡ true → first_poll v.outgoing ≡ None → first_final v.incoming ≡ None → expires_200 Tagged side v ≡ takes Tagged (Expiry T200) [] v
+unfolding expires_200
+runs_200 side v h poll final = rw (h, poll, final) refl
+
+-- whose station it is
+pub side_shown : (side own : Side) (s : Station) (t : world.Station) → own ≡ s.link.side → IsStation side s t → own ≡ side
+side_shown side own s t h shown = h ∙ ap (λ (setup : Setup). setup.side) shown.setup
+
+-- ---- A delivery.
+
+pub none_delivered : (v : View) → v.incoming ≡ [] → delivers Tagged v.incoming v ≡ Err NothingThere
+unfolding delivers
+none_delivered v h = rw h refl
+
+-- what the first frame is read as
+abbrev pub Read : Fields → Result Fields FrameFault
+Read f = Ok f
+
+pub read_of : (from : Side) (octets : List ℕ) (frames : List Flight) (read : Result Fields FrameFault) → ((f : Fields) → IsFrame f → octets ≡ spelling from f → read ≡ Read f) → IsFirst from octets frames
+    → (frame : Flight) × (rest : List Flight) × (frames ≡ frame ∷ rest) × (read ≡ Read (fields_of frame)) × (length frame.info ≤ n201)
+read_of from octets [] read only first = absurd first
+read_of from octets (frame ∷ rest) read only first = (frame, rest, refl, first_is_read from octets frame rest read only first, content_is_short frame.role frame.control (length frame.info) first.1.content)
+
+pub unread : (from : Side) (octets : List ℕ) (frames : List Flight) (read : Result Fields FrameFault) (fault : FrameFault) → ((f : Fields) → IsFrame f → octets ≡ spelling from f → read ≡ Read f) → IsFirst from octets frames
+    → read ≡ Err fault → ⊥
+unread from octets frames read fault only first is = let there = read_of from octets frames read only first in let same = there.3 in cc
+
+pub same_read : (f g : Fields) → Read f ≡ Read g → f ≡ g
+same_read f g h = cc
+
+frame_takes_none : (frame : Flight) → TakesNone (λ side v. hears Tagged frame v)
+unfolding hears
+frame_takes_none frame side v acted is = stepped_takes_none frame.info frame.place v (step Tagged (input.Heard frame.control frame.role) v.station.end) acted is
+
+hears_first : (v : View) (frame : Flight) (rest : List Flight) → v.incoming ≡ frame ∷ rest → delivers Tagged v.incoming v ≡ hears Tagged frame (record v { incoming = rest })
+unfolding delivers
+hears_first v frame rest h = rw h refl
+
+pub delivered : (side : Side) (v : View) (frame : Flight) (rest : List Flight) (old new : Station) (inward inward_new outward outward_new : Line) (outs : ArrayVec Out) → v.incoming ≡ frame ∷ rest → IsKept Tagged v.station → IsView side old inward outward v
+    → Acts old outward new outward_new (λ side v. hears Tagged frame v) outs → ((from : Side) (frame : Flight) (rest : List Flight) → IsOn from inward (frame ∷ rest) → IsOn from inward_new rest)
+    → IsDone side new inward_new outward_new (delivers Tagged v.incoming v) outs.items
+delivered side v frame rest old new inward inward_new outward outward_new outs is kept shown acts takes =
+    let a = acts side (record v { incoming = rest }) kept shown.station shown.outgoing in
+    let left : IsOn (other_side side) inward_new rest = takes (other_side side) frame rest (subst (IsOn (other_side side) inward) is shown.incoming) in
+    record {
+      acted = a.acted;
+      is = hears_first v frame rest is ∙ a.is;
+      same = a.same;
+      view = record { station = a.station; incoming = subst (IsOn (other_side side) inward_new) (sym (frame_takes_none frame side (record v { incoming = rest }) a.acted a.is)) left; outgoing = a.outgoing };
+    }
+
+pub delivery_refused : (side : Side) (v : View) (frame : Flight) (rest : List Flight) (old : Station) (inward outward : Line) (fault : PairFault) → v.incoming ≡ frame ∷ rest → IsView side old inward outward v
+    → RefusesAs old (λ side v. hears Tagged frame v) fault → IsRefusedAs fault (delivers Tagged v.incoming v)
+delivery_refused side v frame rest old inward outward fault is shown refuses = subst (λ (x : Result Acted Refusal). IsRefusedAs fault x) (sym (hears_first v frame rest is)) (refuses side (record v { incoming = rest }) shown.station)
+
+-- the side that sends on the line to this one
+pub sender_shown : (side own other : Side) (s : Station) (t : world.Station) → own ≡ s.link.side → other ≡ other_side own → IsStation side s t → other_side side ≡ other
+sender_shown side own other s t mine theirs shown = sym (theirs ∙ ap other_side (side_shown side own s t mine shown))
+
+-- ---- Which deed a move is.
+
+expiry_where : (running : Bool) (side : Side) (v : View) (acted : Acted) → (if running then takes Tagged (Expiry T203) [] v else Refuses NotRunning) ≡ Did acted → acted.view.incoming ≡ v.incoming
+expiry_where true side v acted is = request_takes_none (Expiry T203) [] side v acted is
+expiry_where false side v acted is = cc
+
+pub expiry_takes_none : TakesNone (λ side v. expires_203 Tagged v)
+unfolding expires_203
+expiry_takes_none side v acted is = expiry_where v.station.end.t203 side v acted is
+
+pub give_is : (deed : Move) (to : Side) (message : Vec ℕ Global) → deed ≡ moves.Give to message → (side : Side) (v : View) → acts Tagged side (move_of deed).deed v ≡ takes Tagged (input.Give message.items) [] v
+unfolding acts
+give_is deed to message is side v = rw is refl
+
+pub establish_is : (deed : Move) (to : Side) → deed ≡ moves.Establish to → (side : Side) (v : View) → acts Tagged side (move_of deed).deed v ≡ takes Tagged input.Establish [] v
+unfolding acts
+establish_is deed to is side v = rw is refl
+
+pub release_is : (deed : Move) (to : Side) → deed ≡ moves.Release to → (side : Side) (v : View) → acts Tagged side (move_of deed).deed v ≡ takes Tagged input.Release [] v
+unfolding acts
+release_is deed to is side v = rw is refl
+
+pub deliver_is : (deed : Move) (to : Side) → deed ≡ moves.Deliver to → (side : Side) (v : View) → acts Tagged side (move_of deed).deed v ≡ delivers Tagged v.incoming v
+unfolding acts
+deliver_is deed to is side v = rw is refl
+
+pub lose_is : (deed : Move) (to : Side) (at : ℕ) → deed ≡ moves.Lose to at → (side : Side) (v : View) → acts Tagged side (move_of deed).deed v ≡ loses at v
+unfolding acts
+lose_is deed to at is side v = rw is refl
+
+pub expire_200_is : (deed : Move) (to : Side) → deed ≡ moves.Expire200 to → (side : Side) (v : View) → acts Tagged side (move_of deed).deed v ≡ expires_200 Tagged side v
+unfolding acts
+expire_200_is deed to is side v = rw is refl
+
+pub expire_203_is : (deed : Move) (to : Side) → deed ≡ moves.Expire203 to → (side : Side) (v : View) → acts Tagged side (move_of deed).deed v ≡ expires_203 Tagged v
+unfolding acts
+expire_203_is deed to is side v = rw is refl
+
+pub busy_is : (deed : Move) (to : Side) (on : Bool) → deed ≡ moves.Busy to on → (side : Side) (v : View) → acts Tagged side (move_of deed).deed v ≡ takes Tagged (busy_input on) [] v
+unfolding acts
+busy_is deed to on is side v = rw is refl
+
+pub unit_as : (deed : Move) (to : Side) (unit : Vec ℕ Global) (octets : List ℕ) → deed ≡ moves.Unit to unit → octets ≡ unit.items → (side : Side) (v : View) → acts Tagged side (move_of deed).deed v ≡ takes Tagged (input.UnitData (length octets)) octets v
+unfolding acts
+unit_as deed to unit octets is same side v = rw (is, same) refl
+
+pub restart_is : (deed : Move) (to : Side) → deed ≡ moves.Restart to → (side : Side) (v : View) → acts Tagged side (move_of deed).deed v ≡ quietly (restarts v)
+unfolding acts
+restart_is deed to is side v = rw is refl
+
+-- ---- A loss.
+
+pub lost_there : (at : ℕ) (v : View) → nat_lt at (length v.incoming) ≡ true → loses at v ≡ quietly (record v { incoming = without_lost at v.incoming })
+unfolding loses
+lost_there at v h = rw h refl
+
+pub lost_nowhere : (at : ℕ) (v : View) → nat_lt at (length v.incoming) ≡ false → loses at v ≡ Refuses NothingThere
+unfolding loses
+lost_nowhere at v h = rw h refl
+
+pub lost_shown : (side : Side) (at : ℕ) (v : View) (s : Station) (inward inward_new outward : Line) → nat_lt at (length v.incoming) ≡ true → IsView side s inward outward v → IsOn (other_side side) inward_new (without_lost at v.incoming)
+    → IsDone side s inward_new outward (loses at v) []
+lost_shown side at v s inward inward_new outward there shown left = record {
+  acted = record { view = record v { incoming = without_lost at v.incoming }; outs = [] };
+  is = lost_there at v there;
+  same = refl;
+  view = record { station = shown.station; incoming = left; outgoing = shown.outgoing };
+}
+
+pub given_as : (deed : Move) (to : Side) (message : Vec ℕ Global) (octets : List ℕ) → deed ≡ moves.Give to message → octets ≡ message.items → (side : Side) (v : View) → acts Tagged side (move_of deed).deed v ≡ takes Tagged (input.Give octets) [] v
+given_as deed to message octets is same side v = give_is deed to message is side v ∙ ap (λ (m : List ℕ). takes Tagged (input.Give m) [] v) (sym same)

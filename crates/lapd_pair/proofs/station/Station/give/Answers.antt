@@ -1,0 +1,16 @@
+use Rattle.std.proofs.Common.{◌≡◌, ℕ, List, [], ◌∷◌, ◌++◌, length, None, refl, subst}
+use Rattle.lapd_world.specs.Histories as world
+use Rattle.lapd_world.specs.Kept.{AreSettled}
+use Rattle.lapd_pair.specs.Histories.{IsHistory}
+use Rattle.lapd_pair.specs.declared.station.Station.{Station}
+use Rattle.lapd_pair.proofs.Steps.{give_acted, tells_of}
+use Rattle.lapd_pair.proofs.station.Station.give.Goals as goal
+
+pub returns-in-Ok-clause-ok : goal.returns-in-Ok-clause-ok
+returns-in-Ok-clause-ok c = λ side v kept shown on same.
+    let before = c.args.self.now in
+    let now : Station = record { link = c.give.new.self; history = c.give-in-Ok.new.self } in
+    let Gives : List ℕ → Type 0 = λ m. (messages : List (List ℕ)) (h : world.History) → AreSettled h → h.sent_in (length messages) ≡ None → IsHistory before.history messages h → IsHistory now.history (messages ++ m ∷ []) h in
+    give_acted side c.args.message.items None c.carry_out.new.copy v c.in-Ok.outs.items before now c.carry_out.new.self c.args.outward.now c.carry_out.new.outward
+    refl kept shown on c.in-Ok.ensures.ok c.give.ensures.setup (subst Gives same c.give-in-Ok.ensures.history)
+    (tells_of [] _ _ now c.args.outward.now None c.carry_out.new.self c.carry_out.new.outward c.carry_out.new.copy c.as_slice.ensures.value c.carry_out.ensures.shows)
