@@ -100,13 +100,14 @@ impl Pair {
 
 /// What a pair shows.
 impl Pair {
-    ghost use Rattle.lapd_link.specs.Link.{LinkStandsFor};
+    ghost use Rattle.lapd_link.specs.Link.{LinkStandsFor, setup_of};
     ghost use Rattle.lapd_frame.specs.Address.{other_side};
     ghost use Rattle.lapd_frame.specs.Frame.{spelling};
     ghost use Rattle.lapd_world.specs.World.{World, left, view_of};
     ghost use Rattle.lapd_pair.specs.Histories.{of_received, octets_and_establishment, fates_of};
     ghost use Rattle.lapd_pair.specs.Line.{fields_of};
     ghost use Rattle.lapd_pair.specs.Runs.{PairStandsFor};
+    ghost use Rattle.lapd_pair.specs.Setup.{setup_for};
     ghost use Rattle.lapd_pair.specs.Station.{IsStation};
 
     /// This side.
