@@ -1,9 +1,9 @@
 //! Moves that are refused: by which fault, and that a pair then shows all that it showed before.
 
-use crate::pairs::readers::digest;
-use crate::pairs::worked::{Deed, Step, makes, move_of};
-use crate::pairs::{moves, new_pair, params};
+use crate::made::{moves, new_pair, params};
+use crate::readers::digest;
 use crate::wants::wants;
+use crate::worked::{Deed, Step, makes, move_of};
 use lapd_frame::Side;
 use lapd_link::LinkFault;
 use lapd_pair::{Move, Pair, PairFault};

@@ -1,6 +1,6 @@
 //! Worked moves of a pair: the octets that each puts on the line, and what is known at the end.
 
-use crate::pairs::{establish, moves, new_pair, pair_with_last_message};
+use crate::made::{establish, moves, new_pair, pair_with_last_message};
 use crate::wants::wants;
 use arrayvec::ArrayVec;
 use lapd_frame::Side;
@@ -73,10 +73,9 @@ fn are(alloc: Global, sent: &[ArrayVec<u8, 264>], octets: &[&str]) -> Result<boo
 fn has_received(pair: &Pair, side: Side, messages: &[&[u8]]) -> bool {
     let received = pair.received(side);
     received.len() == messages.len()
-        && received
-            .iter()
-            .zip(messages)
-            .all(|(message, octets)| message.octets.as_slice() == *octets && message.establishment == 1)
+        && received.iter().zip(messages).all(|(message, octets)| message.octets.as_slice()
+            == *octets
+            && message.establishment == 1)
 }
 
 const MESSAGE: &[Step] = &[
@@ -98,7 +97,8 @@ fn a_message(rt: HostRuntime) -> Result<(), Fail> {
     wants(counted, "a message", "acknowledged")?;
     let given = pair.given(Side::User).len() == 1 && pair.given(Side::Network).is_empty();
     wants(given, "a message", "given")?;
-    let begun = pair.begun(Side::User) == [0].as_slice() && pair.begun(Side::Network) == [0].as_slice();
+    let begun = pair.begun(Side::User) == [0].as_slice()
+        && pair.begun(Side::Network) == [0].as_slice();
     wants(begun, "a message", "establishments")
 }
 
@@ -182,14 +182,22 @@ fn is_withheld(mut pair: Pair, alloc: Global, row: &str) -> Result<(), Fail> {
     let known = link.state() == 7 && link.window().peer_busy();
     wants(known, row, "the peer is not known as busy")?;
     makes(alloc, &mut pair, row, NO_LONGER_BUSY)?;
-    wants(has_received(&pair, Side::Network, &[&[8, 1]]), row, "received once")
+    wants(
+        has_received(&pair, Side::Network, &[&[8, 1]]),
+        row,
+        "received once",
+    )
 }
 
 #[test]
 fn the_network_is_busy(rt: HostRuntime) -> Result<(), Fail> {
     let alloc = rt.alloc();
     is_withheld(new_pair(alloc, 1)?, alloc, "busy")?;
-    is_withheld(pair_with_last_message(alloc, 3)?, alloc, "busy, last message")
+    is_withheld(
+        pair_with_last_message(alloc, 3)?,
+        alloc,
+        "busy, last message",
+    )
 }
 
 /// Both establish, the network is there first, and what it gives is dropped by the user's second SABME.
@@ -224,7 +232,10 @@ fn both_establish(rt: HostRuntime) -> Result<(), Fail> {
     let outs = is_re_established(&mut pair);
     wants(outs, "both", "what the network tells")?;
     wants(moves(&mut pair, &Move::Deliver(Side::User)), "both", "UA")?;
-    let fate = pair.fates(Side::Network).first().map(|fate| (fate.sent_in, fate.end));
+    let fate = pair
+        .fates(Side::Network)
+        .first()
+        .map(|fate| (fate.sent_in, fate.end));
     wants(fate == Some((Some(1), Ending::Dropped)), "both", "its fate")?;
     let nothing = pair.received(Side::User).is_empty() && pair.dropped(Side::Network) == 1;
     wants(nothing, "both", "the user received something")?;
@@ -397,10 +408,12 @@ impl Numbered {
 
     /// The first of these that is possible: a frame to the network, one to the user, T200 of the user, of the network.
     fn turn(&mut self) -> Result<bool, Fail> {
-        Ok(self.passes(Side::Network)?
-            || self.passes(Side::User)?
-            || self.makes(&Move::Expire200(Side::User))?
-            || self.makes(&Move::Expire200(Side::Network))?)
+        Ok(
+            self.passes(Side::Network)?
+                || self.passes(Side::User)?
+                || self.makes(&Move::Expire200(Side::User))?
+                || self.makes(&Move::Expire200(Side::Network))?,
+        )
     }
 }
 
@@ -412,7 +425,8 @@ fn octets_of(number: u32) -> [u8; 4] {
 /// Whether messages were received in order, in the first establishment.
 fn are_in_order(received: &[Received]) -> bool {
     received.iter().enumerate().all(|(place, message)| {
-        message.octets.as_slice() == octets_of(place as u32).as_slice() && message.establishment == 1
+        message.octets.as_slice() == octets_of(place as u32).as_slice()
+            && message.establishment == 1
     })
 }
 
@@ -435,7 +449,11 @@ fn every_tenth_frame_is_lost(rt: HostRuntime) -> Result<(), Fail> {
     let received = pair.received(Side::Network);
     let all = received.len() == 300 && are_in_order(received);
     wants(all, "every tenth", "received in order")?;
-    wants(pair.acknowledged(Side::User) == 300, "every tenth", "acknowledged")?;
+    wants(
+        pair.acknowledged(Side::User) == 300,
+        "every tenth",
+        "acknowledged",
+    )?;
     wants(!numbered.reported, "every tenth", "an error is reported")?;
     let vs = pair.link(Side::User).window().vs().value();
     wants(vs == 44 && pair.left() == 0, "every tenth", "V(S)")

@@ -1,10 +1,10 @@
 //! Allocations that are refused: `rt try --test --fail-alloc N` refuses the one of that number. A move that finds no memory
 //! leaves all that the pair shows as it was, and then succeeds.
 
-use crate::pairs::readers::digest;
-use crate::pairs::worked::{Deed, move_of};
-use crate::pairs::params;
+use crate::made::params;
+use crate::readers::digest;
 use crate::wants::wants;
+use crate::worked::{Deed, move_of};
 use lapd_frame::Side;
 use lapd_link::Params;
 use lapd_pair::{Move, Pair, PairFault};

@@ -91,7 +91,10 @@ fn is_safe(pair: &Pair, receiver: Side) -> bool {
     let mut walk = Walk::new(pair.received(receiver));
     let (given, fates) = (pair.given(sender), pair.fates(sender));
     given.len() == fates.len()
-        && given.iter().zip(fates).all(|(message, fate)| walk.takes(message, fate))
+        && given
+            .iter()
+            .zip(fates)
+            .all(|(message, fate)| walk.takes(message, fate))
         && walk.rest.is_empty()
         && walk.acknowledged == pair.acknowledged(sender)
         && walk.dropped == pair.dropped(sender)

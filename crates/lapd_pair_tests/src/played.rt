@@ -1,6 +1,6 @@
 //! The command `pair`: scripts, and what they call for.
 
-use crate::pairs::params;
+use crate::made::params;
 use crate::wants::wants;
 use lapd_commands::pair;
 use lapd_link::{Params, Recovery};
@@ -307,13 +307,7 @@ fn plays_so(alloc: Global, play: &Play, params: Params) -> Result<(), Fail> {
     }
     want.push_str(closing)?;
     let mut printed = Vec::new(alloc);
-    pair(
-        alloc,
-        &mut script.as_bytes(),
-        &mut printed,
-        params,
-        params,
-    )?;
+    pair(alloc, &mut script.as_bytes(), &mut printed, params, params)?;
     wants(printed.as_slice() == want.as_bytes(), row, "its text")
 }
 
@@ -400,7 +394,8 @@ fn plays_while_there_is_memory(rt: HostRuntime) -> Result<(), Fail> {
     };
     let params = params(1, 512)?;
     let script = "establish user\ndeliver net\ndeliver user\ngive user 0801\ndeliver net\n";
-    let whole = "U>N SAPI 0 TEI 64 C SABME P=1\nN>U SAPI 0 TEI 64 R UA F=1\nnet established\nuser confirmed\n\
+    let whole =
+        "U>N SAPI 0 TEI 64 C SABME P=1\nN>U SAPI 0 TEI 64 R UA F=1\nnet established\nuser confirmed\n\
                  U>N SAPI 0 TEI 64 C I N(S)=0 N(R)=0 P=0 info=0801\nnet data 0801\nN>U SAPI 0 TEI 64 R RR N(R)=1 F=0\n\
                  user: state 7, given 1, received 0, acknowledged 0, dropped 0\n\
                  net: state 7, given 0, received 1, acknowledged 0, dropped 0\n";
