@@ -4,7 +4,7 @@ use crate::bench_fault::BenchFault;
 use crate::counts::Counts;
 use crate::{OCTETS, WINDOW};
 use lapd_frame::Side;
-use lapd_link::Params;
+use lapd_link::{Outs, Params};
 use lapd_pair::{Move, Pair};
 use std::alloc::Global;
 
@@ -24,10 +24,11 @@ fn established(alloc: Global) -> Result<Pair, BenchFault> {
 /// `Memory`, and `Pair` where a move is refused.
 pub fn pass(alloc: Global, messages: u32) -> Result<Counts, BenchFault> {
     let mut pair = established(alloc)?;
+    let mut outs = Outs::new();
     for _ in 0..messages / WINDOW {
-        pass_batch(alloc, &mut pair, WINDOW)?;
+        pass_batch(alloc, &mut pair, WINDOW, &mut outs)?;
     }
-    pass_batch(alloc, &mut pair, messages % WINDOW)?;
+    pass_batch(alloc, &mut pair, messages % WINDOW, &mut outs)?;
     Ok(Counts {
         given: pair.given(Side::User).len() as u64,
         received: pair.received(Side::Network).len() as u64,
@@ -36,16 +37,21 @@ pub fn pass(alloc: Global, messages: u32) -> Result<Counts, BenchFault> {
 }
 
 /// The user gives so many messages, each is delivered, and so is each acknowledgement.
-fn pass_batch(alloc: Global, pair: &mut Pair, messages: u32) -> Result<(), BenchFault> {
+fn pass_batch(
+    alloc: Global,
+    pair: &mut Pair,
+    messages: u32,
+    outs: &mut Outs,
+) -> Result<(), BenchFault> {
     for number in 0..messages {
         let message = [(number % 256) as u8; OCTETS].to_vec(alloc)?;
-        let _ = pair.apply(&Move::Give(Side::User, message))?;
+        pair.apply_into(&Move::Give(Side::User, message), outs)?;
     }
     for _ in 0..messages {
-        let _ = pair.apply(&Move::Deliver(Side::Network))?;
+        pair.apply_into(&Move::Deliver(Side::Network), outs)?;
     }
     for _ in 0..messages {
-        let _ = pair.apply(&Move::Deliver(Side::User))?;
+        pair.apply_into(&Move::Deliver(Side::User), outs)?;
     }
     Ok(())
 }
@@ -58,12 +64,13 @@ fn pass_batch(alloc: Global, pair: &mut Pair, messages: u32) -> Result<(), Bench
 pub fn stand(alloc: Global, frames: u32, moves: u32) -> Result<Counts, BenchFault> {
     let mut pair = Pair::new(alloc, Params::primary(), Params::primary())?;
     let unit = Move::Unit(Side::User, [0; OCTETS].to_vec(alloc)?);
+    let mut outs = Outs::new();
     for _ in 0..frames {
-        let _ = pair.apply(&unit)?;
+        pair.apply_into(&unit, &mut outs)?;
     }
     for _ in 0..moves {
-        let _ = pair.apply(&unit)?;
-        let _ = pair.apply(&Move::Deliver(Side::Network))?;
+        pair.apply_into(&unit, &mut outs)?;
+        pair.apply_into(&Move::Deliver(Side::Network), &mut outs)?;
     }
     Ok(Counts {
         given: u64::from(frames).wrapping_add(u64::from(moves)),

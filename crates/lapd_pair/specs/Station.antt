@@ -1,5 +1,5 @@
 -- How one side shows a side of the world, and what it sees of the line.
-use Rattle.std.specs.Prelude.{◌≡◌, ℕ, List, [], length, Option, Some, None, Result, Ok, Vec}
+use Rattle.std.specs.Prelude.{◌≡◌, ℕ, List, [], length, Option, Some, None, Result, Ok, Err, Vec, ⊤}
 use Rattle.std.specs.declared.alloc.Global.{Global}
 use Rattle.lapd_frame.specs.declared.Side.{Side}
 use Rattle.lapd_frame.specs.Address.{other_side}
@@ -59,6 +59,11 @@ IsAsked (Give message) octets = ⊥
 IsAsked (Faulty kind) octets = ⊥
 IsAsked (UnitData len) octets = len ≡ length octets
 IsAsked input octets = octets ≡ []
+
+-- a call's result with the outputs that it left in what it was lent
+abbrev pub with_outs : {E : Type 0} → Result ⊤ E → ArrayVec Out → Result (ArrayVec Out) E
+with_outs (Ok done) outs = Ok outs
+with_outs (Err fault) outs = Err fault
 
 -- ---- How the moves of a side are stated, whatever side of the world it showed before.
 

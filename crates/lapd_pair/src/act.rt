@@ -9,7 +9,7 @@ ghost use Rattle.lapd_world.specs.Line.{Flight};
 ghost use Rattle.lapd_world.specs.Move.{takes, hears, delivers, loses, expires_200, expires_203, acts, busy_input, quietly, restarts};
 ghost use Rattle.lapd_pair.specs.Line.{fields_of};
 ghost use Rattle.lapd_pair.specs.Moves.{move_of};
-ghost use Rattle.lapd_pair.specs.Station.{Acts, RefusesAs, ShowsAsBefore, ActsInView, RefusesInView, ShowsViewAsBefore, IsAsked};
+ghost use Rattle.lapd_pair.specs.Station.{Acts, with_outs, RefusesAs, ShowsAsBefore, ActsInView, RefusesInView, ShowsViewAsBefore, IsAsked};
 
 use crate::line::Line;
 use crate::moves::Move;
@@ -31,31 +31,38 @@ impl Station {
         deed: &Move,
         inward: &mut Line,
         outward: &mut Line,
-    ) -> Result<Outs, PairFault>
-        ensures ok { IfOk result (ActsInView self.old inward.old outward.old self.new inward.new outward.new (λ side v. acts Tagged side (move_of deed.now).deed v)) }
-        ensures err { IfErr result (RefusesInView self.old inward.old outward.old (λ side v. acts Tagged side (move_of deed.now).deed v)) }
-        ensures unchanged { OnErr result (ShowsViewAsBefore self.old inward.old outward.old self.new inward.new outward.new) }
+        outs: &mut Outs,
+    ) -> Result<(), PairFault>
+        ensures ok { IfOk (with_outs result outs.new) (ActsInView self.old inward.old outward.old self.new inward.new outward.new (λ side v. acts Tagged side (move_of deed.now).deed v)) }
+        ensures err { IfErr (with_outs result outs.new) (RefusesInView self.old inward.old outward.old (λ side v. acts Tagged side (move_of deed.now).deed v)) }
+        ensures unchanged { OnErr (with_outs result outs.new) (ShowsViewAsBefore self.old inward.old outward.old self.new inward.new outward.new) }
     {
         match deed {
-            Move::Give(_, message) => self.take_message(alloc, message, outward),
-            Move::Establish(_) => self.take(Event::Establish, &[], outward),
-            Move::Release(_) => self.take(Event::Release, &[], outward),
-            Move::Deliver(_) => self.deliver(alloc, inward, outward),
-            Move::Lose(_, place) => self.lose(*place, inward, outward),
-            Move::Expire200(_) => self.expire_200(inward, outward),
-            Move::Expire203(_) => self.expire_203(outward),
-            Move::Busy(_, on) => self.set_busy(*on, outward),
-            Move::Unit(_, octets) => self.take_unit(octets, outward),
-            Move::Restart(_) => self.restart(alloc, inward, outward),
+            Move::Give(_, message) => self.take_message(alloc, message, outward, outs),
+            Move::Establish(_) => self.take(Event::Establish, &[], outward, outs),
+            Move::Release(_) => self.take(Event::Release, &[], outward, outs),
+            Move::Deliver(_) => self.deliver(alloc, inward, outward, outs),
+            Move::Lose(_, place) => self.lose(*place, inward, outward, outs),
+            Move::Expire200(_) => self.expire_200(inward, outward, outs),
+            Move::Expire203(_) => self.expire_203(outward, outs),
+            Move::Busy(_, on) => self.set_busy(*on, outward, outs),
+            Move::Unit(_, octets) => self.take_unit(octets, outward, outs),
+            Move::Restart(_) => self.restart(alloc, inward, outward, outs),
         }
     }
 
     /// A request of layer 3, or an expiry. `octets` are the unit data to be sent.
-    fn take(&mut self, event: Event, octets: &[u8], outward: &mut Line) -> Result<Outs, PairFault>
+    fn take(
+        &mut self,
+        event: Event,
+        octets: &[u8],
+        outward: &mut Line,
+        outs: &mut Outs,
+    ) -> Result<(), PairFault>
         requires asked { IsAsked (input_of event) octets.now }
-        ensures ok { IfOk result (Acts self.old outward.old self.new outward.new (λ side v. takes Tagged (input_of event.entry) octets.now v)) }
-        ensures err { IfErr result (RefusesAs self.old (λ side v. takes Tagged (input_of event.entry) octets.now v)) }
-        ensures unchanged { OnErr result (ShowsAsBefore self.old outward.old self.new outward.new) }
+        ensures ok { IfOk (with_outs result outs.new) (Acts self.old outward.old self.new outward.new (λ side v. takes Tagged (input_of event.entry) octets.now v)) }
+        ensures err { IfErr (with_outs result outs.new) (RefusesAs self.old (λ side v. takes Tagged (input_of event.entry) octets.now v)) }
+        ensures unchanged { OnErr (with_outs result outs.new) (ShowsAsBefore self.old outward.old self.new outward.new) }
     {
         if let Some(fault) = self.link.refusal(&event) {
             return Err(PairFault::Refused(fault));
@@ -63,29 +70,34 @@ impl Station {
         let Ok(()) = self.make_room(outward) else {
             return Err(PairFault::Memory);
         };
-        self.step(event, octets, None, outward)
+        self.step(event, octets, None, outward, outs)
     }
 
     /// Its receiver becomes busy, or is no longer.
-    fn set_busy(&mut self, on: bool, outward: &mut Line) -> Result<Outs, PairFault>
-        ensures ok { IfOk result (Acts self.old outward.old self.new outward.new (λ side v. takes Tagged (busy_input on) [] v)) }
-        ensures err { IfErr result (RefusesAs self.old (λ side v. takes Tagged (busy_input on) [] v)) }
-        ensures unchanged { OnErr result (ShowsAsBefore self.old outward.old self.new outward.new) }
+    fn set_busy(&mut self, on: bool, outward: &mut Line, outs: &mut Outs) -> Result<(), PairFault>
+        ensures ok { IfOk (with_outs result outs.new) (Acts self.old outward.old self.new outward.new (λ side v. takes Tagged (busy_input on) [] v)) }
+        ensures err { IfErr (with_outs result outs.new) (RefusesAs self.old (λ side v. takes Tagged (busy_input on) [] v)) }
+        ensures unchanged { OnErr (with_outs result outs.new) (ShowsAsBefore self.old outward.old self.new outward.new) }
     {
         if on {
-            self.take(Event::BusyOn, &[], outward)
+            self.take(Event::BusyOn, &[], outward, outs)
         } else {
-            self.take(Event::BusyOff, &[], outward)
+            self.take(Event::BusyOff, &[], outward, outs)
         }
     }
 
     /// Unit data of layer 3.
-    fn take_unit(&mut self, octets: &[u8], outward: &mut Line) -> Result<Outs, PairFault>
-        ensures ok { IfOk result (Acts self.old outward.old self.new outward.new (λ side v. takes Tagged (UnitData (length octets.now)) octets.now v)) }
-        ensures err { IfErr result (RefusesAs self.old (λ side v. takes Tagged (UnitData (length octets.now)) octets.now v)) }
-        ensures unchanged { OnErr result (ShowsAsBefore self.old outward.old self.new outward.new) }
+    fn take_unit(
+        &mut self,
+        octets: &[u8],
+        outward: &mut Line,
+        outs: &mut Outs,
+    ) -> Result<(), PairFault>
+        ensures ok { IfOk (with_outs result outs.new) (Acts self.old outward.old self.new outward.new (λ side v. takes Tagged (UnitData (length octets.now)) octets.now v)) }
+        ensures err { IfErr (with_outs result outs.new) (RefusesAs self.old (λ side v. takes Tagged (UnitData (length octets.now)) octets.now v)) }
+        ensures unchanged { OnErr (with_outs result outs.new) (ShowsAsBefore self.old outward.old self.new outward.new) }
     {
-        self.take(Event::Unit(octets.len()), octets, outward)
+        self.take(Event::Unit(octets.len()), octets, outward, outs)
     }
 
     /// A message of layer 3.
@@ -94,10 +106,11 @@ impl Station {
         alloc: Global,
         message: &[u8],
         outward: &mut Line,
-    ) -> Result<Outs, PairFault>
-        ensures ok { IfOk result (Acts self.old outward.old self.new outward.new (λ side v. takes Tagged (Give message.now) [] v)) }
-        ensures err { IfErr result (RefusesAs self.old (λ side v. takes Tagged (Give message.now) [] v)) }
-        ensures unchanged { OnErr result (ShowsAsBefore self.old outward.old self.new outward.new) }
+        outs: &mut Outs,
+    ) -> Result<(), PairFault>
+        ensures ok { IfOk (with_outs result outs.new) (Acts self.old outward.old self.new outward.new (λ side v. takes Tagged (Give message.now) [] v)) }
+        ensures err { IfErr (with_outs result outs.new) (RefusesAs self.old (λ side v. takes Tagged (Give message.now) [] v)) }
+        ensures unchanged { OnErr (with_outs result outs.new) (ShowsAsBefore self.old outward.old self.new outward.new) }
     {
         if let Some(fault) = self.link.give_refusal(message.len()) {
             return Err(PairFault::Refused(fault));
@@ -111,7 +124,7 @@ impl Station {
         let Ok(()) = self.make_room_for_message(outward) else {
             return Err(PairFault::Memory);
         };
-        self.give(queued, kept, outward)
+        self.give(queued, kept, outward, outs)
     }
 
     /// A frame of the other side.
@@ -120,11 +133,12 @@ impl Station {
         alloc: Global,
         frame: &Frame<'_>,
         outward: &mut Line,
-    ) -> Result<Outs, PairFault>
+        outs: &mut Outs,
+    ) -> Result<(), PairFault>
         requires for_link { is_address_of (setup_of self.old.link) frame.now.address ≡ true }
-        ensures ok { IfOk result (λ outs. (flight : Flight) → fields_of flight ≡ frame.now → length flight.info ≤ n201 → Acts self.old outward.old self.new outward.new (λ side v. hears Tagged flight v) outs) }
-        ensures err { IfErr result (λ fault. (flight : Flight) → fields_of flight ≡ frame.now → RefusesAs self.old (λ side v. hears Tagged flight v) fault) }
-        ensures unchanged { OnErr result (ShowsAsBefore self.old outward.old self.new outward.new) }
+        ensures ok { IfOk (with_outs result outs.new) (λ outs. (flight : Flight) → fields_of flight ≡ frame.now → length flight.info ≤ n201 → Acts self.old outward.old self.new outward.new (λ side v. hears Tagged flight v) outs) }
+        ensures err { IfErr (with_outs result outs.new) (λ fault. (flight : Flight) → fields_of flight ≡ frame.now → RefusesAs self.old (λ side v. hears Tagged flight v) fault) }
+        ensures unchanged { OnErr (with_outs result outs.new) (ShowsAsBefore self.old outward.old self.new outward.new) }
     {
         let Ok(copy) = Vec::from_slice(alloc, frame.info()) else {
             return Err(PairFault::Memory);
@@ -132,7 +146,7 @@ impl Station {
         let Ok(()) = self.make_room(outward) else {
             return Err(PairFault::Memory);
         };
-        self.step(Event::Heard(frame), frame.info(), Some(copy), outward)
+        self.step(Event::Heard(frame), frame.info(), Some(copy), outward, outs)
     }
 
     /// The first frame on its way is taken off the line, and heard.
@@ -141,10 +155,11 @@ impl Station {
         alloc: Global,
         inward: &mut Line,
         outward: &mut Line,
-    ) -> Result<Outs, PairFault>
-        ensures ok { IfOk result (ActsInView self.old inward.old outward.old self.new inward.new outward.new (λ side v. delivers Tagged v.incoming v)) }
-        ensures err { IfErr result (RefusesInView self.old inward.old outward.old (λ side v. delivers Tagged v.incoming v)) }
-        ensures unchanged { OnErr result (ShowsViewAsBefore self.old inward.old outward.old self.new inward.new outward.new) }
+        outs: &mut Outs,
+    ) -> Result<(), PairFault>
+        ensures ok { IfOk (with_outs result outs.new) (ActsInView self.old inward.old outward.old self.new inward.new outward.new (λ side v. delivers Tagged v.incoming v)) }
+        ensures err { IfErr (with_outs result outs.new) (RefusesInView self.old inward.old outward.old (λ side v. delivers Tagged v.incoming v)) }
+        ensures unchanged { OnErr (with_outs result outs.new) (ShowsViewAsBefore self.old inward.old outward.old self.new inward.new outward.new) }
     {
         let Some(octets) = inward.first() else {
             return Err(PairFault::NothingThere);
@@ -155,20 +170,25 @@ impl Station {
         if !self.link.is_for(&frame.address()) {
             return Err(PairFault::NothingThere);
         }
-        match self.hear(alloc, &frame, outward) {
-            Ok(outs) => {
+        match self.hear(alloc, &frame, outward, outs) {
+            Ok(()) => {
                 inward.take_first();
-                Ok(outs)
+                Ok(())
             }
             Err(fault) => Err(fault),
         }
     }
 
     /// T200 expires, where it runs and nothing that it waits for is on its way.
-    fn expire_200(&mut self, inward: &Line, outward: &mut Line) -> Result<Outs, PairFault>
-        ensures ok { IfOk result (ActsInView self.old inward.now outward.old self.new inward.now outward.new (λ side v. expires_200 Tagged side v)) }
-        ensures err { IfErr result (RefusesInView self.old inward.now outward.old (λ side v. expires_200 Tagged side v)) }
-        ensures unchanged { OnErr result (ShowsViewAsBefore self.old inward.now outward.old self.new inward.now outward.new) }
+    fn expire_200(
+        &mut self,
+        inward: &Line,
+        outward: &mut Line,
+        outs: &mut Outs,
+    ) -> Result<(), PairFault>
+        ensures ok { IfOk (with_outs result outs.new) (ActsInView self.old inward.now outward.old self.new inward.now outward.new (λ side v. expires_200 Tagged side v)) }
+        ensures err { IfErr (with_outs result outs.new) (RefusesInView self.old inward.now outward.old (λ side v. expires_200 Tagged side v)) }
+        ensures unchanged { OnErr (with_outs result outs.new) (ShowsViewAsBefore self.old inward.now outward.old self.new inward.now outward.new) }
     {
         if !self.link.running(Timer::T200) {
             return Err(PairFault::NotRunning);
@@ -180,19 +200,19 @@ impl Station {
         if let Some(place) = inward.first_final(side.other()) {
             return Err(PairFault::NotYet(side, place));
         }
-        self.take(Event::T200, &[], outward)
+        self.take(Event::T200, &[], outward, outs)
     }
 
     /// T203 expires, where it runs.
-    fn expire_203(&mut self, outward: &mut Line) -> Result<Outs, PairFault>
-        ensures ok { IfOk result (Acts self.old outward.old self.new outward.new (λ side v. expires_203 Tagged v)) }
-        ensures err { IfErr result (RefusesAs self.old (λ side v. expires_203 Tagged v)) }
-        ensures unchanged { OnErr result (ShowsAsBefore self.old outward.old self.new outward.new) }
+    fn expire_203(&mut self, outward: &mut Line, outs: &mut Outs) -> Result<(), PairFault>
+        ensures ok { IfOk (with_outs result outs.new) (Acts self.old outward.old self.new outward.new (λ side v. expires_203 Tagged v)) }
+        ensures err { IfErr (with_outs result outs.new) (RefusesAs self.old (λ side v. expires_203 Tagged v)) }
+        ensures unchanged { OnErr (with_outs result outs.new) (ShowsAsBefore self.old outward.old self.new outward.new) }
     {
         if !self.link.running(Timer::T203) {
             return Err(PairFault::NotRunning);
         }
-        self.take(Event::T203, &[], outward)
+        self.take(Event::T203, &[], outward, outs)
     }
 
     /// It starts anew, and what is on the line is dropped in both directions.
@@ -201,10 +221,11 @@ impl Station {
         alloc: Global,
         inward: &mut Line,
         outward: &mut Line,
-    ) -> Result<Outs, PairFault>
-        ensures ok { IfOk result (ActsInView self.old inward.old outward.old self.new inward.new outward.new (λ side v. quietly (restarts v))) }
-        ensures err { IfErr result (RefusesInView self.old inward.old outward.old (λ side v. quietly (restarts v))) }
-        ensures unchanged { OnErr result (ShowsViewAsBefore self.old inward.old outward.old self.new inward.new outward.new) }
+        outs: &mut Outs,
+    ) -> Result<(), PairFault>
+        ensures ok { IfOk (with_outs result outs.new) (ActsInView self.old inward.old outward.old self.new inward.new outward.new (λ side v. quietly (restarts v))) }
+        ensures err { IfErr (with_outs result outs.new) (RefusesInView self.old inward.old outward.old (λ side v. quietly (restarts v))) }
+        ensures unchanged { OnErr (with_outs result outs.new) (ShowsViewAsBefore self.old inward.old outward.old self.new inward.new outward.new) }
     {
         let Ok(link) = new_link(alloc, self.link.side(), self.link.params()) else {
             return Err(PairFault::Memory);
@@ -213,17 +234,25 @@ impl Station {
         self.history.discard_rest();
         inward.clear();
         outward.clear();
-        Ok(Outs::new())
+        outs.clear();
+        Ok(())
     }
 
     /// The frame at this place is lost.
-    fn lose(&self, place: usize, inward: &mut Line, outward: &Line) -> Result<Outs, PairFault>
-        ensures ok { IfOk result (ActsInView self.now inward.old outward.now self.now inward.new outward.now (λ side v. loses place v)) }
-        ensures err { IfErr result (RefusesInView self.now inward.old outward.now (λ side v. loses place v)) }
-        ensures unchanged { OnErr result (inward.new ≡ inward.old) }
+    fn lose(
+        &self,
+        place: usize,
+        inward: &mut Line,
+        outward: &Line,
+        outs: &mut Outs,
+    ) -> Result<(), PairFault>
+        ensures ok { IfOk (with_outs result outs.new) (ActsInView self.now inward.old outward.now self.now inward.new outward.now (λ side v. loses place v)) }
+        ensures err { IfErr (with_outs result outs.new) (RefusesInView self.now inward.old outward.now (λ side v. loses place v)) }
+        ensures unchanged { OnErr (with_outs result outs.new) (inward.new ≡ inward.old) }
     {
         if inward.lose(place) {
-            Ok(Outs::new())
+            outs.clear();
+            Ok(())
         } else {
             Err(PairFault::NothingThere)
         }

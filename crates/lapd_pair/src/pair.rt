@@ -1,6 +1,6 @@
 //! Two ends of one data link, and the line between them.
 
-ghost use Rattle.std.specs.Prelude.{◌≡◌, ◌≤◌, ◌<◌, ◌+◌, ℕ, List, [], ◌∷◌, map, take, length, true, IfOk, IfErr, OnErr, is_ok};
+ghost use Rattle.std.specs.Prelude.{◌≡◌, ◌≤◌, ◌<◌, ◌+◌, ℕ, List, [], ◌∷◌, map, take, length, true, IfOk, IfErr, OnOk, OnErr, is_ok};
 ghost use Rattle.lapd_mod128.specs.Counting.{Tagged};
 ghost use Rattle.lapd_pair.specs.Pair.{IsReached};
 
@@ -31,6 +31,7 @@ impl Pair {
     ghost use Rattle.lapd_world.specs.World.{World, new_world, happens, run};
     ghost use Rattle.lapd_pair.specs.Moves.{move_of, IsRefusedAs};
     ghost use Rattle.lapd_pair.specs.Runs.{PairStandsFor, HasHappened, HasStoppedAt, refusals};
+    ghost use Rattle.lapd_pair.specs.Station.{with_outs};
 
     /// Both ends in state 4, and nothing on the line.
     ///
@@ -62,13 +63,38 @@ impl Pair {
         ensures err { IfErr result (λ fault. (w : World) → PairStandsFor self.old w → IsRefusedAs fault (happens Tagged (move_of deed.now) w)) }
         ensures unchanged { OnErr result ((w : World) → PairStandsFor self.old w → PairStandsFor self.new w) }
     {
+        let mut outs = Outs::new();
+        match self.apply_into(deed, &mut outs) {
+            Ok(()) => Ok(outs),
+            Err(fault) => Err(fault),
+        }
+    }
+
+    /// As [`Pair::apply`], with the outputs in `outs` in place of what was there. So no room for them is made anew.
+    ///
+    /// # Errors
+    ///
+    /// As [`Pair::apply`]. What is then in `outs` is not told.
+    pub fn apply_into(&mut self, deed: &Move, outs: &mut Outs) -> Result<(), PairFault>
+        ensures ok { IfOk (with_outs result outs.new) (λ made. (w : World) → PairStandsFor self.old w → HasHappened self.new (happens Tagged (move_of deed.now) w) made.items) }
+        ensures err { IfErr (with_outs result outs.new) (λ fault. (w : World) → PairStandsFor self.old w → IsRefusedAs fault (happens Tagged (move_of deed.now) w)) }
+        ensures unchanged { OnErr (with_outs result outs.new) ((w : World) → PairStandsFor self.old w → PairStandsFor self.new w) }
+    {
         match deed.side() {
-            Side::User => self
-                .user
-                .act(self.alloc, deed, &mut self.to_user, &mut self.to_network),
-            Side::Network => self
-                .network
-                .act(self.alloc, deed, &mut self.to_network, &mut self.to_user),
+            Side::User => self.user.act(
+                self.alloc,
+                deed,
+                &mut self.to_user,
+                &mut self.to_network,
+                outs,
+            ),
+            Side::Network => self.network.act(
+                self.alloc,
+                deed,
+                &mut self.to_network,
+                &mut self.to_user,
+                outs,
+            ),
         }
     }
 
@@ -83,9 +109,10 @@ impl Pair {
         ensures err { IfErr result (λ fault. (w : World) → PairStandsFor self.old w → HasStoppedAt fault.at (map move_of moves.now) self.new w) }
     {
         let mut refused = 0;
+        let mut outs = Outs::new();
         for (at, deed) in moves.iter().enumerate() {
-            match self.apply(deed) {
-                Ok(_) => {}
+            match self.apply_into(deed, &mut outs) {
+                Ok(()) => {}
                 Err(fault) => {
                     if fault.is_memory() {
                         return Err(RunFault { at });

@@ -49,7 +49,7 @@ pub fn new_link(alloc: Global, side: Side, params: Params) -> Result<Link, Alloc
 
 impl Station {
     ghost use Rattle.lapd_pair.specs.Histories.{IsHistory, HasRoom, step_room, data_room, message_room};
-    ghost use Rattle.lapd_pair.specs.Station.{IsStation, IsActed, IsHanded};
+    ghost use Rattle.lapd_pair.specs.Station.{IsStation, IsActed, IsHanded, with_outs};
     ghost use Rattle.lapd_pair.specs.Moves.{IsRefusedAs};
     ghost use Rattle.lapd_pair.specs.Telling.{IsTelling, IsCopy, flight_of, with_sent, history_told};
 
@@ -176,23 +176,24 @@ impl Station {
         octets: &[u8],
         copy: Option<Vec<u8>>,
         outward: &mut Line,
-    ) -> Result<Outs, PairFault>
+        outs: &mut Outs,
+    ) -> Result<(), PairFault>
         requires for_link { IsForLink self.old.link event }
         requires line_room { HasRoomFor 136 outward.old }
         requires history_room { HasRoom step_room self.old.history }
-        ensures ok { IfOk result (λ outs. (side : Side) (place : ℕ) (v : View) → IsKept Tagged v.station → IsStation side self.old v.station → IsOn side outward.old v.outgoing
+        ensures ok { IfOk (with_outs result outs.new) (λ outs. (side : Side) (place : ℕ) (v : View) → IsKept Tagged v.station → IsStation side self.old v.station → IsOn side outward.old v.outgoing
             → length octets.now ≤ n201 → IsHanded (input_of event.entry) octets.now copy
             → IsActed side self.new outward.new (stepped octets.now place v (step Tagged (input_of event.entry) v.station.end)) outs.items) }
-        ensures err { IfErr result (λ fault. (octets : List ℕ) (place : ℕ) (side : Side) (v : View) → IsStation side self.old v.station → IsRefusedAs fault (stepped octets place v (step Tagged (input_of event.entry) v.station.end))) }
-        ensures unchanged { OnErr result ((self.new ≡ self.old) × (outward.new ≡ outward.old)) }
+        ensures err { IfErr (with_outs result outs.new) (λ fault. (octets : List ℕ) (place : ℕ) (side : Side) (v : View) → IsStation side self.old v.station → IsRefusedAs fault (stepped octets place v (step Tagged (input_of event.entry) v.station.end))) }
+        ensures unchanged { OnErr (with_outs result outs.new) ((self.new ≡ self.old) × (outward.new ≡ outward.old)) }
     {
         let mut copy = copy;
         let begins = self.link.begins(&event);
-        match self.link.handle(event) {
-            Ok(outs) => {
+        match self.link.handle_into(event, outs) {
+            Ok(()) => {
                 self.note_beginning(begins);
                 self.carry_out(outs.as_slice(), octets, &mut copy, outward);
-                Ok(outs)
+                Ok(())
             }
             Err(fault) => Err(PairFault::Refused(fault)),
         }
@@ -204,20 +205,21 @@ impl Station {
         message: Vec<u8>,
         copy: Vec<u8>,
         outward: &mut Line,
-    ) -> Result<Outs, PairFault>
+        outs: &mut Outs,
+    ) -> Result<(), PairFault>
         requires line_room { HasRoomFor 136 outward.old }
         requires history_room { HasRoom message_room self.old.history }
-        ensures ok { IfOk result (λ outs. (side : Side) (v : View) → IsKept Tagged v.station → IsStation side self.old v.station → IsOn side outward.old v.outgoing
+        ensures ok { IfOk (with_outs result outs.new) (λ outs. (side : Side) (v : View) → IsKept Tagged v.station → IsStation side self.old v.station → IsOn side outward.old v.outgoing
             → copy.items ≡ message.items
             → IsActed side self.new outward.new (stepped [] 0 v (step Tagged (Give message.items) v.station.end)) outs.items) }
-        ensures err { IfErr result (λ fault. (side : Side) (v : View) → IsStation side self.old v.station → IsRefusedAs fault (stepped [] 0 v (step Tagged (Give message.items) v.station.end))) }
-        ensures unchanged { OnErr result ((self.new ≡ self.old) × (outward.new ≡ outward.old)) }
+        ensures err { IfErr (with_outs result outs.new) (λ fault. (side : Side) (v : View) → IsStation side self.old v.station → IsRefusedAs fault (stepped [] 0 v (step Tagged (Give message.items) v.station.end))) }
+        ensures unchanged { OnErr (with_outs result outs.new) ((self.new ≡ self.old) × (outward.new ≡ outward.old)) }
     {
-        match self.link.give(message) {
-            Ok(outs) => {
+        match self.link.give_into(message, outs) {
+            Ok(()) => {
                 self.history.give(copy);
                 self.carry_out(outs.as_slice(), &[], &mut None, outward);
-                Ok(outs)
+                Ok(())
             }
             Err(refused) => Err(PairFault::Refused(refused.fault)),
         }

@@ -20,7 +20,7 @@ returns-in-Ok-hear-clause-ok c = λ side v kept shown.
     let first = subst (λ (x : Side). IsFirst x c.in-Some.octets.now v.incoming) from (c.in-Some.ensures.some (other_side side) v.incoming shown.incoming) in
     let there = read_of c.other.result c.in-Some.octets.now v.incoming (Read c.in-Ok.frame) c.in-Ok.ensures.only first in
     let same = same_read _ _ (sym there.3) in
-    delivered side v there.0 there.1 c.args.self.now c.hear.new.self c.args.inward.now c.take_first.new.self c.args.outward.now c.hear.new.outward c.in-Ok-hear.outs there.2 kept shown (c.in-Ok-hear.ensures.ok there.0 same there.4) c.take_first.ensures.shows
+    delivered side v there.0 there.1 c.args.self.now c.hear.new.self c.args.inward.now c.take_first.new.self c.args.outward.now c.hear.new.outward c.hear.new.outs there.2 kept shown (c.in-Ok-hear.ensures.ok there.0 same there.4) c.take_first.ensures.shows
 
 pub returns-in-Err-clause-err : goal.returns-in-Err-clause-err
 returns-in-Err-clause-err c = λ side v shown.

@@ -1,3 +1,4 @@
+use Rattle.lapd_pair.specs.Station.{with_outs}
 use Rattle.std.proofs.Common.{[], sym, ap, ◌∙◌, subst}
 use Rattle.lapd_timers.specs.declared.timer.Timer.TheVariants.{T200}
 use Rattle.lapd_frame.specs.declared.Side.{Side}
@@ -31,28 +32,28 @@ returns-clause-ok c =
     let old = c.args.self.now in
     let inward = c.args.inward.now in
     let outward = c.args.outward.now in
-    acts_as_in_view (λ side v. takes Tagged (Expiry T200) [] v) (λ side v. expires_200 Tagged side v) old c.take.new.self inward outward inward c.take.new.outward c.take.result
+    acts_as_in_view (λ side v. takes Tagged (Expiry T200) [] v) (λ side v. expires_200 Tagged side v) old c.take.new.self inward outward inward c.take.new.outward (with_outs c.take.result c.take.new.outs)
     (λ side v shown.
     let own = side_shown side c.side-side.result old v.station c.side-side.ensures shown.station in
     let other = sender_shown side c.side-side.result c.other-2.result old v.station c.side-side.ensures c.other-2.ensures shown.station in
     let poll = sym (c.first_poll.ensures v.outgoing (subst (λ (x : Side). IsOn x outward v.outgoing) (sym own) shown.outgoing)) ∙ c.in_default.is in
     let final = sym (c.first_final.ensures v.incoming (subst (λ (x : Side). IsOn x inward v.incoming) other shown.incoming)) ∙ c.in_default-first_final.is in
     runs_200 side v (sym (c.running.ensures v.station.end shown.station.link) ∙ c.if-not-running.false) poll final)
-    (acts_in_view (λ side v. takes Tagged (Expiry T200) [] v) old c.take.new.self inward outward c.take.new.outward c.take.result (request_takes_none (Expiry T200) []) c.take.ensures.ok)
+    (acts_in_view (λ side v. takes Tagged (Expiry T200) [] v) old c.take.new.self inward outward c.take.new.outward (with_outs c.take.result c.take.new.outs) (request_takes_none (Expiry T200) []) c.take.ensures.ok)
 
 pub returns-clause-err : goal.returns-clause-err
 returns-clause-err c =
     let old = c.args.self.now in
     let inward = c.args.inward.now in
     let outward = c.args.outward.now in
-    refuses_as_in_view (λ side v. takes Tagged (Expiry T200) [] v) (λ side v. expires_200 Tagged side v) old inward outward c.take.result
+    refuses_as_in_view (λ side v. takes Tagged (Expiry T200) [] v) (λ side v. expires_200 Tagged side v) old inward outward (with_outs c.take.result c.take.new.outs)
     (λ side v shown.
     let own = side_shown side c.side-side.result old v.station c.side-side.ensures shown.station in
     let other = sender_shown side c.side-side.result c.other-2.result old v.station c.side-side.ensures c.other-2.ensures shown.station in
     let poll = sym (c.first_poll.ensures v.outgoing (subst (λ (x : Side). IsOn x outward v.outgoing) (sym own) shown.outgoing)) ∙ c.in_default.is in
     let final = sym (c.first_final.ensures v.incoming (subst (λ (x : Side). IsOn x inward v.incoming) other shown.incoming)) ∙ c.in_default-first_final.is in
     runs_200 side v (sym (c.running.ensures v.station.end shown.station.link) ∙ c.if-not-running.false) poll final)
-    (refuses_in_view (λ side v. takes Tagged (Expiry T200) [] v) old inward outward c.take.result c.take.ensures.err)
+    (refuses_in_view (λ side v. takes Tagged (Expiry T200) [] v) old inward outward (with_outs c.take.result c.take.new.outs) c.take.ensures.err)
 
 pub returns-clause-unchanged : goal.returns-clause-unchanged
-returns-clause-unchanged c = shows_view c.args.self.now c.take.new.self c.args.inward.now c.args.outward.now c.take.new.outward c.take.result c.take.ensures.unchanged
+returns-clause-unchanged c = shows_view c.args.self.now c.take.new.self c.args.inward.now c.args.outward.now c.take.new.outward (with_outs c.take.result c.take.new.outs) c.take.ensures.unchanged

@@ -1,3 +1,4 @@
+use Rattle.lapd_pair.specs.Station.{with_outs}
 use Rattle.std.proofs.Common.{[], sym, ◌∙◌}
 use Rattle.lapd_timers.specs.declared.timer.Timer.TheVariants.{T203}
 use Rattle.lapd_mod128.specs.Counting.{Tagged}
@@ -10,9 +11,9 @@ pub returns-then-not-running-clause-err : goal.returns-then-not-running-clause-e
 returns-then-not-running-clause-err c = λ side v shown. stands_203 v (sym (c.running.ensures v.station.end shown.link) ∙ c.if-not-running.true)
 
 pub returns-clause-ok : goal.returns-clause-ok
-returns-clause-ok c = acts_as (λ side v. takes Tagged (Expiry T203) [] v) (λ side v. expires_203 Tagged v) c.args.self.now c.take.new.self c.args.outward.now c.take.new.outward c.take.result
+returns-clause-ok c = acts_as (λ side v. takes Tagged (Expiry T203) [] v) (λ side v. expires_203 Tagged v) c.args.self.now c.take.new.self c.args.outward.now c.take.new.outward (with_outs c.take.result c.take.new.outs)
     (λ side v shown. runs_203 v (sym (c.running.ensures v.station.end shown.link) ∙ c.if-not-running.false)) c.take.ensures.ok
 
 pub returns-clause-err : goal.returns-clause-err
-returns-clause-err c = refuses_as (λ side v. takes Tagged (Expiry T203) [] v) (λ side v. expires_203 Tagged v) c.args.self.now c.take.result
+returns-clause-err c = refuses_as (λ side v. takes Tagged (Expiry T203) [] v) (λ side v. expires_203 Tagged v) c.args.self.now (with_outs c.take.result c.take.new.outs)
     (λ side v shown. runs_203 v (sym (c.running.ensures v.station.end shown.link) ∙ c.if-not-running.false)) c.take.ensures.err

@@ -1,3 +1,4 @@
+use Rattle.lapd_pair.specs.Station.{with_outs}
 use Rattle.std.proofs.Common.{[], refl, sym, ◌∙◌}
 use Rattle.lapd_states.specs.Input.{Give}
 use Rattle.lapd_pair.proofs.Acts.{takes_refused, takes_goes, message_acts, message_refused, shows_still}
@@ -16,11 +17,11 @@ pub returns-in_default-make_room_for_message-clause-err : goal.returns-in_defaul
 returns-in_default-make_room_for_message-clause-err c = λ side v shown. takes_goes (Give c.args.message.now) [] v (sym (c.give_refusal.ensures c.args.message.now v.station.end refl shown.link) ∙ c.in_default.is)
 
 pub returns-clause-ok : goal.returns-clause-ok
-returns-clause-ok c = message_acts c.args.message.now c.in-Ok-from_slice.queued.items c.in-Ok.kept.items c.args.self.now c.make_room_for_message.new.self c.give.new.self c.args.outward.now c.make_room_for_message.new.outward c.give.new.outward c.give.result
+returns-clause-ok c = message_acts c.args.message.now c.in-Ok-from_slice.queued.items c.in-Ok.kept.items c.args.self.now c.make_room_for_message.new.self c.give.new.self c.args.outward.now c.make_room_for_message.new.outward c.give.new.outward (with_outs c.give.result c.give.new.outs)
     c.in-Ok-from_slice.ensures.items c.in-Ok.ensures.items c.make_room_for_message.ensures.station c.make_room_for_message.ensures.line c.give.ensures.ok
 
 pub returns-clause-err : goal.returns-clause-err
-returns-clause-err c = message_refused c.args.message.now c.in-Ok-from_slice.queued.items c.args.self.now c.make_room_for_message.new.self c.give.result c.in-Ok-from_slice.ensures.items c.make_room_for_message.ensures.station c.give.ensures.err
+returns-clause-err c = message_refused c.args.message.now c.in-Ok-from_slice.queued.items c.args.self.now c.make_room_for_message.new.self (with_outs c.give.result c.give.new.outs) c.in-Ok-from_slice.ensures.items c.make_room_for_message.ensures.station c.give.ensures.err
 
 pub returns-clause-unchanged : goal.returns-clause-unchanged
-returns-clause-unchanged c = shows_still c.args.self.now c.make_room_for_message.new.self c.give.new.self c.args.outward.now c.make_room_for_message.new.outward c.give.new.outward c.give.result c.make_room_for_message.ensures.station c.make_room_for_message.ensures.line c.give.ensures.unchanged
+returns-clause-unchanged c = shows_still c.args.self.now c.make_room_for_message.new.self c.give.new.self c.args.outward.now c.make_room_for_message.new.outward c.give.new.outward (with_outs c.give.result c.give.new.outs) c.make_room_for_message.ensures.station c.make_room_for_message.ensures.line c.give.ensures.unchanged
