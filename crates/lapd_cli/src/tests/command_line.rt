@@ -3,6 +3,7 @@
 use crate::command_line::{Chosen, Unchosen, WordsFault, choose, words};
 use crate::help;
 use clap::error::ErrorKind;
+use lapd_bus::bus;
 use lapd_commands::{answer, decode};
 use lapd_frame::{Sapi, Side};
 use lapd_link::{Params, Recovery};
@@ -80,6 +81,25 @@ fn words_choose(rt: HostRuntime) -> Result<(), Fail> {
     )
 }
 
+// Words that choose a bus, and how many terminals it has.
+const BUSES: &[(&[&str], u8)] = &[
+    (&["lapd", "bus"], 2),
+    (&["lapd", "bus", "--terminals", "1"], 1),
+    (&["lapd", "bus", "--terminals=0127"], 127),
+];
+
+#[test]
+fn a_bus_is_chosen(rt: HostRuntime) -> Result<(), Fail> {
+    for (words, terminals) in BUSES {
+        let terminals = *terminals;
+        wants(
+            chooses(&rt, words, Chosen::Bus { terminals }),
+            "another bus is chosen",
+        )?;
+    }
+    Ok(())
+}
+
 #[test]
 fn a_recovery_is_chosen(rt: HostRuntime) -> Result<(), Fail> {
     let params = Params::basic(Sapi::Call).with_recovery(Recovery::LastMessage);
@@ -106,6 +126,11 @@ const FAULTS: &[&[&str]] = &[
     &["lapd", "decode", "--side", "user"],
     &["lapd", "decode", "--k", "3"],
     &["lapd", "decode", "more"],
+    &["lapd", "--terminals", "3"],
+    &["lapd", "bus", "more"],
+    &["lapd", "bus", "--k", "3"],
+    &["lapd", "bus", "--terminals"],
+    &["lapd", "bus", "--terminals", "3", "--terminals", "3"],
     &["lapd", "other"],
     &["lapd", "help"],
     &["lapd", "answer", "--k"],
@@ -140,6 +165,7 @@ const ASKED: &[&[&str]] = &[
     &["lapd", "--help"],
     &["lapd", "-h"],
     &["lapd", "answer", "--help"],
+    &["lapd", "bus", "--help"],
     &["lapd", "decode", "--help"],
     &["lapd", "--version"],
     &["lapd", "-V"],
@@ -206,6 +232,14 @@ const NUMBERS: &[(&[&str], &str)] = &[
     (
         &["lapd", "answer", "--room", "18446744073709551617"],
         "error: invalid value '18446744073709551617' for '--room <MESSAGES>': not a number from 1 to 1024 in decimal digits",
+    ),
+    (
+        &["lapd", "bus", "--terminals", "0"],
+        "error: invalid value '0' for '--terminals <TERMINALS>': not a number from 1 to 127 in decimal digits",
+    ),
+    (
+        &["lapd", "bus", "--terminals", "128"],
+        "error: invalid value '128' for '--terminals <TERMINALS>': not a number from 1 to 127 in decimal digits",
     ),
 ];
 
@@ -323,6 +357,14 @@ fn examples_of_answer(rt: HostRuntime) -> Result<(), Fail> {
     };
     example_of_answer(&rt, Side::User, user)?;
     example_of_answer(&rt, Side::Network, network)
+}
+
+#[test]
+fn example_of_bus(rt: HostRuntime) -> Result<(), Fail> {
+    let script = lines_behind(&rt, help::BUS, "  < ")?;
+    let mut printed = Vec::new(rt.alloc());
+    bus(rt.alloc(), &mut script.as_slice(), &mut printed, 2)?;
+    prints(&rt, help::BUS, printed.as_slice())
 }
 
 #[test]
