@@ -1,4 +1,4 @@
--- The TEI management of a terminal (Q.921 5.3.2, 5.3.3.3, 5.3.4), a row an equation.
+-- The TEI management of a terminal (Q.921 5.3.2 to 5.3.4), a row an equation.
 use Rattle.std.specs.Prelude.{ℕ, ◌+◌, ◌<◌, ◌≤◌, true, ◌==◌, ◌&&◌, ◌||◌, not, nat_lt, nat_le, if◌then◌else◌, Bool, false, List, [], ◌∷◌, Option, Some, None}
 use Rattle.lapd_timers.specs.declared.timer.Timer.TheVariants.{T202}
 use Rattle.lapd_tei.specs.declared.kind.TeiKind.{TeiKind}

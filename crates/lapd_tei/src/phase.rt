@@ -9,7 +9,7 @@ pub enum Purpose {
     Establishment,
 }
 
-/// The state of a terminal's TEI management (Q.921 4.2 and Figure B.1).
+/// The state of a terminal's TEI management (Q.921 Annex B, Figures B.1 to B.4).
 #[derive(Clone, Copy, Debug, PartialEq, Eq)]
 pub enum Phase {
     /// State 1, TEI unassigned.
