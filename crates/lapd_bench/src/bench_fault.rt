@@ -1,13 +1,14 @@
 use lapd_frame::{FaultKind, FrameFault};
 use lapd_link::{LinkFault, Refused};
+use lapd_pair::PairFault;
 use std::alloc::AllocError;
 use thiserror::Error;
 
 /// Why the messages were not all passed.
 #[derive(Clone, Copy, Debug, PartialEq, Eq, Error)]
 pub enum BenchFault {
-    /// The words are no number of messages.
-    #[error("usage: lapd_bench [MESSAGES]")]
+    /// The words ask for nothing that is done.
+    #[error("usage: lapd_bench [MESSAGES], lapd_bench pair MESSAGES, or lapd_bench line FRAMES MOVES")]
     CommandLine,
     /// Memory ran out.
     #[error("out of memory")]
@@ -24,6 +25,9 @@ pub enum BenchFault {
     /// More frames were sent than the line holds.
     #[error("the line is full")]
     LineFull,
+    /// A move of a pair was refused.
+    #[error("refused: {0}")]
+    Pair(PairFault),
 }
 
 impl From<AllocError> for BenchFault {
@@ -47,5 +51,11 @@ impl From<Refused> for BenchFault {
 impl From<FrameFault> for BenchFault {
     fn from(fault: FrameFault) -> BenchFault {
         BenchFault::NoFrame(fault.kind)
+    }
+}
+
+impl From<PairFault> for BenchFault {
+    fn from(fault: PairFault) -> BenchFault {
+        BenchFault::Pair(fault)
     }
 }

@@ -2,22 +2,28 @@
 //! ends in memory, so that the work of a message can be counted.
 //!
 //! The user gives seven messages, a whole window, of 20 octets each. Each goes to the network as the octets of an I
-//! frame, and the octets of an RR frame come back for it, before the next seven are given. Its only word is the number
-//! of messages, 1,000 where it is left out. It prints how many messages were given, received and acknowledged. Begin
-//! with `run`.
+//! frame, and the octets of an RR frame come back for it, before the next seven are given. With one word, it is the
+//! number of messages, 1,000 where it is left out: they go over two links, and nothing is kept of them. `pair MESSAGES`
+//! passes them over a pair of `lapd_pair`, which keeps what became of each. `line FRAMES MOVES` puts so many frames on
+//! the line of a pair, and then sends and delivers so many more. It prints how many messages were given, received and
+//! acknowledged. Begin with `run`.
 #![tactic(auto)]
 
 mod bench_fault;
+mod counts;
 mod end;
 mod line;
+mod over_pair;
+mod work;
 
 use bench_fault::BenchFault;
+use counts::Counts;
 use end::End;
 use lapd_frame::Side;
 use line::Line;
 use std::alloc::Global;
 use std::process::ExitCode;
-use std::{env, io};
+use work::{Work, asked};
 
 /// How many messages are passed where the command line does not say.
 const MESSAGES: u32 = 1_000;
@@ -40,22 +46,10 @@ fn main(rt: HostRuntime) -> ExitCode {
 
 /// What becomes of the messages of the command line.
 fn counted(rt: &HostRuntime) -> Result<Counts, BenchFault> {
-    let messages = messages(rt)?;
-    run(rt.alloc(), messages)
-}
-
-/// How many messages the command line asks for.
-fn messages(rt: &HostRuntime) -> Result<u32, BenchFault> {
-    let mut words = match env::args(rt) {
-        Ok(words) => words,
-        Err(error) if error.kind() == io::ErrorKind::OutOfMemory => return Err(BenchFault::Memory),
-        Err(_) => return Err(BenchFault::CommandLine),
-    };
-    let _program = words.next();
-    match (words.next(), words.next()) {
-        (None, _) => Ok(MESSAGES),
-        (Some(word), None) => word.parse::<u32>().map_err(|_| BenchFault::CommandLine),
-        (Some(_), Some(_)) => Err(BenchFault::CommandLine),
+    match asked(rt)? {
+        Work::Links(messages) => run(rt.alloc(), messages),
+        Work::Pair(messages) => over_pair::pass(rt.alloc(), messages),
+        Work::Line(frames, moves) => over_pair::stand(rt.alloc(), frames, moves),
     }
 }
 
@@ -70,14 +64,6 @@ fn show(rt: &HostRuntime, counts: Counts) -> ExitCode {
         Ok(()) => ExitCode::SUCCESS,
         Err(_) => ExitCode::FAILURE,
     }
-}
-
-/// How many messages were given, received and acknowledged.
-#[derive(Clone, Copy, Debug, PartialEq, Eq)]
-struct Counts {
-    given: u64,
-    received: u64,
-    acknowledged: u64,
 }
 
 /// The two ends of the link, and the two directions of the line between them.

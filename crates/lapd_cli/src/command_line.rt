@@ -25,6 +25,8 @@ pub enum Chosen {
     Answer { side: Side, params: Params },
     /// Goes over a script as a bus of so many terminals, 1 to 127.
     Bus { terminals: u8 },
+    /// Makes the moves of a script on two ends, made with these parameters, and the line between them.
+    Pair { user: Params, network: Params },
     /// Prints octets as trace lines.
     Decode,
 }
@@ -65,6 +67,7 @@ pub fn choose<'a, S: AsStr>(alloc: Global, words: &'a [S]) -> Result<Chosen, Unc
     match matches.subcommand() {
         Some(("answer", given)) => answer_chosen(given),
         Some(("bus", given)) => bus_chosen(given),
+        Some(("pair", given)) => pair_chosen(given),
         _ => Ok(Chosen::Decode),
     }
 }
@@ -74,7 +77,18 @@ fn answer_chosen<'a>(given: &ArgMatches<'a>) -> Result<Chosen, Unchosen<'a>> {
     match params_given(given) {
         Ok(params) => Ok(Chosen::Answer {
             side: side_given(given),
-            params: params.with_recovery(recovery_given(given)),
+            params: params.with_recovery(recovery_given(given, "recovery")),
+        }),
+        Err(fault) => Err(Unchosen::OutOfRange(fault)),
+    }
+}
+
+// What the options of `pair` choose.
+fn pair_chosen<'a>(given: &ArgMatches<'a>) -> Result<Chosen, Unchosen<'a>> {
+    match params_given(given) {
+        Ok(params) => Ok(Chosen::Pair {
+            user: params.with_recovery(recovery_given(given, "recovery-user")),
+            network: params.with_recovery(recovery_given(given, "recovery-net")),
         }),
         Err(fault) => Err(Unchosen::OutOfRange(fault)),
     }
@@ -107,8 +121,9 @@ fn side_given(given: &ArgMatches<'_>) -> Side {
     }
 }
 
-fn recovery_given(given: &ArgMatches<'_>) -> Recovery {
-    match given.get_str("recovery") {
+// The recovery that the option of this name chooses.
+fn recovery_given(given: &ArgMatches<'_>, option: &str) -> Recovery {
+    match given.get_str(option) {
         Some("last") => Recovery::LastMessage,
         _ => Recovery::Enquiry,
     }
@@ -151,6 +166,7 @@ fn program<'a>(alloc: Global) -> Result<Command<'a>, Error> {
         .disable_help_subcommand(true)
         .subcommand(answer_command(alloc)?)?
         .subcommand(bus_command(alloc)?)?
+        .subcommand(pair_command(alloc)?)?
         .subcommand(decode_command(alloc))?;
     Ok(program)
 }
@@ -163,7 +179,18 @@ fn answer_command<'a>(alloc: Global) -> Result<Command<'a>, AllocError> {
         .arg(K.arg(alloc))?
         .arg(N200.arg(alloc))?
         .arg(ROOM.arg(alloc))?
-        .arg(recovery_option(alloc))
+        .arg(recovery_option(alloc, "recovery", help::RECOVERY))
+}
+
+fn pair_command<'a>(alloc: Global) -> Result<Command<'a>, AllocError> {
+    Command::new(alloc, "pair")
+        .about(help::PAIR_ABOUT)
+        .after_help(help::PAIR)
+        .arg(K.arg(alloc))?
+        .arg(N200.arg(alloc))?
+        .arg(ROOM.arg(alloc))?
+        .arg(recovery_option(alloc, "recovery-user", help::RECOVERY_USER))?
+        .arg(recovery_option(alloc, "recovery-net", help::RECOVERY_NET))
 }
 
 fn bus_command<'a>(alloc: Global) -> Result<Command<'a>, AllocError> {
@@ -193,11 +220,11 @@ fn side_option<'a>(alloc: Global) -> Arg<'a> {
 
 static RECOVERIES: [&str; 2] = ["enquiry", "last"];
 
-fn recovery_option<'a>(alloc: Global) -> Arg<'a> {
-    Arg::new(alloc, "recovery")
-        .long("recovery")
+fn recovery_option<'a>(alloc: Global, name: &'static str, help: &'static str) -> Arg<'a> {
+    Arg::new(alloc, name)
+        .long(name)
         .value_name("RECOVERY")
-        .help("What T200 sends in state 7: an enquiry, or the last message again")
+        .help(help)
         .action(ArgAction::Set)
         .value_parser(RECOVERIES.as_slice())
         .default_value("enquiry")

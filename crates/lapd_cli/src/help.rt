@@ -10,13 +10,26 @@ pub const ANSWER_ABOUT: &str = "Answers a script as one end of a link with SAPI 
 /// What the command `bus` does.
 pub const BUS_ABOUT: &str = "Assigns TEIs to terminals on a bus, by a script of moves";
 
+/// What the command `pair` does.
+pub const PAIR_ABOUT: &str =
+    "Plays two ends of a link and the line between them, by a script of moves";
+
 /// What the command `decode` does.
 pub const DECODE_ABOUT: &str = "Prints octets as trace lines";
 
+/// What the recovery of `answer` is.
+pub const RECOVERY: &str = "What T200 sends in state 7: an enquiry, or the last message again";
+
+/// What the recovery of the user side of `pair` is.
+pub const RECOVERY_USER: &str = "What T200 of the user side sends in state 7";
+
+/// What the recovery of the network side of `pair` is.
+pub const RECOVERY_NET: &str = "What T200 of the network side sends in state 7";
+
 /// What all commands share.
 pub const PROGRAM: &str = "\
-`lapd` alone is `lapd answer --side net`. `lapd answer --help`, `lapd bus --help` and `lapd decode --help`
-list the lines of a script, and what is printed for them.
+`lapd` alone is `lapd answer --side net`. `lapd answer --help`, `lapd pair --help`, `lapd bus --help`
+and `lapd decode --help` list the lines of a script, and what is printed for them.
 
 Scripts:
   A script comes on standard input. Each line is answered on standard output before the next one is
@@ -223,6 +236,108 @@ Example. A line of the script stands behind <, and what is printed for it stands
   > down feff030f00000481
   < t201
   > net free 64";
+
+/// The lines of `pair`.
+pub const PAIR: &str = "\
+`lapd --help` tells what scripts and HEX are, and has the exit status. `lapd answer --help` has the
+states, the error codes and the refusals L1 to L5.
+
+There are two ends, the user side and the network side, with SAPI 0 and TEI 64, and a line between
+them, which keeps frames in order in each direction. Nothing happens but by a line of the script,
+which makes one move. A frame stays on the line until a move delivers or loses it. SIDE is user or
+net, and --k, --n200 and --room hold for both sides.
+
+Lines of the script:
+  establish SIDE     its layer 3 asks for the link to be established (DL-ESTABLISH request)
+  release SIDE       its layer 3 asks for the link to be released (DL-RELEASE request)
+  give SIDE HEX      its layer 3 gives a message of at most 260 octets (DL-DATA request)
+  unit SIDE HEX      its layer 3 gives unit data of at most 260 octets (DL-UNIT DATA request)
+  deliver SIDE       the first frame on its way to this side arrives
+  lose SIDE N        frame N of those on their way to this side is lost; the first is 0
+  expire200 SIDE     its timer T200 expires
+  expire203 SIDE     its timer T203 expires
+  busy SIDE on       it becomes unable to take messages (own receiver busy)
+  busy SIDE off      it is able again
+  restart SIDE       it begins anew in state 4; its I queue is dropped, and the line is empty in both
+                     directions
+
+What is printed for a line: nothing, or in this form each thing that it leads to, in order:
+  U>N SAPI 0 TEI 64 C SABME P=1
+                     this frame goes on the line; `lapd decode --help` has the parts of the text
+  SIDE established   the link is established (DL-ESTABLISH indication)
+  SIDE confirmed     the link is established, as layer 3 asked (DL-ESTABLISH confirm)
+  SIDE released      the link is released (DL-RELEASE indication)
+  SIDE release-confirmed
+                     the link is released, as layer 3 asked (DL-RELEASE confirm)
+  SIDE data HEX      layer 3 gets the message of the I frame (DL-DATA indication)
+  SIDE unit HEX      layer 3 gets the unit data of the UI frame (DL-UNIT DATA indication)
+  SIDE acknowledged N
+                     the other side has acknowledged N messages
+  SIDE dropped N     N messages that were not acknowledged are discarded
+  SIDE report X      management gets error code X (MDL-ERROR indication)
+  refused P1 NothingThere
+                     the move is refused, and changes nothing
+Timers are not printed.
+
+Refusals:
+  P1 NothingThere    no such frame is on its way to that side
+  P2 NotRunning      the timer does not run
+  P3 NotYet SIDE N   T200 may not expire yet: a command with P=1 of this end, or the response with F=1
+                     to one, is still on the line, as frame N on its way to SIDE
+  L1 to L5           the request is refused by the link
+
+When the script is done to its end, a line for each side is printed: its state, and how many messages
+it was given and received, and how many of those given are acknowledged or dropped.
+
+Examples. A line of the script stands behind <, and what is printed for it stands behind >.
+
+A message is lost, and T200 recovers it, `lapd pair`:
+  < establish user
+  > U>N SAPI 0 TEI 64 C SABME P=1
+  < deliver net
+  > N>U SAPI 0 TEI 64 R UA F=1
+  > net established
+  < deliver user
+  > user confirmed
+  < give user 0801
+  > U>N SAPI 0 TEI 64 C I N(S)=0 N(R)=0 P=0 info=0801
+  < lose net 0
+  < # T200 enquires, and the answer tells that the message is missing
+  < expire200 user
+  > U>N SAPI 0 TEI 64 C RR N(R)=0 P=1
+  < expire200 user
+  > refused P3 NotYet net 0
+  < deliver net
+  > N>U SAPI 0 TEI 64 R RR N(R)=0 F=1
+  < deliver user
+  > U>N SAPI 0 TEI 64 C I N(S)=0 N(R)=0 P=0 info=0801
+  < deliver net
+  > net data 0801
+  > N>U SAPI 0 TEI 64 R RR N(R)=1 F=0
+  < deliver user
+  > user acknowledged 1
+  > user: state 7, given 1, received 0, acknowledged 1, dropped 0
+  > net: state 7, given 0, received 1, acknowledged 0, dropped 0
+
+The network side begins anew while the user side is still in state 7, `lapd pair`:
+  < establish user
+  > U>N SAPI 0 TEI 64 C SABME P=1
+  < deliver net
+  > N>U SAPI 0 TEI 64 R UA F=1
+  > net established
+  < deliver user
+  > user confirmed
+  < restart net
+  < establish net
+  > N>U SAPI 0 TEI 64 C SABME P=1
+  < # the user side is established again, and reports it
+  < deliver user
+  > U>N SAPI 0 TEI 64 R UA F=1
+  > user report F
+  < deliver net
+  > net confirmed
+  > user: state 7, given 0, received 0, acknowledged 0, dropped 0
+  > net: state 7, given 0, received 0, acknowledged 0, dropped 0";
 
 /// The lines of `decode`.
 pub const DECODE: &str = "\

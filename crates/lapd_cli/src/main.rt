@@ -1,5 +1,5 @@
-//! The program `lapd`: it answers a script as a link of the ISDN D channel (ITU-T Q.921), assigns TEIs on a bus of
-//! terminals, or prints octets as trace lines.
+//! The program `lapd`: it answers a script as a link of the ISDN D channel (ITU-T Q.921), plays two ends of one and the
+//! line between them, assigns TEIs on a bus of terminals, or prints octets as trace lines.
 //!
 //! Scripts come on standard input, a line for each thing that happens, and each line's answer goes
 //! to standard output before more is read. The commands stand in `lapd_commands` and `lapd_bus`, and the walk over a
@@ -14,7 +14,7 @@ mod tests;
 use clap::error::ErrorKind;
 use command_line::{Chosen, Unchosen, WordsFault, choose, words};
 use lapd_bus::bus;
-use lapd_commands::{answer, decode};
+use lapd_commands::{answer, decode, pair};
 use lapd_script::ScriptFault;
 use std::fmt::Display;
 use std::io::BufWriter;
@@ -48,6 +48,7 @@ fn run(rt: &HostRuntime, chosen: Chosen) -> Result<(), ScriptFault> {
             answer(rt.alloc(), &mut script, &mut out, side, params)
         }
         Chosen::Bus { terminals } => bus(rt.alloc(), &mut script, &mut out, terminals),
+        Chosen::Pair { user, network } => pair(rt.alloc(), &mut script, &mut out, user, network),
         Chosen::Decode => decode(rt.alloc(), &mut script, &mut out),
     };
     // What a device that failed did not take is given up.

@@ -3,12 +3,11 @@
 ghost use Rattle.std.specs.Prelude.{◌≡◌, ◌&&◌, [], length, true, IfOk, IfSome, IsOkUnless, OnOk, Some};
 ghost use Rattle.std.specs.Io.KnownBytes.{Appends};
 ghost use Rattle.lapd_commands.specs.Answer.{answer_step, new_session};
-ghost use Rattle.lapd_commands.specs.Outputs.{refusal_line};
 ghost use Rattle.lapd_script.specs.Script.{EndsAs, LineEndsAs, lines_of};
 
-use crate::outputs::put_outs;
+use crate::outputs::{put_outs, put_refusal};
 use lapd_frame::{Frame, FrameFault, Sapi, Side, Tei};
-use lapd_link::{Event, Link, LinkFault, Outs, Params};
+use lapd_link::{Event, Link, Outs, Params};
 use lapd_script::{Command, LineFault, ScriptFault, Words, put_line, put_number, walk};
 use std::alloc::{AllocError, Global};
 use std::io::{Read, Write};
@@ -153,7 +152,7 @@ impl Answerer {
             → LineEndsAs IsAnswerer (alone behind.entry (state_line s.end, s)) result self.new (W.contents out.old) (W.contents out.new) }
     {
         behind.nothing()?;
-        put_number(b"state ", u16::from(self.link.state()), out)
+        put_number(b"state ", u64::from(self.link.state()), out)
     }
 
     /// Begins or ends the own receiver busy condition.
@@ -251,12 +250,4 @@ impl Answerer {
     {
         put_outs(&self.link, handed, self.outs.as_slice(), out)
     }
-}
-
-/// Prints why the link refused a request.
-fn put_refusal<W: Write>(fault: LinkFault, out: &mut W) -> Result<(), LineFault>
-    ensures ok { OnOk result (Appends (W.contents out.old) (W.contents out.new) (refusal_line fault)) }
-    ensures err { IsOkUnless result LineFault.Device }
-{
-    put_line(b"refused ", fault.name().as_bytes(), out)
 }

@@ -7,9 +7,12 @@
 
 mod answerer;
 mod decoder;
+mod mover;
+mod moves;
 mod numbers;
 mod outputs;
 
 pub use answerer::{Answerer, answer};
 pub use decoder::decode;
+pub use mover::{Mover, pair};
 pub use numbers::{number_of, params_of};

@@ -4,10 +4,10 @@ ghost use Rattle.std.specs.Prelude.{◌≡◌, drop, IsOkUnless, OnOk, None};
 ghost use Rattle.std.specs.Io.KnownBytes.{Appends};
 ghost use Rattle.lapd_link.specs.End.{End};
 ghost use Rattle.lapd_link.specs.Link.{LinkStandsFor, setup_of};
-ghost use Rattle.lapd_commands.specs.Outputs.{out_line, outs_text, primitive_line, send_line};
+ghost use Rattle.lapd_commands.specs.Outputs.{out_line, outs_text, primitive_line, refusal_line, send_line};
 
 use lapd_frame::{Frame, MOST_OCTETS, Side, write};
-use lapd_link::{Link, Out};
+use lapd_link::{Link, LinkFault, Out};
 use lapd_script::{LineFault, put_line, put_number, put_octets};
 use std::io::Write;
 
@@ -54,8 +54,12 @@ fn put_send<W: Write>(frame: &Frame<'_>, side: Side, out: &mut W) -> Result<(), 
     put_octets(b"send", &octets[..len], out)
 }
 
-/// Prints an output that is no frame.
-fn put_primitive<W: Write>(handed: &[u8], given: &Out, out: &mut W) -> Result<(), LineFault>
+/// Prints an output that is no frame, and nothing of a frame.
+///
+/// # Errors
+///
+/// `Device`, where the writer fails.
+pub fn put_primitive<W: Write>(handed: &[u8], given: &Out, out: &mut W) -> Result<(), LineFault>
     ensures ok { OnOk result (Appends (W.contents out.old) (W.contents out.new) (primitive_line handed.now given.now)) }
     ensures err { IsOkUnless result LineFault.Device }
 {
@@ -67,10 +71,22 @@ fn put_primitive<W: Write>(handed: &[u8], given: &Out, out: &mut W) -> Result<()
         Out::Confirmed => put_line(b"confirmed", &[], out),
         Out::Released => put_line(b"released", &[], out),
         Out::ReleaseConfirm => put_line(b"release-confirmed", &[], out),
-        Out::Acknowledged(n) => put_number(b"acknowledged ", *n, out),
-        Out::Dropped(n) => put_number(b"dropped ", *n, out),
+        Out::Acknowledged(n) => put_number(b"acknowledged ", u64::from(*n), out),
+        Out::Dropped(n) => put_number(b"dropped ", u64::from(*n), out),
         Out::Start(timer) => put_line(b"start ", timer.name().as_bytes(), out),
         Out::Stop(timer) => put_line(b"stop ", timer.name().as_bytes(), out),
         Out::Report(letter) => put_line(b"report ", letter.name().as_bytes(), out),
     }
+}
+
+/// Prints why a link refused a request.
+///
+/// # Errors
+///
+/// `Device`, where the writer fails.
+pub fn put_refusal<W: Write>(fault: LinkFault, out: &mut W) -> Result<(), LineFault>
+    ensures ok { OnOk result (Appends (W.contents out.old) (W.contents out.new) (refusal_line fault)) }
+    ensures err { IsOkUnless result LineFault.Device }
+{
+    put_line(b"refused ", fault.name().as_bytes(), out)
 }

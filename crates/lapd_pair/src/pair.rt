@@ -107,13 +107,14 @@ impl Pair {
 
 /// What a pair shows.
 impl Pair {
-    ghost use Rattle.lapd_link.specs.Link.{LinkStandsFor};
+    ghost use Rattle.lapd_link.specs.Link.{LinkStandsFor, setup_of};
     ghost use Rattle.lapd_frame.specs.Address.{other_side};
     ghost use Rattle.lapd_frame.specs.Frame.{spelling};
     ghost use Rattle.lapd_world.specs.World.{World, left, view_of};
     ghost use Rattle.lapd_pair.specs.Histories.{of_received, octets_and_establishment, fates_of};
     ghost use Rattle.lapd_pair.specs.Line.{fields_of};
     ghost use Rattle.lapd_pair.specs.Runs.{PairStandsFor};
+    ghost use Rattle.lapd_pair.specs.Setup.{setup_for};
     ghost use Rattle.lapd_pair.specs.Station.{IsStation};
 
     /// This side.
@@ -192,9 +193,10 @@ impl Pair {
         }
     }
 
-    /// This side's end of the link.
+    /// This side's end of the link, of SAPI 0 and TEI 64.
     pub fn link(&self, side: Side) -> &Link
-        ensures { (w : World) → PairStandsFor self.now w → LinkStandsFor result.now (view_of side w).station.end }
+        ensures end { (w : World) → PairStandsFor self.now w → LinkStandsFor result.now (view_of side w).station.end }
+        ensures setup { (w : World) → PairStandsFor self.now w → setup_of result.now ≡ setup_for side }
     {
         &self.station(side).link
     }

@@ -1,5 +1,5 @@
 -- The words of a script's line and of what is printed.
-use Rattle.std.specs.Prelude.{◌≡◌, ◌≢◌, ℕ, ◌==◌, List, [], ◌∷◌, ◌++◌, if◌then◌else◌, Option, Some, None, option_and_then, Result, Ok, Err, ⊤}
+use Rattle.std.specs.Prelude.{◌≡◌, ◌≢◌, ℕ, ◌==◌, ◌+◌, ◌*◌, ◌-◌, ◌^◌, ◌&&◌, nat_le, nat_lt, Bool, List, [], ◌∷◌, ◌++◌, length, if◌then◌else◌, Option, Some, None, option_and_then, Result, Ok, Err, ⊤}
 use Rattle.std.specs.List.{AllByRecursion}
 use Rattle.std.specs.Result.{result_ok}
 use Rattle.hex.specs.Hex.{decode_of, encode_lower}
@@ -37,6 +37,28 @@ nothing_of (word ∷ words) = None
 abbrev pub octets_behind : List (List ℕ) → Option (List ℕ)
 octets_behind [] = Some []
 octets_behind (digits ∷ words) = option_and_then (λ none. octets_of digits) (nothing_of words)
+
+-- a decimal digit
+abbrev pub is_digit : ℕ → Bool
+is_digit octet = nat_le 48 octet && nat_le octet 57
+
+-- the number that decimal digits write behind those of n; none where one is no digit
+abbrev pub digits_behind : ℕ → List ℕ → Option ℕ
+digits_behind n [] = Some n
+digits_behind n (digit ∷ digits) = if is_digit digit then digits_behind (n * 10 + (digit - 48)) digits else None
+
+-- a number below 2^64
+abbrev pub below_2_64 : ℕ → Option ℕ
+below_2_64 n = if nat_lt n (2 ^ 64) then Some n else None
+
+-- the number below 2^64 that decimal digits write, at least one of them
+abbrev pub number_said : List ℕ → Option ℕ
+number_said digits = if length digits == 0 then None else option_and_then below_2_64 (digits_behind 0 digits)
+
+-- such a number in the last word
+abbrev pub number_behind : List (List ℕ) → Option ℕ
+number_behind [] = None
+number_behind (digits ∷ words) = option_and_then (λ none. number_said digits) (nothing_of words)
 
 -- a function's value, seen by `view`, is what the line says, or its fault is that the line says nothing, unless memory
 -- ran out

@@ -1,7 +1,7 @@
 //! The words of a script's line.
 
-ghost use Rattle.std.specs.Prelude.{◌≡◌, ◌∷◌, ◌++◌, MatchOption, [], ⊤};
-ghost use Rattle.lapd_script.specs.Line.{HasNoSpace, Reads, nothing_of, octets_behind, octets_of, words_of};
+ghost use Rattle.std.specs.Prelude.{◌≡◌, ◌∷◌, ◌++◌, ◌-◌, MatchOption, None, Some, [], if◌then◌else◌, ⊤};
+ghost use Rattle.lapd_script.specs.Line.{HasNoSpace, Reads, is_digit, nothing_of, number_behind, number_said, octets_behind, octets_of, words_of};
 
 use crate::script::LineFault;
 use hex::FromHexError;
@@ -11,8 +11,8 @@ use std::marker::Model;
 
 /// The words of a line that are still to be read. Single spaces part them, so a word may be empty.
 ///
-/// [`Words::next_word`] reads the next one. [`Words::nothing`] and [`Words::octets`] read to the end of the line, so each
-/// consumes the words.
+/// [`Words::next_word`] reads the next one. [`Words::nothing`], [`Words::octets`] and [`Words::number`] read to the end of
+/// the line, so each consumes the words.
 #[derive(Debug, Drop)]
 pub struct Words<'a> {
     rest: Option<&'a [u8]>,
@@ -75,6 +75,24 @@ impl<'a> Words<'a> {
             }
         }
     }
+
+    /// Reads the number below 2^64 that the last word writes in decimal digits alone. It may begin with zeros.
+    ///
+    /// # Errors
+    ///
+    /// `Bad` where no word is left, and where the word writes no such number or is not the last one.
+    pub fn number(mut self) -> Result<u64, LineFault>
+        ensures { Reads (λ n. n) result (number_behind self.entry) }
+    {
+        let Some(digits) = self.next_word() else {
+            return Err(LineFault::Bad);
+        };
+        self.nothing()?;
+        match number_of(digits) {
+            Some(number) => Ok(number),
+            None => Err(LineFault::Bad),
+        }
+    }
 }
 
 /// The first word, and what stands behind its space, where there is one.
@@ -111,5 +129,30 @@ fn octets_of(alloc: Global, digits: &[u8]) -> Result<Vec<u8>, LineFault>
         Ok(octets) => Ok(octets),
         Err(FromHexError::OutOfMemory) => Err(LineFault::Memory),
         Err(_) => Err(LineFault::Bad),
+    }
+}
+
+/// The number below 2^64 that these decimal digits write, at least one of them.
+fn number_of(digits: &[u8]) -> Option<u64>
+    ensures { result ≡ number_said digits.now }
+{
+    if digits.is_empty() {
+        return None;
+    }
+    let mut number: u64 = 0;
+    for digit in digits {
+        number = number.checked_mul(10)?.checked_add(digit_of(*digit)?)?;
+    }
+    Some(number)
+}
+
+/// What a decimal digit counts.
+fn digit_of(octet: u8) -> Option<u64>
+    ensures { result ≡ (if is_digit octet then Some (octet - 48) else None) }
+{
+    if octet.is_ascii_digit() {
+        Some(u64::from(octet - b'0'))
+    } else {
+        None
     }
 }

@@ -30,7 +30,7 @@ pub fn put_line<W: Write>(front: &[u8], back: &[u8], out: &mut W) -> Result<(), 
 /// # Errors
 ///
 /// `Device`, where the writer fails: the front of the line may be written then.
-pub fn put_number<W: Write>(front: &[u8], number: u16, out: &mut W) -> Result<(), LineFault>
+pub fn put_number<W: Write>(front: &[u8], number: u64, out: &mut W) -> Result<(), LineFault>
     ensures ok { OnOk result (Appends (W.contents out.old) (W.contents out.new) (text_line (front.now ++ decimal number))) }
     ensures err { IsOkUnless result LineFault.Device }
 {

@@ -1,5 +1,5 @@
 //! Tests of the crates below, as tables: scripts, rows of the state table, counters and queues, and what they call for.
-//! Those of fields, frames and trace lines stand in `lapd_trace`.
+//! Those of fields, frames and trace lines stand in `lapd_trace`, and those of two ends in `lapd_pair_tests`.
 //!
 //! They stand apart so that each crate is proved once. What a contract says is not tested again. A row shows that the
 //! definitions say what is meant, that a call can succeed, and what a value prints. `wants` fails a test with the row's

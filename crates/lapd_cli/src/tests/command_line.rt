@@ -4,7 +4,7 @@ use crate::command_line::{Chosen, Unchosen, WordsFault, choose, words};
 use crate::help;
 use clap::error::ErrorKind;
 use lapd_bus::bus;
-use lapd_commands::{answer, decode};
+use lapd_commands::{answer, decode, pair};
 use lapd_frame::{Sapi, Side};
 use lapd_link::{Params, Recovery};
 use std::env::{Env, FillError};
@@ -111,6 +111,57 @@ fn a_recovery_is_chosen(rt: HostRuntime) -> Result<(), Fail> {
     )
 }
 
+// Words that choose two ends: the window, N200 and room of both, and the recovery of each.
+const PAIRS: &[(&[&str], (u8, u8, u16), Recovery, Recovery)] = &[
+    (
+        &["lapd", "pair"],
+        (1, 3, 512),
+        Recovery::Enquiry,
+        Recovery::Enquiry,
+    ),
+    (
+        &[
+            "lapd",
+            "pair",
+            "--k",
+            "7",
+            "--n200",
+            "2",
+            "--room",
+            "9",
+            "--recovery-user",
+            "last",
+        ],
+        (7, 2, 9),
+        Recovery::LastMessage,
+        Recovery::Enquiry,
+    ),
+    (
+        &[
+            "lapd",
+            "pair",
+            "--recovery-net=last",
+            "--recovery-user=enquiry",
+        ],
+        (1, 3, 512),
+        Recovery::Enquiry,
+        Recovery::LastMessage,
+    ),
+];
+
+#[test]
+fn words_choose_two_ends(rt: HostRuntime) -> Result<(), Fail> {
+    for (words, (k, n200, room), user, network) in PAIRS {
+        let params = Params::new(*k, *n200, *room).ok_or("the numbers are in range")?;
+        let chosen = Chosen::Pair {
+            user: params.with_recovery(*user),
+            network: params.with_recovery(*network),
+        };
+        wants(chooses(&rt, words, chosen), "other ends are chosen")?;
+    }
+    Ok(())
+}
+
 // Words that the parser does not take.
 const FAULTS: &[&[&str]] = &[
     &["lapd", "--side", "user"],
@@ -123,6 +174,12 @@ const FAULTS: &[&[&str]] = &[
     &["lapd", "answer", "--recovery", "other"],
     &["lapd", "answer", "more"],
     &["lapd", "answer", "--version"],
+    &["lapd", "pair", "more"],
+    &["lapd", "pair", "--side", "user"],
+    &["lapd", "pair", "--recovery", "last"],
+    &["lapd", "pair", "--recovery-user", "other"],
+    &["lapd", "pair", "--recovery-net"],
+    &["lapd", "pair", "--k", "3", "--k", "3"],
     &["lapd", "decode", "--side", "user"],
     &["lapd", "decode", "--k", "3"],
     &["lapd", "decode", "more"],
@@ -166,6 +223,7 @@ const ASKED: &[&[&str]] = &[
     &["lapd", "-h"],
     &["lapd", "answer", "--help"],
     &["lapd", "bus", "--help"],
+    &["lapd", "pair", "--help"],
     &["lapd", "decode", "--help"],
     &["lapd", "--version"],
     &["lapd", "-V"],
@@ -184,6 +242,10 @@ const NUMBERS: &[(&[&str], &str)] = &[
     (
         &["lapd", "answer", "--k", "0"],
         "error: invalid value '0' for '--k <FRAMES>': not a number from 1 to 127 in decimal digits",
+    ),
+    (
+        &["lapd", "pair", "--k", "128"],
+        "error: invalid value '128' for '--k <FRAMES>': not a number from 1 to 127 in decimal digits",
     ),
     (
         &["lapd", "answer", "--k", "128"],
@@ -357,6 +419,29 @@ fn examples_of_answer(rt: HostRuntime) -> Result<(), Fail> {
     };
     example_of_answer(&rt, Side::User, user)?;
     example_of_answer(&rt, Side::Network, network)
+}
+
+fn example_of_pair(rt: &HostRuntime, example: &str) -> Result<(), Fail> {
+    let script = lines_behind(rt, example, "  < ")?;
+    let params = Params::new(1, 3, 512).ok_or("the numbers are in range")?;
+    let mut printed = Vec::new(rt.alloc());
+    pair(
+        rt.alloc(),
+        &mut script.as_slice(),
+        &mut printed,
+        params,
+        params,
+    )?;
+    prints(rt, example, printed.as_slice())
+}
+
+#[test]
+fn examples_of_pair(rt: HostRuntime) -> Result<(), Fail> {
+    let Some((first, second)) = help::PAIR.split_once("The network side begins anew") else {
+        return Err(Fail::new("the help has no second example"));
+    };
+    example_of_pair(&rt, first)?;
+    example_of_pair(&rt, second)
 }
 
 #[test]

@@ -1,4 +1,4 @@
-use Rattle.std.proofs.Common.{[], ◌∙◌}
+use Rattle.std.proofs.Common.{◌∙◌}
 use Rattle.lapd_commands.specs.Answer.{Session, messages_of}
 use Rattle.lapd_commands.specs.Outputs.{outs_text}
 use Rattle.lapd_commands.specs.Session.{IsAnswerer}

@@ -1,0 +1,54 @@
+use crate::MESSAGES;
+use crate::bench_fault::BenchFault;
+use std::env::Args;
+use std::{env, io};
+
+/// What is to be done.
+#[derive(Clone, Copy, Debug, PartialEq, Eq)]
+pub enum Work {
+    /// So many messages go over two links.
+    Links(u32),
+    /// So many messages go over a pair.
+    Pair(u32),
+    /// So many frames stand on the line of a pair, and so many more are sent and delivered.
+    Line(u32, u32),
+}
+
+/// What the command line asks for.
+///
+/// # Errors
+///
+/// `CommandLine` where it asks for none of these, and `Memory`.
+pub fn asked(rt: &HostRuntime) -> Result<Work, BenchFault> {
+    let mut words = match env::args(rt) {
+        Ok(words) => words,
+        Err(error) if error.kind() == io::ErrorKind::OutOfMemory => return Err(BenchFault::Memory),
+        Err(_) => return Err(BenchFault::CommandLine),
+    };
+    let _program = words.next();
+    let Some(first) = words.next() else {
+        return Ok(Work::Links(MESSAGES));
+    };
+    let work = match first.as_str() {
+        "pair" => Work::Pair(next_number(&mut words)?),
+        "line" => Work::Line(next_number(&mut words)?, next_number(&mut words)?),
+        count => Work::Links(number(count)?),
+    };
+    match words.next() {
+        Some(_) => Err(BenchFault::CommandLine),
+        None => Ok(work),
+    }
+}
+
+/// The number that the next word writes.
+fn next_number(words: &mut Args) -> Result<u32, BenchFault> {
+    match words.next() {
+        Some(word) => number(word.as_str()),
+        None => Err(BenchFault::CommandLine),
+    }
+}
+
+/// The number that a word writes.
+fn number(word: &str) -> Result<u32, BenchFault> {
+    word.parse::<u32>().map_err(|_| BenchFault::CommandLine)
+}

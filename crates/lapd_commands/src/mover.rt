@@ -1,0 +1,336 @@
+//! The command `pair`: two ends and the line between them, on which a script makes the moves.
+
+ghost use Rattle.std.specs.Prelude.{◌≡◌, ◌∷◌, ◌++◌, IfSome, IsOkUnless, OnOk};
+ghost use Rattle.std.specs.Io.KnownBytes.{Appends};
+ghost use Rattle.lapd_commands.specs.Pair.{PairEndsAs, figures_line, not_admitted, side_line, side_name as name_of, unit_of as unit_data_of};
+ghost use Rattle.lapd_frame.specs.Frame.{spelling};
+ghost use Rattle.lapd_pair.specs.Moves.{move_of};
+ghost use Rattle.lapd_script.specs.Line.{text_line};
+ghost use Rattle.lapd_commands.specs.Outputs.{primitive_line};
+ghost use Rattle.lapd_script.specs.Script.{lines_of};
+ghost use Rattle.lapd_trace.specs.Trace.{trace_line};
+ghost use Rattle.lapd_world.specs.Move.{NotYet};
+ghost use Rattle.lapd_world.specs.World.{new_world};
+
+use crate::moves::read_move;
+use crate::outputs::{put_primitive, put_refusal};
+use lapd_frame::{Frame, MOST_OCTETS, Side, write};
+use lapd_link::{Out, Params};
+use lapd_pair::{Move, Pair, PairFault};
+use lapd_script::{Command, LineFault, ScriptFault, put_line, put_number, walk};
+use std::alloc::{AllocError, Global};
+use std::io::{Read, Write};
+
+/// Two ends of a link and the line between them, which make the moves of a script, a line each, by [`Command::run`].
+#[derive(Drop)]
+pub struct Mover {
+    alloc: Global,
+    pair: Pair,
+}
+
+/// Goes over a script of moves of two ends of SAPI 0 and TEI 64, made with these parameters, and writes what they call
+/// for: a line for each frame, primitive and report, or why a move is refused. Behind a script that is done to its end
+/// comes a line for each side, of its state and its messages.
+///
+/// # Errors
+///
+/// `BadLine` at the first line that is none of the command's, `Device` where a read or a write fails, and `Memory`.
+pub fn pair<R: Read, W: Write>(
+    alloc: Global,
+    script: &mut R,
+    out: &mut W,
+    user: Params,
+    network: Params,
+) -> Result<(), ScriptFault>
+    ensures { IfSome (R.remaining script.old) (λ octets. PairEndsAs (new_world user network) result
+        (lines_of octets) (W.contents out.old) (W.contents out.new)) }
+{
+    let mut mover = match Mover::new(alloc, user, network) {
+        Ok(mover) => mover,
+        Err(_) => return Err(ScriptFault::Memory),
+    };
+    match walk(alloc, &mut mover, script, out) {
+        Ok(()) => mover.close(out),
+        Err(fault) => Err(fault),
+    }
+}
+
+impl Mover {
+    ghost use Rattle.std.specs.Prelude.{IfOk};
+    ghost use Rattle.lapd_commands.specs.Playing.{IsMover};
+
+    /// Two ends in state 4, with nothing on the line.
+    ///
+    /// # Errors
+    ///
+    /// `AllocError` where the memory of an I queue was refused.
+    pub fn new(alloc: Global, user: Params, network: Params) -> Result<Mover, AllocError>
+        ensures { IfOk result (λ mover. IsMover mover (new_world user network)) }
+    {
+        let pair = Pair::new(alloc, user, network)?;
+        Ok(Mover { alloc, pair })
+    }
+}
+
+impl Command for Mover {
+    ghost use Rattle.lapd_commands.specs.Pair.{pair_step};
+    ghost use Rattle.lapd_commands.specs.Playing.{IsMover};
+    ghost use Rattle.lapd_world.specs.World.{World};
+
+    ghost State = { World };
+
+    ghost step = { pair_step };
+
+    ghost stands_for = { IsMover };
+
+    fn run<W: Write>(&mut self, line: &[u8], out: &mut W) -> Result<(), LineFault> {
+        let deed = read_move(self.alloc, line)?;
+        self.make(&deed, out)
+    }
+}
+
+impl Mover {
+    ghost use Rattle.std.specs.Prelude.{IfOk, Some};
+    ghost use Rattle.lapd_commands.specs.Pair.{closing_line, closing_lines, figures_of, move_made, octets_for, told_line, told_lines};
+    ghost use Rattle.lapd_commands.specs.Playing.{IsMover};
+    ghost use Rattle.lapd_script.specs.Script.{LineEndsAs};
+    ghost use Rattle.lapd_world.specs.World.{World, view_of};
+
+    /// Makes a move, and prints what it comes to.
+    fn make<W: Write>(&mut self, deed: &Move, out: &mut W) -> Result<(), LineFault>
+        ensures { (w : World) → IsMover self.old w
+            → LineEndsAs IsMover (Some (move_made w (move_of deed.now))) result self.new (W.contents out.old) (W.contents out.new) }
+    {
+        match self.pair.apply(deed) {
+            Ok(outs) => {
+                let text = self.told(deed.side(), unit_of(deed), outs.as_slice())?;
+                out.write_all(text.as_slice())?;
+                Ok(())
+            }
+            Err(PairFault::NothingThere) => put_line(b"refused P1 NothingThere", &[], out),
+            Err(PairFault::NotRunning) => put_line(b"refused P2 NotRunning", &[], out),
+            Err(PairFault::NotYet(to, place)) => put_not_yet(to, place, out),
+            Err(PairFault::Refused(fault)) => put_refusal(fault, out),
+            Err(PairFault::Memory) => Err(LineFault::Memory),
+        }
+    }
+
+    /// The lines of the outputs of a move of this side, which is done.
+    fn told(&self, side: Side, unit: &[u8], outs: &[Out]) -> Result<Vec<u8>, LineFault>
+        ensures ok { (w : World) → IsMover self.now w
+            → IfOk result (λ text. text.items ≡ told_lines side (view_of side w).station unit.now outs.now) }
+        ensures err { IsOkUnless result LineFault.Memory }
+    {
+        let mut text = Vec::new(self.alloc);
+        for given in outs {
+            self.tell(side, unit, given, &mut text)?;
+        }
+        Ok(text)
+    }
+
+    /// Adds the line of an output of this side, where it has one.
+    fn tell(
+        &self,
+        side: Side,
+        unit: &[u8],
+        given: &Out,
+        text: &mut Vec<u8>,
+    ) -> Result<(), LineFault>
+        ensures ok { (w : World) → IsMover self.now w
+            → OnOk result (text.new.items ≡ text.old.items ++ told_line side (view_of side w).station unit.now given.now) }
+        ensures err { IsOkUnless result LineFault.Memory }
+    {
+        let octets = self.octets_for(side, unit, given);
+        match self.pair.link(side).frame(given, octets) {
+            Some(frame) => push_frame(self.alloc, side, &frame, text),
+            None => push_side_line(side, octets, given, text),
+        }
+    }
+
+    /// The octets that an output speaks of: those last received, or the unit data that is sent.
+    fn octets_for<'a>(&'a self, side: Side, unit: &'a [u8], given: &Out) -> &'a [u8]
+        ensures { (w : World) → IsMover self.now w → result.now ≡ octets_for (view_of side w).station.history unit.now given.now }
+    {
+        match given {
+            Out::Up => match self.pair.received(side).last() {
+                Some(message) => message.octets.as_slice(),
+                None => &[],
+            },
+            Out::UnitUp => match self.pair.units(side).last() {
+                Some(octets) => octets.as_slice(),
+                None => &[],
+            },
+            _ => unit,
+        }
+    }
+
+    /// Prints where both sides are in the end, and hands it to the device.
+    fn close<W: Write>(&self, out: &mut W) -> Result<(), ScriptFault>
+        ensures ok { (w : World) → IsMover self.now w → OnOk result (Appends (W.contents out.old) (W.contents out.new) (closing_lines w)) }
+        ensures err { IsOkUnless result ScriptFault.Device }
+    {
+        let Ok(()) = self.put_closing(Side::User, out) else {
+            return Err(ScriptFault::Device);
+        };
+        let Ok(()) = self.put_closing(Side::Network, out) else {
+            return Err(ScriptFault::Device);
+        };
+        let Ok(()) = out.flush() else {
+            return Err(ScriptFault::Device);
+        };
+        Ok(())
+    }
+
+    /// Prints where a side is in the end, and how many messages it was given, received, and saw acknowledged or dropped.
+    fn put_closing<W: Write>(&self, side: Side, out: &mut W) -> Result<(), LineFault>
+        ensures ok { (w : World) → IsMover self.now w
+            → OnOk result (Appends (W.contents out.old) (W.contents out.new) (closing_line side (view_of side w).station)) }
+        ensures err { IsOkUnless result LineFault.Device }
+    {
+        put_figures(side, self.figures(side), out)
+    }
+
+    /// Where a side is, and how many messages it was given, received, and saw acknowledged or dropped.
+    fn figures(&self, side: Side) -> Figures
+        ensures { (w : World) → IsMover self.now w → result ≡ figures_of (view_of side w).station }
+    {
+        Figures {
+            state: self.pair.link(side).state(),
+            given: self.pair.given(side).len(),
+            received: self.pair.received(side).len(),
+            acknowledged: self.pair.acknowledged(side),
+            dropped: self.pair.dropped(side),
+        }
+    }
+}
+
+/// What is printed of a side at the end: its state, and numbers of messages.
+#[derive(Clone, Copy, Debug)]
+struct Figures {
+    state: u8,
+    given: usize,
+    received: usize,
+    acknowledged: u64,
+    dropped: u64,
+}
+
+/// Prints the figures of a side.
+fn put_figures<W: Write>(side: Side, figures: Figures, out: &mut W) -> Result<(), LineFault>
+    ensures ok { OnOk result (Appends (W.contents out.old) (W.contents out.new) (figures_line side figures)) }
+    ensures err { IsOkUnless result LineFault.Device }
+{
+    let Figures {
+        state,
+        given,
+        received,
+        acknowledged,
+        dropped,
+    } = figures;
+    out.write_all(side_name(side).as_bytes())?;
+    writeln!(
+        out,
+        ": state {state}, given {given}, received {received}, acknowledged {acknowledged}, dropped {dropped}"
+    )?;
+    Ok(())
+}
+
+/// The unit data that a move sends.
+fn unit_of(deed: &Move) -> &[u8]
+    ensures { result.now ≡ unit_data_of (move_of deed.now).deed }
+{
+    match deed {
+        Move::Unit(_, octets) => octets.as_slice(),
+        _ => &[],
+    }
+}
+
+/// The name of a side, as scripts have it.
+fn side_name(side: Side) -> &'static str
+    ensures { result.now ≡ name_of side }
+{
+    match side {
+        Side::User => "user",
+        Side::Network => "net",
+    }
+}
+
+/// Prints that T200 may not expire yet, for the frame at this place on its way to this side.
+fn put_not_yet<W: Write>(to: Side, place: usize, out: &mut W) -> Result<(), LineFault>
+    ensures ok { OnOk result (Appends (W.contents out.old) (W.contents out.new) (not_admitted (NotYet to place))) }
+    ensures err { IsOkUnless result LineFault.Device }
+{
+    match to {
+        Side::User => put_number(b"refused P3 NotYet user ", place as u64, out),
+        Side::Network => put_number(b"refused P3 NotYet net ", place as u64, out),
+    }
+}
+
+/// Adds a frame that this side sends, as a trace line.
+fn push_frame(
+    alloc: Global,
+    side: Side,
+    frame: &Frame<'_>,
+    text: &mut Vec<u8>,
+) -> Result<(), LineFault>
+    ensures ok { OnOk result (text.new.items ≡ text.old.items ++ text_line (trace_line side (spelling side frame.now))) }
+    ensures err { IsOkUnless result LineFault.Memory }
+{
+    let mut octets = [0; MOST_OCTETS];
+    let len = write(frame, side, &mut octets);
+    let Ok(line) = lapd_trace::line(alloc, side, &octets[..len]) else {
+        return Err(LineFault::Memory);
+    };
+    let Ok(()) = put_line(line.as_bytes(), &[], text) else {
+        return Err(LineFault::Memory);
+    };
+    Ok(())
+}
+
+/// Adds a primitive or a report of this side. Timers are not told.
+fn push_side_line(
+    side: Side,
+    octets: &[u8],
+    given: &Out,
+    text: &mut Vec<u8>,
+) -> Result<(), LineFault>
+    ensures ok { OnOk result (text.new.items ≡ text.old.items ++ side_line side octets.now given.now) }
+    ensures err { IsOkUnless result LineFault.Memory }
+{
+    match given {
+        Out::Send(..) | Out::SendMessage(..) | Out::SendUnit | Out::Start(_) | Out::Stop(_) => Ok(
+            (),
+        ),
+        Out::Up
+        | Out::UnitUp
+        | Out::Established
+        | Out::Confirmed
+        | Out::Released
+        | Out::ReleaseConfirm
+        | Out::Acknowledged(_)
+        | Out::Dropped(_)
+        | Out::Report(_) => push_primitive(side, octets, given, text),
+    }
+}
+
+/// Adds the name of the side, a space and the primitive or report.
+fn push_primitive(
+    side: Side,
+    octets: &[u8],
+    given: &Out,
+    text: &mut Vec<u8>,
+) -> Result<(), LineFault>
+    ensures ok { OnOk result (text.new.items ≡ text.old.items ++ name_of side ++ (32 ∷ primitive_line octets.now given.now)) }
+    ensures err { IsOkUnless result LineFault.Memory }
+{
+    let front = match side {
+        Side::User => b"user ".as_slice(),
+        Side::Network => b"net ".as_slice(),
+    };
+    let Ok(()) = text.extend_from_slice(front) else {
+        return Err(LineFault::Memory);
+    };
+    let Ok(()) = put_primitive(octets, given, text) else {
+        return Err(LineFault::Memory);
+    };
+    Ok(())
+}

@@ -1,0 +1,22 @@
+//! Tests of two ends on a lossy line: scripts of the command `pair`, moves of a `Pair` with the octets that they put on
+//! the line, refusals, memory that is refused, and 10,000 drawn moves for each recovery at each side.
+//!
+//! They stand apart from the other tests so that the check of either is short. `wants` fails a test with the row's name.
+#![tactic(auto)]
+
+#[cfg(test)]
+mod made;
+#[cfg(test)]
+mod memory;
+#[cfg(test)]
+mod played;
+#[cfg(test)]
+mod readers;
+#[cfg(test)]
+mod refusals;
+#[cfg(test)]
+mod schedule;
+#[cfg(test)]
+mod wants;
+#[cfg(test)]
+mod worked;
