@@ -5,10 +5,13 @@ use crate::frame_octets::{FrameOctets, is_marked, spelled};
 use lapd_frame::{Frame, Role, Side};
 use std::alloc::{AllocError, Global};
 
+/// How many frames are worth removing while others stand behind them.
+const MANY: usize = 128;
+
 /// One direction of the line: the octets of the frames that are on their way, in the order in which they were sent.
 ///
-/// A frame that is taken stays at the front until more than half of them are taken. So, in the mean, taking one costs the
-/// same however many there are.
+/// Frames that are taken stay at the front until all are taken, or many and more than half. So, in the mean, taking one
+/// costs the same however many there are.
 #[derive(Drop)]
 pub struct Line {
     frames: Vec<FrameOctets>,
@@ -83,11 +86,14 @@ impl Line {
         }
     }
 
-    /// Where more than half are taken, removes those.
+    /// Removes the frames that are taken, where all are, or many and more than half.
     fn forget_taken(&mut self)
         ensures { octets_on self.new ≡ octets_on self.old }
     {
-        if self.first > self.frames.len() / 2 {
+        if self.first == self.frames.len() {
+            self.frames.truncate(0);
+            self.first = 0;
+        } else if self.first >= MANY && self.first > self.frames.len() / 2 {
             self.frames.drain(..self.first);
             self.first = 0;
         }

@@ -185,9 +185,9 @@ fn a_run_counts_what_is_refused(rt: HostRuntime) -> Result<(), Fail> {
     let counted = at_once.run(all.as_slice());
     wants(counted == Ok(3), "a run", "how many are refused")?;
     let mut in_turn = new_pair(rt.alloc(), 7)?;
-    let mut refused = 0;
+    let mut refused: u64 = 0;
     for deed in &all {
-        refused += u64::from(!moves(&mut in_turn, deed));
+        refused = refused.wrapping_add(u64::from(!moves(&mut in_turn, deed)));
     }
     wants(refused == 3, "one by one", "how many are refused")?;
     let same = digest(&at_once) == digest(&in_turn);

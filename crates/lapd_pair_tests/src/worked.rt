@@ -424,10 +424,14 @@ fn octets_of(number: u32) -> [u8; 4] {
 
 /// Whether messages were received in order, in the first establishment.
 fn are_in_order(received: &[Received]) -> bool {
-    received.iter().enumerate().all(|(place, message)| {
-        message.octets.as_slice() == octets_of(place as u32).as_slice()
-            && message.establishment == 1
-    })
+    let mut number: u32 = 0;
+    for message in received {
+        if message.octets.as_slice() != octets_of(number).as_slice() || message.establishment != 1 {
+            return false;
+        }
+        number = number.wrapping_add(1);
+    }
+    true
 }
 
 #[test]
