@@ -1,6 +1,7 @@
 //! The command line: what the program's words choose.
 
-ghost use Rattle.std.specs.Prelude.{◌≡◌, ◌<◌, length, Ok};
+ghost use Rattle.std.specs.Prelude.{◌≡◌, ◌<◌, length, Ok, SomeIff};
+ghost use Rattle.std.specs.Str.Parse.{digits_value};
 ghost use Rattle.lapd_cli.specs.CommandLine.{default_parameters, IsNumberTo, IsRangeOf};
 ghost use Rattle.lapd_commands.specs.Written.{AreWritten};
 
@@ -9,10 +10,10 @@ mod words;
 
 use crate::help;
 use clap::{Arg, ArgAction, ArgMatches, Command, Error};
-use lapd_commands::params_of;
+use lapd_commands::{number_of, params_of};
 use lapd_frame::{Sapi, Side};
 use lapd_link::{Params, Recovery};
-use number_option::{K, N200, OutOfRange, ROOM};
+use number_option::{K, N200, OutOfRange, ROOM, TERMINALS};
 use std::alloc::{AllocError, Global};
 use std::convert::AsStr;
 pub use words::{WordsFault, words};
@@ -22,6 +23,8 @@ pub use words::{WordsFault, words};
 pub enum Chosen {
     /// Answers a script as one link of this side, made with these parameters.
     Answer { side: Side, params: Params },
+    /// Goes over a script as a bus of so many terminals, 1 to 127.
+    Bus { terminals: u8 },
     /// Makes the moves of a script on two ends, made with these parameters, and the line between them.
     Pair { user: Params, network: Params },
     /// Prints octets as trace lines.
@@ -63,6 +66,7 @@ pub fn choose<'a, S: AsStr>(alloc: Global, words: &'a [S]) -> Result<Chosen, Unc
     // A word for a subcommand is required, and the parser takes those of `program` alone.
     match matches.subcommand() {
         Some(("answer", given)) => answer_chosen(given),
+        Some(("bus", given)) => bus_chosen(given),
         Some(("pair", given)) => pair_chosen(given),
         _ => Ok(Chosen::Decode),
     }
@@ -87,6 +91,26 @@ fn pair_chosen<'a>(given: &ArgMatches<'a>) -> Result<Chosen, Unchosen<'a>> {
             network: params.with_recovery(recovery_given(given, "recovery-net")),
         }),
         Err(fault) => Err(Unchosen::OutOfRange(fault)),
+    }
+}
+
+// What the option of `bus` chooses.
+fn bus_chosen<'a>(given: &ArgMatches<'a>) -> Result<Chosen, Unchosen<'a>> {
+    let written = TERMINALS.written(given);
+    match terminals_of(written) {
+        Some(terminals) => Ok(Chosen::Bus { terminals }),
+        None => Err(Unchosen::OutOfRange(TERMINALS.refused(written))),
+    }
+}
+
+// How many terminals this writes, 1 to 127.
+fn terminals_of(written: &str) -> Option<u8>
+    ensures { SomeIff result (IsNumberTo 127 written.now) (digits_value 10 written.now) }
+{
+    if TERMINALS.takes(written) {
+        u8::try_from(number_of(written)?).ok()
+    } else {
+        None
     }
 }
 
@@ -141,6 +165,7 @@ fn program<'a>(alloc: Global) -> Result<Command<'a>, Error> {
         .subcommand_required(true)
         .disable_help_subcommand(true)
         .subcommand(answer_command(alloc)?)?
+        .subcommand(bus_command(alloc)?)?
         .subcommand(pair_command(alloc)?)?
         .subcommand(decode_command(alloc))?;
     Ok(program)
@@ -164,12 +189,15 @@ fn pair_command<'a>(alloc: Global) -> Result<Command<'a>, AllocError> {
         .arg(K.arg(alloc))?
         .arg(N200.arg(alloc))?
         .arg(ROOM.arg(alloc))?
-        .arg(recovery_option(
-            alloc,
-            "recovery-user",
-            help::RECOVERY_USER,
-        ))?
+        .arg(recovery_option(alloc, "recovery-user", help::RECOVERY_USER))?
         .arg(recovery_option(alloc, "recovery-net", help::RECOVERY_NET))
+}
+
+fn bus_command<'a>(alloc: Global) -> Result<Command<'a>, AllocError> {
+    Command::new(alloc, "bus")
+        .about(help::BUS_ABOUT)
+        .after_help(help::BUS)
+        .arg(TERMINALS.arg(alloc))
 }
 
 fn decode_command<'a>(alloc: Global) -> Command<'a> {

@@ -7,8 +7,12 @@ pub const ABOUT: &str = "LAPD, the data link layer of the ISDN D channel (ITU-T 
 /// What the command `answer` does.
 pub const ANSWER_ABOUT: &str = "Answers a script as one end of a link with SAPI 0 and TEI 64";
 
+/// What the command `bus` does.
+pub const BUS_ABOUT: &str = "Assigns TEIs to terminals on a bus, by a script of moves";
+
 /// What the command `pair` does.
-pub const PAIR_ABOUT: &str = "Plays two ends of a link and the line between them, by a script of moves";
+pub const PAIR_ABOUT: &str =
+    "Plays two ends of a link and the line between them, by a script of moves";
 
 /// What the command `decode` does.
 pub const DECODE_ABOUT: &str = "Prints octets as trace lines";
@@ -22,10 +26,10 @@ pub const RECOVERY_USER: &str = "What T200 of the user side sends in state 7";
 /// What the recovery of the network side of `pair` is.
 pub const RECOVERY_NET: &str = "What T200 of the network side sends in state 7";
 
-/// What the commands share.
+/// What all commands share.
 pub const PROGRAM: &str = "\
-`lapd` alone is `lapd answer --side net`. `lapd answer --help`, `lapd pair --help` and
-`lapd decode --help` list the lines of a script, and what is printed for them.
+`lapd` alone is `lapd answer --side net`. `lapd answer --help`, `lapd pair --help`, `lapd bus --help`
+and `lapd decode --help` list the lines of a script, and what is printed for them.
 
 Scripts:
   A script comes on standard input. Each line is answered on standard output before the next one is
@@ -166,6 +170,72 @@ The network side, `lapd answer --side net`, answers:
   > send 008173
   > released
   > stop T203";
+
+/// The lines of `bus`.
+pub const BUS: &str = "\
+`lapd --help` tells what scripts and HEX are, and has the exit status.
+
+The terminals are numbered from 0, and none of them has a TEI at first. The network side assigns the
+TEIs 64 to 126. A message of the network side stays on its way until it is dropped, and each terminal
+hears it once at most. One of a terminal leaves when it is heard or dropped. Messages are numbered
+from 0 in the order of sending, among those on their way in the same direction.
+
+Lines of the script. RI, four hexadecimal digits, is the reference of the message that may be sent:
+  ask T RI       terminal T asks for a TEI
+  t202 T RI      its timer T202 expires
+  hear I T RI    terminal T hears message I of the network side
+  drop I         message I of the network side is lost to all that have not heard it
+  hear-up I      the network side hears message I of a terminal
+  drop-up I      message I of a terminal is lost
+  check TEI      the network side checks a TEI, 0 to 126
+  t201           its timer T201 expires
+  leave T        terminal T leaves, and gives up its TEI without a word
+There is no clock: a timer that was started expires where the script says so.
+
+What is printed for a line: nothing, or in this form each thing that it leads to, in order:
+  up HEX            a terminal sends this frame
+  down HEX          the network side sends this frame
+  terminal T got N  terminal T has got TEI N
+  terminal T gone N
+                    terminal T no longer has TEI N
+  terminal T failed
+                    terminal T was not answered, and no longer asks
+  net free N        nobody answered for TEI N, which is free again
+  net in-use N      one terminal answered for TEI N
+  net doubled N     more than one terminal answered for TEI N, which is removed and free again
+  refused U1 NothingThere
+                    there is no such terminal or message, or the timer does not run
+  refused U2 HeardBefore
+                    the terminal has heard this message before
+What is refused changes nothing.
+
+States of a terminal:
+  1  TEI unassigned: it hears checks and removals, and does nothing
+  2  assign awaiting TEI: it asked for a TEI, up to three times (N202), and T202 runs
+  3  establish awaiting TEI: the same, in order to establish a link (not on this bus)
+  4  TEI assigned: it answers a check of its TEI, and gives it up where it is removed or assigned to
+     another terminal
+A check ends when T201 expires. If nobody answered the first time, the terminals are asked once more.
+
+Messages: 0f, two octets of reference, the kind, and 2 * TEI + 1, in a frame that begins with fcff03
+from a terminal and with feff03 from the network side. In hexadecimal the kinds are request 01,
+assigned 02, denied 03, check request 04, check response 05, remove 06 and verify 07.
+
+Example. A line of the script stands behind <, and what is printed for it stands behind >.
+  < # terminal 0 asks; the network side assigns TEI 64, which terminal 0 takes
+  < ask 0 1234
+  > up fcff030f123401ff
+  < hear-up 0
+  > down feff030f12340281
+  < hear 0 0 0002
+  > terminal 0 got 64
+  < # a check that terminal 0 does not hear
+  < check 64
+  > down feff030f00000481
+  < t201
+  > down feff030f00000481
+  < t201
+  > net free 64";
 
 /// The lines of `pair`.
 pub const PAIR: &str = "\

@@ -1,9 +1,9 @@
 //! The program `lapd`: it answers a script as a link of the ISDN D channel (ITU-T Q.921), plays two ends of one and the
-//! line between them, or prints octets as trace lines.
+//! line between them, assigns TEIs on a bus of terminals, or prints octets as trace lines.
 //!
 //! Scripts come on standard input, a line for each thing that happens, and each line's answer goes
-//! to standard output before more is read. The commands stand in `lapd_commands`, and the walk over a script in
-//! `lapd_script`.
+//! to standard output before more is read. The commands stand in `lapd_commands` and `lapd_bus`, and the walk over a
+//! script in `lapd_script`.
 #![tactic(auto)]
 
 mod command_line;
@@ -13,6 +13,7 @@ mod tests;
 
 use clap::error::ErrorKind;
 use command_line::{Chosen, Unchosen, WordsFault, choose, words};
+use lapd_bus::bus;
 use lapd_commands::{answer, decode, pair};
 use lapd_script::ScriptFault;
 use std::fmt::Display;
@@ -46,6 +47,7 @@ fn run(rt: &HostRuntime, chosen: Chosen) -> Result<(), ScriptFault> {
         Chosen::Answer { side, params } => {
             answer(rt.alloc(), &mut script, &mut out, side, params)
         }
+        Chosen::Bus { terminals } => bus(rt.alloc(), &mut script, &mut out, terminals),
         Chosen::Pair { user, network } => pair(rt.alloc(), &mut script, &mut out, user, network),
         Chosen::Decode => decode(rt.alloc(), &mut script, &mut out),
     };

@@ -1,5 +1,5 @@
 -- What a move comes to at its side.
-use Rattle.std.proofs.Common.{◌≡◌, ◌≤◌, ◌+◌, ℕ, Bool, true, false, if◌then◌else◌, nat_lt, List, [], ◌∷◌, length, Option, Some, None, Vec, Result, Ok, Err, IfOk, IfErr, OnErr, is_ok, refl, sym, ap, ◌∙◌, subst, arith}
+use Rattle.std.proofs.Common.{◌≡◌, ◌≤◌, ℕ, Bool, true, false, if◌then◌else◌, nat_lt, List, [], length, Option, Some, None, Vec, Result, Ok, Err, IfOk, IfErr, OnErr, is_ok, refl, sym, ap, subst, arith}
 use Rattle.std.proofs.lemmas.Bool.Decides.{nat_tests}
 use Rattle.std.specs.declared.alloc.Global.{Global}
 use Rattle.arrayvec.specs.ArrayVec.{ArrayVec}
@@ -17,7 +17,7 @@ use Rattle.lapd_states.specs.Close.{close}
 use Rattle.lapd_states.specs.End.{End, begin}
 use Rattle.lapd_states.specs.Input as input
 use Rattle.lapd_states.specs.Input.{Input, input_of}
-use Rattle.lapd_states.specs.Refusal.{refused, refused_when_long}
+use Rattle.lapd_states.specs.Refusal.{refused}
 use Rattle.lapd_states.specs.Table.{unless, row, step}
 use Rattle.lapd_world.specs.Kept.{IsKept}
 use Rattle.lapd_world.specs.Line.{Flight}
@@ -28,7 +28,7 @@ use Rattle.lapd_pair.specs.declared.pair_fault.PairFault.{PairFault}
 use Rattle.lapd_pair.specs.declared.station.Station.{Station}
 use Rattle.lapd_pair.specs.Line.{fields_of, IsOn}
 use Rattle.lapd_pair.specs.Moves.{IsRefusedAs}
-use Rattle.lapd_pair.specs.Station.{IsStation, IsView, IsActed, IsDone, IsAsked, IsHanded, Acts, RefusesAs, ShowsAsBefore, ActsInView, RefusesInView, ShowsViewAsBefore}
+use Rattle.lapd_pair.specs.Station.{IsStation, IsActed, IsAsked, IsHanded, Acts, RefusesAs, ShowsAsBefore}
 
 -- ---- Results.
 

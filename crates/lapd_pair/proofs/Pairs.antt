@@ -1,5 +1,5 @@
 -- What a pair stands for after a move of one of its sides.
-use Rattle.std.proofs.Common.{◌≡◌, ◌≤◌, List, [], ◌∷◌, ◌++◌, Result, Ok, Err, IfOk, IfErr, OnErr, refl, sym, ap, ◌∙◌, subst}
+use Rattle.std.proofs.Common.{◌≡◌, ◌≤◌, List, [], ◌∷◌, ◌++◌, Result, Ok, Err, IfOk, OnErr, refl, sym, ◌∙◌, subst}
 use Rattle.std.proofs.Math.Logic.{∥∥₁_map}
 use Rattle.arrayvec.specs.ArrayVec.{ArrayVec}
 use Rattle.lapd_frame.specs.declared.Side.{Side}
@@ -7,7 +7,7 @@ use Rattle.lapd_frame.specs.declared.Side.TheVariants.{User, Network}
 use Rattle.lapd_mod128.specs.Counting.{Tagged}
 use Rattle.lapd_states.specs.declared.out.Out.{Out}
 use Rattle.lapd_states.specs.Parameters.{Parameters}
-use Rattle.lapd_world.specs.Move.{Move, View, Refusal, Acted, acts}
+use Rattle.lapd_world.specs.Move.{Move, Refusal, Acted, acts}
 use Rattle.lapd_world.specs.World.{World, Happened, view_of, with_view, in_world, happens, world_after, new_station, new_world, run}
 use Rattle.lapd_world.proofs.Keeping.{move_kept, new_world_kept}
 use Rattle.lapd_pair.specs.declared.line.Line.{Line}
@@ -17,7 +17,7 @@ use Rattle.lapd_pair.specs.declared.station.Station.{Station}
 use Rattle.lapd_pair.specs.Line.{IsOn}
 use Rattle.lapd_pair.specs.Moves.{IsRefusedAs}
 use Rattle.lapd_pair.specs.Pair.{StandForWorld, IsReached}
-use Rattle.lapd_pair.specs.Station.{IsStation, IsView, IsDone, ActsInView, RefusesInView, ShowsViewAsBefore}
+use Rattle.lapd_pair.specs.Station.{IsStation, IsView, ActsInView, RefusesInView, ShowsViewAsBefore}
 
 -- ---- A new pair.
 
@@ -119,28 +119,33 @@ run_more (first ∷ moves) m w = run_more moves m (world_after w (happens Tagged
 pub after_did : (w : World) (outcome : Result Happened Refusal) (happened : Happened) → outcome ≡ Happens happened → happened.world ≡ world_after w outcome
 after_did w outcome happened is = rw is refl
 
-reached_more : (user network : Station) (to_user to_network : Line) (user_parameters network_parameters : Parameters) (moves : List Move) (m : Move) (outs : List Out)
-    → Did user network to_user to_network (happens Tagged m (run Tagged moves (new_world user_parameters network_parameters))) outs → IsReached user network to_user to_network
-reached_more user network to_user to_network user_parameters network_parameters moves m outs d =
-    let start = new_world user_parameters network_parameters in
-    let there = after_did (run Tagged moves start) (happens Tagged m (run Tagged moves start)) d.happened d.is ∙ sym (run_more moves m start) in
-    (user_parameters, network_parameters, moves ++ m ∷ [], subst (StandForWorld user network to_user to_network) there d.stand)
+reached_more : (user network user_after network_after : Station) (to_user to_network to_user_after to_network_after : Line) (m : Move) (outs : List Out) (x : IsReached user network to_user to_network)
+    → Did user_after network_after to_user_after to_network_after (happens Tagged m (run Tagged x.moves (new_world x.user x.network))) outs → IsReached user_after network_after to_user_after to_network_after
+reached_more user network user_after network_after to_user to_network to_user_after to_network_after m outs x d =
+    let start = new_world x.user x.network in
+    let there = after_did (run Tagged x.moves start) (happens Tagged m (run Tagged x.moves start)) d.happened d.is ∙ sym (run_more x.moves m start) in
+    record { user = x.user; network = x.network; few_of_user = x.few_of_user; few_of_network = x.few_of_network; moves = x.moves ++ m ∷ []; stand = subst (StandForWorld user_after network_after to_user_after to_network_after) there d.stand }
+
+reached_still : (user network user_after network_after : Station) (to_user to_network to_user_after to_network_after : Line) (x : IsReached user network to_user to_network)
+    → StandForWorld user_after network_after to_user_after to_network_after (run Tagged x.moves (new_world x.user x.network)) → IsReached user_after network_after to_user_after to_network_after
+reached_still user network user_after network_after to_user to_network to_user_after to_network_after x stand =
+    record { user = x.user; network = x.network; few_of_user = x.few_of_user; few_of_network = x.few_of_network; moves = x.moves; stand = stand }
 
 user_reaches : (m : Move) (user network after : Station) (to_user to_network to_user_after to_network_after : Line) (r : Result (ArrayVec Out) PairFault) → m.side ≡ User
     → IfOk r (ActsInView user to_user to_network after to_user_after to_network_after (λ side v. acts Tagged side m.deed v)) → OnErr r (ShowsViewAsBefore user to_user to_network after to_user_after to_network_after)
     → IsReached user network to_user to_network → IsReached after network to_user_after to_network_after
 user_reaches m user network after to_user to_network to_user_after to_network_after (Ok outs) is acts_so shows x =
-    reached_more after network to_user_after to_network_after x.0 x.1 x.2 m outs.items (user_did m (run Tagged x.2 (new_world x.0 x.1)) user network after to_user to_network to_user_after to_network_after outs is x.3 acts_so)
+    reached_more user network after network to_user to_network to_user_after to_network_after m outs.items x (user_did m (run Tagged x.moves (new_world x.user x.network)) user network after to_user to_network to_user_after to_network_after outs is x.stand acts_so)
 user_reaches m user network after to_user to_network to_user_after to_network_after (Err fault) is acts_so shows x =
-    (x.0, x.1, x.2, user_still (run Tagged x.2 (new_world x.0 x.1)) user network after to_user to_network to_user_after to_network_after x.3 shows)
+    reached_still user network after network to_user to_network to_user_after to_network_after x (user_still (run Tagged x.moves (new_world x.user x.network)) user network after to_user to_network to_user_after to_network_after x.stand shows)
 
 network_reaches : (m : Move) (user network after : Station) (to_user to_network to_user_after to_network_after : Line) (r : Result (ArrayVec Out) PairFault) → m.side ≡ Network
     → IfOk r (ActsInView network to_network to_user after to_network_after to_user_after (λ side v. acts Tagged side m.deed v)) → OnErr r (ShowsViewAsBefore network to_network to_user after to_network_after to_user_after)
     → IsReached user network to_user to_network → IsReached user after to_user_after to_network_after
 network_reaches m user network after to_user to_network to_user_after to_network_after (Ok outs) is acts_so shows x =
-    reached_more user after to_user_after to_network_after x.0 x.1 x.2 m outs.items (network_did m (run Tagged x.2 (new_world x.0 x.1)) user network after to_user to_network to_user_after to_network_after outs is x.3 acts_so)
+    reached_more user network user after to_user to_network to_user_after to_network_after m outs.items x (network_did m (run Tagged x.moves (new_world x.user x.network)) user network after to_user to_network to_user_after to_network_after outs is x.stand acts_so)
 network_reaches m user network after to_user to_network to_user_after to_network_after (Err fault) is acts_so shows x =
-    (x.0, x.1, x.2, network_still (run Tagged x.2 (new_world x.0 x.1)) user network after to_user to_network to_user_after to_network_after x.3 shows)
+    reached_still user network user after to_user to_network to_user_after to_network_after x (network_still (run Tagged x.moves (new_world x.user x.network)) user network after to_user to_network to_user_after to_network_after x.stand shows)
 
 pub user_reached : (m : Move) (user network after : Station) (to_user to_network to_user_after to_network_after : Line) (r : Result (ArrayVec Out) PairFault) → m.side ≡ User
     → IfOk r (ActsInView user to_user to_network after to_user_after to_network_after (λ side v. acts Tagged side m.deed v)) → OnErr r (ShowsViewAsBefore user to_user to_network after to_user_after to_network_after)
@@ -153,3 +158,8 @@ pub network_reached : (m : Move) (user network after : Station) (to_user to_netw
     → ∥ IsReached user network to_user to_network ∥₁ → ∥ IsReached user after to_user_after to_network_after ∥₁
 network_reached m user network after to_user to_network to_user_after to_network_after r is acts_so shows reached =
     ∥∥₁_map reached (λ x. network_reaches m user network after to_user to_network to_user_after to_network_after r is acts_so shows x)
+
+pub new_reached : (user_parameters network_parameters : Parameters) (user network : Station) (to_user to_network : Line) → user_parameters.k ≤ 127 → network_parameters.k ≤ 127
+    → StandForWorld user network to_user to_network (new_world user_parameters network_parameters) → ∥ IsReached user network to_user to_network ∥₁
+new_reached user_parameters network_parameters user network to_user to_network few_of_user few_of_network stand =
+    ∣ record { user = user_parameters; network = network_parameters; few_of_user = few_of_user; few_of_network = few_of_network; moves = []; stand = stand } ∣₁

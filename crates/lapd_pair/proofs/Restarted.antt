@@ -1,5 +1,5 @@
 -- What a side shows when it has started anew.
-use Rattle.std.proofs.Common.{◌≡◌, ◌≤◌, ◌+◌, ℕ, List, [], ◌∷◌, length, drop, refl, sym, ap, ◌∙◌, subst, arith}
+use Rattle.std.proofs.Common.{◌≡◌, ℕ, List, [], ◌∷◌, length, drop, refl, ap, ◌∙◌, subst, arith}
 use Rattle.lapd_frame.specs.declared.Side.{Side}
 use Rattle.lapd_frame.specs.Address.{other_side}
 use Rattle.lapd_link.specs.declared.link.Link.{Link}
@@ -19,7 +19,7 @@ use Rattle.lapd_pair.specs.declared.station.Station.{Station}
 use Rattle.lapd_pair.specs.Histories.{IsHistory}
 use Rattle.lapd_pair.specs.Line.{IsOn}
 use Rattle.lapd_pair.specs.Setup.{setup_for}
-use Rattle.lapd_pair.specs.Station.{IsStation, IsView, IsDone}
+use Rattle.lapd_pair.specs.Station.{IsView, IsDone}
 
 drop_all : (messages : List (List ℕ)) → drop (length messages) messages ≡ []
 drop_all [] = refl

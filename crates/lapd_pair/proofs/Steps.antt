@@ -1,11 +1,11 @@
 -- What a side shows after a step whose outputs are told.
-use Rattle.std.proofs.Common.{◌≡◌, ◌≤◌, ◌+◌, ◌==◌, ◌&&◌, not, if◌then◌else◌, ℕ, Bool, true, false, List, [], ◌∷◌, ◌++◌, length, Option, Some, None, Vec, Result, Ok, Err, refl, sym, ap, ◌∙◌, subst, arith}
+use Rattle.std.proofs.Common.{◌≡◌, ◌≤◌, ◌+◌, ◌==◌, not, if◌then◌else◌, ℕ, Bool, true, false, List, [], ◌∷◌, ◌++◌, length, Option, Some, None, Vec, Result, Ok, refl, sym, ap, ◌∙◌, subst, arith}
 use Rattle.std.proofs.lemmas.Bool.Decides.{nat_tests}
 use Rattle.std.proofs.lemmas.List.{append-nil}
 use Rattle.std.specs.declared.alloc.Global.{Global}
 use Rattle.lapd_frame.specs.declared.Side.{Side}
 use Rattle.lapd_frame.specs.declared.Role.TheVariants.{Command, Answer}
-use Rattle.lapd_frame.specs.declared.Control.TheVariants.{I, Rr, Rnr, Rej, Sabme, Dm, Ui, Disc, Ua, Frmr, Xid}
+use Rattle.lapd_frame.specs.declared.Control.TheVariants.{I, Ui}
 use Rattle.lapd_frame.specs.Frame.{n201}
 use Rattle.lapd_link.specs.Link.{LinkStandsFor, setup_of, Steps}
 use Rattle.lapd_mod128.specs.Counting.{Tagged}
@@ -28,7 +28,7 @@ use Rattle.lapd_states.proofs.UnitsOfStep.{units_after}
 use Rattle.lapd_world.specs.Histories as world
 use Rattle.lapd_world.specs.Histories.{Occasion, Story, told, with_beginning}
 use Rattle.lapd_world.specs.Kept.{AreSettled, IsKept}
-use Rattle.lapd_world.specs.Move.{View, Acted, Refusal, story_after, view_after, stepped}
+use Rattle.lapd_world.specs.Move.{View, story_after, view_after, stepped}
 use Rattle.lapd_world.proofs.Keeping.{outputs_in_order, first_within, begun_counted, counted_by}
 use Rattle.lapd_world.proofs.Telling.{settled_alike}
 use Rattle.lapd_pair.specs.declared.history.History.{History}

@@ -20,7 +20,7 @@ use Rattle.lapd_world.specs.Histories as world
 use Rattle.lapd_world.specs.Histories.{Occasion, Story, tell, told, with_sending, with_receipt, with_unit, with_acked, with_dropped}
 use Rattle.lapd_world.specs.Kept.{AreSettled, AreInOrder}
 use Rattle.lapd_world.specs.Line.{Flight}
-use Rattle.lapd_world.proofs.Telling.{message_is_short, unit_is_proper, in_order_then, settled_then, begun_then, message_is_given}
+use Rattle.lapd_world.proofs.Telling.{message_is_short, unit_is_proper, in_order_then, settled_then, begun_then}
 use Rattle.lapd_pair.specs.declared.history.History.{History}
 use Rattle.lapd_pair.specs.declared.line.Line.{Line}
 use Rattle.lapd_pair.specs.declared.station.Station.{Station}

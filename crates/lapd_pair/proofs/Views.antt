@@ -1,5 +1,5 @@
 -- What a move comes to, with what is on its way to its side.
-use Rattle.std.proofs.Common.{◌≡◌, ◌≤◌, ◌+◌, ℕ, Bool, true, false, if◌then◌else◌, List, [], ◌∷◌, length, Option, Some, None, Vec, nat_lt, Result, Ok, Err, IfOk, IfErr, OnErr, refl, sym, ap, ◌∙◌, subst, arith}
+use Rattle.std.proofs.Common.{◌≡◌, ◌≤◌, ℕ, Bool, true, false, if◌then◌else◌, List, [], ◌∷◌, length, Some, None, Vec, nat_lt, Result, Ok, Err, IfOk, IfErr, OnErr, refl, sym, ap, ◌∙◌, subst}
 use Rattle.std.specs.declared.alloc.Global.{Global}
 use Rattle.arrayvec.specs.ArrayVec.{ArrayVec}
 use Rattle.lapd_timers.specs.declared.timer.Timer.TheVariants.{T200, T203}
@@ -7,11 +7,11 @@ use Rattle.lapd_frame.specs.declared.Side.{Side}
 use Rattle.lapd_frame.specs.declared.FrameFault.{FrameFault}
 use Rattle.lapd_frame.specs.Address.{other_side}
 use Rattle.lapd_frame.specs.Frame.{Fields, IsFrame, n201, spelling}
-use Rattle.lapd_link.specs.Link.{Setup, setup_of, LinkStandsFor}
+use Rattle.lapd_link.specs.Link.{Setup}
 use Rattle.lapd_mod128.specs.Counting.{Tagged}
 use Rattle.lapd_states.specs.declared.event.LinkFault.{LinkFault}
 use Rattle.lapd_states.specs.declared.out.Out.{Out}
-use Rattle.lapd_states.specs.End.{End, StepState}
+use Rattle.lapd_states.specs.End.{StepState}
 use Rattle.lapd_states.specs.Input as input
 use Rattle.lapd_states.specs.Input.{Input, Expiry}
 use Rattle.lapd_states.specs.Table.{step}

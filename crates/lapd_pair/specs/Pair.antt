@@ -1,5 +1,5 @@
 -- How a pair shows a world, and what its calls come to.
-use Rattle.std.specs.Prelude.{List}
+use Rattle.std.specs.Prelude.{◌≤◌, List}
 use Rattle.lapd_frame.specs.declared.Side.TheVariants.{User, Network}
 use Rattle.lapd_mod128.specs.Counting.{Tagged}
 use Rattle.lapd_states.specs.Parameters.{Parameters}
@@ -20,7 +20,11 @@ pub record StandForWorld (user_side network_side : Station) (line_to_user line_t
   pub to_network : IsOn User line_to_network w.to_network
   pub kept : IsKeptWorld Tagged w
 
--- The world that some moves lead to, from a new one.
-abbrev pub IsReached : Station → Station → Line → Line → Type 0
-IsReached user network to_user to_network =
-    (user_parameters : Parameters) × (network_parameters : Parameters) × (moves : List Move) × StandForWorld user network to_user to_network (run Tagged moves (new_world user_parameters network_parameters))
+-- The world that some moves lead to, from a new one, in windows of up to 127.
+pub record IsReached (user_side network_side : Station) (line_to_user line_to_network : Line) : Type 0 where
+  pub user : Parameters
+  pub network : Parameters
+  pub few_of_user : user.k ≤ 127
+  pub few_of_network : network.k ≤ 127
+  pub moves : List Move
+  pub stand : StandForWorld user_side network_side line_to_user line_to_network (run Tagged moves (new_world user network))

@@ -1,13 +1,15 @@
 -- What the calls of a pair come to, by the moves of the world.
-use Rattle.std.specs.Prelude.{◌≡◌, ◌+◌, ℕ, true, List, [], ◌∷◌, take, slice_get, Some, Result, Ok, Err, is_ok}
-use Rattle.lapd_mod128.specs.Counting.{Tagged}
+use Rattle.std.specs.Prelude.{◌≡◌, ◌+◌, ℕ, true, List, [], ◌∷◌, take, map, slice_get, Some, Result, Ok, Err, is_ok}
+use Rattle.lapd_invariant.specs.Reports.{AllReportsExpected}
+use Rattle.lapd_mod128.specs.Counting.{Whole, Tagged}
 use Rattle.lapd_states.specs.declared.out.Out.{Out}
+use Rattle.lapd_states.specs.Parameters.{Parameters}
 use Rattle.lapd_world.specs.Move as world
 use Rattle.lapd_world.specs.Move.{Refusal}
-use Rattle.lapd_world.specs.World.{World, Happened, happens, world_after, run}
-use Rattle.lapd_pair.specs.Moves.{move_of}
+use Rattle.lapd_world.specs.Safe.{AreSafe}
+use Rattle.lapd_world.specs.Tagged.{tag_world, tag_outcome}
+use Rattle.lapd_world.specs.World.{World, Happened, new_world, happens, world_after, run, outcomes}
 use Rattle.lapd_pair.specs.Pair.{StandForWorld}
-use Rattle.lapd_pair.specs.declared.moves.Move.{Move}
 use Rattle.lapd_pair.specs.declared.pair.Pair.{Pair}
 
 -- a pair stands for a world
@@ -37,3 +39,18 @@ pub record HasStoppedAt (at : ℕ) (moves : List world.Move) (p : Pair) (w : Wor
   pub there : slice_get moves at ≡ Some move
   pub before : PairStandsFor p (run Tagged (take at moves) w)
   pub admitted : is_ok (happens Tagged move (run Tagged (take at moves) w)) ≡ true
+
+-- A pair that some moves have led to, as every pair is.
+--   stands   it stands for the world that these moves lead to, its numbers being tags;
+--   same     that is the world of whole numbers, each number in its tag, and so is what each move came to;
+--   safe     its histories are safe, each side against the other;
+--   reports  no report but F, G, H and I ever arose.
+pub record IsSafePair (p : Pair) : Type 0 where
+  pub user : Parameters
+  pub network : Parameters
+  pub moves : List world.Move
+  pub stands : PairStandsFor p (run Tagged moves (new_world user network))
+  pub same : run Tagged moves (new_world user network) ≡ tag_world (run Whole moves (new_world user network))
+  pub same_outcomes : outcomes Tagged moves (new_world user network) ≡ map tag_outcome (outcomes Whole moves (new_world user network))
+  pub safe : AreSafe (run Tagged moves (new_world user network))
+  pub reports : AllReportsExpected (outcomes Tagged moves (new_world user network))

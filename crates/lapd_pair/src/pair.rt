@@ -30,7 +30,7 @@ pub struct Pair {
 impl Pair {
     ghost use Rattle.lapd_world.specs.World.{World, new_world, happens, run};
     ghost use Rattle.lapd_pair.specs.Moves.{move_of, IsRefusedAs};
-    ghost use Rattle.lapd_pair.specs.Runs.{PairStandsFor, HasHappened, HasStoppedAt, refusals};
+    ghost use Rattle.lapd_pair.specs.Runs.{PairStandsFor, HasHappened, HasStoppedAt, IsSafePair, refusals};
     ghost use Rattle.lapd_pair.specs.Station.{with_outs};
 
     /// Both ends in state 4, and nothing on the line.
@@ -39,7 +39,7 @@ impl Pair {
     ///
     /// `AllocError` where the memory of an I queue was refused.
     pub fn new(alloc: Global, user: Params, network: Params) -> Result<Pair, AllocError>
-        ensures { IfOk result (λ pair. PairStandsFor pair (new_world user network)) }
+        ensures stands { IfOk result (λ pair. PairStandsFor pair (new_world user network)) }
     {
         Ok(Pair {
             alloc,
@@ -53,6 +53,10 @@ impl Pair {
     /// One move, and the outputs of the step that it comes to, in order. What it puts on the line is read by
     /// [`Pair::line`].
     ///
+    /// After it the histories are safe, each side against the other, as after every call: what a side received is among
+    /// what the other was given, in order and once each; within one establishment nothing is skipped; and what a sender
+    /// counts as acknowledged was received.
+    ///
     /// # Errors
     ///
     /// P1 for a `Deliver` or `Lose` of a frame that is not there, P2 for a timer that does not run, P3 for T200 while what
@@ -62,6 +66,7 @@ impl Pair {
         ensures ok { IfOk result (λ outs. (w : World) → PairStandsFor self.old w → HasHappened self.new (happens Tagged (move_of deed.now) w) outs.items) }
         ensures err { IfErr result (λ fault. (w : World) → PairStandsFor self.old w → IsRefusedAs fault (happens Tagged (move_of deed.now) w)) }
         ensures unchanged { OnErr result ((w : World) → PairStandsFor self.old w → PairStandsFor self.new w) }
+        ensures safe { ∥ IsSafePair self.new ∥₁ }
     {
         let mut outs = Outs::new();
         match self.apply_into(deed, &mut outs) {
@@ -79,6 +84,7 @@ impl Pair {
         ensures ok { IfOk (with_outs result outs.new) (λ made. (w : World) → PairStandsFor self.old w → HasHappened self.new (happens Tagged (move_of deed.now) w) made.items) }
         ensures err { IfErr (with_outs result outs.new) (λ fault. (w : World) → PairStandsFor self.old w → IsRefusedAs fault (happens Tagged (move_of deed.now) w)) }
         ensures unchanged { OnErr (with_outs result outs.new) ((w : World) → PairStandsFor self.old w → PairStandsFor self.new w) }
+        ensures safe { ∥ IsSafePair self.new ∥₁ }
     {
         match deed.side() {
             Side::User => self.user.act(
@@ -98,7 +104,8 @@ impl Pair {
         }
     }
 
-    /// All moves, one after another, and how many were refused. A move that is refused by P1 to P4 is skipped.
+    /// All moves, one after another, and how many were refused. A move that is refused by P1 to P4 is skipped. After it,
+    /// however it ends, the histories are safe, as after [`Pair::apply`].
     ///
     /// # Errors
     ///
@@ -107,6 +114,7 @@ impl Pair {
         ensures ok { IfOk result (λ refused. (w : World) → PairStandsFor self.old w
             → PairStandsFor self.new (run Tagged (map move_of moves.now) w) × (refused ≡ refusals (map move_of moves.now) w)) }
         ensures err { IfErr result (λ fault. (w : World) → PairStandsFor self.old w → HasStoppedAt fault.at (map move_of moves.now) self.new w) }
+        ensures safe { ∥ IsSafePair self.new ∥₁ }
     {
         let mut refused = 0;
         let mut outs = Outs::new();

@@ -1,1 +1,3 @@
+pub mod Due
+pub mod Durations
 pub mod Timer

@@ -50,6 +50,15 @@ pub const ROOM: NumberOption = NumberOption {
     most: 1024,
 };
 
+/// The terminals of the command `bus`.
+pub const TERMINALS: NumberOption = NumberOption {
+    name: "terminals",
+    value_name: "TERMINALS",
+    help: "The terminals on the bus, 1 to 127",
+    default: "2",
+    most: 127,
+};
+
 impl NumberOption {
     /// The option as the parser knows it. It takes any text, so that the fault of a number can be told in words of its
     /// own, but for one that looks like another option.

@@ -3,6 +3,7 @@
 use crate::command_line::{Chosen, Unchosen, WordsFault, choose, words};
 use crate::help;
 use clap::error::ErrorKind;
+use lapd_bus::bus;
 use lapd_commands::{answer, decode, pair};
 use lapd_frame::{Sapi, Side};
 use lapd_link::{Params, Recovery};
@@ -78,6 +79,25 @@ fn words_choose(rt: HostRuntime) -> Result<(), Fail> {
         chooses(&rt, &["lapd", "decode"], Chosen::Decode),
         "decode is not chosen",
     )
+}
+
+// Words that choose a bus, and how many terminals it has.
+const BUSES: &[(&[&str], u8)] = &[
+    (&["lapd", "bus"], 2),
+    (&["lapd", "bus", "--terminals", "1"], 1),
+    (&["lapd", "bus", "--terminals=0127"], 127),
+];
+
+#[test]
+fn a_bus_is_chosen(rt: HostRuntime) -> Result<(), Fail> {
+    for (words, terminals) in BUSES {
+        let terminals = *terminals;
+        wants(
+            chooses(&rt, words, Chosen::Bus { terminals }),
+            "another bus is chosen",
+        )?;
+    }
+    Ok(())
 }
 
 #[test]
@@ -163,6 +183,11 @@ const FAULTS: &[&[&str]] = &[
     &["lapd", "decode", "--side", "user"],
     &["lapd", "decode", "--k", "3"],
     &["lapd", "decode", "more"],
+    &["lapd", "--terminals", "3"],
+    &["lapd", "bus", "more"],
+    &["lapd", "bus", "--k", "3"],
+    &["lapd", "bus", "--terminals"],
+    &["lapd", "bus", "--terminals", "3", "--terminals", "3"],
     &["lapd", "other"],
     &["lapd", "help"],
     &["lapd", "answer", "--k"],
@@ -197,6 +222,7 @@ const ASKED: &[&[&str]] = &[
     &["lapd", "--help"],
     &["lapd", "-h"],
     &["lapd", "answer", "--help"],
+    &["lapd", "bus", "--help"],
     &["lapd", "pair", "--help"],
     &["lapd", "decode", "--help"],
     &["lapd", "--version"],
@@ -268,6 +294,14 @@ const NUMBERS: &[(&[&str], &str)] = &[
     (
         &["lapd", "answer", "--room", "18446744073709551617"],
         "error: invalid value '18446744073709551617' for '--room <MESSAGES>': not a number from 1 to 1024 in decimal digits",
+    ),
+    (
+        &["lapd", "bus", "--terminals", "0"],
+        "error: invalid value '0' for '--terminals <TERMINALS>': not a number from 1 to 127 in decimal digits",
+    ),
+    (
+        &["lapd", "bus", "--terminals", "128"],
+        "error: invalid value '128' for '--terminals <TERMINALS>': not a number from 1 to 127 in decimal digits",
     ),
 ];
 
@@ -408,6 +442,14 @@ fn examples_of_pair(rt: HostRuntime) -> Result<(), Fail> {
     };
     example_of_pair(&rt, first)?;
     example_of_pair(&rt, second)
+}
+
+#[test]
+fn example_of_bus(rt: HostRuntime) -> Result<(), Fail> {
+    let script = lines_behind(&rt, help::BUS, "  < ")?;
+    let mut printed = Vec::new(rt.alloc());
+    bus(rt.alloc(), &mut script.as_slice(), &mut printed, 2)?;
+    prints(&rt, help::BUS, printed.as_slice())
 }
 
 #[test]

@@ -3,6 +3,7 @@ use Rattle.std.proofs.Common.{sym, ◌∙◌}
 use Rattle.lapd_pair.specs.Moves.{move_of}
 use Rattle.lapd_pair.proofs.Acts.{if_ok, if_err, on_err}
 use Rattle.lapd_pair.proofs.Pairs.{user_did, network_did, user_refused, network_refused, user_still, network_still, user_reached, network_reached}
+use Rattle.lapd_pair.proofs.SafePairs.{pair_is_safe}
 use Rattle.lapd_pair.proofs.pair.Pair.apply_into.Goals as goal
 
 pub invariant_of-self : goal.invariant_of-self
@@ -52,3 +53,9 @@ returns-in-Network-clause-unchanged c =
     let p = c.args.self.now in
     let a = c.act-in-Network in
     on_err _ _ (with_outs a.result a.new.outs) (λ shows w s. network_still w p.user p.network a.new.self p.to_user p.to_network a.new.outward a.new.inward s shows) a.ensures.unchanged
+
+pub returns-in-User-clause-safe : goal.returns-in-User-clause-safe
+returns-in-User-clause-safe c = pair_is_safe _
+
+pub returns-in-Network-clause-safe : goal.returns-in-Network-clause-safe
+returns-in-Network-clause-safe c = pair_is_safe _

@@ -1,19 +1,16 @@
-use Rattle.std.proofs.Common.{[]}
 use Rattle.lapd_frame.specs.declared.Side.TheVariants.{User, Network}
-use Rattle.lapd_pair.proofs.Pairs.{new_stands}
+use Rattle.lapd_pair.proofs.Pairs.{new_stands, new_reached}
 use Rattle.lapd_pair.proofs.pair.Pair.new.Goals as goal
 
 pub invariant_of-result : goal.invariant_of-result
 invariant_of-result c = record {
-  reached = ∣ (
-    c.args.user,
-    c.args.network,
-    [],
-    new_stands c.args.user c.args.network c.in_ok-new.field-0 c.in_ok-new-2.field-0 c.new-3.result c.new-4.result
-        c.new.ensures.window c.new-2.ensures.window c.in_ok-new.ensures.station c.in_ok-new-2.ensures.station (c.new-3.ensures Network) (c.new-4.ensures User),
-  ) ∣₁;
+  reached = new_reached c.args.user c.args.network c.in_ok-new.field-0 c.in_ok-new-2.field-0 c.new-3.result c.new-4.result c.new.ensures.window c.new-2.ensures.window
+      (new_stands c.args.user c.args.network c.in_ok-new.field-0 c.in_ok-new-2.field-0 c.new-3.result c.new-4.result
+      c.new.ensures.window c.new-2.ensures.window c.in_ok-new.ensures.station c.in_ok-new-2.ensures.station (c.new-3.ensures Network) (c.new-4.ensures User));
 }
 
 pub returns : goal.returns
-returns c = new_stands c.args.user c.args.network c.in_ok-new.field-0 c.in_ok-new-2.field-0 c.new-3.result c.new-4.result
-    c.new.ensures.window c.new-2.ensures.window c.in_ok-new.ensures.station c.in_ok-new-2.ensures.station (c.new-3.ensures Network) (c.new-4.ensures User)
+returns c = record {
+  stands = new_stands c.args.user c.args.network c.in_ok-new.field-0 c.in_ok-new-2.field-0 c.new-3.result c.new-4.result
+      c.new.ensures.window c.new-2.ensures.window c.in_ok-new.ensures.station c.in_ok-new-2.ensures.station (c.new-3.ensures Network) (c.new-4.ensures User);
+}

@@ -1,0 +1,7 @@
+pub mod Holding
+pub mod Kept
+pub mod Named
+pub mod TerminalKeeps
+pub mod AssignerKeeps
+pub mod RunKeeps
+pub mod Witnesses

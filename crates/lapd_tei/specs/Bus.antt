@@ -1,0 +1,171 @@
+-- A bus: terminals without a fixed TEI, the assigner of the network side, and the messages on their way between them
+-- (Q.921 5.3). A message of the network side stays on its way until it is dropped, and each terminal hears it once at most,
+-- at any moment; one of a terminal leaves when it is heard or dropped. So messages are lost, come to several terminals and
+-- overtake each other.
+use Rattle.std.specs.Prelude.{ℕ, ◌+◌, Bool, true, false, List, [], ◌∷◌, ◌++◌, length, map, set, replicate, slice_get, slice_index_or, codes, Option, Some, None, Result, Ok, Err}
+use Rattle.std.specs.List.{remove}
+use Rattle.lapd_tei.specs.declared.message.TeiMessage.{TeiMessage}
+use Rattle.lapd_tei.specs.declared.out.TeiOut.{TeiOut}
+use Rattle.lapd_tei.specs.declared.phase.Phase.{Phase}
+use Rattle.lapd_tei.specs.declared.phase.Phase.TheVariants.{Unassigned, Awaiting}
+use Rattle.lapd_tei.specs.declared.terminal.TerminalEvent.{TerminalEvent}
+use Rattle.lapd_tei.specs.declared.terminal.TerminalEvent.TheVariants as event
+use Rattle.lapd_tei.specs.declared.assigner.AssignerEvent.{AssignerEvent}
+use Rattle.lapd_tei.specs.declared.assigner.AssignerEvent.TheVariants as assigner
+use Rattle.lapd_tei.specs.declared.check.Check.{Check}
+use Rattle.lapd_tei.specs.declared.bus_move.BusMove.{BusMove}
+use Rattle.lapd_tei.specs.declared.bus_move.BusMove.TheVariants as move
+use Rattle.lapd_tei.specs.declared.bus_move.BusFault.{BusFault}
+use Rattle.lapd_tei.specs.declared.bus_move.BusFault.TheVariants.{NothingThere, HeardBefore, Memory}
+use Rattle.lapd_tei.specs.Out.{sent}
+use Rattle.lapd_tei.specs.Terminal.{TerminalStep, terminal_step}
+use Rattle.lapd_tei.specs.Assigner.{AssignerState, AssignerStep, assigner_step, nothing_held}
+
+-- a message of the network side on its way, and which terminals have heard it
+pub record Broadcast : Type 0 where
+  pub message : TeiMessage
+  pub heard : List Bool
+
+pub record BusState : Type 0 where
+  pub terminals : List Phase
+  pub assigner : AssignerState
+  pub down : List Broadcast
+  pub up : List TeiMessage
+
+-- the bus after a move, and the outputs of the terminal or assigner concerned
+pub record BusStep : Type 0 where
+  pub now : BusState
+  pub outs : List TeiOut
+
+-- so many terminals, all without a TEI, and nothing held
+abbrev pub new_bus : ℕ → BusState
+new_bus terminals = record { terminals = replicate terminals Unassigned; assigner = nothing_held; down = []; up = [] }
+
+-- a message that is broadcast now: nobody has heard it
+abbrev pub broadcast : ℕ → TeiMessage → Broadcast
+broadcast terminals m = record { message = m; heard = replicate terminals false }
+
+-- what a terminal at this place did: its messages go up, behind the others
+abbrev pub terminal_did : BusState → ℕ → TerminalStep → BusStep
+terminal_did b t done = record {
+  now = record { terminals = set b.terminals t done.now; assigner = b.assigner; down = b.down; up = b.up ++ sent done.outs };
+  outs = done.outs;
+}
+
+-- what the assigner did: its messages go down
+abbrev pub assigner_did : BusState → AssignerStep → BusStep
+assigner_did b done = record {
+  now = record { terminals = b.terminals; assigner = done.now; down = b.down ++ map (broadcast (length b.terminals)) (sent done.outs); up = b.up };
+  outs = done.outs;
+}
+
+-- an event of the terminal at this place, where there is one
+abbrev pub terminal_has : BusState → ℕ → Option Phase → TerminalEvent → Result BusStep BusFault
+terminal_has b t None e = Err NothingThere
+terminal_has b t (Some phase) e = Ok (terminal_did b t (terminal_step phase e))
+
+abbrev pub to_terminal : BusState → ℕ → TerminalEvent → Result BusStep BusFault
+to_terminal b t e = terminal_has b t (slice_get b.terminals t) e
+
+-- T202 runs while a TEI is awaited
+abbrev pub t202_expires : BusState → ℕ → ℕ → Option Phase → Result BusStep BusFault
+t202_expires b t ri (Some (Awaiting purpose count own)) = Ok (terminal_did b t (terminal_step (Awaiting purpose count own) (event.T202 ri)))
+t202_expires b t ri other = Err NothingThere
+
+abbrev pub expire_t202 : BusState → ℕ → ℕ → Result BusStep BusFault
+expire_t202 b t ri = t202_expires b t ri (slice_get b.terminals t)
+
+-- T201 runs during a check
+abbrev pub t201_expires : BusState → Option Check → Result BusStep BusFault
+t201_expires b None = Err NothingThere
+t201_expires b (Some check) = Ok (assigner_did b (assigner_step b.assigner assigner.T201))
+
+abbrev pub expire_t201 : BusState → Result BusStep BusFault
+expire_t201 b = t201_expires b b.assigner.check
+
+-- the terminal has heard this message now
+abbrev pub heard_by : ℕ → Broadcast → Broadcast
+heard_by t f = record { message = f.message; heard = set f.heard t true }
+
+abbrev pub with_mark : BusState → ℕ → ℕ → Broadcast → BusState
+with_mark b i t f = record { terminals = b.terminals; assigner = b.assigner; down = set b.down i (heard_by t f); up = b.up }
+
+abbrev pub hears : BusState → ℕ → ℕ → ℕ → Broadcast → Phase → Bool → Result BusStep BusFault
+hears b i t ri f phase true = Err HeardBefore
+hears b i t ri f phase false = Ok (terminal_did (with_mark b i t f) t (terminal_step phase (event.Heard f.message ri)))
+
+-- the terminal hears a message, where both are there and it did not hear it before
+abbrev pub terminal_hears : BusState → ℕ → ℕ → ℕ → Option Broadcast → Option Phase → Result BusStep BusFault
+terminal_hears b i t ri (Some f) (Some phase) = hears b i t ri f phase (slice_index_or f.heard t false)
+terminal_hears b i t ri f phase = Err NothingThere
+
+abbrev pub hear : BusState → ℕ → ℕ → ℕ → Result BusStep BusFault
+hear b i t ri = terminal_hears b i t ri (slice_get b.down i) (slice_get b.terminals t)
+
+-- a message is dropped, where it is there
+abbrev pub drops_down : BusState → ℕ → Option Broadcast → Result BusStep BusFault
+drops_down b i None = Err NothingThere
+drops_down b i (Some f) = Ok (record { now = record { terminals = b.terminals; assigner = b.assigner; down = remove b.down i; up = b.up }; outs = [] })
+
+abbrev pub drop_down : BusState → ℕ → Result BusStep BusFault
+drop_down b i = drops_down b i (slice_get b.down i)
+
+abbrev pub without_up : BusState → ℕ → BusState
+without_up b i = record { terminals = b.terminals; assigner = b.assigner; down = b.down; up = remove b.up i }
+
+abbrev pub drops_up : BusState → ℕ → Option TeiMessage → Result BusStep BusFault
+drops_up b i None = Err NothingThere
+drops_up b i (Some m) = Ok (record { now = without_up b i; outs = [] })
+
+abbrev pub drop_up : BusState → ℕ → Result BusStep BusFault
+drop_up b i = drops_up b i (slice_get b.up i)
+
+-- the assigner hears a message, which leaves
+abbrev pub network_hears : BusState → ℕ → Option TeiMessage → Result BusStep BusFault
+network_hears b i None = Err NothingThere
+network_hears b i (Some m) = Ok (assigner_did (without_up b i) (assigner_step b.assigner (assigner.Heard m)))
+
+abbrev pub hear_up : BusState → ℕ → Result BusStep BusFault
+hear_up b i = network_hears b i (slice_get b.up i)
+
+-- an event of the assigner
+abbrev pub to_assigner : BusState → AssignerEvent → BusStep
+to_assigner b e = assigner_did b (assigner_step b.assigner e)
+
+-- One move: the bus after it with the outputs of its row, or the reason why it is refused.
+abbrev pub bus_step : BusState → BusMove → Result BusStep BusFault
+bus_step b (move.Ask t ri) = to_terminal b t (event.Ask ri)
+bus_step b (move.T202 t ri) = expire_t202 b t ri
+bus_step b (move.Hear i t ri) = hear b i t ri
+bus_step b (move.Drop i) = drop_down b i
+bus_step b (move.HearUp i) = hear_up b i
+bus_step b (move.DropUp i) = drop_up b i
+bus_step b (move.Check tei) = Ok (to_assigner b (assigner.Check tei))
+bus_step b move.T201 = expire_t201 b
+bus_step b (move.Leave t) = to_terminal b t event.Leave
+
+-- a refused move changes nothing
+abbrev pub done : BusState → Result BusStep BusFault → BusStep
+done b (Ok step) = step
+done b (Err fault) = record { now = b; outs = [] }
+
+abbrev pub moved : BusState → BusMove → BusStep
+moved b m = done b (bus_step b m)
+
+-- a list of moves, one after another, and how many of them are refused
+abbrev pub run : BusState → List BusMove → BusState
+run b [] = b
+run b (m ∷ ms) = run (moved b m).now ms
+
+abbrev pub refusal : Result BusStep BusFault → ℕ
+refusal (Ok step) = 0
+refusal (Err fault) = 1
+
+abbrev pub refusals : BusState → List BusMove → ℕ
+refusals b [] = 0
+refusals b (m ∷ ms) = refusal (bus_step b m) + refusals (moved b m).now ms
+
+abbrev pub bus_fault_name : BusFault → List ℕ
+bus_fault_name NothingThere = codes "U1 NothingThere"
+bus_fault_name HeardBefore = codes "U2 HeardBefore"
+bus_fault_name Memory = codes "U3 Memory"

@@ -1,0 +1,7 @@
+pub mod Assigner
+pub mod Bus
+pub mod Message
+pub mod Out
+pub mod Single
+pub mod Terminal
+pub mod Worked

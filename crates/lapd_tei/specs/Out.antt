@@ -1,0 +1,37 @@
+-- What a terminal or an assigner puts out.
+use Rattle.std.specs.Prelude.{◌≡◌, ℕ, ◌≤◌, true, List, [], ◌∷◌, ⊤}
+use Rattle.lapd_tei.specs.declared.message.TeiMessage.{TeiMessage}
+use Rattle.lapd_tei.specs.declared.kind.TeiKind.TheVariants as kind
+use Rattle.lapd_tei.specs.declared.out.TeiOut.{TeiOut}
+use Rattle.lapd_tei.specs.declared.out.TeiOut.TheVariants.{Send}
+use Rattle.lapd_tei.specs.Message.{group_tei, permits}
+
+-- the messages that are sent: a Request names no TEI, and a check and a removal no reference (Q.921 Table 8)
+abbrev pub request : ℕ → TeiMessage
+request ri = record { ri = ri; kind = kind.Request; ai = group_tei }
+
+abbrev pub assigned : ℕ → ℕ → TeiMessage
+assigned ri tei = record { ri = ri; kind = kind.Assigned; ai = tei }
+
+abbrev pub denied : ℕ → TeiMessage
+denied ri = record { ri = ri; kind = kind.Denied; ai = group_tei }
+
+abbrev pub check_request : ℕ → TeiMessage
+check_request tei = record { ri = 0; kind = kind.CheckRequest; ai = tei }
+
+abbrev pub check_response : ℕ → ℕ → TeiMessage
+check_response ri tei = record { ri = ri; kind = kind.CheckResponse; ai = tei }
+
+abbrev pub remove : ℕ → TeiMessage
+remove tei = record { ri = 0; kind = kind.Remove; ai = tei }
+
+-- of outputs, the messages that are sent, in order
+abbrev pub sent : List TeiOut → List TeiMessage
+sent [] = []
+sent (Send m ∷ outs) = m ∷ sent outs
+sent (out ∷ outs) = sent outs
+
+-- a message that is sent has an action indicator that is read again: a TEI, and not the group TEI where one terminal is meant
+abbrev pub IsReadable : TeiOut → Type 0
+IsReadable (Send m) = (m.ai ≤ 127) × (permits m.kind m.ai ≡ true)
+IsReadable out = ⊤

@@ -1,0 +1,67 @@
+-- Worked moves of a bus, by which the definitions are tried.
+use Rattle.std.specs.Prelude.{ℕ, zero, suc, List, [], ◌∷◌, Result, Ok, Err}
+use Rattle.lapd_tei.specs.declared.out.TeiOut.{TeiOut}
+use Rattle.lapd_tei.specs.declared.bus_move.BusMove.{BusMove}
+use Rattle.lapd_tei.specs.declared.bus_move.BusMove.TheVariants.{Ask, T202, Hear, Drop, HearUp, Check, T201, Leave}
+use Rattle.lapd_tei.specs.declared.bus_move.BusFault.{BusFault}
+use Rattle.lapd_tei.specs.declared.assigner.AssignerEvent.{AssignerEvent}
+use Rattle.lapd_tei.specs.declared.assigner.AssignerEvent.TheVariants as event
+use Rattle.lapd_tei.specs.Out.{check_response}
+use Rattle.lapd_tei.specs.Assigner.{AssignerState, assigner_step}
+use Rattle.lapd_tei.specs.Bus.{BusState, BusStep, bus_step, moved}
+
+-- what each of the moves gives, or why it is refused
+abbrev pub given_by : Result BusStep BusFault → Result (List TeiOut) BusFault
+given_by (Ok step) = Ok step.outs
+given_by (Err fault) = Err fault
+
+abbrev pub results : BusState → List BusMove → List (Result (List TeiOut) BusFault)
+results b [] = []
+results b (m ∷ ms) = given_by (bus_step b m) ∷ results (moved b m).now ms
+
+-- two terminals ask, and the second hears what is for the first too; then the TEI of the first is checked in vain
+abbrev pub two_ask : List BusMove
+two_ask = Ask 0 0x1234 ∷ Ask 1 0x5678 ∷ HearUp 0 ∷ Hear 0 1 1 ∷ Hear 0 0 2 ∷ Hear 0 0 3 ∷ HearUp 0 ∷ Hear 1 1 4 ∷ []
+
+abbrev pub vain_check : List BusMove
+vain_check = Check 64 ∷ T201 ∷ T201 ∷ []
+
+-- a terminal asks three times, and gives up
+abbrev pub three_times : List BusMove
+three_times = Ask 0 1 ∷ T202 0 2 ∷ T202 0 3 ∷ T202 0 4 ∷ T202 0 5 ∷ []
+
+-- so many requests of one reference, each served
+abbrev pub served : ℕ → List BusMove
+served zero = []
+served (suc n) = Ask 0 1 ∷ HearUp 0 ∷ Leave 0 ∷ served n
+
+-- what an assigner puts out for each of these events
+abbrev pub answers : AssignerState → List AssignerEvent → List (List TeiOut)
+answers a [] = []
+answers a (e ∷ es) = (assigner_step a e).outs ∷ answers (assigner_step a e).now es
+
+-- a check of TEI 64 with so many responses before T201 expires
+abbrev pub responded : ℕ → List AssignerEvent
+responded zero = event.T201 ∷ []
+responded (suc n) = event.Heard (check_response 0x5678 64) ∷ responded n
+
+abbrev pub check_with : ℕ → List AssignerEvent
+check_with n = event.Check 64 ∷ responded n
+
+-- ---- Runs by which the premises of the law are tried.
+
+-- a TEI is got, given up, freed by a check, and got by another terminal
+abbrev pub got_by_another : List BusMove
+got_by_another = Ask 0 1 ∷ HearUp 0 ∷ Hear 0 0 2 ∷ Leave 0 ∷ Drop 0 ∷ Check 64 ∷ T201 ∷ T201 ∷ Ask 1 3 ∷ HearUp 0 ∷ Hear 2 1 4 ∷ []
+
+-- two terminals ask by one reference
+abbrev pub one_reference : List BusMove
+one_reference = Ask 0 7 ∷ Ask 1 7 ∷ HearUp 0 ∷ Hear 0 0 1 ∷ Hear 0 1 2 ∷ []
+
+-- a check frees a TEI that a terminal holds, as the terminal does not hear it
+abbrev pub freed_while_held : List BusMove
+freed_while_held = Ask 0 1 ∷ HearUp 0 ∷ Hear 0 0 2 ∷ Check 64 ∷ T201 ∷ T201 ∷ Ask 1 3 ∷ HearUp 0 ∷ Hear 3 1 4 ∷ []
+
+-- a check frees a TEI whose assignment is still on its way
+abbrev pub freed_on_its_way : List BusMove
+freed_on_its_way = Ask 0 1 ∷ HearUp 0 ∷ Check 64 ∷ T201 ∷ T201 ∷ Ask 1 2 ∷ HearUp 0 ∷ Hear 0 0 3 ∷ Hear 3 1 4 ∷ []

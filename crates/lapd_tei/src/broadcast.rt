@@ -1,0 +1,61 @@
+ghost use Rattle.std.specs.Prelude.{◌≡◌, false, map, slice_index_or, IfOk};
+ghost use Rattle.lapd_tei.specs.Bus.{broadcast, heard_by};
+
+use crate::TeiMessage;
+use std::alloc::{AllocError, Global};
+use std::marker::Model;
+
+/// A message of the network side on its way, and which terminals have heard it.
+#[derive(Drop)]
+pub struct Broadcast {
+    message: TeiMessage,
+    heard: Vec<bool>,
+}
+
+impl Model for Broadcast {
+    ghost use Rattle.lapd_tei.specs.Bus.{Broadcast};
+
+    ghost Value = { Broadcast };
+
+    ghost view = { λ b. record { message = b.message; heard = b.heard.items } };
+}
+
+impl Broadcast {
+    /// A message to so many terminals, which none of them has heard.
+    pub fn new(
+        alloc: Global,
+        terminals: usize,
+        message: TeiMessage,
+    ) -> Result<Broadcast, AllocError>
+        ensures { IfOk result (λ b. b ≡ broadcast terminals message) }
+    {
+        let heard = vec![in alloc; false; terminals]?;
+        Ok(Broadcast { message, heard })
+    }
+
+    /// The message.
+    pub fn message(&self) -> TeiMessage
+        ensures { result ≡ self.now.message }
+    {
+        self.message
+    }
+
+    /// Whether the terminal at this place has heard it.
+    pub fn is_heard_by(&self, t: usize) -> bool
+        ensures { result ≡ slice_index_or self.now.heard t false }
+    {
+        match self.heard.get(t) {
+            Some(heard) => *heard,
+            None => false,
+        }
+    }
+
+    /// The terminal at this place has heard it now.
+    pub fn mark(&mut self, t: usize)
+        ensures { self.new ≡ heard_by t self.old }
+    {
+        if t < self.heard.len() {
+            self.heard[t] = true;
+        }
+    }
+}

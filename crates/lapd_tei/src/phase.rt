@@ -1,0 +1,33 @@
+use lapd_frame::Tei;
+
+/// What a terminal waits for a TEI for.
+#[derive(Clone, Copy, Debug, PartialEq, Eq)]
+pub enum Purpose {
+    /// To have one: state 2, assign awaiting TEI.
+    Assignment,
+    /// To establish a link: state 3, establish awaiting TEI.
+    Establishment,
+}
+
+/// The state of a terminal's TEI management (Q.921 Annex B, Figures B.1 to B.4).
+#[derive(Clone, Copy, Debug, PartialEq, Eq)]
+pub enum Phase {
+    /// State 1, TEI unassigned.
+    Unassigned,
+    /// State 2 or 3: a TEI was asked for.
+    Awaiting {
+        /// What for.
+        purpose: Purpose,
+        /// How often, 1 to 3.
+        count: u8,
+        /// The reference of the last request, which is outstanding.
+        ri: u16,
+    },
+    /// State 4, TEI assigned.
+    Assigned {
+        /// The reference by which the TEI was got, `None` for a fixed one.
+        by: Option<u16>,
+        /// The TEI, 0 to 126.
+        tei: Tei,
+    },
+}

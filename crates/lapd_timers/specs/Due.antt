@@ -1,0 +1,79 @@
+-- The timers of a side, and which of them is due: among the timers that run with a deadline at most now, the one whose
+-- pair (deadline, timer) is the least.
+use Rattle.std.specs.Prelude.{◌≡◌, ℕ, ◌+◌, ◌<◌, ◌≤◌, min, nat_le, if◌then◌else◌, Option, Some, None, ◌⊎◌}
+use Rattle.lapd_timers.specs.declared.timer.Timer.{Timer}
+use Rattle.lapd_timers.specs.declared.timer.Timer.TheVariants.{T200, T201, T202, T203}
+use Rattle.lapd_timers.specs.declared.timer_set.Expiry.{Expiry}
+use Rattle.lapd_timers.specs.Durations.{Lengths}
+
+-- how long each timer runs, and the deadline of each that runs, in milliseconds
+pub record Timers : Type 0 where
+  pub durations : Lengths
+  pub t200 : Option ℕ
+  pub t201 : Option ℕ
+  pub t202 : Option ℕ
+  pub t203 : Option ℕ
+
+-- as they are made: none runs
+abbrev pub at_rest : Lengths → Timers
+at_rest durations = record { durations = durations; t200 = None; t201 = None; t202 = None; t203 = None }
+
+abbrev pub deadline_of : Timer → Timers → Option ℕ
+deadline_of T200 s = s.t200
+deadline_of T201 s = s.t201
+deadline_of T202 s = s.t202
+deadline_of T203 s = s.t203
+
+-- the same, but for the deadline of one timer
+abbrev pub with_deadline : Timer → Option ℕ → Timers → Timers
+with_deadline T200 deadline s = record s { t200 = deadline }
+with_deadline T201 deadline s = record s { t201 = deadline }
+with_deadline T202 deadline s = record s { t202 = deadline }
+with_deadline T203 deadline s = record s { t203 = deadline }
+
+-- the last moment that can be told, and the deadline of a timer that is started now
+abbrev pub last_moment : ℕ
+last_moment = 18446744073709551615
+
+abbrev pub deadline_from : ℕ → ℕ → ℕ
+deadline_from now duration = min (now + duration) last_moment
+
+-- the order of the timers
+abbrev pub place : Timer → ℕ
+place T200 = 0
+place T201 = 1
+place T202 = 2
+place T203 = 3
+
+-- the pairs (deadline, timer) of the timers that run with a deadline at most now
+pub record HasExpired (now : ℕ) (s : Timers) (e : Expiry) : Type 0 where
+  pub runs : deadline_of e.timer s ≡ Some e.deadline
+  pub is_past : e.deadline ≤ now
+
+-- one pair is no greater than another: its deadline is less, or the same and its timer comes no later in the order
+abbrev pub IsNoGreater : Expiry → Expiry → Type 0
+IsNoGreater e f = (e.deadline < f.deadline) ⊎ ((e.deadline ≡ f.deadline) × (place e.timer ≤ place f.timer))
+
+-- the least of some pairs, or none where there are none
+abbrev pub IsLeast : (Expiry → Type 0) → Option Expiry → Type 0
+IsLeast Among None = (f : Expiry) → Among f → ⊥
+IsLeast Among (Some e) = Among e × ((f : Expiry) → Among f → IsNoGreater e f)
+
+abbrev pub timer_of : Option Expiry → Option Timer
+timer_of None = None
+timer_of (Some e) = Some e.timer
+
+-- the timer that is due now, where one is
+pub record IsDue (now : ℕ) (s : Timers) (timer : Option Timer) : Type 0 where
+  pub least : Option Expiry
+  pub is_least : IsLeast (HasExpired now s) least
+  pub is_its : timer ≡ timer_of least
+
+-- of the least so far and the deadline of one timer more, where it runs and is past
+abbrev pub sooner_of : Option Expiry → Expiry → Option Expiry
+sooner_of None e = Some e
+sooner_of (Some least) e = if nat_le least.deadline e.deadline then Some least else Some e
+
+abbrev pub sooner : ℕ → Timer → Option ℕ → Option Expiry → Option Expiry
+sooner now timer None least = least
+sooner now timer (Some deadline) least = if nat_le deadline now then sooner_of least (record { deadline = deadline; timer = timer }) else least
