@@ -16,10 +16,8 @@ pub fn spelled(from: Side, frame: &Frame<'_>) -> FrameOctets
 {
     let mut octets = [0; MOST_OCTETS];
     let len = write(frame, from, &mut octets);
-    let mut spelled = ArrayVec::new();
-    let Ok(()) = spelled.try_extend_from_slice(&octets[..len]) else {
-        unreachable!()
-    };
+    let mut spelled = ArrayVec::from(octets);
+    spelled.truncate(len);
     spelled
 }
 

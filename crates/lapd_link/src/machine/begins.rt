@@ -57,9 +57,7 @@ impl Machine {
             State::TeiAssigned | State::MultipleFrameEstablished | State::TimerRecovery => {
                 is_sabme(control, role)
             }
-            State::AwaitingEstablishment => {
-                is_final_ua(control, role) && !self.release_pending
-            }
+            State::AwaitingEstablishment => { is_final_ua(control, role) && !self.release_pending }
             State::AwaitingRelease => false,
         }
     }
