@@ -1,3 +1,4 @@
 pub mod Filling
 pub mod Texts
 pub mod Turning
+pub mod Writing

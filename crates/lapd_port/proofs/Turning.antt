@@ -1,5 +1,5 @@
 -- Turns, one behind the other.
-use Rattle.std.proofs.Common.{◌≡◌, ℕ, ◌+◌, ◌≤◌, zero, suc, refl, sym, subst, ◌∙◌, arith, Result, Ok, Err, IsErrAnd}
+use Rattle.std.proofs.Common.{◌≡◌, ℕ, ◌+◌, ◌<◌, ◌≤◌, zero, suc, refl, sym, subst, ◌∙◌, arith, Result, Ok, Err, IsErrAnd}
 use Rattle.lapd_port.specs.declared.port_fault.PortFault.{PortFault}
 use Rattle.lapd_port.specs.declared.port_fault.PortFault.TheVariants.{TooManyTurns}
 use Rattle.lapd_port.specs.Device.{Turns}
@@ -9,9 +9,17 @@ use Rattle.lapd_port.specs.Port.{MakesTurns}
 abbrev pub TurnsBetween : {D : Type 0} → (D → D → Type 0) → ℕ → ℕ → D → D → Type 0
 TurnsBetween turn before after old new = (count : ℕ) × Turns turn count old new × (after ≡ before + count)
 
--- no turn
-pub none_made : {D : Type 0} (turn : D → D → Type 0) (before : ℕ) (old : D) → TurnsBetween turn before before old old
-none_made turn before old = (0, refl, omega arith)
+-- a turn more
+pub with_turn : {D : Type 0} (turn : D → D → Type 0) (count : ℕ) (old mid new : D) → Turns turn count old mid → turn mid new → Turns turn (count + 1) old new
+with_turn {D} turn count old mid new made step =
+    let e : suc count ≡ count + 1 = omega arith in
+    let F : ℕ → Type 0 = λ k. Turns turn k old new in
+    subst F e (mid, made, step)
+
+-- turns of a piece of work with another answer than S5
+pub made_some : {D T : Type 0} (turn : D → D → Type 0) (result : Result T PortFault) (count : ℕ) (old mid new : D) → Turns turn count old mid → turn mid new → count < 4096
+    → (result ≡ Err TooManyTurns → ⊥) → MakesTurns turn result old new
+made_some turn result count old mid new made step few other = (count + 1, with_turn turn count old mid new made step, omega arith, λ is. absurd (other is))
 
 -- one turn more
 pub one_more_made : {D : Type 0} (turn : D → D → Type 0) (before after : ℕ) (old mid new : D) → TurnsBetween turn before after old mid → turn mid new → TurnsBetween turn before (after + 1) old new

@@ -52,3 +52,12 @@ is_failure (Err Cut) = true
 is_failure (Err Device) = true
 is_failure (Err TooManyTurns) = true
 is_failure (Err Failed) = true
+
+-- a write answers no fault but S4 to S6
+abbrev pub IsWriteFault : PortFault → Type 0
+IsWriteFault End = ⊥
+IsWriteFault BadLength = ⊥
+IsWriteFault Cut = ⊥
+IsWriteFault Device = ⊤
+IsWriteFault TooManyTurns = ⊤
+IsWriteFault Failed = ⊤

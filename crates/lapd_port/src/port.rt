@@ -1,7 +1,7 @@
 ghost use Rattle.std.specs.Prelude.{◌≡◌, ◌≢◌, ℕ, ◌+◌, ◌≤◌, ◌<◌, ◌⊎◌, List, Option, Ok, Err, length, take, IfOk, IfErr, OnOk, IsTrue, ◌↔◌, ◌||◌, false};
 ghost use Rattle.std.specs.Io.KnownBytes.{Consumes, IsAtEnd};
 ghost use Rattle.lapd_port.specs.Device.{Turns};
-ghost use Rattle.lapd_port.specs.Port.{CountsAsDevice, MakesTurns, ReadsNext, WritesText, is_failure as makes_fail};
+ghost use Rattle.lapd_port.specs.Port.{CountsAsDevice, MakesTurns, ReadsNext, WritesText, IsWriteFault, is_failure as makes_fail};
 ghost use Rattle.lapd_port.specs.SocketText.{IsFrameLength, frame_text, length_octets};
 
 use crate::device_error::DeviceError;
@@ -18,6 +18,9 @@ pub const MOST_OCTETS: usize = 264;
 
 /// How many octets the length before a frame has.
 const LENGTH_OCTETS: usize = 2;
+
+/// How many octets the text of a frame has at most.
+const TEXT_OCTETS: usize = LENGTH_OCTETS + MOST_OCTETS;
 
 /// How many turns, which are calls of a device, one call of a port makes at most.
 pub const MOST_TURNS: u16 = 4096;
@@ -81,6 +84,30 @@ impl<R: Source, W: Sink> Port<R, W> {
         self.failed = is_failure(&read);
         read
     }
+
+    /// Writes a frame of 3 to 264 octets.
+    ///
+    /// # Errors
+    ///
+    /// S4 to S6. The port has failed then. A front of the frame's length and octets was written, and not all of them.
+    pub fn write_frame(&mut self, frame: &[u8]) -> Result<(), PortFault>
+        requires { IsFrameLength (length frame.now) }
+        ensures text { WritesText (W.written self.old.sink) (W.written self.new.sink) result (frame_text frame.now) }
+        ensures device { CountsAsDevice result (W.failure_count self.old.sink) (W.failure_count self.new.sink) }
+        ensures turns { MakesTurns W.turn result self.old.sink self.new.sink }
+        ensures failed { (result ≡ Err PortFault.Failed) ↔ IsTrue self.old.failed }
+        ensures untouched { IsTrue self.old.failed → self.new ≡ self.old }
+        ensures faults { IfErr result IsWriteFault }
+        ensures lasts { self.new.failed ≡ makes_fail result }
+        ensures source { self.new.source ≡ self.old.source }
+    {
+        if self.failed {
+            return Err(PortFault::Failed);
+        }
+        let written = write_next(&mut self.sink, frame);
+        self.failed = written.is_err();
+        written
+    }
 }
 
 // Whether a port has failed after it answered this.
@@ -113,6 +140,65 @@ fn read_next<R: Source>(source: &mut R, frame: &mut [u8; MOST_OCTETS]) -> Result
         return Err(PortFault::Cut);
     }
     Ok(count)
+}
+
+// Writes a frame behind its length.
+fn write_next<W: Sink>(sink: &mut W, frame: &[u8]) -> Result<(), PortFault>
+    requires { IsFrameLength (length frame.now) }
+    ensures text { WritesText (W.written sink.old) (W.written sink.new) result (frame_text frame.now) }
+    ensures device { CountsAsDevice result (W.failure_count sink.old) (W.failure_count sink.new) }
+    ensures turns { MakesTurns W.turn result sink.old sink.new }
+    ensures faults { IfErr result (λ fault. (fault ≡ PortFault.Device) ⊎ (fault ≡ PortFault.TooManyTurns)) }
+{
+    let text = text_of(frame);
+    write_all(sink, text.as_slice())
+}
+
+// The text of a frame.
+fn text_of(frame: &[u8]) -> ArrayVec<u8, TEXT_OCTETS>
+    requires { IsFrameLength (length frame.now) }
+    ensures { result.items ≡ frame_text frame.now }
+{
+    let mut text = ArrayVec::new();
+    let Ok(()) = text.try_extend_from_slice(&length_octets_of(frame.len())) else {
+        unreachable!()
+    };
+    let Ok(()) = text.try_extend_from_slice(frame) else {
+        unreachable!()
+    };
+    text
+}
+
+// A length in two octets, high first.
+fn length_octets_of(count: usize) -> [u8; LENGTH_OCTETS]
+    requires { IsFrameLength count }
+    ensures { result ≡ length_octets count }
+{
+    (count as u16).to_be_bytes()
+}
+
+// Writes all octets, of which there are some.
+fn write_all<W: Sink>(sink: &mut W, octets: &[u8]) -> Result<(), PortFault>
+    requires { 0 < length octets.now }
+    ensures text { WritesText (W.written sink.old) (W.written sink.new) result octets.now }
+    ensures device { CountsAsDevice result (W.failure_count sink.old) (W.failure_count sink.new) }
+    ensures turns { MakesTurns W.turn result sink.old sink.new }
+    ensures faults { IfErr result (λ fault. (fault ≡ PortFault.Device) ⊎ (fault ≡ PortFault.TooManyTurns)) }
+{
+    let mut rest = octets;
+    for _turn in 0..MOST_TURNS {
+        match sink.write(rest) {
+            Ok(count) => {
+                rest = &rest[count..];
+                if rest.is_empty() {
+                    return Ok(());
+                }
+            }
+            Err(DeviceError::Interrupted) => {}
+            Err(DeviceError::Failed) => return Err(PortFault::Device),
+        }
+    }
+    Err(PortFault::TooManyTurns)
 }
 
 // The length that two octets say, high first.
