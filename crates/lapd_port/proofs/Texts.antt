@@ -1,14 +1,16 @@
 -- The text of a frame, and what an input shows that begins with it.
-use Rattle.std.proofs.Common.{◌≡◌, ℕ, ◌+◌, ◌*◌, ◌/◌, ◌%◌, ◌≤◌, nat_le, nat_lt, true, false, List, ◌++◌, length, take, take_all, Option, Some, None, Result, Ok, refl, sym, ap, subst, ◌∙◌, arith, length-append}
+use Rattle.std.proofs.Common.{◌≡◌, ℕ, ◌≤◌, nat_le, nat_lt, true, false, List, [], ◌∷◌, ◌++◌, append-nil, append_assoc, length, take, take_all, Option, Some, None, Result, Ok, Err, OnOk, sym, ap, subst, ◌∙◌, arith, length-append}
+use Rattle.std.specs.Prelude.{⊤}
 use Rattle.std.proofs.lemmas.Bool.{le-leb, le-ltb}
 use Rattle.std.proofs.lemmas.Nat.{div-add-mod'}
-use Rattle.std.proofs.lemmas.List.{take-append-le}
+use Rattle.std.proofs.lemmas.List.{append_cancel_left}
 use Rattle.std.proofs.Math.Seq.{take-append_seam}
-use Rattle.std.specs.Io.KnownBytes.{Consumes}
+use Rattle.std.specs.Io.KnownBytes.{Appends, Consumes}
 use Rattle.std.proofs.KnownBytes.{Consumes-trans}
 use Rattle.lapd_port.specs.declared.port_fault.PortFault.{PortFault}
-use Rattle.lapd_port.specs.SocketText.{IsFrameLength, frame_of_length, frame_text, length_octets, next_frame}
-use Rattle.lapd_port.specs.Port.{ReadsNext, Shows}
+use Rattle.lapd_port.specs.declared.port_fault.PortFault.TheVariants.{End, BadLength, Cut, Device, TooManyTurns, Failed}
+use Rattle.lapd_port.specs.SocketText.{IsFrameLength, frame_of_length, frame_text, length_octets, next_frame, socket_text}
+use Rattle.lapd_port.specs.Port.{ReadsNext, ReadsFirst, Shows, WritesText}
 
 -- behind its length stands the frame
 frame_of_length-frame : (frame more : List ℕ) → IsFrameLength (length frame) → frame_of_length (length frame) (frame ++ more) ≡ Ok frame
@@ -44,3 +46,59 @@ frame_read old mid new before octets after two got n fits says length_taken is_t
     let H : ℕ → Type 0 = λ m. IsFrameLength m in
     let K : List ℕ → Type 0 = λ x. Shows old (Ok x) × Consumes old new (frame_text x) in
     subst K whole (shows_frame old new octets (subst H exact fits) text, text)
+
+-- ---- Lists of frames.
+
+-- the text of frames with one more behind them
+pub socket_text-append : (frames : List (List ℕ)) (frame : List ℕ) → socket_text (frames ++ frame ∷ []) ≡ socket_text frames ++ frame_text frame
+socket_text-append [] frame = append-nil (frame_text frame)
+socket_text-append (first ∷ frames) frame =
+    ap (λ text. frame_text first ++ text) (socket_text-append frames frame) ∙ sym (append_assoc (frame_text first) (socket_text frames) (frame_text frame))
+
+-- a frame is written behind others
+pub writes_list : (old new : Option (List ℕ)) (result : Result ⊤ PortFault) (frames : List (List ℕ)) (frame : List ℕ) → old ≡ Some (socket_text frames) → WritesText old new result (frame_text frame)
+    → OnOk result (new ≡ Some (socket_text (frames ++ frame ∷ [])))
+writes_list old new (Err fault) frames frame is written = tt
+writes_list old new (Ok done) frames frame is written =
+    let F : Option (List ℕ) → Type 0 = λ known. Appends known new (frame_text frame) in
+    appended new (subst F is written)
+  where
+    appended : (after : Option (List ℕ)) → Appends (Some (socket_text frames)) after (frame_text frame) → after ≡ Some (socket_text (frames ++ frame ∷ []))
+    appended None grew = absurd grew
+    appended (Some octets) grew = ap Some (grew ∙ sym (socket_text-append frames frame))
+
+-- a source that shows a frame shows no other, and no fault
+shows_same : (old : Option (List ℕ)) (octets : List ℕ) (one other : Result (List ℕ) PortFault) → old ≡ Some octets → next_frame octets ≡ one → Shows old other → one ≡ other
+shows_same old octets one other is shown shows =
+    let F : Option (List ℕ) → Type 0 = λ known. Shows known other in
+    let h : next_frame octets ≡ other = subst F is shows in
+    sym shown ∙ h
+
+-- the text of a frame is taken, and that of the others is left
+left_of_first : (frame : List ℕ) (frames : List (List ℕ)) (old new : Option (List ℕ)) → old ≡ Some (socket_text (frame ∷ frames)) → Consumes old new (frame_text frame) → new ≡ Some (socket_text frames)
+left_of_first frame frames old new is taken =
+    let F : Option (List ℕ) → Type 0 = λ known. Consumes known new (frame_text frame) in
+    same_left new (subst F is taken)
+  where
+    same_left : (after : Option (List ℕ)) → Consumes (Some (socket_text (frame ∷ frames))) after (frame_text frame) → after ≡ Some (socket_text frames)
+    same_left None lost = absurd lost
+    same_left (Some octets) lost = ap Some (sym (append_cancel_left (frame_text frame) (socket_text frames) octets lost))
+
+-- a source that shows the text of frames gives the first of them
+pub reads_first : (old new : Option (List ℕ)) (result : Result ℕ PortFault) (buffer frame : List ℕ) (frames : List (List ℕ)) → IsFrameLength (length frame) → old ≡ Some (socket_text (frame ∷ frames))
+    → ReadsNext old new result buffer → ReadsFirst frame frames new result buffer
+reads_first old new (Ok count) buffer frame frames fits is reads =
+    let shown = next_frame-text frame (socket_text frames) fits in
+    let same = shows_same old _ _ (Ok (take count buffer)) is shown reads.0 in
+    let e : take count buffer ≡ frame = cc in
+    let F : List ℕ → Type 0 = λ x. Consumes old new (frame_text x) in
+    (e, left_of_first frame frames old new is (subst F e reads.1))
+reads_first old new (Err End) buffer frame frames fits is reads =
+    let same = shows_same old _ _ (Err End) is (next_frame-text frame (socket_text frames) fits) reads in cc
+reads_first old new (Err BadLength) buffer frame frames fits is reads =
+    let same = shows_same old _ _ (Err BadLength) is (next_frame-text frame (socket_text frames) fits) reads in cc
+reads_first old new (Err Cut) buffer frame frames fits is reads =
+    let same = shows_same old _ _ (Err Cut) is (next_frame-text frame (socket_text frames) fits) reads in cc
+reads_first old new (Err Device) buffer frame frames fits is reads = tt
+reads_first old new (Err TooManyTurns) buffer frame frames fits is reads = tt
+reads_first old new (Err Failed) buffer frame frames fits is reads = tt

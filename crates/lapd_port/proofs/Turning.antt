@@ -1,5 +1,5 @@
 -- Turns, one behind the other.
-use Rattle.std.proofs.Common.{◌≡◌, ℕ, ◌+◌, ◌<◌, ◌≤◌, zero, suc, refl, sym, subst, ◌∙◌, arith, Result, Ok, Err, IsErrAnd}
+use Rattle.std.proofs.Common.{◌≡◌, ℕ, ◌+◌, ◌<◌, ◌≤◌, zero, suc, sym, subst, ◌∙◌, arith, Result, Ok, Err, IsErrAnd}
 use Rattle.lapd_port.specs.declared.port_fault.PortFault.{PortFault}
 use Rattle.lapd_port.specs.declared.port_fault.PortFault.TheVariants.{TooManyTurns}
 use Rattle.lapd_port.specs.Device.{Turns}

@@ -1,11 +1,11 @@
 -- What a call of a port answers, and what it does to its devices.
-use Rattle.std.specs.Prelude.{◌≡◌, ℕ, ◌≤◌, ◌<◌, Bool, true, false, ◌||◌, List, [], ◌++◌, length, take, if◌then◌else◌, Option, Result, Ok, Err, IfSome, ⊤}
+use Rattle.std.specs.Prelude.{◌≡◌, ℕ, ◌≤◌, ◌<◌, Bool, true, false, List, ◌++◌, length, take, Option, Some, Result, Ok, Err, IfSome, ⊤}
 use Rattle.std.specs.Io.KnownBytes.{Appends, Consumes}
 use Rattle.lapd_port.specs.declared.port_fault.PortFault.{PortFault}
 use Rattle.lapd_port.specs.declared.port_fault.PortFault.TheVariants.{End, BadLength, Cut, Device, TooManyTurns, Failed}
 use Rattle.lapd_port.specs.declared.device_error.DeviceError.TheVariants.{Failed as DeviceFailed}
 use Rattle.lapd_port.specs.Device.{Turns, failures_after}
-use Rattle.lapd_port.specs.SocketText.{frame_text, next_frame}
+use Rattle.lapd_port.specs.SocketText.{frame_text, next_frame, socket_text}
 
 -- a source whose octets are known shows this next
 abbrev pub Shows : Option (List ℕ) → Result (List ℕ) PortFault → Type 0
@@ -53,11 +53,19 @@ is_failure (Err Device) = true
 is_failure (Err TooManyTurns) = true
 is_failure (Err Failed) = true
 
--- a write answers no fault but S4 to S6
-abbrev pub IsWriteFault : PortFault → Type 0
-IsWriteFault End = ⊥
-IsWriteFault BadLength = ⊥
-IsWriteFault Cut = ⊥
-IsWriteFault Device = ⊤
-IsWriteFault TooManyTurns = ⊤
-IsWriteFault Failed = ⊤
+-- S4 to S6, which say nothing of the input
+abbrev pub IsApartFromInput : PortFault → Type 0
+IsApartFromInput End = ⊥
+IsApartFromInput BadLength = ⊥
+IsApartFromInput Cut = ⊥
+IsApartFromInput Device = ⊤
+IsApartFromInput TooManyTurns = ⊤
+IsApartFromInput Failed = ⊤
+
+-- ---- Of lists of frames.
+
+-- of a source that shows a frame and then others, that frame is read and the text of the others is left, or S4 to S6 is
+-- answered
+abbrev pub ReadsFirst : List ℕ → List (List ℕ) → Option (List ℕ) → Result ℕ PortFault → List ℕ → Type 0
+ReadsFirst frame frames left (Ok count) buffer = (take count buffer ≡ frame) × (left ≡ Some (socket_text frames))
+ReadsFirst frame frames left (Err fault) buffer = IsApartFromInput fault

@@ -1,8 +1,8 @@
-ghost use Rattle.std.specs.Prelude.{◌≡◌, ◌≢◌, ℕ, ◌+◌, ◌≤◌, ◌<◌, ◌⊎◌, List, Option, Ok, Err, length, take, IfOk, IfErr, OnOk, IsTrue, ◌↔◌, ◌||◌, false};
+ghost use Rattle.std.specs.Prelude.{◌≡◌, ◌≢◌, ℕ, ◌+◌, ◌≤◌, ◌<◌, ◌⊎◌, List, Option, Some, [], ◌∷◌, ◌++◌, Ok, Err, length, take, drop, IfOk, IfErr, OnOk, IsTrue, ◌↔◌, ◌||◌, false};
 ghost use Rattle.std.specs.Io.KnownBytes.{Consumes, IsAtEnd};
 ghost use Rattle.lapd_port.specs.Device.{Turns};
-ghost use Rattle.lapd_port.specs.Port.{CountsAsDevice, MakesTurns, ReadsNext, WritesText, IsWriteFault, is_failure as makes_fail};
-ghost use Rattle.lapd_port.specs.SocketText.{IsFrameLength, frame_text, length_octets};
+ghost use Rattle.lapd_port.specs.Port.{CountsAsDevice, MakesTurns, ReadsNext, ReadsFirst, WritesText, IsApartFromInput, is_failure as makes_fail};
+ghost use Rattle.lapd_port.specs.SocketText.{IsFrameLength, frame_text, length_octets, socket_text};
 
 use crate::device_error::DeviceError;
 use crate::port_fault::PortFault;
@@ -70,6 +70,10 @@ impl<R: Source, W: Sink> Port<R, W> {
     pub fn read_frame(&mut self, frame: &mut [u8; MOST_OCTETS]) -> Result<usize, PortFault>
         ensures length { IfOk result IsFrameLength }
         ensures next { ReadsNext (R.rest self.old.source) (R.rest self.new.source) result frame.new }
+        ensures first { (front : List ℕ) (frames : List (List ℕ)) → IsFrameLength (length front)
+            → R.rest self.old.source ≡ Some (socket_text (front ∷ frames))
+            → ReadsFirst front frames (R.rest self.new.source) result frame.new }
+        ensures behind { IfOk result (λ count. drop count frame.new ≡ drop count frame.old) }
         ensures device { CountsAsDevice result (R.failure_count self.old.source) (R.failure_count self.new.source) }
         ensures turns { MakesTurns R.turn result self.old.source self.new.source }
         ensures failed { (result ≡ Err PortFault.Failed) ↔ IsTrue self.old.failed }
@@ -93,11 +97,13 @@ impl<R: Source, W: Sink> Port<R, W> {
     pub fn write_frame(&mut self, frame: &[u8]) -> Result<(), PortFault>
         requires { IsFrameLength (length frame.now) }
         ensures text { WritesText (W.written self.old.sink) (W.written self.new.sink) result (frame_text frame.now) }
+        ensures list { (frames : List (List ℕ)) → W.written self.old.sink ≡ Some (socket_text frames)
+            → OnOk result (W.written self.new.sink ≡ Some (socket_text (frames ++ frame.now ∷ []))) }
         ensures device { CountsAsDevice result (W.failure_count self.old.sink) (W.failure_count self.new.sink) }
         ensures turns { MakesTurns W.turn result self.old.sink self.new.sink }
         ensures failed { (result ≡ Err PortFault.Failed) ↔ IsTrue self.old.failed }
         ensures untouched { IsTrue self.old.failed → self.new ≡ self.old }
-        ensures faults { IfErr result IsWriteFault }
+        ensures faults { IfErr result IsApartFromInput }
         ensures lasts { self.new.failed ≡ makes_fail result }
         ensures source { self.new.source ≡ self.old.source }
     {
@@ -121,6 +127,7 @@ fn is_failure(answer: &Result<usize, PortFault>) -> bool
 fn read_next<R: Source>(source: &mut R, frame: &mut [u8; MOST_OCTETS]) -> Result<usize, PortFault>
     ensures length { IfOk result IsFrameLength }
     ensures next { ReadsNext (R.rest source.old) (R.rest source.new) result frame.new }
+    ensures behind { IfOk result (λ count. drop count frame.new ≡ drop count frame.old) }
     ensures device { CountsAsDevice result (R.failure_count source.old) (R.failure_count source.new) }
     ensures turns { MakesTurns R.turn result source.old source.new }
     ensures not_failed { IfErr result (λ fault. fault ≢ PortFault.Failed) }
@@ -210,11 +217,7 @@ fn length_of(octets: [u8; LENGTH_OCTETS]) -> usize
 }
 
 // Reads until the octets are full or the input ends, and tells how many were read.
-fn fill<R: Source>(
-    source: &mut R,
-    octets: &mut [u8],
-    turns: &mut u16,
-) -> Result<usize, PortFault>
+fn fill<R: Source>(source: &mut R, octets: &mut [u8], turns: &mut u16) -> Result<usize, PortFault>
     requires { turns.old ≤ 4096 }
     ensures bound { IfOk result (λ count. count ≤ length octets.new) }
     ensures octets { IfOk result (λ count. Consumes (R.rest source.old) (R.rest source.new) (take count octets.new)

@@ -11,7 +11,8 @@ invariant-loop-filled g l = record {
   given : Consumes (g.R.Source.rest l.initial.source) (g.R.Source.rest l.source) (take l.filled l.octets);
   no_failure : g.R.Source.failure_count l.source ≡ g.R.Source.failure_count l.initial.source;
   turns : (count : ℕ) × Turns g.R.Source.turn count l.initial.source l.source × (l.turns ≡ l.initial.turns + count);
-  most : l.turns ≤ 4096 }
+  most : l.turns ≤ 4096;
+}
 
 abbrev pub decreases-loop-filled : goal.decreases-loop-filled
 decreases-loop-filled g l = 4096 - l.turns

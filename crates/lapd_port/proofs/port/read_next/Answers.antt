@@ -1,5 +1,4 @@
-use Rattle.std.proofs.Common.{rules, ◌≡◌, ℕ, ◌+◌, ◌-◌, List, length, take, Err, subst, sym, ap, ◌∙◌, arith}
-use Rattle.std.specs.Io.KnownBytes.{Consumes}
+use Rattle.std.proofs.Common.{rules, Err, ap, ◌∙◌}
 use Rattle.lapd_port.proofs.Texts.{frame_read}
 use Rattle.lapd_port.proofs.Turning.{both_made, same_fault}
 use Rattle.lapd_port.proofs.port.read_next.Goals as goal
