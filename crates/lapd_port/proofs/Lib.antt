@@ -1,4 +1,4 @@
 pub mod Filling
+pub mod Pieces
 pub mod Texts
 pub mod Turning
-pub mod Writing

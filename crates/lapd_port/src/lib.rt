@@ -11,15 +11,19 @@
 mod device_error;
 mod from_read;
 mod from_write;
+mod limits;
 mod port;
 mod port_fault;
+mod reading;
 mod sink;
 mod source;
+mod writing;
 
 pub use device_error::DeviceError;
 pub use from_read::FromRead;
 pub use from_write::FromWrite;
-pub use port::{LEAST_OCTETS, MOST_OCTETS, MOST_TURNS, Port};
+pub use limits::{LEAST_OCTETS, MOST_OCTETS, MOST_TURNS};
+pub use port::Port;
 pub use port_fault::PortFault;
 pub use sink::Sink;
 pub use source::Source;

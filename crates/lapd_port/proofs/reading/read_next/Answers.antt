@@ -1,7 +1,7 @@
 use Rattle.std.proofs.Common.{rules, Err, ap, ◌∙◌}
 use Rattle.lapd_port.proofs.Texts.{frame_read}
 use Rattle.lapd_port.proofs.Turning.{both_made, same_fault}
-use Rattle.lapd_port.proofs.port.read_next.Goals as goal
+use Rattle.lapd_port.proofs.reading.read_next.Goals as goal
 
 pub returns-in_err-fill-2-clause-turns : goal.returns-in_err-fill-2-clause-turns
 returns-in_err-fill-2-clause-turns g c = both_made _ _ _ _ _ _ _ c.fill.ensures.turns c.fill-2.ensures.turns c.fill-2.ensures.most

@@ -3,7 +3,7 @@ use Rattle.std.specs.Io.KnownBytes.{Consumes}
 use Rattle.std.proofs.KnownBytes.{Consumes-trans, Consumes-kept}
 use Rattle.lapd_port.proofs.Filling.{take-filled, take-filled_more}
 use Rattle.lapd_port.proofs.Turning.{one_more_made}
-use Rattle.lapd_port.proofs.port.fill.Goals as goal
+use Rattle.lapd_port.proofs.reading.fill.Goals as goal
 
 pub returns-in-Ok-eq0-clause-turns : goal.returns-in-Ok-eq0-clause-turns
 returns-in-Ok-eq0-clause-turns g c = one_more_made _ _ _ _ _ _ c.loop-filled.invariant.turns c.read.ensures.turn

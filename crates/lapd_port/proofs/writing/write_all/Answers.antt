@@ -1,9 +1,9 @@
 use Rattle.std.proofs.Common.{rules, ap, ◌∙◌}
 use Rattle.lapd_port.specs.Device.{failures_after}
-use Rattle.lapd_port.proofs.Writing.{IsLeft, left_after, left_kept}
+use Rattle.lapd_port.proofs.Pieces.{IsLeft, left_after, left_kept}
 use Rattle.lapd_port.proofs.Turning.{made_some, with_turn}
-use Rattle.lapd_port.proofs.port.write_all.Goals as goal
-use Rattle.lapd_port.proofs.port.write_all.Goals.{in-Ok+else-is_empty, in-Err-Interrupted}
+use Rattle.lapd_port.proofs.writing.write_all.Goals as goal
+use Rattle.lapd_port.proofs.writing.write_all.Goals.{in-Ok+else-is_empty, in-Err-Interrupted}
 
 pub returns-then-is_empty-clause-turns : goal.returns-then-is_empty-clause-turns
 returns-then-is_empty-clause-turns g c = made_some _ _ _ _ _ _ c.loop-turn.invariant.turns c.write.ensures.turn c.loop-turn-test.true (λ is. cc)
