@@ -54,6 +54,8 @@ fn fill<R: Source>(source: &mut R, octets: &mut [u8], turns: &mut u16) -> Result
     ensures bound { IfOk result (λ count. count ≤ length octets.new) }
     ensures octets { IfOk result (λ count. Consumes (R.rest source.old) (R.rest source.new) (take count octets.new)
         × (count < length octets.new → IsAtEnd (R.rest source.new))) }
+    ensures part { IfErr result (λ fault. (count : ℕ) × (count < length octets.new)
+        × Consumes (R.rest source.old) (R.rest source.new) (take count octets.new)) }
     ensures device { CountsAsDevice result (R.failure_count source.old) (R.failure_count source.new) }
     ensures turns { (count : ℕ) × Turns R.turn count source.old source.new × (turns.new ≡ turns.old + count) }
     ensures most { turns.new ≤ 4096 }
