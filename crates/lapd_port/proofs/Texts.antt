@@ -94,11 +94,11 @@ reads_first old new (Ok count) buffer frame frames fits is reads =
     let F : List ℕ → Type 0 = λ x. Consumes old new (frame_text x) in
     (e, left_of_first frame frames old new is (subst F e reads.1))
 reads_first old new (Err End) buffer frame frames fits is reads =
-    let same = shows_same old _ _ (Err End) is (next_frame-text frame (socket_text frames) fits) reads in cc
+    let same = shows_same old _ _ (Err End) is (next_frame-text frame (socket_text frames) fits) reads.0 in cc
 reads_first old new (Err BadLength) buffer frame frames fits is reads =
-    let same = shows_same old _ _ (Err BadLength) is (next_frame-text frame (socket_text frames) fits) reads in cc
+    let same = shows_same old _ _ (Err BadLength) is (next_frame-text frame (socket_text frames) fits) reads.0 in cc
 reads_first old new (Err Cut) buffer frame frames fits is reads =
-    let same = shows_same old _ _ (Err Cut) is (next_frame-text frame (socket_text frames) fits) reads in cc
+    let same = shows_same old _ _ (Err Cut) is (next_frame-text frame (socket_text frames) fits) reads.0 in cc
 reads_first old new (Err Device) buffer frame frames fits is reads = tt
 reads_first old new (Err TooManyTurns) buffer frame frames fits is reads = tt
 reads_first old new (Err Failed) buffer frame frames fits is reads = tt

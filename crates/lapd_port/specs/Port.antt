@@ -1,11 +1,11 @@
 -- What a call of a port answers, and what it does to its devices.
-use Rattle.std.specs.Prelude.{◌≡◌, ℕ, ◌≤◌, ◌<◌, ◌⊎◌, Bool, true, false, List, ◌++◌, length, take, Option, Some, Result, Ok, Err, IfSome, ⊤}
-use Rattle.std.specs.Io.KnownBytes.{Appends, Consumes}
+use Rattle.std.specs.Prelude.{◌≡◌, ℕ, ◌≤◌, ◌<◌, ◌⊎◌, Bool, true, false, List, [], ◌++◌, length, take, Option, Some, Result, Ok, Err, IfSome, ⊤}
+use Rattle.std.specs.Io.KnownBytes.{Appends, Consumes, IsAtEnd}
 use Rattle.lapd_port.specs.declared.port_fault.PortFault.{PortFault}
 use Rattle.lapd_port.specs.declared.port_fault.PortFault.TheVariants.{End, BadLength, Cut, Device, TooManyTurns, Failed}
 use Rattle.lapd_port.specs.declared.device_error.DeviceError.TheVariants.{Failed as DeviceFailed}
 use Rattle.lapd_port.specs.Device.{Turns, failures_after}
-use Rattle.lapd_port.specs.SocketText.{frame_text, next_frame, socket_text}
+use Rattle.lapd_port.specs.SocketText.{frame_text, length_octets, next_frame, socket_text}
 
 -- a source whose octets are known shows this next
 abbrev pub Shows : Option (List ℕ) → Result (List ℕ) PortFault → Type 0
@@ -16,12 +16,12 @@ abbrev pub TakesPart : Option (List ℕ) → Option (List ℕ) → Type 0
 TakesPart old new = (part : List ℕ) × Consumes old new part × ((next_frame part ≡ Err End) ⊎ (next_frame part ≡ Err Cut))
 
 -- a read that answers none of S4 to S6 answers what the source shows next; a frame's text is taken from the source, and
--- no octet more; at S4 and S5 less than a frame's text is taken
+-- no octet more; at S1 nothing is taken, at S2 a length, at S3 all, and at S4 and S5 less than a frame's text
 abbrev pub ReadsNext : Option (List ℕ) → Option (List ℕ) → Result ℕ PortFault → List ℕ → Type 0
 ReadsNext old new (Ok count) buffer = Shows old (Ok (take count buffer)) × Consumes old new (frame_text (take count buffer))
-ReadsNext old new (Err End) buffer = Shows old (Err End)
-ReadsNext old new (Err BadLength) buffer = Shows old (Err BadLength)
-ReadsNext old new (Err Cut) buffer = Shows old (Err Cut)
+ReadsNext old new (Err End) buffer = Shows old (Err End) × Consumes old new []
+ReadsNext old new (Err BadLength) buffer = Shows old (Err BadLength) × ((count : ℕ) × Consumes old new (length_octets count))
+ReadsNext old new (Err Cut) buffer = Shows old (Err Cut) × IsAtEnd new
 ReadsNext old new (Err Device) buffer = TakesPart old new
 ReadsNext old new (Err TooManyTurns) buffer = TakesPart old new
 ReadsNext old new (Err Failed) buffer = ⊤
