@@ -73,7 +73,7 @@ impl<R: Source, W: Sink> Port<R, W> {
         read
     }
 
-    /// Writes a frame of 3 to 264 octets.
+    /// Writes a frame. That it has 3 to 264 octets is the caller's condition.
     ///
     /// # Errors
     ///
