@@ -1,0 +1,5 @@
+pub mod Filling
+pub mod Parts
+pub mod Pieces
+pub mod Texts
+pub mod Turning
