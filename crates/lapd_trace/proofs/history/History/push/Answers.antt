@@ -2,8 +2,11 @@ use Rattle.std.proofs.Common.{◌≡◌, ◌∷◌, [], ◌++◌, map, List, ℕ
 use Rattle.std.proofs.lemmas.Grind.{common_steps}
 use Rattle.std.specs.String.{string_bytes}
 use Rattle.lapd_trace.specs.KeptLines.{last_of}
-use Rattle.lapd_trace.proofs.LastOf.{last_of_more}
+use Rattle.lapd_trace.proofs.LastOf.{last_of_more, last_octets}
 use Rattle.lapd_trace.proofs.history.History.push.Goals as goal
+
+pub returns-clause-push : goal.returns-clause-push
+returns-clause-push c = let octets = last_octets string_bytes c.self.inside.lines.capacity c.self.inside.lines.items c.args.line in grind (arith, common_steps)
 
 pub returns-clause-all : goal.returns-clause-all
 returns-clause-all c = λ pushed kept.
