@@ -1,6 +1,6 @@
-//! Memory that is refused. No test can refuse an allocation itself: `rt try --test --fail-alloc 1..` refuses one of a run, the
-//! first, then the second, and so on (docs/DEVELOPING.md). A move that finds no memory leaves all that the pair shows as it
-//! was, and then comes to what it comes to where none is refused.
+//! Memory that is refused. No test can refuse an allocation itself: `rt try --test --fail-alloc N` refuses the one of that
+//! number in a run, and the test prints where it met it (docs/DEVELOPING.md). A move that finds no memory leaves all that
+//! the pair shows as it was, and then comes to what it comes to where none is refused.
 
 use crate::made::params;
 use crate::readers::digest;
@@ -106,84 +106,117 @@ const ROWS: &[Row] = &[
     ),
 ];
 
+/// How often memory was refused: to `Pair::new`, to a move, and to the test for a message of its own.
+#[derive(Clone, Copy, Debug, Default, PartialEq, Eq)]
+struct Refusals {
+    pairs: u32,
+    moves: u32,
+    messages: u32,
+}
+
 /// Two pairs that are led alike. One allocation of a run is refused at most, so that one of the two meets no refusal.
 #[derive(Drop)]
 struct Twins {
+    alloc: Global,
     one: Pair,
     other: Pair,
-    /// How many moves both refused.
-    refused: usize,
+    met: Refusals,
 }
 
 impl Twins {
     fn new(alloc: Global, k: u8, user: Recovery) -> Result<Twins, Fail> {
         let params = params(k, 512)?;
         let user = params.with_recovery(user);
+        let mut met = Refusals::default();
         Ok(Twins {
-            one: new_pair(alloc, user, params)?,
-            other: new_pair(alloc, user, params)?,
-            refused: 0,
+            alloc,
+            one: new_pair(alloc, user, params, &mut met)?,
+            other: new_pair(alloc, user, params, &mut met)?,
+            met,
         })
     }
 
-    /// Whether a move comes to the same of both, and both show the same after it.
-    fn agree_on(&mut self, deed: &Move) -> bool {
-        let one = outcome(&mut self.one, deed);
-        let other = outcome(&mut self.other, deed);
-        if one.is_err() {
-            self.refused = self.refused.saturating_add(1);
+    /// A move, at the second try where the first finds no memory.
+    fn made(&mut self, side: Side, deed: Deed) -> Result<Move, AllocError> {
+        match move_of(self.alloc, side, deed) {
+            Ok(deed) => Ok(deed),
+            Err(_) => {
+                self.met.messages = self.met.messages.saturating_add(1);
+                move_of(self.alloc, side, deed)
+            }
         }
-        one == other && digest(&self.one) == digest(&self.other)
+    }
+
+    /// What a move comes to of both, and shows after it: `None` where that is not the same.
+    fn apply(&mut self, deed: &Move) -> Option<Result<Outs, PairFault>> {
+        let one = outcome(&mut self.one, deed, &mut self.met);
+        let other = outcome(&mut self.other, deed, &mut self.met);
+        let same = one == other && digest(&self.one) == digest(&self.other);
+        same.then_some(one)
     }
 }
 
 /// A pair, at the second try where the first finds no memory.
-fn new_pair(alloc: Global, user: Params, network: Params) -> Result<Pair, AllocError> {
+fn new_pair(
+    alloc: Global,
+    user: Params,
+    network: Params,
+    met: &mut Refusals,
+) -> Result<Pair, AllocError> {
     match Pair::new(alloc, user, network) {
         Ok(pair) => Ok(pair),
-        Err(_) => Pair::new(alloc, user, network),
-    }
-}
-
-/// A move, at the second try where the first finds no memory.
-fn made_move(alloc: Global, side: Side, deed: Deed) -> Result<Move, AllocError> {
-    match move_of(alloc, side, deed) {
-        Ok(deed) => Ok(deed),
-        Err(_) => move_of(alloc, side, deed),
+        Err(_) => {
+            met.pairs = met.pairs.saturating_add(1);
+            Pair::new(alloc, user, network)
+        }
     }
 }
 
 /// What a move comes to, at the second try where the first finds no memory and changes nothing.
-fn outcome(pair: &mut Pair, deed: &Move) -> Result<Outs, PairFault> {
+fn outcome(pair: &mut Pair, deed: &Move, met: &mut Refusals) -> Result<Outs, PairFault> {
     let before = digest(pair);
-    match pair.apply(deed) {
-        Err(PairFault::Memory) => {
-            if digest(pair) != before {
-                return Err(PairFault::Memory);
-            }
-            pair.apply(deed)
-        }
-        other => other,
+    let first = pair.apply(deed);
+    if !is_without_memory(&first) {
+        return first;
+    }
+    met.moves = met.moves.saturating_add(1);
+    if digest(pair) == before {
+        pair.apply(deed)
+    } else {
+        first
     }
 }
 
-fn keeps(alloc: Global, row: &Row) -> Result<(), Fail> {
+fn is_without_memory(outcome: &Result<Outs, PairFault>) -> bool {
+    matches!(outcome, Err(PairFault::Memory))
+}
+
+/// Leads two pairs through a row, and tells where memory was refused.
+fn keeps(alloc: Global, row: &Row) -> Result<Refusals, Fail> {
     let (name, k, user, deeds, refused, received) = *row;
     let mut twins = Twins::new(alloc, k, user)?;
+    let mut faults = 0usize;
     for (side, deed) in deeds {
-        let deed = made_move(alloc, *side, *deed)?;
-        let same = twins.agree_on(&deed);
-        wants(same, name, "a move comes to something else")?;
+        let deed = twins.made(*side, *deed)?;
+        match twins.apply(&deed) {
+            Some(Ok(_)) => {}
+            Some(Err(_)) => faults = faults.saturating_add(1),
+            None => return Err(Fail::new(format_args!("{name}: a move comes to something else"))),
+        }
     }
-    wants(twins.refused == refused, name, "how many are refused")?;
+    wants(faults == refused, name, "how many are refused")?;
     let all = twins.one.received(NETWORK).len() == received;
-    wants(all, name, "another number of messages is received")
+    wants(all, name, "another number of messages is received")?;
+    Ok(twins.met)
 }
 
 #[test]
 fn moves_without_memory(rt: HostRuntime) -> Result<(), Fail> {
     for row in ROWS {
-        keeps(rt.alloc(), row)?;
+        let met = keeps(rt.alloc(), row)?;
+        if met != Refusals::default() {
+            println!(rt; "refused in {}: {met:?}", row.0)?;
+        }
     }
     Ok(())
 }
