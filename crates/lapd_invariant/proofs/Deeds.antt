@@ -29,6 +29,7 @@ use Rattle.lapd_invariant.proofs.Mids.{enter}
 use Rattle.lapd_invariant.proofs.OpenTimers.{goes_busy_on, goes_busy_off, goes_t200_in_7, goes_t203_in_7, ends_t200_in_8}
 use Rattle.lapd_invariant.proofs.Seems.{Ends, seems_put}
 use Rattle.lapd_invariant.proofs.Steps.{context, begun, ends_open, by_refusal}
+use Rattle.lapd_invariant.proofs.Units.{ends_as_seen}
 use Rattle.lapd_invariant.proofs.UnderWay.{none_under_way, none_answered, heard_polls}
 use Rattle.lapd_invariant.proofs.Worlds.{Holds, Keeps, left_by}
 
@@ -38,12 +39,8 @@ abbrev pub Before : Context → List Kind → StepState → Type 0
 Before c ks s = Both (seen c s) c.peer (line c s) ks
 
 -- a row that does nothing
-nothing_by : (c : Context) (ks : List Kind) (s : StepState) (opened : Bool) → is_7_or_8 s.end.state ≡ opened → Before c ks s → Ends c ks (close Whole s)
-nothing_by c ks s true opened b = ends_open c ks s (enter (seen c s) c.peer (line c s) ks opened b)
-nothing_by c ks s false closed b = ends_as_it_was c ks s s closed (here c s) b
-
 pub ends_nothing : (c : Context) (ks : List Kind) (s : StepState) → Before c ks s → Ends c ks (close Whole s)
-ends_nothing c ks s b = nothing_by c ks s (is_7_or_8 s.end.state) refl b
+ends_nothing c ks s b = ends_as_seen c ks s (seen c s) (line c s) (here c s) b
 
 pub opened_in : (state : State) (s : StepState) → s.end.state ≡ state → is_7_or_8 state ≡ true → is_7_or_8 s.end.state ≡ true
 opened_in state s is opened = ap (λ st. is_7_or_8 st) is ∙ opened

@@ -1,5 +1,5 @@
 -- A frame is delivered: by the state and the frame.
-use Rattle.std.proofs.Common.{◌≡◌, Bool, true, false, List, [], ◌∷◌, refl, ap, arith}
+use Rattle.std.proofs.Common.{◌≡◌, true, false, List, [], ◌∷◌, refl, ap, arith}
 use Rattle.lapd_timers.specs.declared.timer.Timer.TheVariants.{T200, T203}
 use Rattle.lapd_frame.specs.declared.Role.{Role}
 use Rattle.lapd_frame.specs.declared.Role.TheVariants.{Command, Answer}
@@ -26,12 +26,13 @@ use Rattle.lapd_invariant.specs.Kinds.{Kind, Asks, Accepts, Refuses, Foreign, ki
 use Rattle.lapd_invariant.specs.Parties.{party_of}
 use Rattle.lapd_invariant.proofs.ClosedRows.{here, passed_over, ends_as_it_was, ends_refusing, ends_accepting, ends_disconnected, ends_refused, ends_released_by_ua, ends_released}
 use Rattle.lapd_invariant.proofs.Deeds.{Before, ends_nothing, opened_in, closed_in}
-use Rattle.lapd_invariant.proofs.Goes.{Context, story, seen, line, Goes, told_append, moved}
+use Rattle.lapd_invariant.proofs.Goes.{Context, story, seen, line, Goes, told_append}
 use Rattle.lapd_invariant.proofs.Lists.{by_test}
 use Rattle.lapd_invariant.proofs.Mids.{enter, open_asks_none}
 use Rattle.lapd_invariant.proofs.OpenRows.{goes_i_in_7, goes_rr_in_7, goes_rnr_in_7, goes_rej_in_7, goes_i_in_8, goes_rr_in_8, goes_rnr_in_8, goes_rej_in_8}
 use Rattle.lapd_invariant.proofs.Seems.{Seems, Ends, seems_put}
 use Rattle.lapd_invariant.proofs.Steps.{context, begun, ends_open, holds_after}
+use Rattle.lapd_invariant.proofs.Units.{ends_as_seen}
 use Rattle.lapd_invariant.proofs.Worlds.{Holds, Keeps, left_by}
 
 -- ---- Frames that change nothing.
@@ -51,22 +52,14 @@ pub no_refusal : (c : Context) (ks : List Kind) (s : StepState) → is_7_or_8 s.
 no_refusal c ks s opened b = let one = b.mine.exchange.one in let none = open_asks_none s.end.state opened in omega (arith, one, none)
 
 -- unit data goes to layer 3
-goes_unit : (c : Context) (s : StepState) (back : List Kind) → Goes c back s → Goes c back (put UnitUp s)
-unfolding story_after put
-goes_unit c s back m = moved c (put UnitUp s) (record (story c s) { history = with_unit c.octets (story c s).history }) (seen c s) (line c s) back (told_append _ s.outs (UnitUp ∷ []) _) refl refl m
-
 seems_unit : (c : Context) (s : StepState) → Seems c (put UnitUp s) (seen c s) (line c s)
 unfolding story_after put
 seems_unit c s =
     let so : story c (put UnitUp s) ≡ record (story c s) { history = with_unit c.octets (story c s).history } = told_append _ s.outs (UnitUp ∷ []) _ in
     record { party = ap (λ st. party_of c.base s.end st.history) so; line = ap (λ st. kinds st.line) so }
 
-unit_by : (c : Context) (ks : List Kind) (s : StepState) (opened : Bool) → is_7_or_8 s.end.state ≡ opened → Before c ks s → Ends c ks (close Whole (put UnitUp s))
-unit_by c ks s true opened b = ends_open c ks (put UnitUp s) (goes_unit c s ks (enter (seen c s) c.peer (line c s) ks opened b))
-unit_by c ks s false closed b = ends_as_it_was c ks s (put UnitUp s) closed (seems_unit c s) b
-
 pub ends_unit : (c : Context) (ks : List Kind) (s : StepState) → Before c ks s → Ends c ks (close Whole (put UnitUp s))
-ends_unit c ks s b = unit_by c ks s (is_7_or_8 s.end.state) refl b
+ends_unit c ks s b = ends_as_seen c ks (put UnitUp s) (seen c s) (line c s) (seems_unit c s) b
 
 -- ---- Rows that begin an establishment.
 

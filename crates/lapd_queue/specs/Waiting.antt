@@ -7,12 +7,11 @@ pub record Waiting : Type 0 where
   pub sent : ℕ
   pub room : ℕ
 
--- no more is sent than waits, no more waits than there is room for, and memory was taken for all the room
-pub record IsSound (sent waiting room taken : ℕ) : Type 0 where
+-- no more is sent than waits, and no more waits than there is room for
+pub record IsSound (sent waiting room : ℕ) : Type 0 where
   pub sent_waits : sent ≤ waiting
   pub waiting_fits : waiting ≤ room
   pub room_in_range : room ≤ 1024
-  pub room_taken : room ≤ taken
 
 -- nothing waits yet
 unfoldable pub with_room : ℕ → Waiting

@@ -1,8 +1,8 @@
 ghost use Rattle.std.specs.Prelude.{◌≡◌, ◌+◌, ◌-◌, ◌<◌, ◌≤◌, ◌==◌, length, map, slice_get, option_copied, Some, IfOk, IfErr, OnOk, OnErr, is_err};
 ghost use Rattle.lapd_queue.specs.Waiting.{with_room, with_message, one_more_sent, without_first, all_unsent, emptied};
 
+use circular_buffer::HeapCircularBuffer;
 use std::alloc::{AllocError, Global};
-use std::collections::VecDeque;
 use std::marker::Model;
 
 /// Messages of layer 3 in the order in which they were given, of which some at the front are sent.
@@ -10,21 +10,19 @@ use std::marker::Model;
 /// It is a ring of the size that it was made with: no call but `new` takes memory.
 #[derive(Drop)]
 pub struct IQueue {
-    messages: VecDeque<Vec<u8>>,
+    messages: HeapCircularBuffer<Vec<u8>>,
     sent: u16,
-    room: u16,
 }
 
 impl Model for IQueue {
     ghost use Rattle.std.specs.Prelude.{length, map};
-    ghost use Rattle.std.specs.VecDeque.{deque_capacity};
     ghost use Rattle.lapd_queue.specs.Waiting.{Waiting, IsSound};
 
     ghost Value = { Waiting };
 
-    ghost view = { λ q. record { messages = map (λ m. m.items) q.messages.items; sent = q.sent; room = q.room } };
+    ghost view = { λ q. record { messages = map (λ m. m.items) q.messages.items; sent = q.sent; room = q.messages.capacity } };
 
-    ghost invariant = { λ q. IsSound q.sent (length q.messages.items) q.room (deque_capacity q.messages) };
+    ghost invariant = { λ q. IsSound q.sent (length q.messages.items) q.messages.capacity };
 }
 
 #[tactic(auto, using(crate::proofs::Messages::messages), unfolding(crate::specs::Waiting::with_room, crate::specs::Waiting::with_message, crate::specs::Waiting::one_more_sent, crate::specs::Waiting::without_first, crate::specs::Waiting::all_unsent, crate::specs::Waiting::emptied))]
@@ -36,9 +34,8 @@ impl IQueue {
         ensures { IfOk result (λ q. q ≡ with_room room) }
     {
         Ok(IQueue {
-            messages: VecDeque::with_capacity(alloc, usize::from(room))?,
+            messages: HeapCircularBuffer::with_capacity(alloc, usize::from(room))?,
             sent: 0,
-            room,
         })
     }
 
@@ -47,7 +44,7 @@ impl IQueue {
         ensures count { result ≡ self.now.room }
         ensures at_most { result ≤ 1024 }
     {
-        self.room
+        self.messages.capacity() as u16
     }
 
     /// How many messages wait, sent or not.
@@ -86,7 +83,10 @@ impl IQueue {
         requires { i < length self.now.messages }
         ensures { slice_get self.now.messages i ≡ Some result.now }
     {
-        self.messages[usize::from(i)].as_slice()
+        let Some(message) = self.messages.get(usize::from(i)) else {
+            unreachable!()
+        };
+        message.as_slice()
     }
 
     /// The octets of the message at place `i`, counted from 0 at the front, or `None` where no more than `i` wait.
@@ -104,13 +104,7 @@ impl IQueue {
         ensures handed_back { IfErr result (λ back. back ≡ message) }
         ensures unchanged { OnErr result (self.new ≡ self.old) }
     {
-        if self.len() == self.room {
-            return Err(message);
-        }
-        let Ok(()) = self.messages.push_back(message) else {
-            unreachable!()
-        };
-        Ok(())
+        self.messages.try_push_back(message)
     }
 
     /// Marks the first unsent message as sent (Q.921 5.6.1). There has to be one.
@@ -128,9 +122,8 @@ impl IQueue {
         ensures left { self.new ≡ without_first n self.old }
         ensures were_there { n ≤ length self.old.messages }
     {
-        for _ in 0..n {
-            self.messages.pop_front();
-        }
+        let left = self.messages.len() - usize::from(n);
+        self.messages.truncate_front(left);
         self.sent -= n;
     }
 

@@ -27,12 +27,12 @@ fn sends(queue: &mut IQueue) -> Result<(), Fail> {
     Ok(())
 }
 
-/// Removes the first message, which was sent.
-fn acknowledges_one(queue: &mut IQueue) -> Result<(), Fail> {
-    if queue.sent() == 0 {
-        return Err(Fail::new("no message is sent"));
+/// Removes the first `n` messages, which were sent.
+fn acknowledges(queue: &mut IQueue, n: u16) -> Result<(), Fail> {
+    if n > queue.sent() {
+        return Err(Fail::new("not as many messages are sent"));
     }
-    queue.acknowledge(1);
+    queue.acknowledge(n);
     Ok(())
 }
 
@@ -60,7 +60,7 @@ fn the_third_of_two_is_handed_back(rt: HostRuntime) -> Result<(), Fail> {
     wants(hands_back(alloc, &mut queue, b"c")?, "c", "not handed back")?;
     wants(counts(&queue, 2, 0), "a, b", "how many wait")?;
     sends(&mut queue)?;
-    acknowledges_one(&mut queue)?;
+    acknowledges(&mut queue, 1)?;
     wants(counts(&queue, 1, 0), "b", "how many wait")?;
     wants(holds(&queue, 0, b"b"), "b", "not the first")?;
     wants(queue.get(1).is_none(), "b", "not the last")?;
@@ -87,6 +87,33 @@ fn messages_are_sent_again_from_the_front(rt: HostRuntime) -> Result<(), Fail> {
     Ok(())
 }
 
+/// Puts each of these octets at the end, as a message of its own.
+fn puts_each(alloc: Global, queue: &mut IQueue, octets: &[u8]) -> Result<(), Fail> {
+    for octet in octets {
+        let taken = puts(alloc, queue, &[*octet])?;
+        wants(taken, "a message", "not taken")?;
+    }
+    Ok(())
+}
+
+#[test]
+fn the_fourth_and_fifth_take_the_places_of_the_first(rt: HostRuntime) -> Result<(), Fail> {
+    let alloc = rt.alloc();
+    let mut queue = IQueue::new(alloc, 3)?;
+    puts_each(alloc, &mut queue, b"abc")?;
+    sends(&mut queue)?;
+    sends(&mut queue)?;
+    acknowledges(&mut queue, 2)?;
+    puts_each(alloc, &mut queue, b"de")?;
+    wants(counts(&queue, 3, 0), "c, d, e", "how many wait")?;
+    wants(holds(&queue, 0, b"c"), "c, d, e", "the first")?;
+    wants(holds(&queue, 1, b"d"), "c, d, e", "the second")?;
+    wants(holds(&queue, 2, b"e"), "c, d, e", "the third")?;
+    wants(hands_back(alloc, &mut queue, b"f")?, "f", "not handed back")?;
+    wants(holds(&queue, 0, b"c"), "f", "the first is another")?;
+    wants(holds(&queue, 2, b"e"), "f", "the last is another")
+}
+
 /// One message goes through the queue.
 fn passes(alloc: Global, queue: &mut IQueue, octets: &[u8]) -> Result<(), Fail> {
     wants(puts(alloc, queue, octets)?, "a message", "not taken")?;
@@ -94,7 +121,7 @@ fn passes(alloc: Global, queue: &mut IQueue, octets: &[u8]) -> Result<(), Fail> 
     wants(counts(queue, 1, 0), "a message", "how many wait")?;
     sends(queue)?;
     wants(counts(queue, 1, 1), "a message sent", "how many wait")?;
-    acknowledges_one(queue)
+    acknowledges(queue, 1)
 }
 
 #[test]

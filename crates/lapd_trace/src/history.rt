@@ -3,28 +3,26 @@ ghost use Rattle.std.specs.String.{string_bytes};
 ghost use Rattle.lapd_trace.specs.KeptLines.{KeptLines, last_of};
 
 use crate::Lines;
+use circular_buffer::HeapCircularBuffer;
 use std::alloc::{AllocError, Global};
-use std::collections::VecDeque;
 use std::marker::Model;
 
 /// The last lines of a trace, at most a number that is fixed when the history is made.
 #[derive(Drop)]
 pub struct History {
-    room: usize,
-    lines: VecDeque<String>,
+    lines: HeapCircularBuffer<String>,
 }
 
 impl Model for History {
-    ghost use Rattle.std.specs.Prelude.{◌<◌, ◌≤◌, map};
+    ghost use Rattle.std.specs.Prelude.{◌<◌, map};
     ghost use Rattle.std.specs.String.{string_bytes};
-    ghost use Rattle.std.specs.VecDeque.{deque_len, deque_capacity};
     ghost use Rattle.lapd_trace.specs.KeptLines.{KeptLines};
 
     ghost Value = { KeptLines };
 
-    ghost view = { λ h. record { room = h.room; lines = map string_bytes h.lines.items } };
+    ghost view = { λ h. record { room = h.lines.capacity; lines = map string_bytes h.lines.items } };
 
-    ghost invariant = { λ h. (0 < h.room) × (deque_len h.lines ≤ h.room) × (h.room ≤ deque_capacity h.lines) };
+    ghost invariant = { λ h. 0 < h.lines.capacity };
 }
 
 impl History {
@@ -36,8 +34,7 @@ impl History {
         ensures { IfOk result (λ history. history ≡ record { room = n; lines = [] }) }
     {
         Ok(History {
-            room: n,
-            lines: VecDeque::with_capacity(alloc, n)?,
+            lines: HeapCircularBuffer::with_capacity(alloc, n)?,
         })
     }
 
@@ -49,12 +46,7 @@ impl History {
         ensures all { (pushed : List (List ℕ)) → self.old.lines ≡ last_of self.old.room pushed
             → self.new.lines ≡ last_of self.old.room (pushed ++ string_bytes line ∷ []) }
     {
-        if self.lines.len() == self.room {
-            let _oldest = self.lines.pop_front();
-        }
-        let Ok(()) = self.lines.push_back(line) else {
-            unreachable!()
-        };
+        self.lines.push_back(line);
     }
 
     /// The lines that it keeps, from the oldest.

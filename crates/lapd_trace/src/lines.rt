@@ -1,22 +1,21 @@
 ghost use Rattle.std.specs.Iterator.{YieldsFirstBy, item_count};
 
-use std::collections::vec_deque;
+use circular_buffer::Iter;
 use std::marker::Model;
 
 /// The lines of a history, from the oldest.
 #[derive(Drop)]
 pub struct Lines<'a> {
-    pub(crate) rest: vec_deque::Iter<'a, String>,
+    pub(crate) rest: Iter<'a, String>,
 }
 
 impl<'a> Model for Lines<'a> {
     ghost use Rattle.std.specs.Prelude.{ℕ, List, map};
     ghost use Rattle.std.specs.String.{string_bytes};
-    ghost use Rattle.std.specs.VecDeque.Iter.{deque_iter_rest};
 
     ghost Value = { List (List ℕ) };
 
-    ghost view = { λ lines. map string_bytes (deque_iter_rest lines.rest) };
+    ghost view = { λ lines. map string_bytes lines.rest };
 }
 
 impl<'a> Iterator for Lines<'a> {

@@ -1,13 +1,14 @@
-use Rattle.std.proofs.Common.{◌≡◌, ◌∷◌, [], ◌++◌, map, List, ℕ, ap, ◌∙◌, arith}
-use Rattle.std.proofs.lemmas.Grind.{common_steps}
+use Rattle.std.proofs.Common.{◌∷◌, [], ◌++◌, List, ℕ, ap, ◌∙◌, arith}
 use Rattle.std.specs.String.{string_bytes}
-use Rattle.lapd_trace.specs.KeptLines.{last_of}
-use Rattle.lapd_trace.proofs.LastOf.{last_of_more}
+use Rattle.lapd_trace.specs.KeptLines.{KeptLines, last_of}
+use Rattle.lapd_trace.proofs.LastOf.{last_of_more, last_octets}
 use Rattle.lapd_trace.proofs.history.History.push.Goals as goal
+
+pub returns-clause-push : goal.returns-clause-push
+returns-clause-push c = let octets = last_octets string_bytes c.self.inside.lines.capacity c.self.inside.lines.items c.args.line in grind (arith)
 
 pub returns-clause-all : goal.returns-clause-all
 returns-clause-all c = λ pushed kept.
-    let line : List (List ℕ) = string_bytes c.args.line ∷ [] in
+    let line : List ℕ = string_bytes c.args.line in
     let room : ℕ = c.args.self.now.room in
-    let exact : map string_bytes c.push_back.new.self.items ≡ last_of room (c.args.self.now.lines ++ line) = grind (arith, common_steps) in
-    exact ∙ ap (λ (t : List (List ℕ)). last_of room (t ++ line)) kept ∙ last_of_more room pushed (string_bytes c.args.line)
+    ap (λ (h : KeptLines). h.lines) (returns-clause-push c) ∙ ap (λ (t : List (List ℕ)). last_of room (t ++ line ∷ [])) kept ∙ last_of_more room pushed line
