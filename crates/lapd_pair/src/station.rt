@@ -136,6 +136,7 @@ impl Station {
     }
 
     /// Tells all outputs of a step, one after another.
+    #[inline(always)]
     fn carry_out(
         &mut self,
         outs: &[Out],
@@ -170,6 +171,7 @@ impl Station {
 
     /// One step of the state table, for any event. The frames of its outputs go on the line, and the rest is written down.
     /// `octets` are those of the frame that is heard, with a copy of them for layer 3, or the unit data to be sent.
+    #[inline(always)]
     pub fn step(
         &mut self,
         event: Event,

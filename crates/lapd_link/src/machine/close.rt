@@ -18,6 +18,7 @@ impl Machine {
     ghost use Rattle.lapd_link.specs.StandsFor.{StandsFor, Does};
 
     /// The end of a step.
+    #[inline(always)]
     pub fn close(&mut self, outs: &mut Outs)
         requires room { array_vec_len outs.old ≤ 6 }
         ensures step { Does self.old outs.old self.new outs.new (close Tagged) }

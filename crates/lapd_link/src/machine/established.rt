@@ -308,6 +308,7 @@ impl Machine {
     }
 
     /// A valid N(R), and T200 and T203 by whether it acknowledges all, nothing new, or some (Figure B.7).
+    #[inline(always)]
     fn acknowledge_with_timers(&mut self, nr: Number, taken: (Window, Advance), outs: &mut Outs)
         requires room { HasRoom 3 outs.old }
         requires taken { IsTaken nr self.old.window taken }
