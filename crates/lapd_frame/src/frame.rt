@@ -109,12 +109,30 @@ pub fn write_over(frame: &Frame<'_>, from: Side, out: &mut ArrayVec<u8, MOST_OCT
     ensures written { out.new.items ≡ spelling from frame.now }
     ensures grammar { IsFrame frame.now }
 {
-    let address = frame.address.write(from);
-    let control = frame.control.write();
     out.clear();
-    append(out, &address);
-    append(out, control.as_slice());
+    append_fields(
+        out,
+        frame.address.write(from),
+        frame.control.write().as_slice(),
+    );
     append(out, frame.info);
+}
+
+/// Writes an address and a control field behind the octets of `out`.
+#[inline(always)]
+fn append_fields(out: &mut ArrayVec<u8, MOST_OCTETS>, address: [u8; 2], control: &[u8])
+    requires { array_vec_len out.old + 2 + length control.now ≤ 264 }
+    ensures items { out.new.items ≡ out.old.items ++ address ++ control.now }
+    ensures len { array_vec_len out.new ≡ array_vec_len out.old + 2 + length control.now }
+{
+    let [first, second] = address;
+    match control {
+        [third, fourth] => append(out, &[first, second, *third, *fourth]),
+        _ => {
+            append(out, &address);
+            append(out, control);
+        }
+    }
 }
 
 /// Writes octets behind those of `out`.
@@ -145,6 +163,7 @@ fn put_control(out: &mut [u8; 264], control: &Control) -> usize
 }
 
 /// The frame of these octets.
+#[inline(always)]
 fn frame_at(octets: &[u8], from: Side) -> Result<Frame<'_>, FrameFault>
     ensures exact { result ≡ frame_at from octets.now }
     ensures found { IfOk result (λ f. IsFrame f × (octets.now ≡ spelling from f)) }
