@@ -44,10 +44,10 @@ octets_more first end items frame h within =
     let taken : first ≤ length (take end items) = rw (length-take-le end items (omega arith)) h in
     rw (take_more_set items end frame within, drop-append-le first (take end items) (frame ∷ []) taken) (map-append (λ (frame : ArrayVec ℕ). frame.items) (drop first (take end items)) (frame ∷ []))
 
--- the octets on the line, where the places of those taken are removed
-pub octets_forgotten : (first end : ℕ) (old new : List (ArrayVec ℕ)) → first ≤ end → new ≡ drop first old
+-- the octets on the line, where its frames went to the front
+pub octets_in_front : (first end : ℕ) (old new : List (ArrayVec ℕ)) → first ≤ end → take (end - first) new ≡ take (end - first) (drop first old)
     → map (λ frame. frame.items) (drop 0 (take (end - first) new)) ≡ map (λ frame. frame.items) (drop first (take end old))
-octets_forgotten first end old new h e = rw e (ap (map (λ (frame : ArrayVec ℕ). frame.items)) (between first end old h))
+octets_in_front first end old new h e = ap (map (λ (frame : ArrayVec ℕ). frame.items)) (e ∙ between first end old h)
 
 -- ---- The first.
 

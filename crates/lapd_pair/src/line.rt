@@ -1,17 +1,18 @@
-ghost use Rattle.std.specs.Prelude.{◌≤◌};
+ghost use Rattle.std.specs.Prelude.{◌≡◌, ◌≤◌, ◌+◌, length, take, drop};
 ghost use Rattle.std.specs.Vec.{vec_len};
 
 use crate::frame_octets::{FrameOctets, is_marked};
 use lapd_frame::{Frame, Role, Side, write_over};
 use std::alloc::{AllocError, Global};
 
-/// How many frames are worth removing while others stand behind them.
-const MANY: usize = 128;
+/// How many places are worth using again while frames stand behind them.
+const MANY: usize = 32;
 
 /// One direction of the line: the octets of the frames that are on their way, in the order in which they were sent.
 ///
-/// Frames that are taken stay at the front until all are taken, or many and more than half. So, in the mean, taking one
-/// costs the same however many there are. Where all are taken, their places stay, and the next frames are written there.
+/// Frames that are taken stay at the front until all are taken, or many and three times as many as are on their way. Then
+/// these go to the front, and the places of the others are written again. So, in the mean, a frame costs the same however
+/// many are on their way.
 #[derive(Drop)]
 pub struct Line {
     frames: Vec<FrameOctets>,
@@ -107,17 +108,18 @@ impl Line {
         }
     }
 
-    /// Removes the frames that are taken, where all are, or many and more than half.
+    /// The frames on their way change places with those that are taken, where many are and three times as many.
     fn forget_taken(&mut self)
         ensures { octets_on self.new ≡ octets_on self.old }
     {
-        if self.first == self.end {
+        let left = self.end - self.first;
+        if left == 0 {
             self.first = 0;
             self.end = 0;
-        } else if self.first >= MANY && self.first > self.end / 2 {
-            self.frames.drain(..self.first);
-            self.end -= self.first;
+        } else if self.first >= MANY && self.first / 3 >= left {
+            to_front(&mut self.frames, self.first, left);
             self.first = 0;
+            self.end = left;
         }
     }
 
@@ -167,4 +169,14 @@ impl Line {
             .iter()
             .position(|frame| is_marked(frame.as_slice(), from, role))
     }
+}
+
+/// The frames from this place on, so many, change places with as many at the front.
+fn to_front(frames: &mut [FrameOctets], from: usize, count: usize)
+    requires apart { count ≤ from }
+    requires within { from + count ≤ length frames.old }
+    ensures { take count frames.new ≡ take count (drop from frames.old) }
+{
+    let (taken, left) = frames.split_at_mut(from);
+    taken[..count].swap_with_slice(&mut left[..count]);
 }

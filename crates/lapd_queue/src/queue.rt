@@ -98,6 +98,7 @@ impl IQueue {
 
     /// Puts a message at the end, unsent (Q.921 5.6.1). Where `room` messages wait, it is handed back and the queue is
     /// unchanged.
+    #[inline(always)]
     pub fn put(&mut self, message: Vec<u8>) -> Result<(), Vec<u8>>
         ensures full { is_err result ≡ (length self.old.messages == self.old.room) }
         ensures ok { OnOk result (self.new ≡ with_message message.items self.old) }

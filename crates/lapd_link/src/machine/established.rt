@@ -126,6 +126,7 @@ impl Machine {
     ghost use Rattle.lapd_link.specs.StandsFor.{Does, HasRoom, Grows};
 
     /// A frame (Figure B.7).
+    #[inline(always)]
     pub fn established_heard(&mut self, control: Control, role: Role, outs: &mut Outs)
         requires room { HasRoom 6 outs.old }
         requires counted { SentAreOutstanding self.old }
@@ -160,6 +161,7 @@ impl Machine {
     }
 
     /// An I frame (Figure B.7).
+    #[inline(always)]
     fn established_i_frame(&mut self, ns: Number, nr: Number, p: bool, role: Role, outs: &mut Outs)
         requires room { HasRoom 6 outs.old }
         requires counted { SentAreOutstanding self.old }
@@ -295,6 +297,7 @@ impl Machine {
     }
 
     /// The N(R) of an RR frame (Figure B.7).
+    #[inline(always)]
     fn rr_nr(&mut self, nr: Number, outs: &mut Outs)
         requires room { HasRoom 4 outs.old }
         requires counted { SentAreOutstanding self.old }

@@ -230,6 +230,7 @@ impl Machine {
     ghost use Rattle.lapd_link.specs.StandsFor.{Does, DoesQuietly, HasRoom, Grows};
 
     /// A message joins the queue, or is handed back where the queue is full.
+    #[inline(always)]
     pub fn queue_up(&mut self, message: Vec<u8>) -> Result<(), Vec<u8>>
         ensures full { is_err result ≡ (length self.old.queue.messages == self.old.queue.room) }
         ensures ok { OnOk result (DoesQuietly self.old self.new (queue_up message.items)) }
