@@ -44,14 +44,15 @@ fn pass_batch(
     messages: u32,
     outs: &mut Outs,
 ) -> Result<(), BenchFault> {
-    for _ in 0..messages {
-        pair.apply_into(give, outs)?;
-    }
-    for _ in 0..messages {
-        pair.apply_into(&Move::Deliver(Side::Network), outs)?;
-    }
-    for _ in 0..messages {
-        pair.apply_into(&Move::Deliver(Side::User), outs)?;
+    repeat(pair, give, messages, outs)?;
+    repeat(pair, &Move::Deliver(Side::Network), messages, outs)?;
+    repeat(pair, &Move::Deliver(Side::User), messages, outs)
+}
+
+/// The same move, so many times.
+fn repeat(pair: &mut Pair, deed: &Move, times: u32, outs: &mut Outs) -> Result<(), BenchFault> {
+    for _ in 0..times {
+        pair.apply_into(deed, outs)?;
     }
     Ok(())
 }

@@ -75,7 +75,6 @@ impl Machine {
     }
 
     /// A frame that is not UI.
-    #[inline(always)]
     fn heard_by_state(&mut self, control: Control, role: Role, outs: &mut Outs)
         requires room { HasRoom 6 outs.old }
         requires between { IsBetweenSteps self.old }
