@@ -115,7 +115,9 @@ pub fn write_over(frame: &Frame<'_>, from: Side, out: &mut ArrayVec<u8, MOST_OCT
         frame.address.write(from),
         frame.control.write().as_slice(),
     );
-    append(out, frame.info);
+    if !frame.info.is_empty() {
+        append(out, frame.info);
+    }
 }
 
 /// Writes an address and a control field behind the octets of `out`.

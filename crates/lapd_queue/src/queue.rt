@@ -124,6 +124,7 @@ impl IQueue {
 
     /// Removes the `n` messages at the front, at most `sent`, which are now acknowledged (Q.921 5.6.3.2). The cost grows
     /// with `n` and not with the length of the queue.
+    #[inline(always)]
     pub fn acknowledge(&mut self, n: u16)
         requires { n ≤ self.old.sent }
         ensures left { self.new ≡ without_first n self.old }

@@ -263,6 +263,7 @@ impl Machine {
     ghost use Rattle.lapd_link.specs.StandsFor.{Does, HasRoom, Grows};
 
     /// What a valid N(R) leaves of the window, and what it acknowledges. Nothing is done yet.
+    #[inline(always)]
     pub fn taken(&self, nr: Number) -> Option<(Window, Advance)>
         ensures valid { IfSome result (λ taken. IsTaken nr self.now.window taken) }
         ensures wrong { IfNone result (is_valid_nr Tagged nr self.now.window ≡ false) }
@@ -278,6 +279,7 @@ impl Machine {
     }
 
     /// The N(R) of an I frame; while the peer is busy, T200 goes on (Figure B.7).
+    #[inline(always)]
     fn i_frame_nr(&mut self, nr: Number, outs: &mut Outs)
         requires room { HasRoom 4 outs.old }
         requires counted { SentAreOutstanding self.old }

@@ -206,6 +206,7 @@ impl Machine {
     }
 
     /// The N(S) and P of an I frame.
+    #[inline(always)]
     pub fn i_frame_ns(&mut self, ns: Number, p: bool, outs: &mut Outs)
         requires room { HasRoom 2 outs.old }
         ensures step { Does self.old outs.old self.new outs.new (i_frame_ns Tagged ns p) }
@@ -253,6 +254,7 @@ impl Machine {
     }
 
     /// V(A) = N(R): what lies before a valid N(R), which was taken, is acknowledged and leaves the queue.
+    #[inline(always)]
     pub fn acknowledge(&mut self, nr: Number, taken: (Window, Advance), outs: &mut Outs)
         requires room { HasRoom 1 outs.old }
         requires taken { IsTaken nr self.old.window taken }
