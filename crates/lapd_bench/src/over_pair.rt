@@ -24,11 +24,12 @@ fn established(alloc: Global) -> Result<Pair, BenchFault> {
 /// `Memory`, and `Pair` where a move is refused.
 pub fn pass(alloc: Global, messages: u32) -> Result<Counts, BenchFault> {
     let mut pair = established(alloc)?;
+    let give = Move::Give(Side::User, [0; OCTETS].to_vec(alloc)?);
     let mut outs = Outs::new();
     for _ in 0..messages / WINDOW {
-        pass_batch(alloc, &mut pair, WINDOW, &mut outs)?;
+        pass_batch(&mut pair, &give, WINDOW, &mut outs)?;
     }
-    pass_batch(alloc, &mut pair, messages % WINDOW, &mut outs)?;
+    pass_batch(&mut pair, &give, messages % WINDOW, &mut outs)?;
     Ok(Counts {
         given: pair.given(Side::User).len() as u64,
         received: pair.received(Side::Network).len() as u64,
@@ -38,20 +39,20 @@ pub fn pass(alloc: Global, messages: u32) -> Result<Counts, BenchFault> {
 
 /// The user gives so many messages, each is delivered, and so is each acknowledgement.
 fn pass_batch(
-    alloc: Global,
     pair: &mut Pair,
+    give: &Move,
     messages: u32,
     outs: &mut Outs,
 ) -> Result<(), BenchFault> {
-    for number in 0..messages {
-        let message = [(number % 256) as u8; OCTETS].to_vec(alloc)?;
-        pair.apply_into(&Move::Give(Side::User, message), outs)?;
-    }
-    for _ in 0..messages {
-        pair.apply_into(&Move::Deliver(Side::Network), outs)?;
-    }
-    for _ in 0..messages {
-        pair.apply_into(&Move::Deliver(Side::User), outs)?;
+    repeat(pair, give, messages, outs)?;
+    repeat(pair, &Move::Deliver(Side::Network), messages, outs)?;
+    repeat(pair, &Move::Deliver(Side::User), messages, outs)
+}
+
+/// The same move, so many times.
+fn repeat(pair: &mut Pair, deed: &Move, times: u32, outs: &mut Outs) -> Result<(), BenchFault> {
+    for _ in 0..times {
+        pair.apply_into(deed, outs)?;
     }
     Ok(())
 }

@@ -1,1 +1,2 @@
 pub mod Closed
+mod Refusals

@@ -35,6 +35,7 @@ pub enum Control {
 impl Control {
     /// The control field at the front of these octets, and how many octets it takes, 1 or 2. `TooShort` where an
     /// octet of it lacks, else `Undefined` where there is no such field or a reserved bit is set (Q.921 3.6.1).
+    #[inline(always)]
     pub fn read(octets: &[u8]) -> Result<(Control, usize), FieldFault>
         ensures exact { result ≡ control_at octets.now }
         ensures found { IfOk result (λ r. IsControl r.0 × (r.1 ≡ length (control_octets r.0)) × (take r.1 octets.now ≡ control_octets r.0)) }

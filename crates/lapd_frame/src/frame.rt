@@ -1,10 +1,12 @@
 ghost use Rattle.std.specs.Prelude.{◌≡◌, ◌++◌, ◌+◌, ◌≤◌, length, take, drop, IfOk, IfErr, Ok, Err, Some, None, option_map, ℕ};
 ghost use Rattle.std.specs.Result.{result_err};
+ghost use Rattle.arrayvec.specs.ArrayVec.{array_vec_len};
 ghost use Rattle.lapd_field.specs.Control.{IsControl, control_octets};
 ghost use Rattle.lapd_frame.specs.Frame.{Fields, IsFrame, content_fault, frame_of, spelling};
 ghost use Rattle.lapd_frame.specs.Reading.{frame_at, first_fault, frame_of_fields, address_of};
 
 use crate::{FaultKind, FrameFault};
+use arrayvec::ArrayVec;
 use lapd_field::{Address, Control, FieldFault, Role, Side};
 use std::marker::Model;
 
@@ -72,6 +74,7 @@ impl<'a> Frame<'a> {
 
 /// The frame that `octets` are, which `from` sent. It borrows its information from them. An `Err` is their first
 /// fault, with the address for F4 to F7 and without it for F1 to F3.
+#[inline(always)]
 pub fn read(octets: &[u8], from: Side) -> Result<Frame<'_>, FrameFault>
     // What is read is in the grammar and spelled so, and what is spelled so is read.
     ensures found { IfOk result (λ f. IsFrame f × (octets.now ≡ spelling from f)) }
@@ -100,6 +103,52 @@ pub fn write(frame: &Frame<'_>, from: Side, out: &mut [u8; MOST_OCTETS]) -> usiz
     behind + frame.info.len()
 }
 
+/// As [`write`], in place of what the caller's octets were.
+#[inline(always)]
+pub fn write_over(frame: &Frame<'_>, from: Side, out: &mut ArrayVec<u8, MOST_OCTETS>)
+    ensures written { out.new.items ≡ spelling from frame.now }
+    ensures grammar { IsFrame frame.now }
+{
+    out.clear();
+    append_fields(
+        out,
+        frame.address.write(from),
+        frame.control.write().as_slice(),
+    );
+    if !frame.info.is_empty() {
+        append(out, frame.info);
+    }
+}
+
+/// Writes an address and a control field behind the octets of `out`.
+#[inline(always)]
+fn append_fields(out: &mut ArrayVec<u8, MOST_OCTETS>, address: [u8; 2], control: &[u8])
+    requires { array_vec_len out.old + 2 + length control.now ≤ 264 }
+    ensures items { out.new.items ≡ out.old.items ++ address ++ control.now }
+    ensures len { array_vec_len out.new ≡ array_vec_len out.old + 2 + length control.now }
+{
+    let [first, second] = address;
+    match control {
+        [third, fourth] => append(out, &[first, second, *third, *fourth]),
+        _ => {
+            append(out, &address);
+            append(out, control);
+        }
+    }
+}
+
+/// Writes octets behind those of `out`.
+#[inline(always)]
+fn append(out: &mut ArrayVec<u8, MOST_OCTETS>, octets: &[u8])
+    requires { array_vec_len out.old + length octets.now ≤ 264 }
+    ensures items { out.new.items ≡ out.old.items ++ octets.now }
+    ensures len { array_vec_len out.new ≡ array_vec_len out.old + length octets.now }
+{
+    let Ok(()) = out.try_extend_from_slice(octets) else {
+        unreachable!()
+    };
+}
+
 /// Writes a control field at the third octet of `out`, and tells its length in octets.
 fn put_control(out: &mut [u8; 264], control: &Control) -> usize
     ensures written { out.new ≡ take 2 out.old ++ control_octets control.now ++ drop (2 + result) out.old }
@@ -116,6 +165,7 @@ fn put_control(out: &mut [u8; 264], control: &Control) -> usize
 }
 
 /// The frame of these octets.
+#[inline(always)]
 fn frame_at(octets: &[u8], from: Side) -> Result<Frame<'_>, FrameFault>
     ensures exact { result ≡ frame_at from octets.now }
     ensures found { IfOk result (λ f. IsFrame f × (octets.now ≡ spelling from f)) }

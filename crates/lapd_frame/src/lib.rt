@@ -14,7 +14,7 @@ mod frmr_info;
 mod laws;
 
 pub use fault_kind::FaultKind;
-pub use frame::{Frame, MOST_OCTETS, N201, read, write};
+pub use frame::{Frame, MOST_OCTETS, N201, read, write, write_over};
 pub use frame_fault::FrameFault;
 pub use frmr_info::FrmrInfo;
 pub use lapd_field::{Address, Control, FieldFault, Number, Role, Sapi, Side, Tei};

@@ -140,6 +140,7 @@ impl Link {
     /// # Errors
     ///
     /// As [`Link::give`].
+    #[inline(always)]
     pub fn give_into(&mut self, message: Vec<u8>, outs: &mut Outs) -> Result<(), Refused>
         ensures ok { OnOk result (Steps self.old self.new (Give message.items) outs.new.items) }
         ensures err { IfErr result (λ refused. (refused.message ≡ message) × Refuses self.old (Give message.items) refused.fault) }

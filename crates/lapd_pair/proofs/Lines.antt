@@ -1,6 +1,6 @@
 -- How a line shows the frames on their way: one more behind, the first taken, one lost, and which is marked.
-use Rattle.std.proofs.Common.{Bor, is_some, IsSome, IfNone, ◌≡◌, ◌<◌, ◌+◌, ◌≤◌, ℕ, zero, suc, Bool, List, [], ◌∷◌, ◌++◌, length, map, drop, Option, None, Some, Result, Ok, refl, sym, ap, ◌∙◌, subst, arith}
-use Rattle.std.proofs.lemmas.List.{map-append, length-map, drop-map, drop-drop, drop-append-le}
+use Rattle.std.proofs.Common.{Bor, is_some, IsSome, IfNone, ◌≡◌, ◌<◌, ◌+◌, ◌-◌, ◌≤◌, ℕ, zero, suc, Bool, List, [], ◌∷◌, ◌++◌, length, map, set, take, drop, Option, None, Some, Result, Ok, refl, sym, ap, ◌∙◌, subst, arith}
+use Rattle.std.proofs.lemmas.List.{map-append, length-map, drop-map, drop-drop, drop-append-le, drop-take, take_more_set, length-take-le}
 use Rattle.std.specs.List.{position, position_or_len, remove}
 use Rattle.arrayvec.specs.ArrayVec.{ArrayVec}
 use Rattle.lapd_frame.specs.declared.Side.{Side}
@@ -31,10 +31,23 @@ one_behind from old new frames sent f e g o same = record {
   grammar = frames_more frames sent o.grammar (subst IsFrame (sym same) g);
 }
 
--- the octets on the line, with one more
-pub octets_more : (first : ℕ) (items : List (ArrayVec ℕ)) (frame : ArrayVec ℕ) → first ≤ length items
-    → map (λ frame. frame.items) (drop first (items ++ frame ∷ [])) ≡ map (λ frame. frame.items) (drop first items) ++ frame.items ∷ []
-octets_more first items frame h = rw drop-append-le (map-append (λ (frame : ArrayVec ℕ). frame.items) (drop first items) (frame ∷ []))
+-- ---- Places at the front and behind.
+
+-- those between two places
+pub between : {X : Type 0} (first end : ℕ) (xs : List X) → first ≤ end → take (end - first) (drop first xs) ≡ drop first (take end xs)
+between first end xs h = let whole : end ≡ first + (end - first) = omega arith in sym (drop-take first (end - first) xs) ∙ ap (λ n. drop first (take n xs)) (sym whole)
+
+-- the octets on the line, with one more written in the place behind them
+pub octets_more : (first end : ℕ) (items : List (ArrayVec ℕ)) (frame : ArrayVec ℕ) → first ≤ end → end < length items
+    → map (λ frame. frame.items) (drop first (take (end + 1) (set items end frame))) ≡ map (λ frame. frame.items) (drop first (take end items)) ++ frame.items ∷ []
+octets_more first end items frame h within =
+    let taken : first ≤ length (take end items) = rw (length-take-le end items (omega arith)) h in
+    rw (take_more_set items end frame within, drop-append-le first (take end items) (frame ∷ []) taken) (map-append (λ (frame : ArrayVec ℕ). frame.items) (drop first (take end items)) (frame ∷ []))
+
+-- the octets on the line, where its frames went to the front
+pub octets_in_front : (first end : ℕ) (old new : List (ArrayVec ℕ)) → first ≤ end → take (end - first) new ≡ take (end - first) (drop first old)
+    → map (λ frame. frame.items) (drop 0 (take (end - first) new)) ≡ map (λ frame. frame.items) (drop first (take end old))
+octets_in_front first end old new h e = ap (map (λ (frame : ArrayVec ℕ). frame.items)) (e ∙ between first end old h)
 
 -- ---- The first.
 
@@ -82,9 +95,20 @@ remove-drop (suc first) zero (suc n) [] e = refl
 remove-drop (suc first) (suc place) (suc n) [] e = refl
 remove-drop (suc first) place (suc n) (x ∷ xs) e = remove-drop first place n xs (omega arith)
 
+take-remove : {X : Type 0} (n end : ℕ) (xs : List X) → n ≤ end → take end (remove xs n) ≡ remove (take (suc end) xs) n
+take-remove zero zero [] h = refl
+take-remove zero (suc end) [] h = refl
+take-remove zero end (x ∷ xs) h = refl
+take-remove (suc n) zero xs h = absurd (omega arith)
+take-remove (suc n) (suc end) [] h = refl
+take-remove (suc n) (suc end) (x ∷ xs) h = ap (λ l. x ∷ l) (take-remove n end xs (omega arith))
+
 -- what is left on the line
-pub octets_without : (first place : ℕ) (items : List (ArrayVec ℕ)) → map (λ frame. frame.items) (drop first (remove items (first + place))) ≡ remove (map (λ frame. frame.items) (drop first items)) place
-octets_without first place items = ap (map (λ (frame : ArrayVec ℕ). frame.items)) (remove-drop first place _ items refl) ∙ sym (remove-map (λ (frame : ArrayVec ℕ). frame.items) (drop first items) place)
+pub octets_without : (first place end left : ℕ) (items : List (ArrayVec ℕ)) → first + place ≤ left → suc left ≡ end
+    → map (λ frame. frame.items) (drop first (take left (remove items (first + place)))) ≡ remove (map (λ frame. frame.items) (drop first (take end items))) place
+octets_without first place end left items h e =
+    rw (take-remove (first + place) left items h, e)
+    (ap (map (λ (frame : ArrayVec ℕ). frame.items)) (remove-drop first place _ (take end items) refl) ∙ sym (remove-map (λ (frame : ArrayVec ℕ). frame.items) (drop first (take end items)) place))
 
 pub without_one : (from : Side) (old new : Line) (place : ℕ) (frames : List Flight) → octets_on new ≡ remove (octets_on old) place → IsOn from old frames → IsOn from new (without_lost place frames)
 without_one from old new place frames e o = record {

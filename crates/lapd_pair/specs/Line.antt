@@ -1,6 +1,6 @@
 -- One direction of the line, as octets: what is on it, and how it shows the frames on their way.
-use Rattle.std.specs.Prelude.{◌≡◌, ◌+◌, ◌≤◌, ℕ, List, [], ◌∷◌, map, drop}
-use Rattle.std.specs.Vec.{vec_len, vec_capacity}
+use Rattle.std.specs.Prelude.{◌≡◌, ◌+◌, ◌≤◌, ℕ, List, [], ◌∷◌, map, take, drop}
+use Rattle.std.specs.Vec.{vec_capacity}
 use Rattle.lapd_frame.specs.declared.Side.{Side}
 use Rattle.lapd_frame.specs.declared.Role.{Role}
 use Rattle.lapd_frame.specs.declared.Sapi.TheVariants.{Call}
@@ -24,7 +24,7 @@ AreFrames (frame ∷ frames) = IsFrame (fields_of frame) × AreFrames frames
 
 -- the octets of the frames on their way, the first of them first
 abbrev pub octets_on : Line → List (List ℕ)
-octets_on line = map (λ frame. frame.items) (drop line.first line.frames.items)
+octets_on line = map (λ frame. frame.items) (drop line.first (take line.end line.frames.items))
 
 -- what is on the line are the frames on their way, spelled as this side sends them
 pub record IsOn (from : Side) (line : Line) (frames : List Flight) : Type 0 where
@@ -33,7 +33,7 @@ pub record IsOn (from : Side) (line : Line) (frames : List Flight) : Type 0 wher
 
 -- so many more frames have room without more memory
 abbrev pub HasRoomFor : ℕ → Line → Type 0
-HasRoomFor n line = vec_len line.frames + n ≤ vec_capacity line.frames
+HasRoomFor n line = line.end + n ≤ vec_capacity line.frames
 
 -- these are the octets of the first frame on its way
 abbrev pub IsFirst : Side → List ℕ → List Flight → Type 0

@@ -1,25 +1,12 @@
 ghost use Rattle.std.specs.Prelude.{◌≡◌};
-ghost use Rattle.lapd_frame.specs.Frame.{IsFrame, spelling};
 ghost use Rattle.lapd_frame.specs.Reading.{frame_at};
 ghost use Rattle.lapd_pair.specs.Marked.{is_read_marked};
 
 use arrayvec::ArrayVec;
-use lapd_frame::{Frame, MOST_OCTETS, Role, Side, read, write};
+use lapd_frame::{MOST_OCTETS, Role, Side, read};
 
 /// The octets of one frame.
 pub type FrameOctets = ArrayVec<u8, MOST_OCTETS>;
-
-/// The octets of a frame, as `from` sends it.
-pub fn spelled(from: Side, frame: &Frame<'_>) -> FrameOctets
-    ensures octets { result.items ≡ spelling from frame.now }
-    ensures grammar { IsFrame frame.now }
-{
-    let mut octets = [0; MOST_OCTETS];
-    let len = write(frame, from, &mut octets);
-    let mut spelled = ArrayVec::from(octets);
-    spelled.truncate(len);
-    spelled
-}
 
 /// Whether octets that `from` sent are a frame of this role with its P or F bit set (Q.921 3.5.1).
 pub fn is_marked(octets: &[u8], from: Side, role: Role) -> bool

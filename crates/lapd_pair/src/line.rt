@@ -1,27 +1,31 @@
-ghost use Rattle.std.specs.Prelude.{◌≤◌};
+ghost use Rattle.std.specs.Prelude.{◌≡◌, ◌≤◌, ◌+◌, length, take, drop};
 ghost use Rattle.std.specs.Vec.{vec_len};
 
-use crate::frame_octets::{FrameOctets, is_marked, spelled};
-use lapd_frame::{Frame, Role, Side};
+use crate::frame_octets::{FrameOctets, is_marked};
+use lapd_frame::{Frame, Role, Side, write_over};
 use std::alloc::{AllocError, Global};
 
-/// How many frames are worth removing while others stand behind them.
-const MANY: usize = 128;
+/// How many places are worth using again while frames stand behind them.
+const MANY: usize = 32;
 
 /// One direction of the line: the octets of the frames that are on their way, in the order in which they were sent.
 ///
-/// Frames that are taken stay at the front until all are taken, or many and more than half. So, in the mean, taking one
-/// costs the same however many there are.
+/// Frames that are taken stay at the front until all are taken, or many and three times as many as are on their way. Then
+/// these go to the front, and the places of the others are written again. So, in the mean, a frame costs the same however
+/// many are on their way.
 #[derive(Drop)]
 pub struct Line {
     frames: Vec<FrameOctets>,
     /// How many at the front are taken.
     first: usize,
-    ghost within: { first ≤ vec_len frames },
+    /// The place behind the last. Those from there on are free.
+    end: usize,
+    ghost taken: { first ≤ end },
+    ghost within: { end ≤ vec_len frames },
 }
 
 impl Line {
-    ghost use Rattle.std.specs.Prelude.{◌≡◌, ◌+◌, ℕ, nat_lt, true, false, List, [], ◌∷◌, ◌++◌, length, map, drop, IfNone, IfSome, OnOk};
+    ghost use Rattle.std.specs.Prelude.{◌≡◌, ◌<◌, ◌+◌, ℕ, nat_lt, true, false, List, [], ◌∷◌, ◌++◌, length, map, drop, IfNone, IfSome, OnOk};
     ghost use Rattle.std.specs.List.{position, remove};
     ghost use Rattle.lapd_frame.specs.Frame.{spelling};
     ghost use Rattle.lapd_frame.specs.Reading.{frame_at};
@@ -36,15 +40,16 @@ impl Line {
         Line {
             frames: Vec::new(alloc),
             first: 0,
+            end: 0,
         }
     }
 
     /// The octets of the frames that are on their way, the first of them first.
     pub fn frames(&self) -> &[FrameOctets]
         ensures octets { map (λ frame. frame.items) result.now ≡ octets_on self.now }
-        ensures len { length result.now + self.now.first ≡ vec_len self.now.frames }
+        ensures len { length result.now + self.now.first ≡ self.now.end }
     {
-        &self.frames[self.first..]
+        &self.frames[self.first..self.end]
     }
 
     /// Takes the memory for so many more frames, or answers an error. What is on the line stays.
@@ -58,13 +63,30 @@ impl Line {
     }
 
     /// Puts a frame behind all others, as `from` sends it.
+    #[inline(always)]
     pub fn put(&mut self, from: Side, frame: &Frame<'_>)
         requires { HasRoomFor 1 self.old }
         ensures octets { octets_on self.new ≡ octets_on self.old ++ spelling from frame.now ∷ [] }
         ensures shows { (frames : List Flight) (sent : Flight) → IsOn from self.old frames → fields_of sent ≡ frame.now → IsOn from self.new (sent_behind frames sent) }
         ensures room { (n : ℕ) → HasRoomFor (n + 1) self.old → HasRoomFor n self.new }
     {
-        self.frames.push_reserved(spelled(from, frame));
+        self.make_place();
+        write_over(frame, from, &mut self.frames[self.end]);
+        self.end += 1;
+    }
+
+    /// Makes sure of a free place behind all frames.
+    #[inline(always)]
+    fn make_place(&mut self)
+        requires { HasRoomFor 1 self.old }
+        ensures there { self.new.end < vec_len self.new.frames }
+        ensures octets { octets_on self.new ≡ octets_on self.old }
+        ensures end { self.new.end ≡ self.old.end }
+        ensures room { (n : ℕ) → HasRoomFor n self.old → HasRoomFor n self.new }
+    {
+        if self.end == self.frames.len() {
+            self.frames.push_reserved(FrameOctets::new());
+        }
     }
 
     /// The octets of the first frame, where there is one.
@@ -80,22 +102,24 @@ impl Line {
         ensures octets { octets_on self.new ≡ drop 1 (octets_on self.old) }
         ensures shows { (from : Side) (frame : Flight) (rest : List Flight) → IsOn from self.old (frame ∷ rest) → IsOn from self.new rest }
     {
-        if self.first < self.frames.len() {
+        if self.first < self.end {
             self.first += 1;
             self.forget_taken();
         }
     }
 
-    /// Removes the frames that are taken, where all are, or many and more than half.
+    /// The frames on their way change places with those that are taken, where many are and three times as many.
     fn forget_taken(&mut self)
         ensures { octets_on self.new ≡ octets_on self.old }
     {
-        if self.first == self.frames.len() {
-            self.frames.truncate(0);
+        let left = self.end - self.first;
+        if left == 0 {
             self.first = 0;
-        } else if self.first >= MANY && self.first > self.frames.len() / 2 {
-            self.frames.drain(..self.first);
+            self.end = 0;
+        } else if self.first >= MANY && self.first / 3 >= left {
+            to_front(&mut self.frames, self.first, left);
             self.first = 0;
+            self.end = left;
         }
     }
 
@@ -107,6 +131,7 @@ impl Line {
     {
         if place < self.frames().len() {
             self.frames.remove(self.first + place);
+            self.end -= 1;
             true
         } else {
             false
@@ -119,7 +144,7 @@ impl Line {
         ensures room { (n : ℕ) → HasRoomFor n self.old → HasRoomFor n self.new }
     {
         self.first = 0;
-        self.frames.clear();
+        self.end = 0;
     }
 
     /// The place of the first command with P=1, counted from 0, where there is one. `from` sends on this line.
@@ -144,4 +169,14 @@ impl Line {
             .iter()
             .position(|frame| is_marked(frame.as_slice(), from, role))
     }
+}
+
+/// The frames from this place on, so many, change places with as many at the front.
+fn to_front(frames: &mut [FrameOctets], from: usize, count: usize)
+    requires apart { count ≤ from }
+    requires within { from + count ≤ length frames.old }
+    ensures { take count frames.new ≡ take count (drop from frames.old) }
+{
+    let (taken, left) = frames.split_at_mut(from);
+    taken[..count].swap_with_slice(&mut left[..count]);
 }

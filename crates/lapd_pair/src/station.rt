@@ -89,6 +89,7 @@ impl Station {
     }
 
     /// Puts the frame of an output on the line, where it is one.
+    #[inline(always)]
     fn put_sent(&self, out: &Out, octets: &[u8], outward: &mut Line)
         requires { HasRoomFor 1 outward.old }
         ensures shows { (side : Side) (e : End) (o : Occasion) (rest : List states.Out) (copy : Option (Vec ℕ Global)) (t : Story) → octets.now ≡ o.octets
@@ -101,6 +102,7 @@ impl Station {
     }
 
     /// Writes down what an output says. The copy of the octets just delivered is handed on where they go up.
+    #[inline(always)]
     fn write_down(&mut self, out: &Out, copy: &mut Option<Vec<u8>>)
         requires { IfSome copy.old (λ _. HasRoom data_room self.old.history) }
         ensures shows { (side : Side) (e : End) (o : Occasion) (rest : List states.Out) (line : Line) (t : Story)
@@ -136,6 +138,7 @@ impl Station {
     }
 
     /// Tells all outputs of a step, one after another.
+    #[inline(always)]
     fn carry_out(
         &mut self,
         outs: &[Out],
@@ -170,6 +173,7 @@ impl Station {
 
     /// One step of the state table, for any event. The frames of its outputs go on the line, and the rest is written down.
     /// `octets` are those of the frame that is heard, with a copy of them for layer 3, or the unit data to be sent.
+    #[inline(always)]
     pub fn step(
         &mut self,
         event: Event,

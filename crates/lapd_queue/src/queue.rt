@@ -98,6 +98,7 @@ impl IQueue {
 
     /// Puts a message at the end, unsent (Q.921 5.6.1). Where `room` messages wait, it is handed back and the queue is
     /// unchanged.
+    #[inline(always)]
     pub fn put(&mut self, message: Vec<u8>) -> Result<(), Vec<u8>>
         ensures full { is_err result ≡ (length self.old.messages == self.old.room) }
         ensures ok { OnOk result (self.new ≡ with_message message.items self.old) }
@@ -117,6 +118,7 @@ impl IQueue {
 
     /// Removes the `n` messages at the front, at most `sent`, which are now acknowledged (Q.921 5.6.3.2). The cost grows
     /// with `n` and not with the length of the queue.
+    #[inline(always)]
     pub fn acknowledge(&mut self, n: u16)
         requires { n ≤ self.old.sent }
         ensures left { self.new ≡ without_first n self.old }

@@ -228,6 +228,7 @@ impl Window {
     ///   (5.6.2).
     /// - Otherwise it is discarded. The first such frame is answered by REJ with F=P, rejecting is true and ack pending
     ///   false; of those that follow, a poll is answered (5.8.1).
+    #[inline(always)]
     pub fn take_ns(self, ns: Number, p: bool) -> (Window, Receipt)
         ensures window { result.0 ≡ after_i_frame Tagged ns p self }
         ensures accepted { result.1.accepted ≡ is_accepted ns self }
@@ -312,6 +313,7 @@ impl Window {
 impl Window {
     /// Sets V(A) to this N(R), and tells what it acknowledges; `None` where it does not lie from V(A) to V(S), counted
     /// modulo 128 (Q.921 3.5.2.3, 5.6.3.2, 5.8.2).
+    #[inline(always)]
     pub fn take_nr(self, nr: Number) -> Option<(Window, Advance)>
         ensures valid { is_some result ≡ is_valid_nr Tagged nr self }
         ensures window { IfSome result (λ taken. taken.0 ≡ with_va nr self) }

@@ -18,6 +18,7 @@ impl Machine {
     ghost use Rattle.lapd_link.specs.StandsFor.{StandsFor, Does};
 
     /// The end of a step.
+    #[inline(always)]
     pub fn close(&mut self, outs: &mut Outs)
         requires room { array_vec_len outs.old ≤ 6 }
         ensures step { Does self.old outs.old self.new outs.new (close Tagged) }
@@ -27,6 +28,7 @@ impl Machine {
     }
 
     /// Messages go out, in state 7, while the window is open.
+    #[inline(always)]
     fn send_all(&mut self, outs: &mut Outs)
         requires room { array_vec_len outs.old ≤ 6 }
         ensures step { (s : StepState) → StandsFor self.old outs.old.items s → StandsFor self.new outs.new.items (send_all Tagged (unsent s.end) s) }

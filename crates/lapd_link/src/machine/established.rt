@@ -126,6 +126,7 @@ impl Machine {
     ghost use Rattle.lapd_link.specs.StandsFor.{Does, HasRoom, Grows};
 
     /// A frame (Figure B.7).
+    #[inline(always)]
     pub fn established_heard(&mut self, control: Control, role: Role, outs: &mut Outs)
         requires room { HasRoom 6 outs.old }
         requires counted { SentAreOutstanding self.old }
@@ -160,6 +161,7 @@ impl Machine {
     }
 
     /// An I frame (Figure B.7).
+    #[inline(always)]
     fn established_i_frame(&mut self, ns: Number, nr: Number, p: bool, role: Role, outs: &mut Outs)
         requires room { HasRoom 6 outs.old }
         requires counted { SentAreOutstanding self.old }
@@ -261,6 +263,7 @@ impl Machine {
     ghost use Rattle.lapd_link.specs.StandsFor.{Does, HasRoom, Grows};
 
     /// What a valid N(R) leaves of the window, and what it acknowledges. Nothing is done yet.
+    #[inline(always)]
     pub fn taken(&self, nr: Number) -> Option<(Window, Advance)>
         ensures valid { IfSome result (λ taken. IsTaken nr self.now.window taken) }
         ensures wrong { IfNone result (is_valid_nr Tagged nr self.now.window ≡ false) }
@@ -276,6 +279,7 @@ impl Machine {
     }
 
     /// The N(R) of an I frame; while the peer is busy, T200 goes on (Figure B.7).
+    #[inline(always)]
     fn i_frame_nr(&mut self, nr: Number, outs: &mut Outs)
         requires room { HasRoom 4 outs.old }
         requires counted { SentAreOutstanding self.old }
@@ -295,6 +299,7 @@ impl Machine {
     }
 
     /// The N(R) of an RR frame (Figure B.7).
+    #[inline(always)]
     fn rr_nr(&mut self, nr: Number, outs: &mut Outs)
         requires room { HasRoom 4 outs.old }
         requires counted { SentAreOutstanding self.old }
@@ -308,6 +313,7 @@ impl Machine {
     }
 
     /// A valid N(R), and T200 and T203 by whether it acknowledges all, nothing new, or some (Figure B.7).
+    #[inline(always)]
     fn acknowledge_with_timers(&mut self, nr: Number, taken: (Window, Advance), outs: &mut Outs)
         requires room { HasRoom 3 outs.old }
         requires taken { IsTaken nr self.old.window taken }

@@ -206,6 +206,7 @@ impl Machine {
     }
 
     /// The N(S) and P of an I frame.
+    #[inline(always)]
     pub fn i_frame_ns(&mut self, ns: Number, p: bool, outs: &mut Outs)
         requires room { HasRoom 2 outs.old }
         ensures step { Does self.old outs.old self.new outs.new (i_frame_ns Tagged ns p) }
@@ -230,6 +231,7 @@ impl Machine {
     ghost use Rattle.lapd_link.specs.StandsFor.{Does, DoesQuietly, HasRoom, Grows};
 
     /// A message joins the queue, or is handed back where the queue is full.
+    #[inline(always)]
     pub fn queue_up(&mut self, message: Vec<u8>) -> Result<(), Vec<u8>>
         ensures full { is_err result ≡ (length self.old.queue.messages == self.old.queue.room) }
         ensures ok { OnOk result (DoesQuietly self.old self.new (queue_up message.items)) }
@@ -252,6 +254,7 @@ impl Machine {
     }
 
     /// V(A) = N(R): what lies before a valid N(R), which was taken, is acknowledged and leaves the queue.
+    #[inline(always)]
     pub fn acknowledge(&mut self, nr: Number, taken: (Window, Advance), outs: &mut Outs)
         requires room { HasRoom 1 outs.old }
         requires taken { IsTaken nr self.old.window taken }

@@ -1,9 +1,9 @@
-use Rattle.std.proofs.Common.{◌∙◌}
+use Rattle.std.proofs.Common.{take, ◌∙◌}
 use Rattle.lapd_pair.proofs.Lines.{without_first, octets_after}
 use Rattle.lapd_pair.proofs.line.Line.take_first.Goals as goal
 
-pub returns-then-self-len-clause-octets : goal.returns-then-self-len-clause-octets
-returns-then-self-len-clause-octets c = c.forget_taken.ensures ∙ octets_after c.args.self.now.first c.args.self.now.frames.items
+pub returns-then-self-clause-octets : goal.returns-then-self-clause-octets
+returns-then-self-clause-octets c = c.forget_taken.ensures ∙ octets_after c.args.self.now.first (take c.args.self.now.end c.args.self.now.frames.items)
 
-pub returns-then-self-len-clause-shows : goal.returns-then-self-len-clause-shows
-returns-then-self-len-clause-shows c = λ from frame rest o. without_first from _ _ frame rest (c.forget_taken.ensures ∙ octets_after c.args.self.now.first c.args.self.now.frames.items) o
+pub returns-then-self-clause-shows : goal.returns-then-self-clause-shows
+returns-then-self-clause-shows c = λ from frame rest o. without_first from _ _ frame rest (c.forget_taken.ensures ∙ octets_after c.args.self.now.first (take c.args.self.now.end c.args.self.now.frames.items)) o

@@ -1,0 +1,18 @@
+use Rattle.lapd_world.specs.Move.{NothingThere, NotRunning, NotYet}
+use Rattle.lapd_commands.proofs.Refusals.{refusal_printed, refused_as}
+use Rattle.lapd_commands.proofs.mover.Mover.make.Goals as goal
+
+pub returns-in-Err-NothingThere : goal.returns-in-Err-NothingThere
+returns-in-Err-NothingThere g c = λ w stands.
+    let refused = refused_as _ _ _ c.in-Err-NothingThere.field-0-is (c.in-Err-NothingThere.ensures.err w stands) in
+    refusal_printed w _ NothingThere _ _ _ _ refused (c.in-Err-NothingThere.ensures.unchanged w stands) c.put_line.ensures.ok c.put_line.ensures.err
+
+pub returns-in-Err-NotRunning : goal.returns-in-Err-NotRunning
+returns-in-Err-NotRunning g c = λ w stands.
+    let refused = refused_as _ _ _ c.in-Err-NotRunning.field-0-is (c.in-Err-NotRunning.ensures.err w stands) in
+    refusal_printed w _ NotRunning _ _ _ _ refused (c.in-Err-NotRunning.ensures.unchanged w stands) c.put_line-in-Err-NotRunning.ensures.ok c.put_line-in-Err-NotRunning.ensures.err
+
+pub returns-in-Err-NotYet : goal.returns-in-Err-NotYet
+returns-in-Err-NotYet g c = λ w stands.
+    let refused = refused_as _ _ _ c.in-Err-NotYet.field-0-is (c.in-Err-NotYet.ensures.err w stands) in
+    refusal_printed w _ (NotYet c.in-Err-NotYet.to c.in-Err-NotYet.place) _ _ _ _ refused (c.in-Err-NotYet.ensures.unchanged w stands) c.put_not_yet.ensures.ok c.put_not_yet.ensures.err
