@@ -124,8 +124,9 @@ impl IQueue {
         ensures left { self.new ≡ without_first n self.old }
         ensures were_there { n ≤ length self.old.messages }
     {
-        let left = self.messages.len() - usize::from(n);
-        self.messages.truncate_front(left);
+        for _ in 0..n {
+            self.messages.pop_front();
+        }
         self.sent -= n;
     }
 
