@@ -1,0 +1,3 @@
+pub mod Ids
+pub mod Indexes
+pub mod Runs
