@@ -1,3 +1,4 @@
 pub mod Ids
 pub mod Indexes
+pub mod Tables
 pub mod Runs

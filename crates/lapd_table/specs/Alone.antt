@@ -1,6 +1,6 @@
 -- A table as the ends of its links, and a link alone: after any list of inputs the link in the table is what it is alone
 -- after its part of them, and what is sent for it is the same.
-use Rattle.std.specs.Prelude.{◌≡◌, ℕ, List, [], ◌∷◌, ◌++◌, Bool, if◌then◌else◌, Option, Some, None, option_map, Result, Ok, Err}
+use Rattle.std.specs.Prelude.{◌≡◌, ℕ, List, [], ◌∷◌, ◌++◌, if◌then◌else◌, Option, Some, None, option_map, Result, Ok, Err}
 use Rattle.lapd_mod128.specs.Counting.{Tagged}
 use Rattle.lapd_frame.specs.declared.Side.{Side}
 use Rattle.lapd_frame.specs.Address.{other_side}

@@ -1,5 +1,5 @@
 -- The links of a table, in a slab, and the map that names the key of each.
-use Rattle.std.specs.Prelude.{◌≡◌, ℕ, Option, Some, None, option_map, option_and_then}
+use Rattle.std.specs.Prelude.{◌≡◌, ℕ, Option, Some, option_map}
 use Rattle.std.specs.BTreeMap as tree
 use Rattle.slab.specs.Slab as slab
 use Rattle.lapd_frame.specs.declared.Side.{Side}

@@ -1,5 +1,5 @@
 -- Which link (Q.921 3.4.1): its SAPI and its TEI, and their order.
-use Rattle.std.specs.Prelude.{ℕ, Bool, ◌==◌}
+use Rattle.std.specs.Prelude.{Bool, ◌==◌}
 use Rattle.std.specs.declared.cmp.Ordering.{Ordering}
 use Rattle.std.specs.Ordering.{nat_cmp, on, then_cmp, eq_of_both}
 use Rattle.lapd_frame.specs.declared.Side.{Side}

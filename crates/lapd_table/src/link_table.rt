@@ -1,11 +1,12 @@
 ghost use Rattle.std.specs.Prelude.{◌≡◌, None, Some, Ok, Err, [], IsSome, IfSome, IfOk, IfErr, OnOk, OnErr, option_copied, ◌↔◌, Contains};
 ghost use Rattle.std.specs.List.Sorted.{IsStrictlySortedBy};
+ghost use Rattle.std.proofs.Props.{props};
 ghost use Rattle.lapd_states.specs.End.{End};
 ghost use Rattle.lapd_states.specs.Input.{input_of, Give};
 ghost use Rattle.lapd_states.specs.Refusal.{refused};
 ghost use Rattle.lapd_link.specs.Link.{setup_of};
 ghost use Rattle.lapd_table.specs.LinkId.{id_cmp, id_of_setup, setup_for};
-ghost use Rattle.lapd_table.specs.Index.{IsIndex};
+ghost use Rattle.lapd_table.specs.Index.{IsIndex, key_of};
 
 use crate::{LinkId, TableFault};
 use lapd_frame::{FrameFault, Side, read};
@@ -22,7 +23,7 @@ pub struct LinkTable {
     links: Slab<Link>,
     /// Under which key of the slab each link stands.
     keys: BTreeMap<LinkId, usize>,
-    ghost index: { ∥ IsIndex side links keys ∥₁ },
+    ghost index: { IsIndex side links keys } by { Prim.hlevel props },
 }
 
 impl LinkTable {
@@ -138,21 +139,13 @@ impl LinkTable {
                 let id = LinkId::of_address(&frame.address());
                 self.hear(id, Event::Heard(&frame), outs)
             }
-            Err(
-                FrameFault {
-                    kind,
-                    address: Some(address),
-                },
-            ) => self.hear(LinkId::of_address(&address), Event::Fault(kind), outs),
-            Err(
-                FrameFault {
-                    kind,
-                    address: None,
-                },
-            ) => {
-                outs.clear();
-                Err(TableFault::Discarded(kind))
-            }
+            Err(FrameFault { kind, address }) => match address {
+                Some(address) => self.hear(LinkId::of_address(&address), Event::Fault(kind), outs),
+                None => {
+                    outs.clear();
+                    Err(TableFault::Discarded(kind))
+                }
+            },
         }
     }
 
@@ -165,14 +158,32 @@ impl LinkTable {
         ensures unchanged { OnErr result (IsUnchanged self.old self.new) }
         ensures empty { OnErr result (outs.new.items ≡ []) }
     {
-        let Some(key) = self.keys.get(&id) else {
+        let Some(key) = self.keys.get(&id).copied() else {
             outs.clear();
             return Err(TableFault::NoLink);
         };
-        match self.links[*key].handle_into(event, outs) {
+        match self.handle_under(key, id, event, outs) {
             Ok(()) => Ok(id),
             Err(_) => unreachable!(),
         }
+    }
+
+    /// As [`LinkTable::handle_into`], for the link that stands under this key of the slab.
+    fn handle_under(
+        &mut self,
+        key: usize,
+        id: LinkId,
+        event: Event,
+        outs: &mut Outs,
+    ) -> Result<(), LinkFault>
+        requires named { key_of self.old.keys id ≡ Some key }
+        requires for_link { IsFor id event }
+        ensures ok { OnOk result (StepsAt self.old self.new id (input_of event.entry) outs.new.items) }
+        ensures err { IfErr result (RefusesAt self.old id (input_of event.entry)) }
+        ensures unchanged { OnErr result (IsUnchanged self.old self.new) }
+        ensures empty { OnErr result (outs.new.items ≡ []) }
+    {
+        self.links[key].handle_into(event, outs)
     }
 
     /// An event for a link that is there, which does its own step. It takes no memory. Where speed matters, lend the
@@ -215,7 +226,7 @@ impl LinkTable {
         ensures empty { OnErr result (outs.new.items ≡ []) }
     {
         let key = self.keys[&id];
-        self.links[key].handle_into(event, outs)
+        self.handle_under(key, id, event, outs)
     }
 
     /// A message of layer 3 for a link that is there, which does its own step. It takes no memory. Where speed matters, lend
