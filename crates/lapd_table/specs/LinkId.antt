@@ -1,5 +1,6 @@
 -- Which link (Q.921 3.4.1): its SAPI and its TEI, and their order.
-use Rattle.std.specs.Prelude.{Bool, ◌==◌}
+use Rattle.std.specs.Prelude.{ℕ, Bool, ◌==◌, List, ◌++◌, codes}
+use Rattle.std.specs.Fmt.{decimal}
 use Rattle.std.specs.declared.cmp.Ordering.{Ordering}
 use Rattle.std.specs.Ordering.{nat_cmp, on, then_cmp, eq_of_both}
 use Rattle.lapd_frame.specs.declared.Side.{Side}
@@ -27,3 +28,7 @@ id_eq = eq_of_both (on (λ id. sapi_value id.sapi) ◌==◌) (on (λ id. id.tei)
 -- by SAPI, then by TEI
 abbrev pub id_cmp : LinkId → LinkId → Ordering
 id_cmp = then_cmp (on (λ id. sapi_value id.sapi) nat_cmp) (on (λ id. id.tei) nat_cmp)
+
+-- as it is printed
+abbrev pub id_text : LinkId → List ℕ
+id_text id = codes "SAPI " ++ (decimal (sapi_value id.sapi) ++ (codes " TEI " ++ decimal id.tei))

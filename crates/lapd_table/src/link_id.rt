@@ -1,14 +1,15 @@
-ghost use Rattle.std.specs.Prelude.{◌≡◌};
+ghost use Rattle.std.specs.Prelude.{◌≡◌, Some};
 ghost use Rattle.std.specs.Cmp.{partial_order_from_own_ties};
 ghost use Rattle.std.specs.Cmp.Rules.{comparing};
 ghost use Rattle.std.specs.Ordering.{as_partial_cmp};
 ghost use Rattle.std.proofs.Common.{rules};
 ghost use Rattle.lapd_link.specs.Link.{setup_of};
-ghost use Rattle.lapd_table.specs.LinkId.{id_eq, id_cmp, id_of_setup, id_of_address};
+ghost use Rattle.lapd_table.specs.LinkId.{id_text, id_eq, id_cmp, id_of_setup, id_of_address};
 
 use lapd_frame::{Address, Sapi, Tei};
 use lapd_link::Link;
 use std::cmp::Ordering;
+use std::fmt;
 
 /// Which link of a table: its service access point and terminal endpoint (Q.921 3.4.1). The order is that of the SAPI's
 /// number, then of the TEI's.
@@ -77,5 +78,15 @@ impl Ord for LinkId {
 
     fn cmp(&self, other: &LinkId) -> Ordering {
         (self.sapi.value().cmp(&other.sapi.value())).then(self.tei.value().cmp(&other.tei.value()))
+    }
+}
+
+impl fmt::Display for LinkId {
+    ghost output = { λ id. Some (id_text id) };
+
+    fn fmt<W: fmt::Write>(&self, f: &mut fmt::Formatter<W>) -> fmt::Result {
+        let sapi = self.sapi;
+        let tei = self.tei;
+        write!(f, "SAPI {sapi} TEI {tei}")
     }
 }
