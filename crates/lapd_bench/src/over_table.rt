@@ -1,5 +1,7 @@
 //! Frames that come for the links of a [`LinkTable`], and their answers.
 
+ghost use Rattle.std.specs.Prelude.{◌≢◌, ◌<◌, IfOk};
+
 use crate::bench_fault::BenchFault;
 use crate::counts::Counts;
 use lapd_frame::{MOST_OCTETS, Sapi, Side, Tei, write};
@@ -17,11 +19,14 @@ type Enquiry = [u8; 4];
 /// `Memory`, `CommandLine` for no links or more than 254, and `Table` where a frame is refused.
 pub fn answer(alloc: Global, links: u32, frames: u32) -> Result<Counts, BenchFault> {
     let mut table = LinkTable::new(alloc, Side::Network);
-    let mut enquiries: Vec<Enquiry> = vec![in alloc]?;
+    let mut enquiries: Vec<Enquiry> = Vec::with_capacity(alloc, links as usize)?;
     for number in 0..links {
         let id = id_of(number)?;
+        let enquiry = [id.sapi.value() * 4, id.tei.value() * 2 + 1, 0x01, 0x01];
         add_established(alloc, &mut table, id)?;
-        enquiries.push([id.sapi.value() * 4, id.tei.value() * 2 + 1, 0x01, 0x01])?;
+        if enquiries.push(enquiry).is_err() {
+            return Err(BenchFault::Memory);
+        }
     }
     let mut outs = Outs::new();
     let mut octets = [0; MOST_OCTETS];
@@ -67,7 +72,9 @@ fn reply(
 }
 
 /// The link of this number: TEIs 0 to 126 of service access point 0, then those of 16.
-fn id_of(number: u32) -> Result<LinkId, BenchFault> {
+fn id_of(number: u32) -> Result<LinkId, BenchFault>
+    ensures { IfOk result (λ id. (id.sapi ≢ Sapi.Management) × (id.tei < 127)) }
+{
     let sapi = if number < 127 {
         Sapi::Call
     } else {
@@ -80,13 +87,15 @@ fn id_of(number: u32) -> Result<LinkId, BenchFault> {
 }
 
 /// Adds a link of the network's, established by the user.
-fn add_established(alloc: Global, table: &mut LinkTable, id: LinkId) -> Result<(), BenchFault> {
-    let link = Link::new(alloc, Side::Network, id.sapi, id.tei, Params::primary())?;
+fn add_established(alloc: Global, table: &mut LinkTable, id: LinkId) -> Result<(), BenchFault>
+    requires { (id.sapi ≢ Sapi.Management) × (id.tei < 127) }
+{
+    let sabme = [id.sapi.value() * 4, id.tei.value() * 2 + 1, 0x7f];
+    let link = Link::new(alloc, table.side(), id.sapi, id.tei, Params::primary())?;
     match table.add(link) {
         Ok(()) => {}
         Err((fault, _link)) => return Err(BenchFault::Table(fault)),
     }
-    let sabme = [id.sapi.value() * 4, id.tei.value() * 2 + 1, 0x7f];
     let _ = table.dispatch(&sabme)?;
     Ok(())
 }

@@ -43,7 +43,15 @@ impl LinkTable {
         }
     }
 
-    /// Adds a link, which is of the table's side.
+    /// Whose links these are.
+    #[tactic(auto, unfolding(crate::specs::LinkTable::side_of))]
+    pub fn side(&self) -> Side
+        ensures { result ≡ side_of self.now }
+    {
+        self.side
+    }
+
+    /// Adds a link, which is of the table's side ([`LinkTable::side`]).
     ///
     /// # Errors
     ///

@@ -3,7 +3,7 @@
 use crate::made::{Numbers, id_of, network_table, try_add};
 use crate::wants::wants;
 use lapd_table::{LinkTable, TableFault};
-use std::alloc::Global;
+use std::alloc::{AllocError, Global};
 use std::test::Fail;
 
 /// What is done to a table: a link is added or taken out.
@@ -74,11 +74,15 @@ fn fault_of(alloc: Global, table: &mut LinkTable, deed: Deed) -> Result<Option<T
 }
 
 /// Whether just these links are there, in this order.
-pub(crate) fn has(table: &LinkTable, links: &[Numbers]) -> Result<bool, Fail> {
+///
+/// # Errors
+///
+/// `AllocError` where memory for the ids was refused.
+pub(crate) fn has(table: &LinkTable, links: &[Numbers]) -> Result<bool, AllocError> {
     let ids = table.ids()?;
     let mut same = ids.len() == links.len();
-    for (id, numbers) in ids.iter().zip(links) {
-        same = same && *id == id_of(*numbers)?;
+    for (id, (sapi, tei)) in ids.iter().zip(links) {
+        same = same && id.sapi.value() == *sapi && id.tei.value() == *tei;
     }
     Ok(same)
 }

@@ -1,5 +1,7 @@
 //! Links and tables that the tests begin with.
 
+ghost use Rattle.std.specs.Prelude.{◌≢◌, ◌<◌, IsTrue};
+
 use lapd_frame::{Sapi, Side, Tei};
 use lapd_link::{Link, Params};
 use lapd_table::{LinkId, LinkTable, TableFault};
@@ -18,24 +20,26 @@ pub(crate) fn id_of(numbers: Numbers) -> Result<LinkId, Fail> {
     })
 }
 
-/// Adds a link of the network's, with the parameters of primary rate access.
-pub(crate) fn added(alloc: Global, table: &mut LinkTable, id: LinkId) -> Result<(), Fail> {
-    match try_add(alloc, table, id)? {
-        None => Ok(()),
-        Some(_) => Err(Fail::new("a link is refused")),
+/// Whether a link can have this id: it is not for management, nor for the group.
+pub(crate) fn is_of_link(id: LinkId) -> bool
+    ensures { IsTrue result → (id.sapi ≢ Sapi.Management) × (id.tei < 127) }
+{
+    match id.sapi {
+        Sapi::Management => false,
+        Sapi::Call | Sapi::Packet => id.tei.value() < 127,
     }
 }
 
-/// Why a link of the network's is not added; `None` where it is.
+/// Why a link, with the parameters of primary rate access, is not added; `None` where it is.
 pub(crate) fn try_add(
     alloc: Global,
     table: &mut LinkTable,
     id: LinkId,
 ) -> Result<Option<TableFault>, Fail> {
-    if id.sapi == Sapi::Management || id.tei == Tei::group() {
+    if !is_of_link(id) {
         return Err(Fail::new("no link has this id"));
     }
-    let link = Link::new(alloc, Side::Network, id.sapi, id.tei, Params::primary())?;
+    let link = Link::new(alloc, table.side(), id.sapi, id.tei, Params::primary())?;
     match table.add(link) {
         Ok(()) => Ok(None),
         Err((fault, link)) if LinkId::of_link(&link) == id => Ok(Some(fault)),
@@ -47,7 +51,9 @@ pub(crate) fn try_add(
 pub(crate) fn network_table(alloc: Global, links: &[Numbers]) -> Result<LinkTable, Fail> {
     let mut table = LinkTable::new(alloc, Side::Network);
     for numbers in links {
-        added(alloc, &mut table, id_of(*numbers)?)?;
+        if try_add(alloc, &mut table, id_of(*numbers)?)?.is_some() {
+            return Err(Fail::new("a link is refused"));
+        }
     }
     Ok(table)
 }

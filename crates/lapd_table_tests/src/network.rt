@@ -94,7 +94,11 @@ const REFUSED: &[Row] = &[
         TableFault::Discarded(FaultKind::SapiNotServed),
     ),
     ("another TEI", b"\x00\x83\x7f", TableFault::NoLink),
-    ("a fault of another TEI", b"\x00\x83\x11\x00", TableFault::NoLink),
+    (
+        "a fault of another TEI",
+        b"\x00\x83\x11\x00",
+        TableFault::NoLink,
+    ),
     ("management", b"\xfc\xff\x03", TableFault::NoLink),
 ];
 
@@ -196,5 +200,9 @@ fn requests_for_one_link(rt: HostRuntime) -> Result<(), Fail> {
         b"\x42\x81\x00\x00\x08\x01",
     )?;
     wants(sent, "a message", "not sent")?;
-    wants(is_in(&table, call, 4), "SAPI 16", "the other link is not in 4")
+    wants(
+        is_in(&table, call, 4),
+        "SAPI 16",
+        "the other link is not in 4",
+    )
 }
