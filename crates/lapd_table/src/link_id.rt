@@ -1,10 +1,10 @@
-ghost use Rattle.std.specs.Prelude.{◌≡◌, Some};
+ghost use Rattle.std.specs.Prelude.{◌≡◌, ◌≤◌, Some};
 ghost use Rattle.std.specs.Cmp.{partial_order_from_own_ties};
 ghost use Rattle.std.specs.Cmp.Rules.{comparing};
 ghost use Rattle.std.specs.Ordering.{as_partial_cmp};
 ghost use Rattle.std.proofs.Common.{rules};
 ghost use Rattle.lapd_link.specs.Link.{setup_of};
-ghost use Rattle.lapd_table.specs.LinkId.{id_text, id_eq, id_cmp, id_of_setup, id_of_address};
+ghost use Rattle.lapd_table.specs.LinkId.{id_text, place_of, id_eq, id_cmp, id_of_setup, id_of_address};
 
 use lapd_frame::{Address, Sapi, Tei};
 use lapd_link::Link;
@@ -40,6 +40,20 @@ impl LinkId {
             sapi: link.sapi(),
             tei: link.tei(),
         }
+    }
+
+    /// Its place in the order, as one number: a comparison is then one of two numbers.
+    #[inline(always)]
+    fn place(self) -> u16
+        ensures value { result ≡ place_of self }
+        ensures tei { self.tei ≤ 127 }
+    {
+        let sapi: u16 = match self.sapi {
+            Sapi::Call => 0,
+            Sapi::Packet => 1,
+            Sapi::Management => 2,
+        };
+        sapi * 256 + u16::from(self.tei.value())
     }
 }
 
@@ -77,7 +91,7 @@ impl Ord for LinkId {
     ghost matches_eq = { Prim.search (comparing, rules) };
 
     fn cmp(&self, other: &LinkId) -> Ordering {
-        (self.sapi.value().cmp(&other.sapi.value())).then(self.tei.value().cmp(&other.tei.value()))
+        self.place().cmp(&other.place())
     }
 }
 
