@@ -4,8 +4,8 @@ ghost use Rattle.std.specs.Prelude.{◌≢◌, ◌<◌, IfOk};
 
 use crate::bench_fault::BenchFault;
 use crate::counts::Counts;
-use lapd_frame::{MOST_OCTETS, Sapi, Side, Tei, write};
-use lapd_link::{Link, Outs, Params};
+use lapd_frame::{Frame, MOST_OCTETS, Sapi, Side, Tei, write};
+use lapd_link::{Link, Out, Outs, Params};
 use lapd_table::{LinkId, LinkTable};
 use std::alloc::Global;
 
@@ -58,12 +58,10 @@ fn reply(
     octets: &mut [u8; MOST_OCTETS],
 ) -> Result<u64, BenchFault> {
     let id = table.dispatch_into(bytes, outs)?;
-    let Some(link) = table.link(id) else {
-        return Err(BenchFault::NotForLink);
-    };
     let mut sent: u64 = 0;
     for out in &*outs {
-        if let Some(frame) = link.frame(out, &[]) {
+        if let Out::Send(role, control) = out {
+            let frame = Frame::new(id.address(*role), *control, &[]).map_err(BenchFault::NoFrame)?;
             let _len = write(&frame, Side::Network, octets);
             sent = sent.wrapping_add(1);
         }

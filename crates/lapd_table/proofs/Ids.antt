@@ -1,18 +1,18 @@
 -- The order of SAPI and TEI tells all apart.
-use Rattle.std.proofs.Common.{◌≡◌, ◌⊎◌, ℕ, ◌+◌, ◌<◌, ◌≤◌, nat_cmp, Bool, true, false, ◌&&◌, refl, sym, inl, inr, arith, rules}
-use Rattle.std.proofs.lemmas.Bool.{eqb-true}
+use Rattle.std.proofs.Common.{◌≡◌, ◌⊎◌, ℕ, Bool, true, false, ◌&&◌, refl, inl, inr, arith, rules}
+use Rattle.std.proofs.lemmas.Bool.{eqb-true, eq-eqb, and_from}
 use Rattle.std.specs.Prelude.{◌==◌}
-use Rattle.std.specs.Cmp.{IsTotalOrder, nat_cmp_is, ranks}
+use Rattle.std.specs.Cmp.{IsTotalOrder}
 use Rattle.std.specs.Cmp.Rules.{comparing}
 use Rattle.std.specs.declared.cmp.Ordering.{Ordering}
 use Rattle.std.specs.declared.cmp.Ordering.TheVariants.{Less, Equal, Greater}
-use Rattle.std.specs.Ordering.{is_eq, ordering_then, ordering_reverse, MatchOrdering}
+use Rattle.std.specs.Ordering.{is_eq, ordering_then, ordering_reverse}
 use Rattle.std.proofs.lemmas.Map.Lookups.{exact_unsigned}
 use Rattle.lapd_frame.specs.declared.Sapi.{Sapi}
 use Rattle.lapd_frame.specs.declared.Sapi.TheVariants.{Call, Packet, Management}
 use Rattle.lapd_frame.specs.Address.{sapi_value}
 use Rattle.lapd_table.specs.declared.link_id.LinkId.{LinkId}
-use Rattle.lapd_table.specs.LinkId.{id_cmp, id_eq, place_of}
+use Rattle.lapd_table.specs.LinkId.{id_cmp, id_eq}
 
 pub id_cmp_total : IsTotalOrder id_cmp
 id_cmp_total = search (comparing, rules)
@@ -61,7 +61,7 @@ equal_to_reverse Greater h = absurd (cc)
 pub id_cmp_self : (a : LinkId) → is_eq (id_cmp a a) ≡ true
 id_cmp_self a = equal_to_reverse _ (id_cmp_total.antisymm a a)
 
-bool_cases : (b : Bool) → (b ≡ true) ⊎ (b ≡ false)
+pub bool_cases : (b : Bool) → (b ≡ true) ⊎ (b ≡ false)
 bool_cases true = inl refl
 bool_cases false = inr refl
 
@@ -82,32 +82,5 @@ same_id_eq a b h =
     let both = and_both (sapi_value a.sapi == sapi_value b.sapi) (a.tei == b.tei) h in
     same_fields a.sapi b.sapi a.tei b.tei (sapi_of_value a.sapi b.sapi (eqb-true _ _ both.0)) (eqb-true _ _ both.1)
 
--- ---- The order by one number.
-
-shifted : (c m n : ℕ) → nat_cmp (c + m) (c + n) ≡ nat_cmp m n
-shifted c m n = sym (nat_cmp_is _ _ (nat_cmp m n) (by (nat_cmp m n) (ranks m n)))
-  where
-    by : (o : Ordering) → MatchOrdering o (m < n) (m ≡ n) (n < m) → MatchOrdering o (c + m < c + n) (c + m ≡ c + n) (c + n < c + m)
-    by Less h = omega (arith, h)
-    by Equal h = omega (arith, h)
-    by Greater h = omega (arith, h)
-
-below : (x y : ℕ) → x < y → nat_cmp x y ≡ Less
-below x y h = sym (nat_cmp_is x y Less h)
-
-above : (x y : ℕ) → y < x → nat_cmp x y ≡ Greater
-above x y h = sym (nat_cmp_is x y Greater h)
-
-place_order_of : (s t : Sapi) (m n : ℕ) → m ≤ 127 → n ≤ 127 → nat_cmp (place_of (make s m)) (place_of (make t n)) ≡ id_cmp (make s m) (make t n)
-place_order_of Call Call m n p q = shifted 0 m n
-place_order_of Call Packet m n p q = below (0 + m) (256 + n) (omega (arith, p, q))
-place_order_of Call Management m n p q = below (0 + m) (512 + n) (omega (arith, p, q))
-place_order_of Packet Call m n p q = above (256 + m) (0 + n) (omega (arith, p, q))
-place_order_of Packet Packet m n p q = shifted 256 m n
-place_order_of Packet Management m n p q = below (256 + m) (512 + n) (omega (arith, p, q))
-place_order_of Management Call m n p q = above (512 + m) (0 + n) (omega (arith, p, q))
-place_order_of Management Packet m n p q = above (512 + m) (256 + n) (omega (arith, p, q))
-place_order_of Management Management m n p q = shifted 512 m n
-
-pub place_order : (a b : LinkId) → a.tei ≤ 127 → b.tei ≤ 127 → nat_cmp (place_of a) (place_of b) ≡ id_cmp a b
-place_order a b p q = place_order_of a.sapi b.sapi a.tei b.tei p q
+pub id_eq_self : (a : LinkId) → id_eq a a ≡ true
+id_eq_self a = and_from (sapi_value a.sapi == sapi_value a.sapi) (a.tei == a.tei) (eq-eqb (sapi_value a.sapi) (sapi_value a.sapi) refl) (eq-eqb a.tei a.tei refl)

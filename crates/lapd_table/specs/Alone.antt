@@ -13,7 +13,9 @@ use Rattle.lapd_states.specs.End.{End, StepState}
 use Rattle.lapd_states.specs.Input.{Input}
 use Rattle.lapd_states.specs.Table.{step}
 use Rattle.lapd_table.specs.declared.link_id.LinkId.{LinkId}
+use Rattle.lapd_table.specs.declared.link_table.LinkTable.{LinkTable}
 use Rattle.lapd_table.specs.LinkId.{id_eq}
+use Rattle.lapd_table.specs.LinkTable.{side_of, link_at}
 use Rattle.lapd_table.specs.Octets.{addressed}
 
 -- ---- Inputs.
@@ -107,10 +109,19 @@ pub record IsAsAlone (side : Side) (arrivals : List Arrival) (ends : Ends) (id :
   pub end : table_run side arrivals ends id ≡ Some (after_all (part_of side id arrivals) e)
   pub sent : run_sends id side arrivals ends ≡ sent_by_all (part_of side id arrivals) e
 
--- ---- What a table in code shows.
+-- ---- What a table in code shows, and how its calls are steps.
 
 -- this link stands for this end, or neither is there
 abbrev pub IsEndOf : Option Link → Option End → Type 0
 IsEndOf None None = Unit {0}
 IsEndOf (Some link) (Some e) = LinkStandsFor link e
 IsEndOf link e = ⊥
+
+abbrev pub ShowsEnds : LinkTable → Ends → Type 0
+ShowsEnds table ends = (id : LinkId) → IsEndOf (link_at table id) (ends id)
+
+-- Whatever ends the table showed, it shows now those after one step, and these outputs are sent for the link of this SAPI
+-- and TEI.
+pub record Follows (old new : LinkTable) (arrival : Arrival) (id : LinkId) (outs : List Out) : Type 0 where
+  pub ends : (ends : Ends) → ShowsEnds old ends → ShowsEnds new (table_step (side_of old) arrival ends)
+  pub sent : (ends : Ends) → ShowsEnds old ends → sent_for id (named (side_of old) arrival) ends ≡ outs

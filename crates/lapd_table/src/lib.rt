@@ -15,7 +15,7 @@ pub use lapd_link::{
     Control, Event, FaultKind, Frame, Letter, Link, LinkFault, Out, Outs, Params, Refused, Role,
     Sapi, Side, Tei, Timer,
 };
-pub use laws::link_is_as_it_is_alone;
+pub use laws::{calls_are_steps, link_is_as_it_is_alone};
 pub use link_id::LinkId;
 pub use link_table::LinkTable;
 pub use table_fault::TableFault;

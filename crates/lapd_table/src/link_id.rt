@@ -6,7 +6,7 @@ ghost use Rattle.std.proofs.Common.{rules};
 ghost use Rattle.lapd_link.specs.Link.{setup_of};
 ghost use Rattle.lapd_table.specs.LinkId.{id_text, place_of, id_eq, id_cmp, id_of_setup, id_of_address};
 
-use lapd_frame::{Address, Sapi, Tei};
+use lapd_frame::{Address, Role, Sapi, Tei};
 use lapd_link::Link;
 use std::cmp::Ordering;
 use std::fmt;
@@ -29,6 +29,18 @@ impl LinkId {
         LinkId {
             sapi: address.sapi,
             tei: address.tei,
+        }
+    }
+
+    /// The address of the link's frames of this role (Q.921 3.3). A frame without information can be made of it and needs
+    /// no link.
+    pub fn address(&self, role: Role) -> Address
+        ensures { result ≡ record { sapi = self.now.sapi; tei = self.now.tei; role = role } }
+    {
+        Address {
+            sapi: self.sapi,
+            tei: self.tei,
+            role,
         }
     }
 
@@ -91,7 +103,16 @@ impl Ord for LinkId {
     ghost matches_eq = { Prim.search (comparing, rules) };
 
     fn cmp(&self, other: &LinkId) -> Ordering {
-        self.place().cmp(&other.place())
+        let place = self.place();
+        let others = other.place();
+        // In this order of tests a search in a map goes on with one test a key.
+        if place > others {
+            Ordering::Greater
+        } else if place == others {
+            Ordering::Equal
+        } else {
+            Ordering::Less
+        }
     }
 }
 
