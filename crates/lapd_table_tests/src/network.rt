@@ -16,19 +16,19 @@ fn two_links(alloc: Global) -> Result<LinkTable, Fail> {
 }
 
 /// Whether octets are for this link, which does this for them.
-fn hears(table: &mut LinkTable, octets: &[u8], id: LinkId, outs: &[Out]) -> bool {
+fn hears(table: &mut LinkTable, octets: &[u8], id: &LinkId, outs: &[Out]) -> bool {
     match table.dispatch(octets) {
-        Ok((found, made)) => found == id && made.as_slice() == outs,
+        Ok((found, made)) => found == *id && made.as_slice() == outs,
         Err(_) => false,
     }
 }
 
 /// Whether these octets go out for an output of this link.
-fn sends(table: &LinkTable, id: LinkId, out: Out, octets: &[u8]) -> bool {
-    let Some(link) = table.link(id) else {
+fn sends(table: &LinkTable, id: &LinkId, out: &Out, octets: &[u8]) -> bool {
+    let Some(link) = table.link(*id) else {
         return false;
     };
-    match link.frame(&out, &[]) {
+    match link.frame(out, &[]) {
         Some(frame) => {
             let mut room = [0; MOST_OCTETS];
             let len = write(&frame, Side::Network, &mut room);
@@ -39,15 +39,15 @@ fn sends(table: &LinkTable, id: LinkId, out: Out, octets: &[u8]) -> bool {
 }
 
 /// Whether a link is there, in this state.
-fn is_in(table: &LinkTable, id: LinkId, state: u8) -> bool {
-    match table.link(id) {
+fn is_in(table: &LinkTable, id: &LinkId, state: u8) -> bool {
+    match table.link(*id) {
         Some(link) => link.state() == state,
         None => false,
     }
 }
 
 /// Establishes both links.
-fn establishes(table: &mut LinkTable, call: LinkId, packet: LinkId) -> bool {
+fn establishes(table: &mut LinkTable, call: &LinkId, packet: &LinkId) -> bool {
     let outs = [UA, Out::Established, Out::Start(Timer::T203)];
     hears(table, b"\x00\x81\x7f", call, &outs) && hears(table, b"\x40\x81\x7f", packet, &outs)
 }
@@ -57,15 +57,19 @@ fn one_of_two_links_is_released(rt: HostRuntime) -> Result<(), Fail> {
     let mut table = two_links(rt.alloc())?;
     let call = id_of((0, 64))?;
     let packet = id_of((16, 64))?;
-    let both = establishes(&mut table, call, packet);
+    let both = establishes(&mut table, &call, &packet);
     wants(both, "two SABMEs", "not established")?;
     let outs = [UA, Out::Released, Out::Stop(Timer::T203)];
-    let released = hears(&mut table, b"\x40\x81\x53", packet, &outs);
+    let released = hears(&mut table, b"\x40\x81\x53", &packet, &outs);
     wants(released, "DISC", "not released")?;
-    let sent = sends(&table, packet, UA, b"\x40\x81\x73");
+    let sent = sends(&table, &packet, &UA, b"\x40\x81\x73");
     wants(sent, "DISC", "another UA")?;
-    wants(is_in(&table, packet, 4), "DISC", "not in state 4")?;
-    wants(is_in(&table, call, 7), "DISC", "the other link is not in 7")
+    wants(is_in(&table, &packet, 4), "DISC", "not in state 4")?;
+    wants(
+        is_in(&table, &call, 7),
+        "DISC",
+        "the other link is not in 7",
+    )
 }
 
 #[test]
@@ -75,7 +79,7 @@ fn a_link_that_was_taken_out_hears_nothing(rt: HostRuntime) -> Result<(), Fail> 
     wants(table.remove(packet).is_some(), "taken out", "not there")?;
     let fault = table.dispatch(b"\x40\x81\x53").err();
     wants(fault == Some(TableFault::NoLink), "DISC", "another fault")?;
-    wants(is_in(&table, id_of((0, 64))?, 4), "DISC", "not in state 4")
+    wants(is_in(&table, &id_of((0, 64))?, 4), "DISC", "not in state 4")
 }
 
 /// A name, octets, and why they are for no link of the table.
@@ -109,7 +113,7 @@ fn octets_for_no_link(rt: HostRuntime) -> Result<(), Fail> {
         let found = table.dispatch(octets).err();
         wants(found == Some(*fault), name, "another fault")?;
     }
-    let idle = is_in(&table, id_of((0, 64))?, 4) && is_in(&table, id_of((16, 64))?, 4);
+    let idle = is_in(&table, &id_of((0, 64))?, 4) && is_in(&table, &id_of((16, 64))?, 4);
     wants(idle, "octets for no link", "a link is not in state 4")
 }
 
@@ -119,17 +123,17 @@ fn a_fault_goes_to_its_link(rt: HostRuntime) -> Result<(), Fail> {
     let packet = id_of((16, 64))?;
     // A reserved bit of an S frame.
     let octets = b"\x40\x81\x11\x00";
-    let reported = hears(&mut table, octets, packet, &[Out::Report(Letter::L)]);
+    let reported = hears(&mut table, octets, &packet, &[Out::Report(Letter::L)]);
     wants(reported, "F4", "no report L")
 }
 
 /// Whether a request for establishment sends a SABME.
-fn asks(table: &mut LinkTable, id: LinkId) -> bool {
+fn asks(table: &mut LinkTable, id: &LinkId) -> bool {
     let sabme = Out::Send(Role::Command, Control::Sabme { p: true });
-    if table.link(id).is_none() {
+    if table.link(*id).is_none() {
         return false;
     }
-    match table.handle(id, Event::Establish) {
+    match table.handle(*id, Event::Establish) {
         Ok(outs) => outs.as_slice() == [sabme, Out::Start(Timer::T200)].as_slice(),
         Err(_) => false,
     }
@@ -139,13 +143,13 @@ fn asks(table: &mut LinkTable, id: LinkId) -> bool {
 fn hands_back(
     alloc: Global,
     table: &mut LinkTable,
-    id: LinkId,
+    id: &LinkId,
     fault: LinkFault,
 ) -> Result<bool, Fail> {
-    if table.link(id).is_none() {
+    if table.link(*id).is_none() {
         return Ok(false);
     }
-    match table.give(id, b"early".to_vec(alloc)?) {
+    match table.give(*id, b"early".to_vec(alloc)?) {
         Ok(_) => Ok(false),
         Err(refused) => Ok(
             refused.fault == fault && refused.message.as_slice() == b"early".as_slice(),
@@ -157,19 +161,24 @@ fn hands_back(
 fn gives(
     alloc: Global,
     table: &mut LinkTable,
-    id: LinkId,
+    id: &LinkId,
     message: &[u8],
     octets: &[u8],
 ) -> Result<bool, Fail> {
-    if table.link(id).is_none() {
+    if table.link(*id).is_none() {
         return Ok(false);
     }
-    match table.give(id, message.to_vec(alloc)?) {
-        Ok(outs) => match outs.first() {
-            Some(out) => Ok(sends(table, id, *out, octets)),
-            None => Ok(false),
-        },
+    match table.give(*id, message.to_vec(alloc)?) {
+        Ok(outs) => Ok(first_sends(table, id, outs.as_slice(), octets)),
         Err(_) => Ok(false),
+    }
+}
+
+/// Whether these octets go out for the first of these outputs.
+fn first_sends(table: &LinkTable, id: &LinkId, outs: &[Out], octets: &[u8]) -> bool {
+    match outs {
+        [first, ..] => sends(table, id, first, octets),
+        [] => false,
     }
 }
 
@@ -178,13 +187,13 @@ fn requests_for_one_link(rt: HostRuntime) -> Result<(), Fail> {
     let mut table = two_links(rt.alloc())?;
     let call = id_of((0, 64))?;
     let packet = id_of((16, 64))?;
-    let early = hands_back(rt.alloc(), &mut table, packet, LinkFault::NotEstablished)?;
+    let early = hands_back(rt.alloc(), &mut table, &packet, LinkFault::NotEstablished)?;
     wants(early, "state 4", "a message is not handed back")?;
-    wants(asks(&mut table, packet), "Establish", "no SABME")?;
+    wants(asks(&mut table, &packet), "Establish", "no SABME")?;
     let ua = hears(
         &mut table,
         b"\x42\x81\x73",
-        packet,
+        &packet,
         &[
             Out::Confirmed,
             Out::Stop(Timer::T200),
@@ -195,13 +204,13 @@ fn requests_for_one_link(rt: HostRuntime) -> Result<(), Fail> {
     let sent = gives(
         rt.alloc(),
         &mut table,
-        packet,
+        &packet,
         &[8, 1],
         b"\x42\x81\x00\x00\x08\x01",
     )?;
     wants(sent, "a message", "not sent")?;
     wants(
-        is_in(&table, call, 4),
+        is_in(&table, &call, 4),
         "SAPI 16",
         "the other link is not in 4",
     )
