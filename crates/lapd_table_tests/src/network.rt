@@ -157,28 +157,19 @@ fn hands_back(
     }
 }
 
-/// Whether a message is sent, as an I frame with these octets.
-fn gives(
-    alloc: Global,
-    table: &mut LinkTable,
-    id: &LinkId,
-    message: &[u8],
-    octets: &[u8],
-) -> Result<bool, Fail> {
+/// Whether a message is taken.
+fn takes(alloc: Global, table: &mut LinkTable, id: &LinkId) -> Result<bool, Fail> {
     if table.link(*id).is_none() {
         return Ok(false);
     }
-    match table.give(*id, message.to_vec(alloc)?) {
-        Ok(outs) => Ok(first_sends(table, id, outs.as_slice(), octets)),
-        Err(_) => Ok(false),
-    }
+    Ok(table.give(*id, [8, 1].to_vec(alloc)?).is_ok())
 }
 
-/// Whether these octets go out for the first of these outputs.
-fn first_sends(table: &LinkTable, id: &LinkId, outs: &[Out], octets: &[u8]) -> bool {
-    match outs {
-        [first, ..] => sends(table, id, first, octets),
-        [] => false,
+/// Whether just one message waits in the queue of a link, and is sent.
+fn has_sent_one(table: &LinkTable, id: &LinkId) -> bool {
+    match table.link(*id) {
+        Some(link) => link.queue().len() == 1 && link.queue().sent() == 1,
+        None => false,
     }
 }
 
@@ -201,13 +192,9 @@ fn requests_for_one_link(rt: HostRuntime) -> Result<(), Fail> {
         ],
     );
     wants(ua, "UA", "not confirmed")?;
-    let sent = gives(
-        rt.alloc(),
-        &mut table,
-        &packet,
-        &[8, 1],
-        b"\x42\x81\x00\x00\x08\x01",
-    )?;
+    let taken = takes(rt.alloc(), &mut table, &packet)?;
+    wants(taken, "a message", "refused")?;
+    let sent = has_sent_one(&table, &packet);
     wants(sent, "a message", "not sent")?;
     wants(
         is_in(&table, &call, 4),
