@@ -1,6 +1,7 @@
 use lapd_frame::{FaultKind, FrameFault};
 use lapd_link::{LinkFault, Refused};
 use lapd_pair::PairFault;
+use lapd_table::TableFault;
 use std::alloc::AllocError;
 use thiserror::Error;
 
@@ -8,7 +9,7 @@ use thiserror::Error;
 #[derive(Clone, Copy, Debug, PartialEq, Eq, Error)]
 pub enum BenchFault {
     /// The words ask for nothing that is done.
-    #[error("usage: lapd_bench [MESSAGES], lapd_bench pair MESSAGES, or lapd_bench line FRAMES MOVES")]
+    #[error("usage: lapd_bench [MESSAGES], lapd_bench pair MESSAGES, lapd_bench line FRAMES MOVES, or lapd_bench table LINKS FRAMES")]
     CommandLine,
     /// Memory ran out.
     #[error("out of memory")]
@@ -28,6 +29,9 @@ pub enum BenchFault {
     /// A move of a pair was refused.
     #[error("refused: {0}")]
     Pair(PairFault),
+    /// A frame or a link was refused by a table.
+    #[error("refused: {0}")]
+    Table(TableFault),
 }
 
 impl From<AllocError> for BenchFault {
@@ -57,5 +61,11 @@ impl From<FrameFault> for BenchFault {
 impl From<PairFault> for BenchFault {
     fn from(fault: PairFault) -> BenchFault {
         BenchFault::Pair(fault)
+    }
+}
+
+impl From<TableFault> for BenchFault {
+    fn from(fault: TableFault) -> BenchFault {
+        BenchFault::Table(fault)
     }
 }

@@ -5,8 +5,9 @@
 //! frame, and the octets of an RR frame come back for it, before the next seven are given. With one word, it is the
 //! number of messages, 1,000 where it is left out: they go over two links, and nothing is kept of them. `pair MESSAGES`
 //! passes them over a pair of `lapd_pair`, which keeps what became of each. `line FRAMES MOVES` puts so many frames on
-//! the line of a pair, and then sends and delivers so many more. It prints how many messages were given, received and
-//! acknowledged. Begin with `run`.
+//! the line of a pair, and then sends and delivers so many more. `table LINKS FRAMES` hands in so many enquiries, one
+//! after another to each link of a table of `lapd_table`, and writes the answers. It prints how many messages were given,
+//! received and acknowledged. Begin with `run`.
 #![tactic(auto)]
 
 mod bench_fault;
@@ -14,6 +15,7 @@ mod counts;
 mod end;
 mod line;
 mod over_pair;
+mod over_table;
 mod work;
 
 use bench_fault::BenchFault;
@@ -50,6 +52,7 @@ fn counted(rt: &HostRuntime) -> Result<Counts, BenchFault> {
         Work::Links(messages) => run(rt.alloc(), messages),
         Work::Pair(messages) => over_pair::pass(rt.alloc(), messages),
         Work::Line(frames, moves) => over_pair::stand(rt.alloc(), frames, moves),
+        Work::Table(links, frames) => over_table::answer(rt.alloc(), links, frames),
     }
 }
 

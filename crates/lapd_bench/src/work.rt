@@ -12,6 +12,8 @@ pub enum Work {
     Pair(u32),
     /// So many frames stand on the line of a pair, and so many more are sent and delivered.
     Line(u32, u32),
+    /// To so many links of a table so many enquiries are handed in.
+    Table(u32, u32),
 }
 
 /// What the command line asks for.
@@ -32,6 +34,7 @@ pub fn asked(rt: &HostRuntime) -> Result<Work, BenchFault> {
     let work = match first.as_str() {
         "pair" => Work::Pair(next_number(&mut words)?),
         "line" => Work::Line(next_number(&mut words)?, next_number(&mut words)?),
+        "table" => Work::Table(next_number(&mut words)?, next_number(&mut words)?),
         count => Work::Links(number(count)?),
     };
     match words.next() {

@@ -1,0 +1,99 @@
+//! Frames that come for the links of a [`LinkTable`], and their answers.
+
+ghost use Rattle.std.specs.Prelude.{◌≢◌, ◌<◌, IfOk};
+
+use crate::bench_fault::BenchFault;
+use crate::counts::Counts;
+use lapd_frame::{Frame, MOST_OCTETS, Sapi, Side, Tei, write};
+use lapd_link::{Link, Out, Outs, Params};
+use lapd_table::{LinkId, LinkTable};
+use std::alloc::Global;
+
+/// An enquiry of the user, RR with P=1, whose N(R) is 0.
+type Enquiry = [u8; 4];
+
+/// Hands in so many enquiries, one after another to each of so many established links, and writes their answers.
+///
+/// # Errors
+///
+/// `Memory`, `CommandLine` for no links or more than 254, and `Table` where a frame is refused.
+pub fn answer(alloc: Global, links: u32, frames: u32) -> Result<Counts, BenchFault> {
+    let mut table = LinkTable::new(alloc, Side::Network);
+    let mut enquiries: Vec<Enquiry> = Vec::with_capacity(alloc, links as usize)?;
+    for number in 0..links {
+        let id = id_of(number)?;
+        let enquiry = [id.sapi.value() * 4, id.tei.value() * 2 + 1, 0x01, 0x01];
+        add_established(alloc, &mut table, id)?;
+        if enquiries.push(enquiry).is_err() {
+            return Err(BenchFault::Memory);
+        }
+    }
+    let mut outs = Outs::new();
+    let mut octets = [0; MOST_OCTETS];
+    let mut answered: u64 = 0;
+    let mut at: usize = 0;
+    for _ in 0..frames {
+        if at >= enquiries.len() {
+            at = 0;
+        }
+        let Some(enquiry) = enquiries.get(at) else {
+            return Err(BenchFault::CommandLine);
+        };
+        at = at.wrapping_add(1);
+        let sent = reply(&mut table, enquiry, &mut outs, &mut octets)?;
+        answered = answered.wrapping_add(sent);
+    }
+    Ok(Counts {
+        given: u64::from(frames),
+        received: answered,
+        acknowledged: 0,
+    })
+}
+
+/// Hands in a frame, and writes what its link answers. Tells how many frames these are.
+fn reply(
+    table: &mut LinkTable,
+    bytes: &[u8],
+    outs: &mut Outs,
+    octets: &mut [u8; MOST_OCTETS],
+) -> Result<u64, BenchFault> {
+    let id = table.dispatch_into(bytes, outs)?;
+    let mut sent: u64 = 0;
+    for out in &*outs {
+        if let Out::Send(role, control) = out {
+            let frame = Frame::new(id.address(*role), *control, &[]).map_err(BenchFault::NoFrame)?;
+            let _len = write(&frame, Side::Network, octets);
+            sent = sent.wrapping_add(1);
+        }
+    }
+    Ok(sent)
+}
+
+/// The link of this number: TEIs 0 to 126 of service access point 0, then those of 16.
+fn id_of(number: u32) -> Result<LinkId, BenchFault>
+    ensures { IfOk result (λ id. (id.sapi ≢ Sapi.Management) × (id.tei < 127)) }
+{
+    let sapi = if number < 127 {
+        Sapi::Call
+    } else {
+        Sapi::Packet
+    };
+    match Tei::new((number % 127) as u8) {
+        Some(tei) if number < 254 => Ok(LinkId { sapi, tei }),
+        _ => Err(BenchFault::CommandLine),
+    }
+}
+
+/// Adds a link of the network's, established by the user.
+fn add_established(alloc: Global, table: &mut LinkTable, id: LinkId) -> Result<(), BenchFault>
+    requires { (id.sapi ≢ Sapi.Management) × (id.tei < 127) }
+{
+    let sabme = [id.sapi.value() * 4, id.tei.value() * 2 + 1, 0x7f];
+    let link = Link::new(alloc, table.side(), id.sapi, id.tei, Params::primary())?;
+    match table.add(link) {
+        Ok(()) => {}
+        Err((fault, _link)) => return Err(BenchFault::Table(fault)),
+    }
+    let _ = table.dispatch(&sabme)?;
+    Ok(())
+}

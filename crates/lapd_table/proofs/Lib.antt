@@ -1,0 +1,5 @@
+pub mod Ids
+pub mod Indexes
+pub mod Tables
+pub mod Runs
+pub mod Calls

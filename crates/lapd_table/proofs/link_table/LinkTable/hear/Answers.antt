@@ -1,0 +1,10 @@
+use Rattle.std.proofs.Common.{refl, sym, ◌∙◌}
+use Rattle.lapd_states.specs.Input.{input_of}
+use Rattle.lapd_table.proofs.Tables.{none_at, never_refused_at}
+use Rattle.lapd_table.proofs.link_table.LinkTable.hear.Goals as goal
+
+pub returns-in_default-clause-err : goal.returns-in_default-clause-err
+returns-in_default-clause-err c = (refl, none_at c.args.self.now c.args.id (sym (c.in_default.ensures ∙ c.get.ensures.value)))
+
+pub unreachable-requires : goal.unreachable-requires
+unreachable-requires c = never_refused_at c.args.self.now c.args.id (input_of c.args.event) _ c.requires.heard c.in-Err.ensures.err

@@ -1,0 +1,127 @@
+-- A table as the ends of its links, and a link alone: after any list of inputs the link in the table is what it is alone
+-- after its part of them, and what is sent for it is the same.
+use Rattle.std.specs.Prelude.{◌≡◌, ℕ, List, [], ◌∷◌, ◌++◌, if◌then◌else◌, Option, Some, None, option_map, Result, Ok, Err}
+use Rattle.lapd_mod128.specs.Counting.{Tagged}
+use Rattle.lapd_frame.specs.declared.Side.{Side}
+use Rattle.lapd_frame.specs.Address.{other_side}
+use Rattle.lapd_frame.specs.declared.fault_kind.FaultKind.{FaultKind}
+use Rattle.lapd_link.specs.Link.{LinkStandsFor}
+use Rattle.lapd_link.specs.declared.link.Link.{Link}
+use Rattle.lapd_states.specs.declared.event.LinkFault.{LinkFault}
+use Rattle.lapd_states.specs.declared.out.Out.{Out}
+use Rattle.lapd_states.specs.End.{End, StepState}
+use Rattle.lapd_states.specs.Input.{Input}
+use Rattle.lapd_states.specs.Table.{step}
+use Rattle.lapd_table.specs.declared.link_id.LinkId.{LinkId}
+use Rattle.lapd_table.specs.declared.link_table.LinkTable.{LinkTable}
+use Rattle.lapd_table.specs.LinkId.{id_eq}
+use Rattle.lapd_table.specs.LinkTable.{side_of, link_at}
+use Rattle.lapd_table.specs.Octets.{addressed}
+
+-- ---- Inputs.
+
+-- what comes to a table: octets from the line, or a request or an expired timer of one link
+pub data Arrival : Type 0 where
+  Octets : (octets : List ℕ) → Arrival
+  Asked : (id : LinkId) → (input : Input) → Arrival
+
+-- the link that octets of this side are for, with what it hears; none where they are discarded
+abbrev pub heard : Result (LinkId × Input) FaultKind → Option (LinkId × Input)
+heard (Ok named) = Some named
+heard (Err kind) = None
+
+-- the link that it names, with its input
+abbrev pub named : Side → Arrival → Option (LinkId × Input)
+named side (Octets octets) = heard (addressed (other_side side) octets)
+named side (Asked id input) = Some (id, input)
+
+-- put before these where it is for this link
+abbrev pub if_for : LinkId → Option (LinkId × Input) → List Input → List Input
+if_for id None inputs = inputs
+if_for id (Some (other, input)) inputs = if id_eq id other then input ∷ inputs else inputs
+
+-- the part of a list that names one link
+abbrev pub part_of : Side → LinkId → List Arrival → List Input
+part_of side id [] = []
+part_of side id (arrival ∷ arrivals) = if_for id (named side arrival) (part_of side id arrivals)
+
+-- ---- A link alone.
+
+-- the end after a step, and what is sent for it; a refused input changes nothing
+abbrev pub end_by : End → Result StepState LinkFault → End
+end_by e (Ok s) = s.end
+end_by e (Err fault) = e
+
+abbrev pub outs_by : Result StepState LinkFault → List Out
+outs_by (Ok s) = s.outs
+outs_by (Err fault) = []
+
+abbrev pub after : Input → End → End
+after input e = end_by e (step Tagged input e)
+
+abbrev pub sent : Input → End → List Out
+sent input e = outs_by (step Tagged input e)
+
+abbrev pub after_all : List Input → End → End
+after_all [] e = e
+after_all (input ∷ inputs) e = after_all inputs (after input e)
+
+abbrev pub sent_by_all : List Input → End → List Out
+sent_by_all [] e = []
+sent_by_all (input ∷ inputs) e = sent input e ++ sent_by_all inputs (after input e)
+
+-- ---- A table.
+
+-- the end of each link
+abbrev pub Ends : Type 0
+Ends = LinkId → Option End
+
+-- the end that is named takes a step, and all others stay
+abbrev pub ends_after : Option (LinkId × Input) → Ends → Ends
+ends_after None ends other = ends other
+ends_after (Some (id, input)) ends other = if id_eq other id then option_map (after input) (ends other) else ends other
+
+-- what is sent for one link by an input, be it its own or another's
+abbrev pub sent_at : Option End → Input → List Out
+sent_at None input = []
+sent_at (Some e) input = sent input e
+
+abbrev pub sent_for : LinkId → Option (LinkId × Input) → Ends → List Out
+sent_for id None ends = []
+sent_for id (Some (other, input)) ends = if id_eq id other then sent_at (ends other) input else []
+
+abbrev pub table_step : Side → Arrival → Ends → Ends
+table_step side arrival ends = ends_after (named side arrival) ends
+
+abbrev pub table_run : Side → List Arrival → Ends → Ends
+table_run side [] ends = ends
+table_run side (arrival ∷ arrivals) ends = table_run side arrivals (table_step side arrival ends)
+
+-- all that a run sends for one link
+abbrev pub run_sends : LinkId → Side → List Arrival → Ends → List Out
+run_sends id side [] ends = []
+run_sends id side (arrival ∷ arrivals) ends = sent_for id (named side arrival) ends ++ run_sends id side arrivals (table_step side arrival ends)
+
+-- ---- The law.
+
+-- of a link that is in the table at first
+pub record IsAsAlone (side : Side) (arrivals : List Arrival) (ends : Ends) (id : LinkId) (e : End) : Type 0 where
+  pub end : table_run side arrivals ends id ≡ Some (after_all (part_of side id arrivals) e)
+  pub sent : run_sends id side arrivals ends ≡ sent_by_all (part_of side id arrivals) e
+
+-- ---- What a table in code shows, and how its calls are steps.
+
+-- this link stands for this end, or neither is there
+abbrev pub IsEndOf : Option Link → Option End → Type 0
+IsEndOf None None = Unit {0}
+IsEndOf (Some link) (Some e) = LinkStandsFor link e
+IsEndOf link e = ⊥
+
+abbrev pub ShowsEnds : LinkTable → Ends → Type 0
+ShowsEnds table ends = (id : LinkId) → IsEndOf (link_at table id) (ends id)
+
+-- Whatever ends the table showed, it shows now those after one step, and these outputs are sent for the link of this SAPI
+-- and TEI.
+pub record Follows (old new : LinkTable) (arrival : Arrival) (id : LinkId) (outs : List Out) : Type 0 where
+  pub ends : (ends : Ends) → ShowsEnds old ends → ShowsEnds new (table_step (side_of old) arrival ends)
+  pub sent : (ends : Ends) → ShowsEnds old ends → sent_for id (named (side_of old) arrival) ends ≡ outs

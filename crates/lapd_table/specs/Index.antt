@@ -1,0 +1,18 @@
+-- The links of a table, in a slab, and the map that names the key of each.
+use Rattle.std.specs.Prelude.{◌≡◌, ℕ, Option, Some, option_map}
+use Rattle.std.specs.BTreeMap as tree
+use Rattle.slab.specs.Slab as slab
+use Rattle.lapd_frame.specs.declared.Side.{Side}
+use Rattle.lapd_link.specs.Link.{setup_of}
+use Rattle.lapd_link.specs.declared.link.Link.{Link}
+use Rattle.lapd_table.specs.declared.link_id.LinkId.{LinkId}
+use Rattle.lapd_table.specs.LinkId.{id_cmp, id_of_setup, setup_for}
+
+-- the key of this SAPI and TEI
+abbrev pub key_of : tree.BTreeMap LinkId ℕ → LinkId → Option ℕ
+key_of keys id = tree.get id_cmp keys id
+
+-- Each entry names a link of this side, of just its SAPI and TEI; and each link is named, once, by the entry of its own.
+pub record IsIndex (side : Side) (links : slab.Slab Link) (keys : tree.BTreeMap LinkId ℕ) : Type 0 where
+  pub names : (id : LinkId) (key : ℕ) → key_of keys id ≡ Some key → option_map setup_of (slab.get links key) ≡ Some (setup_for side id)
+  pub named : (key : ℕ) (link : Link) → slab.get links key ≡ Some link → key_of keys (id_of_setup (setup_of link)) ≡ Some key

@@ -1,0 +1,13 @@
+pub use Rattle.lapd_frame.specs.Address
+pub use Rattle.lapd_frame.specs.Fault
+pub use Rattle.lapd_frame.specs.Frame
+pub use Rattle.lapd_frame.specs.Reading
+pub use Rattle.lapd_link.specs.Link
+pub use Rattle.lapd_states.specs.End
+pub use Rattle.lapd_states.specs.Input
+pub use Rattle.lapd_states.specs.Table
+pub mod LinkId
+pub mod Octets
+pub mod Index
+pub mod LinkTable
+pub mod Alone

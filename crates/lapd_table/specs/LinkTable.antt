@@ -1,0 +1,89 @@
+-- What a table shows, and how its calls are stated. A table is a map from SAPI and TEI to a link.
+use Rattle.std.specs.Prelude.{◌≡◌, ◌≢◌, ℕ, List, Option, Some, None, Result, Ok, Err, IsSome, IsSomeAnd, option_and_then, true, ⊤}
+use Rattle.slab.specs.Slab as slab
+use Rattle.lapd_frame.specs.declared.Side.{Side}
+use Rattle.lapd_frame.specs.Address.{other_side}
+use Rattle.lapd_frame.specs.declared.fault_kind.FaultKind.{FaultKind}
+use Rattle.lapd_link.specs.Link.{Steps, Refuses}
+use Rattle.lapd_link.specs.declared.link.Link.{Link}
+use Rattle.lapd_frame.specs.Fault.{is_for_link}
+use Rattle.lapd_states.specs.declared.event.Event.{Event}
+use Rattle.lapd_states.specs.declared.event.Event.TheVariants as event
+use Rattle.lapd_states.specs.declared.event.LinkFault.{LinkFault}
+use Rattle.lapd_states.specs.declared.out.Out.{Out}
+use Rattle.lapd_states.specs.Input.{Input}
+use Rattle.lapd_table.specs.declared.link_id.LinkId.{LinkId}
+use Rattle.lapd_table.specs.declared.link_table.LinkTable.{LinkTable}
+use Rattle.lapd_table.specs.declared.table_fault.TableFault.{TableFault}
+use Rattle.lapd_table.specs.declared.table_fault.TableFault.TheVariants.{NoLink, AlreadyThere, Memory, Discarded}
+use Rattle.lapd_table.specs.LinkId.{id_of_address}
+use Rattle.lapd_table.specs.Index.{key_of}
+use Rattle.lapd_table.specs.Octets.{addressed}
+
+-- the side whose links these are
+unfoldable pub side_of : LinkTable → Side
+side_of table = table.side
+
+-- the link of this SAPI and TEI, where it is there
+unfoldable pub link_at : LinkTable → LinkId → Option Link
+link_at table id = option_and_then (slab.get table.links) (key_of table.keys id)
+
+-- ---- How the table changes.
+
+-- There is this now at one SAPI and TEI, and at every other what was there.
+pub record Changes (old new : LinkTable) (id : LinkId) (slot : Option Link) : Type 0 where
+  pub side : side_of new ≡ side_of old
+  pub there : link_at new id ≡ slot
+  pub others : (other : LinkId) → other ≢ id → link_at new other ≡ link_at old other
+
+pub record IsUnchanged (old new : LinkTable) : Type 0 where
+  pub side : side_of new ≡ side_of old
+  pub links : (id : LinkId) → link_at new id ≡ link_at old id
+
+-- ---- The step of one link.
+
+-- The link that is there does its own step, with these outputs in order, and no other link changes.
+pub record StepsAt (old new : LinkTable) (id : LinkId) (input : Input) (outs : List Out) : Type 0 where
+  pub before : Link
+  pub after : Link
+  pub was : link_at old id ≡ Some before
+  pub steps : Steps before after input outs
+  pub changes : Changes old new id (Some after)
+
+-- the link that is there refuses
+abbrev pub RefusesAt : LinkTable → LinkId → Input → LinkFault → Type 0
+RefusesAt table id input fault = IsSomeAnd (link_at table id) (λ link. Refuses link input fault)
+
+-- the event is for the link of this SAPI and TEI: a frame with its address, or a fault that is one of a link (F4 to F7)
+abbrev pub IsFor : LinkId → Event → Type 0
+IsFor id (event.Heard frame) = id_of_address frame.now.address ≡ id
+IsFor id (event.Fault kind) = is_for_link kind ≡ true
+IsFor id other = ⊤
+
+-- ---- Octets from the line.
+
+-- what octets from the other side are to a table: the link that they are for with what it hears, or why they are for none
+abbrev pub arrives : LinkTable → List ℕ → Result (LinkId × Input) FaultKind
+arrives table octets = addressed (other_side (side_of table)) octets
+
+-- they are for this link, which does its step
+pub record HasDispatched (old new : LinkTable) (octets : List ℕ) (id : LinkId) (outs : List Out) : Type 0 where
+  pub input : Input
+  pub arrived : arrives old octets ≡ Ok (id, input)
+  pub steps : StepsAt old new id input outs
+
+-- they are for a link that is not there, or for none
+abbrev pub IsForNoLink : LinkTable → List ℕ → TableFault → Type 0
+IsForNoLink table octets NoLink = (id : LinkId) × (input : Input) × (arrives table octets ≡ Ok (id, input)) × (link_at table id ≡ None)
+IsForNoLink table octets (Discarded kind) = arrives table octets ≡ Err kind
+IsForNoLink table octets AlreadyThere = ⊥
+IsForNoLink table octets Memory = ⊥
+
+-- ---- A link that is added.
+
+-- why a link of this SAPI and TEI is not added: one is there already; or memory was refused, where none was there
+abbrev pub IsNotAdded : LinkTable → LinkId → TableFault → Type 0
+IsNotAdded table id AlreadyThere = IsSome (link_at table id)
+IsNotAdded table id Memory = link_at table id ≡ None
+IsNotAdded table id NoLink = ⊥
+IsNotAdded table id (Discarded kind) = ⊥

@@ -1,0 +1,21 @@
+//! Several data links of one side of the user-network interface, each under its SAPI and TEI, after ITU-T Q.921 (09/97),
+//! 3.3 and 3.4.
+//!
+//! [`LinkTable`] holds the links: begin there. [`LinkTable::dispatch`] takes the octets of a frame, finds the link that its
+//! address names, and does that link's own step. [`LinkTable::handle`] and [`LinkTable::give`] hand an event or a message to
+//! the link of a [`LinkId`]. No call lends a link for writing, so no link can be exchanged for another.
+#![tactic(auto)]
+
+mod laws;
+mod link_id;
+mod link_table;
+mod table_fault;
+
+pub use lapd_link::{
+    Control, Event, FaultKind, Frame, Letter, Link, LinkFault, Out, Outs, Params, Refused, Role,
+    Sapi, Side, Tei, Timer,
+};
+pub use laws::{calls_are_steps, link_is_as_it_is_alone};
+pub use link_id::LinkId;
+pub use link_table::LinkTable;
+pub use table_fault::TableFault;

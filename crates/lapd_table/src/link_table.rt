@@ -1,0 +1,281 @@
+ghost use Rattle.std.specs.Prelude.{◌≡◌, None, Some, Ok, Err, [], IsSome, IfSome, IfOk, IfErr, OnOk, OnErr, option_copied, ◌↔◌, Contains};
+ghost use Rattle.std.specs.List.Sorted.{IsStrictlySortedBy};
+ghost use Rattle.std.proofs.Props.{props};
+ghost use Rattle.lapd_states.specs.End.{End};
+ghost use Rattle.lapd_states.specs.Input.{input_of, Give};
+ghost use Rattle.lapd_states.specs.Refusal.{refused};
+ghost use Rattle.lapd_link.specs.Link.{setup_of};
+ghost use Rattle.lapd_table.specs.LinkId.{id_cmp, id_of_setup, setup_for};
+ghost use Rattle.lapd_table.specs.Index.{IsIndex, key_of};
+
+use crate::{LinkId, TableFault};
+use lapd_frame::{FrameFault, Side, read};
+use lapd_link::{Event, Link, LinkFault, Outs, Refused};
+use slab::Slab;
+use std::alloc::{AllocError, Global};
+use std::collections::BTreeMap;
+
+/// The links of one side of the interface, each under its SAPI and TEI.
+#[derive(Drop)]
+pub struct LinkTable {
+    alloc: Global,
+    side: Side,
+    links: Slab<Link>,
+    /// Under which key of the slab each link stands.
+    keys: BTreeMap<LinkId, usize>,
+    ghost index: { IsIndex side links keys } by { Prim.hlevel props },
+}
+
+impl LinkTable {
+    ghost use Rattle.lapd_table.specs.declared.link_id.LinkId.{LinkId};
+    ghost use Rattle.lapd_table.specs.LinkTable.{side_of, link_at, Changes, IsUnchanged, StepsAt, RefusesAt, IsFor, HasDispatched, IsForNoLink, IsNotAdded};
+
+    /// A table without links, for those of this side. It takes no memory; the links that are added take it from `alloc`.
+    pub fn new(alloc: Global, side: Side) -> LinkTable
+        ensures empty { (id : LinkId) → link_at result id ≡ None }
+        ensures side { side_of result ≡ side }
+    {
+        LinkTable {
+            alloc,
+            side,
+            links: Slab::new(alloc),
+            keys: BTreeMap::new(alloc),
+        }
+    }
+
+    /// Whose links these are.
+    #[tactic(auto, unfolding(crate::specs::LinkTable::side_of))]
+    pub fn side(&self) -> Side
+        ensures { result ≡ side_of self.now }
+    {
+        self.side
+    }
+
+    /// Adds a link, which is of the table's side ([`LinkTable::side`]).
+    ///
+    /// # Errors
+    ///
+    /// B2 where a link of its SAPI and TEI is there, and else B3 where memory was refused. The link is handed back, and
+    /// the table is unchanged.
+    pub fn add(&mut self, link: Link) -> Result<(), (TableFault, Link)>
+        requires side { (setup_of link).side ≡ side_of self.old }
+        ensures new { OnOk result (link_at self.old (id_of_setup (setup_of link)) ≡ None) }
+        ensures ok { OnOk result (Changes self.old self.new (id_of_setup (setup_of link)) (Some link)) }
+        ensures err { IfErr result (λ refused. IsNotAdded self.old (id_of_setup (setup_of link)) refused.0) }
+        ensures handed_back { IfErr result (λ refused. refused.1 ≡ link) }
+        ensures unchanged { OnErr result (IsUnchanged self.old self.new) }
+    {
+        let id = LinkId::of_link(&link);
+        if self.keys.contains_key(&id) {
+            return Err((TableFault::AlreadyThere, link));
+        }
+        if self.links.reserve(1).is_err() {
+            return Err((TableFault::Memory, link));
+        }
+        let key = self.links.insert_reserved(link);
+        match self.keys.insert(id, key) {
+            Ok(_) => Ok(()),
+            Err(_) => Err((TableFault::Memory, self.links.remove(key))),
+        }
+    }
+
+    /// Takes a link out of the table. It takes no memory.
+    pub fn remove(&mut self, id: LinkId) -> Option<Link>
+        ensures value { result ≡ link_at self.old id }
+        ensures changes { Changes self.old self.new id None }
+    {
+        match self.keys.remove(&id) {
+            Some(key) => self.links.try_remove(key),
+            None => None,
+        }
+    }
+
+    /// The link of this SAPI and TEI.
+    pub fn link(&self, id: LinkId) -> Option<&Link>
+        ensures value { option_copied result ≡ link_at self.now id }
+        ensures setup { IfSome result (λ link. setup_of link.now ≡ setup_for (side_of self.now) id) }
+    {
+        match self.keys.get(&id) {
+            Some(key) => self.links.get(*key),
+            None => None,
+        }
+    }
+
+    /// Which links are there, by rising SAPI, then TEI.
+    ///
+    /// # Errors
+    ///
+    /// `AllocError` where memory was refused.
+    pub fn ids(&self) -> Result<Vec<LinkId>, AllocError>
+        ensures rising { IfOk result (λ ids. IsStrictlySortedBy id_cmp ids.items) }
+        ensures all { IfOk result (λ ids. (id : LinkId) → Contains ids.items id ↔ IsSome (link_at self.now id)) }
+    {
+        self.keys.keys().copied().collect(self.alloc)
+    }
+
+    /// Octets that came from the other side: the link that they are for does its own step, as [`Link::handle`] does it. It
+    /// takes no memory. Octets with one of F4 to F7 are for the link whose address they carry, as a fault. Where speed
+    /// matters, lend the outputs: [`LinkTable::dispatch_into`].
+    ///
+    /// # Errors
+    ///
+    /// B4 for octets with one of F1 to F3, which are for no link, and B1 where the link is not there. The table is
+    /// unchanged.
+    pub fn dispatch(&mut self, bytes: &[u8]) -> Result<(LinkId, Outs), TableFault>
+        ensures ok { IfOk result (λ done. HasDispatched self.old self.new bytes.now done.0 done.1.items) }
+        ensures err { IfErr result (IsForNoLink self.old bytes.now) }
+        ensures unchanged { OnErr result (IsUnchanged self.old self.new) }
+    {
+        let mut outs = Outs::new();
+        let id = self.dispatch_into(bytes, &mut outs)?;
+        Ok((id, outs))
+    }
+
+    /// As [`LinkTable::dispatch`], into outputs that the caller lends, which are emptied first.
+    ///
+    /// # Errors
+    ///
+    /// As [`LinkTable::dispatch`].
+    pub fn dispatch_into(&mut self, bytes: &[u8], outs: &mut Outs) -> Result<LinkId, TableFault>
+        ensures ok { IfOk result (λ id. HasDispatched self.old self.new bytes.now id outs.new.items) }
+        ensures err { IfErr result (IsForNoLink self.old bytes.now) }
+        ensures unchanged { OnErr result (IsUnchanged self.old self.new) }
+        ensures empty { OnErr result (outs.new.items ≡ []) }
+    {
+        match read(bytes, self.side.other()) {
+            Ok(frame) => {
+                let id = LinkId::of_address(&frame.address());
+                self.hear(id, Event::Heard(&frame), outs)
+            }
+            Err(FrameFault { kind, address }) => match address {
+                Some(address) => self.hear(LinkId::of_address(&address), Event::Fault(kind), outs),
+                None => {
+                    outs.clear();
+                    Err(TableFault::Discarded(kind))
+                }
+            },
+        }
+    }
+
+    /// A frame or a fault for the link of this SAPI and TEI, where it is there. No link refuses one.
+    fn hear(&mut self, id: LinkId, event: Event, outs: &mut Outs) -> Result<LinkId, TableFault>
+        requires for_link { IsFor id event }
+        requires heard { (e : End) → refused (input_of event) e ≡ None }
+        ensures ok { IfOk result (λ done. (done ≡ id) × StepsAt self.old self.new id (input_of event.entry) outs.new.items) }
+        ensures err { IfErr result (λ fault. (fault ≡ TableFault.NoLink) × (link_at self.old id ≡ None)) }
+        ensures unchanged { OnErr result (IsUnchanged self.old self.new) }
+        ensures empty { OnErr result (outs.new.items ≡ []) }
+    {
+        let Some(key) = self.keys.get(&id).copied() else {
+            outs.clear();
+            return Err(TableFault::NoLink);
+        };
+        match self.handle_under(key, id, event, outs) {
+            Ok(()) => Ok(id),
+            Err(_) => unreachable!(),
+        }
+    }
+
+    /// As [`LinkTable::handle_into`], for the link that stands under this key of the slab.
+    fn handle_under(
+        &mut self,
+        key: usize,
+        id: LinkId,
+        event: Event,
+        outs: &mut Outs,
+    ) -> Result<(), LinkFault>
+        requires named { key_of self.old.keys id ≡ Some key }
+        requires for_link { IsFor id event }
+        ensures ok { OnOk result (StepsAt self.old self.new id (input_of event.entry) outs.new.items) }
+        ensures err { IfErr result (RefusesAt self.old id (input_of event.entry)) }
+        ensures unchanged { OnErr result (IsUnchanged self.old self.new) }
+        ensures empty { OnErr result (outs.new.items ≡ []) }
+    {
+        self.links[key].handle_into(event, outs)
+    }
+
+    /// An event for a link that is there, which does its own step. It takes no memory. Where speed matters, lend the
+    /// outputs: [`LinkTable::handle_into`].
+    ///
+    /// That the link is there is the caller's condition ([`LinkTable::link`]), and so is that the event is for it, as
+    /// [`Link::handle`] says.
+    ///
+    /// # Errors
+    ///
+    /// As [`Link::handle`]. The table is unchanged.
+    pub fn handle(&mut self, id: LinkId, event: Event) -> Result<Outs, LinkFault>
+        requires there { IsSome (link_at self.old id) }
+        requires for_link { IsFor id event }
+        ensures ok { IfOk result (λ outs. StepsAt self.old self.new id (input_of event.entry) outs.items) }
+        ensures err { IfErr result (RefusesAt self.old id (input_of event.entry)) }
+        ensures unchanged { OnErr result (IsUnchanged self.old self.new) }
+    {
+        let mut outs = Outs::new();
+        self.handle_into(id, event, &mut outs)?;
+        Ok(outs)
+    }
+
+    /// As [`LinkTable::handle`], into outputs that the caller lends, which are emptied first.
+    ///
+    /// # Errors
+    ///
+    /// As [`LinkTable::handle`].
+    pub fn handle_into(
+        &mut self,
+        id: LinkId,
+        event: Event,
+        outs: &mut Outs,
+    ) -> Result<(), LinkFault>
+        requires there { IsSome (link_at self.old id) }
+        requires for_link { IsFor id event }
+        ensures ok { OnOk result (StepsAt self.old self.new id (input_of event.entry) outs.new.items) }
+        ensures err { IfErr result (RefusesAt self.old id (input_of event.entry)) }
+        ensures unchanged { OnErr result (IsUnchanged self.old self.new) }
+        ensures empty { OnErr result (outs.new.items ≡ []) }
+    {
+        let key = self.keys[&id];
+        self.handle_under(key, id, event, outs)
+    }
+
+    /// A message of layer 3 for a link that is there, which does its own step. It takes no memory. Where speed matters, lend
+    /// the outputs: [`LinkTable::give_into`].
+    ///
+    /// That the link is there is the caller's condition ([`LinkTable::link`]).
+    ///
+    /// # Errors
+    ///
+    /// As [`Link::give`]. The message is handed back, and the table is unchanged.
+    pub fn give(&mut self, id: LinkId, message: Vec<u8>) -> Result<Outs, Refused>
+        requires { IsSome (link_at self.old id) }
+        ensures ok { IfOk result (λ outs. StepsAt self.old self.new id (Give message.items) outs.items) }
+        ensures err { IfErr result (λ refused. RefusesAt self.old id (Give message.items) refused.fault) }
+        ensures handed_back { IfErr result (λ refused. refused.message ≡ message) }
+        ensures unchanged { OnErr result (IsUnchanged self.old self.new) }
+    {
+        let mut outs = Outs::new();
+        self.give_into(id, message, &mut outs)?;
+        Ok(outs)
+    }
+
+    /// As [`LinkTable::give`], into outputs that the caller lends, which are emptied first.
+    ///
+    /// # Errors
+    ///
+    /// As [`LinkTable::give`].
+    pub fn give_into(
+        &mut self,
+        id: LinkId,
+        message: Vec<u8>,
+        outs: &mut Outs,
+    ) -> Result<(), Refused>
+        requires { IsSome (link_at self.old id) }
+        ensures ok { OnOk result (StepsAt self.old self.new id (Give message.items) outs.new.items) }
+        ensures err { IfErr result (λ refused. RefusesAt self.old id (Give message.items) refused.fault) }
+        ensures handed_back { IfErr result (λ refused. refused.message ≡ message) }
+        ensures unchanged { OnErr result (IsUnchanged self.old self.new) }
+        ensures empty { OnErr result (outs.new.items ≡ []) }
+    {
+        let key = self.keys[&id];
+        self.links[key].give_into(message, outs)
+    }
+}

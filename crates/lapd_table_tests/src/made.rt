@@ -1,0 +1,59 @@
+//! Links and tables that the tests begin with.
+
+ghost use Rattle.std.specs.Prelude.{◌≢◌, ◌<◌, IsTrue};
+
+use lapd_frame::{Sapi, Side, Tei};
+use lapd_link::{Link, Params};
+use lapd_table::{LinkId, LinkTable, TableFault};
+use std::alloc::Global;
+use std::test::Fail;
+
+/// The numbers of a SAPI and a TEI.
+pub(crate) type Numbers = (u8, u8);
+
+/// The id of these numbers.
+pub(crate) fn id_of(numbers: Numbers) -> Result<LinkId, Fail> {
+    let (sapi, tei) = numbers;
+    Ok(LinkId {
+        sapi: Sapi::new(sapi).ok_or("a SAPI is not served")?,
+        tei: Tei::new(tei).ok_or("a TEI is above 127")?,
+    })
+}
+
+/// Whether a link can have this id: it is not for management, nor for the group.
+pub(crate) fn is_of_link(id: LinkId) -> bool
+    ensures { IsTrue result → (id.sapi ≢ Sapi.Management) × (id.tei < 127) }
+{
+    match id.sapi {
+        Sapi::Management => false,
+        Sapi::Call | Sapi::Packet => id.tei.value() < 127,
+    }
+}
+
+/// Why a link, with the parameters of primary rate access, is not added; `None` where it is.
+pub(crate) fn try_add(
+    alloc: Global,
+    table: &mut LinkTable,
+    id: LinkId,
+) -> Result<Option<TableFault>, Fail> {
+    if !is_of_link(id) {
+        return Err(Fail::new("no link has this id"));
+    }
+    let link = Link::new(alloc, table.side(), id.sapi, id.tei, Params::primary())?;
+    match table.add(link) {
+        Ok(()) => Ok(None),
+        Err((fault, link)) if LinkId::of_link(&link) == id => Ok(Some(fault)),
+        Err(_) => Err(Fail::new("another link comes back")),
+    }
+}
+
+/// A table of the network's with these links.
+pub(crate) fn network_table(alloc: Global, links: &[Numbers]) -> Result<LinkTable, Fail> {
+    let mut table = LinkTable::new(alloc, Side::Network);
+    for numbers in links {
+        if try_add(alloc, &mut table, id_of(*numbers)?)?.is_some() {
+            return Err(Fail::new("a link is refused"));
+        }
+    }
+    Ok(table)
+}
