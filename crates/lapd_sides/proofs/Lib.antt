@@ -1,0 +1,3 @@
+pub mod Dialogues
+pub mod Acting
+pub mod Comings

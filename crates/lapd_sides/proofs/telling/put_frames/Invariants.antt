@@ -1,0 +1,11 @@
+use Rattle.std.proofs.Common.{◌≡◌, ◌≤◌, ◌+◌, ◌++◌, drop, length}
+use Rattle.std.specs.List.{filter_map}
+use Rattle.lapd_link.specs.Link.{LinkStandsFor, setup_of}
+use Rattle.lapd_states.specs.End.{End}
+use Rattle.lapd_sides.specs.Effects.{sent_by}
+use Rattle.lapd_sides.proofs.telling.put_frames.Given as goal
+
+abbrev pub invariant-loop-out : goal.invariant-loop-out
+invariant-loop-out l =
+    ((e : End) → LinkStandsFor l.link e → l.acts.frames ++ filter_map (sent_by (setup_of l.link) e l.octets) (drop l.out-index l.outs) ≡ l.initial.acts.frames ++ filter_map (sent_by (setup_of l.link) e l.octets) l.outs)
+    × ((l.acts.primitives ≡ l.initial.acts.primitives) × (length l.acts.frames + length (drop l.out-index l.outs) ≤ 272))

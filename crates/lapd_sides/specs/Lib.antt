@@ -1,0 +1,9 @@
+pub mod Effects
+pub mod Expiries
+pub mod Links
+pub mod Management
+pub mod Network
+pub mod User
+pub mod Worked
+pub mod Shown
+pub mod Places

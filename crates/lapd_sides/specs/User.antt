@@ -1,0 +1,228 @@
+-- The user side: a terminal with the links of its own TEI, and what a frame, a timer or a request comes to.
+use Rattle.std.specs.Prelude.{ℕ, ◌&&◌, ◌%◌, ◌^◌, if◌then◌else◌, Bool, true, false, List, [], ◌∷◌, ◌++◌, length, Option, Some, None, Result, Ok, Err}
+use Rattle.rand_pcg.specs.Lcg.{Lcg}
+use Rattle.rand_pcg.specs.Pcg.{pcg32}
+use Rattle.lapd_timers.specs.declared.timer.Timer.{Timer}
+use Rattle.lapd_timers.specs.Due.{at_rest}
+use Rattle.lapd_frame.specs.declared.Sapi.{Sapi}
+use Rattle.lapd_frame.specs.declared.Sapi.TheVariants as sapi
+use Rattle.lapd_frame.specs.declared.Side.TheVariants as side
+use Rattle.lapd_frame.specs.declared.Address.{Address}
+use Rattle.lapd_frame.specs.declared.frame_fault.FrameFault.{FrameFault}
+use Rattle.lapd_frame.specs.declared.fault_kind.FaultKind.{FaultKind}
+use Rattle.lapd_frame.specs.Frame.{Fields}
+use Rattle.lapd_frame.specs.Reading.{frame_at}
+use Rattle.lapd_states.specs.declared.event.LinkFault.TheVariants.{NotEstablished}
+use Rattle.lapd_states.specs.Input.{Input, Heard, Faulty, Establish, Release, UnitData, Give}
+use Rattle.lapd_tei.specs.declared.message.TeiMessage.{TeiMessage}
+use Rattle.lapd_tei.specs.declared.fault.TeiFault.{TeiFault}
+use Rattle.lapd_tei.specs.declared.out.TeiOut.{TeiOut}
+use Rattle.lapd_tei.specs.declared.out.TeiOut.TheVariants as tei
+use Rattle.lapd_tei.specs.declared.phase.Phase.{Phase}
+use Rattle.lapd_tei.specs.declared.phase.Phase.TheVariants.{Unassigned, Awaiting, Assigned}
+use Rattle.lapd_tei.specs.declared.terminal.TerminalEvent.{TerminalEvent}
+use Rattle.lapd_tei.specs.declared.terminal.TerminalEvent.TheVariants as event
+use Rattle.lapd_tei.specs.Terminal.{TerminalStep, terminal_step, new_terminal}
+use Rattle.lapd_tei.specs.Message.{group_tei, message_at}
+use Rattle.lapd_table.specs.declared.link_id.LinkId.{LinkId}
+use Rattle.lapd_sides.specs.declared.config.Config.{Config}
+use Rattle.lapd_sides.specs.declared.primitive.Primitive.{Primitive}
+use Rattle.lapd_sides.specs.declared.primitive.Primitive.TheVariants.{Of}
+use Rattle.lapd_sides.specs.declared.primitive.What.{What}
+use Rattle.lapd_sides.specs.declared.primitive.What.TheVariants as what
+use Rattle.lapd_sides.specs.declared.request.Request.{Request}
+use Rattle.lapd_sides.specs.declared.request.Request.TheVariants as request
+use Rattle.lapd_sides.specs.declared.side_fault.SideKind.{SideKind}
+use Rattle.lapd_sides.specs.declared.side_fault.SideKind.TheVariants.{NoLink, Link}
+use Rattle.lapd_sides.specs.Effects.{no_effects, and_then, stopped}
+use Rattle.lapd_sides.specs.Links.{Links, Acted, of_sapi, is_served, in_links, link_acts, link_expires, no_links, with_tei}
+use Rattle.lapd_sides.specs.Management.{Served, carries_message, is_unit_to_group, manages, busy_input}
+
+-- For which SAPIs an establishment is kept until the terminal has a TEI.
+pub record Kept : Type 0 where
+  pub call : Bool
+  pub packet : Bool
+
+pub record User : Type 0 where
+  pub served : Served
+  pub terminal : Phase
+  pub kept : Kept
+  pub random : Lcg
+
+abbrev pub nothing_kept : Kept
+nothing_kept = record { call = false; packet = false }
+
+-- as it is made: with the links of a fixed TEI, or with none
+abbrev pub links_of_fixed : Config → Option ℕ → Links
+links_of_fixed config None = no_links
+links_of_fixed config (Some tei) = with_tei config tei no_links
+
+abbrev pub new_user : Config → Option ℕ → Lcg → User
+new_user config fixed random = record {
+  served = record { links = links_of_fixed config fixed; timers = at_rest config.durations };
+  terminal = new_terminal fixed;
+  kept = nothing_kept;
+  random = random;
+}
+
+abbrev pub unmoved : User → Acted User
+unmoved s = record { after = s; effects = no_effects }
+
+-- ---- References.
+
+-- the next reference: the low sixteen bits of the next word of the generator (5.3.2)
+abbrev pub low_sixteen : ℕ × Lcg → ℕ
+low_sixteen (word, random) = word % 2 ^ 16
+
+abbrev pub advanced : ℕ × Lcg → Lcg
+advanced (word, random) = random
+
+abbrev pub next_reference : Lcg → ℕ
+next_reference random = low_sixteen (pcg32 random)
+
+-- it is drawn only where it is sent
+abbrev pub sends_message : List TeiOut → Bool
+sends_message [] = false
+sends_message (tei.Send message ∷ outs) = true
+sends_message (output ∷ outs) = sends_message outs
+
+abbrev pub drawn : List TeiOut → Lcg → Lcg
+drawn outs random = if sends_message outs then advanced (pcg32 random) else random
+
+-- ---- A link.
+
+abbrev pub with_links : User → Acted Links → Acted User
+with_links s a = record { after = record s { served = record { links = a.after; timers = s.served.timers } }; effects = a.effects }
+
+abbrev pub among_links : User → Result (Acted Links) SideKind → Result (Acted User) SideKind
+among_links s (Ok a) = Ok (with_links s a)
+among_links s (Err kind) = Err kind
+
+unfoldable pub link_of_user : ℕ → LinkId → Input → List ℕ → User → Result (Acted User) SideKind
+link_of_user now id input octets s = among_links s (in_links id (link_acts side.User id now input octets) s.served.links)
+
+abbrev pub or_discarded : User → Result (Acted User) SideKind → Acted User
+or_discarded s (Ok a) = a
+or_discarded s (Err kind) = unmoved s
+
+-- ---- TEI management: what its outcomes mean for the establishments that are kept.
+
+-- one step after another
+abbrev pub next : Acted User → (User → Acted User) → Acted User
+next a does = record { after = (does a.after).after; effects = and_then a.effects (does a.after).effects }
+
+-- a kept establishment is done
+abbrev pub establishes : Bool → ℕ → LinkId → User → Acted User
+establishes true now id s = or_discarded s (link_of_user now id Establish [] s)
+establishes false now id s = unmoved s
+
+-- With a TEI those that are kept are done, SAPI 0 first, and none is kept any more.
+abbrev pub establishes_kept : ℕ → ℕ → User → Acted User
+establishes_kept now own s =
+    next (establishes s.kept.call now (of_sapi sapi.Call own) (record s { kept = nothing_kept }))
+    (establishes s.kept.packet now (of_sapi sapi.Packet own))
+
+-- what layer 3 is told of a SAPI without TEI names the group TEI
+abbrev pub told_of_sapi : Bool → Sapi → What → List Primitive
+told_of_sapi true sapi w = Of (of_sapi sapi group_tei) w ∷ []
+told_of_sapi false sapi w = []
+
+-- Where no TEI was got, each is released.
+abbrev pub gives_up_kept : User → Acted User
+gives_up_kept s = record {
+  after = record s { kept = nothing_kept };
+  effects = record no_effects { primitives = told_of_sapi s.kept.call sapi.Call what.Released ++ told_of_sapi s.kept.packet sapi.Packet what.Released };
+}
+
+abbrev pub kept_after : ℕ → List TeiOut → User → Acted User
+kept_after now [] s = unmoved s
+kept_after now (tei.Got own ∷ outs) s = establishes_kept now own s
+kept_after now (tei.Failed ∷ outs) s = gives_up_kept s
+kept_after now (output ∷ outs) s = kept_after now outs s
+
+abbrev pub assigned : Config → ℕ → TerminalStep → User → Acted User
+assigned config now step s =
+    next (record {
+      after = record s { served = (manages side.User config now step.outs s.served).after; terminal = step.now; random = drawn step.outs s.random };
+      effects = (manages side.User config now step.outs s.served).effects;
+    })
+    (kept_after now step.outs)
+
+-- an event of the terminal, with the reference that is sent where one is
+unfoldable pub terminal_acts : Config → ℕ → (ℕ → TerminalEvent) → User → Acted User
+terminal_acts config now event s = assigned config now (terminal_step s.terminal (event (next_reference s.random))) s
+
+abbrev pub message_heard : Config → ℕ → Result TeiMessage TeiFault → User → Acted User
+message_heard config now (Ok message) s = terminal_acts config now (event.Heard message) s
+message_heard config now (Err fault) s = unmoved s
+
+-- ---- Octets come from the line.
+
+-- unit data to all terminals, of a SAPI that is served (5.2)
+abbrev pub unit_from_group : Sapi → List ℕ → User → Acted User
+unit_from_group sapi octets s = record { after = s; effects = record no_effects { primitives = Of (of_sapi sapi group_tei) (what.UnitUp octets) ∷ [] } }
+
+abbrev pub frame_heard : Config → ℕ → Fields → User → Acted User
+frame_heard config now frame s =
+    if carries_message frame then message_heard config now (message_at frame.info) s
+    else (if is_served config frame.address.sapi && is_unit_to_group frame then unit_from_group frame.address.sapi frame.info s
+    else or_discarded s (link_of_user now (of_sapi frame.address.sapi frame.address.tei) (Heard frame.control frame.address.role) frame.info s))
+
+abbrev pub fault_heard : ℕ → FaultKind → Option Address → User → Acted User
+fault_heard now kind None s = unmoved s
+fault_heard now kind (Some address) s = or_discarded s (link_of_user now (of_sapi address.sapi address.tei) (Faulty kind) [] s)
+
+abbrev pub heard : Config → ℕ → Result Fields FrameFault → User → Acted User
+heard config now (Ok frame) s = frame_heard config now frame s
+heard config now (Err fault) s = fault_heard now fault.kind fault.address s
+
+unfoldable pub user_takes : Config → List ℕ → ℕ → User → Acted User
+user_takes config octets now s = heard config now (frame_at side.Network octets) s
+
+-- ---- A timer expires.
+
+abbrev pub management_expires : Config → ℕ → Timer → User → Acted User
+management_expires config now timer s = terminal_acts config now event.T202 (record s { served = record { links = s.served.links; timers = stopped timer s.served.timers } })
+
+unfoldable pub user_expires : Config → ℕ → Timer → Option LinkId → User → Acted User
+user_expires config now timer None s = management_expires config now timer s
+user_expires config now timer (Some id) s = or_discarded s (among_links s (in_links id (link_expires side.User id now timer) s.served.links))
+
+-- ---- Requests. Only the SAPI of a name is looked at.
+
+-- for the link of the terminal's own TEI, or what is done where there is none
+abbrev pub with_tei_or : ℕ → Phase → Sapi → Input → List ℕ → Result (Acted User) SideKind → User → Result (Acted User) SideKind
+with_tei_or now (Assigned by own) sapi input octets otherwise s = link_of_user now (of_sapi sapi own) input octets s
+with_tei_or now Unassigned sapi input octets otherwise s = otherwise
+with_tei_or now (Awaiting purpose count ri) sapi input octets otherwise s = otherwise
+
+abbrev pub is_kept : Sapi → Kept → Bool
+is_kept sapi.Call kept = kept.call
+is_kept sapi.Packet kept = kept.packet
+is_kept sapi.Management kept = false
+
+abbrev pub keeps : Sapi → Bool → Kept → Kept
+keeps sapi.Call on kept = record kept { call = on }
+keeps sapi.Packet on kept = record kept { packet = on }
+keeps sapi.Management on kept = kept
+
+-- An establishment without TEI is kept, and a TEI is asked for (5.3.2).
+abbrev pub wants : Config → ℕ → Sapi → User → Result (Acted User) SideKind
+wants config now sapi s =
+    if is_served config sapi then Ok (terminal_acts config now event.Want (record s { kept = keeps sapi true s.kept })) else Err NoLink
+
+-- A release forgets it, and the terminal goes on asking.
+abbrev pub forgets : Sapi → User → Result (Acted User) SideKind
+forgets sapi s =
+    if is_kept sapi s.kept
+    then Ok (record { after = record s { kept = keeps sapi false s.kept }; effects = record no_effects { primitives = Of (of_sapi sapi group_tei) what.ReleaseConfirm ∷ [] } })
+    else Err NoLink
+
+unfoldable pub user_requested : Config → Request → ℕ → User → Result (Acted User) SideKind
+user_requested config (request.Establish id) now s = with_tei_or now s.terminal id.sapi Establish [] (wants config now id.sapi s) s
+user_requested config (request.Release id) now s = with_tei_or now s.terminal id.sapi Release [] (forgets id.sapi s) s
+user_requested config (request.Unit id octets) now s = with_tei_or now s.terminal id.sapi (UnitData (length octets.items)) octets.items (Err NoLink) s
+user_requested config (request.Give id message) now s = with_tei_or now s.terminal id.sapi (Give message.items) [] (Err (Link NotEstablished)) s
+user_requested config (request.Busy id on) now s = with_tei_or now s.terminal id.sapi (busy_input on) [] (Err NoLink) s
+user_requested config request.AskTei now s = Ok (terminal_acts config now event.Ask s)
+user_requested config (request.Check tei) now s = Ok (unmoved s)

@@ -1,0 +1,123 @@
+-- Worked dialogues of both sides, by which the definitions are tried.
+use Rattle.std.specs.Prelude.{ℕ, zero, suc, true, false, List, [], ◌∷◌, Option, Some, None, Result, Ok, Err}
+use Rattle.rand_pcg.specs.Lcg.{Lcg}
+use Rattle.rand_pcg.specs.Pcg.{pcg32}
+use Rattle.lapd_frame.specs.declared.Side.TheVariants as side
+use Rattle.lapd_frame.specs.Frame.{spelling}
+use Rattle.lapd_tei.specs.Message.{frame_of_message}
+use Rattle.lapd_tei.specs.Out as tei
+use Rattle.lapd_timers.specs.declared.timer.Timer.{Timer}
+use Rattle.lapd_timers.specs.declared.timer.Timer.TheVariants.{T201, T202}
+use Rattle.lapd_timers.specs.Due.{deadline_of}
+use Rattle.lapd_timers.specs.Durations.{standard_lengths}
+use Rattle.lapd_frame.specs.declared.Sapi.TheVariants.{Call, Packet}
+use Rattle.lapd_states.specs.declared.state.State.{State}
+use Rattle.lapd_states.specs.Parameters.{basic_parameters}
+use Rattle.lapd_table.specs.declared.link_id.LinkId.{LinkId}
+use Rattle.lapd_sides.specs.declared.config.Config.{Config}
+use Rattle.lapd_sides.specs.declared.request.Request.{Request}
+use Rattle.lapd_sides.specs.declared.request.Request.TheVariants as request
+use Rattle.lapd_sides.specs.declared.side_fault.SideKind.{SideKind}
+use Rattle.lapd_sides.specs.Effects.{Effects}
+use Rattle.lapd_sides.specs.Links.{Linked, Acted, of_sapi}
+use Rattle.lapd_sides.specs.Network.{Network, network_takes, network_expires, network_requested}
+use Rattle.lapd_sides.specs.User.{User, next_reference, advanced, user_takes, user_expires, user_requested}
+
+-- octets come from the line, a timer expires, or something is asked for; at a moment in milliseconds
+pub data Happening : Type 0 where
+  Comes : (octets : List ℕ) → (now : ℕ) → Happening
+  Expires : (timer : Timer) → (of : Option LinkId) → (now : ℕ) → Happening
+  Asked : (request : Request) → (now : ℕ) → Happening
+
+abbrev pub network_does : Config → Happening → Network → Result (Acted Network) SideKind
+network_does config (Comes octets now) s = Ok (network_takes config octets now s)
+network_does config (Expires timer of now) s = Ok (network_expires config now timer of s)
+network_does config (Asked request now) s = network_requested config request now s
+
+abbrev pub user_does : Config → Happening → User → Result (Acted User) SideKind
+user_does config (Comes octets now) s = Ok (user_takes config octets now s)
+user_does config (Expires timer of now) s = Ok (user_expires config now timer of s)
+user_does config (Asked request now) s = user_requested config request now s
+
+-- what is left, and what is given; a refusal leaves all as it was
+abbrev pub left_by : {S : Type 0} → S → Result (Acted S) SideKind → S
+left_by s (Ok a) = a.after
+left_by s (Err kind) = s
+
+abbrev pub given_by : {S : Type 0} → Result (Acted S) SideKind → Result Effects SideKind
+given_by (Ok a) = Ok a.effects
+given_by (Err kind) = Err kind
+
+abbrev pub network_run : Config → List Happening → Network → Network
+network_run config [] s = s
+network_run config (h ∷ hs) s = network_run config hs (left_by s (network_does config h s))
+
+abbrev pub network_gives : Config → List Happening → Network → List (Result Effects SideKind)
+network_gives config [] s = []
+network_gives config (h ∷ hs) s = given_by (network_does config h s) ∷ network_gives config hs (left_by s (network_does config h s))
+
+abbrev pub user_run : Config → List Happening → User → User
+user_run config [] s = s
+user_run config (h ∷ hs) s = user_run config hs (left_by s (user_does config h s))
+
+abbrev pub user_gives : Config → List Happening → User → List (Result Effects SideKind)
+user_gives config [] s = []
+user_gives config (h ∷ hs) s = given_by (user_does config h s) ∷ user_gives config hs (left_by s (user_does config h s))
+
+-- what is looked at of a link: its state, and when its timers end
+abbrev pub state_of : Option Linked → Option State
+state_of None = None
+state_of (Some l) = Some l.end.state
+
+abbrev pub ends_at : Timer → Option Linked → Option ℕ
+ends_at timer None = None
+ends_at timer (Some l) = deadline_of timer l.timers
+
+-- ---- The network side, with both SAPIs of basic access.
+
+abbrev pub both_sapis : Config
+both_sapis = record { sapi16 = true; params0 = basic_parameters Call; params16 = basic_parameters Packet; durations = standard_lengths; seed = 0 }
+
+abbrev pub call_control_alone : Config
+call_control_alone = record { sapi16 = false; params0 = basic_parameters Call; params16 = basic_parameters Packet; durations = standard_lengths; seed = 0 }
+
+-- a TEI is asked for; then a DISC comes to each of its links, and one to a TEI that is not there
+abbrev pub tei_and_disc : List Happening
+tei_and_disc =
+    Comes (0xFC ∷ 0xFF ∷ 0x03 ∷ 0x0F ∷ 0x12 ∷ 0x34 ∷ 0x01 ∷ 0xFF ∷ []) 0
+    ∷ Comes (0x00 ∷ 0x81 ∷ 0x53 ∷ []) 0 ∷ Comes (0x40 ∷ 0x81 ∷ 0x53 ∷ []) 0 ∷ Comes (0x00 ∷ 0x83 ∷ 0x53 ∷ []) 0 ∷ []
+
+-- both links are established, and that of SAPI 16 is released
+abbrev pub both_established : List Happening
+both_established = Comes (0x00 ∷ 0x81 ∷ 0x7F ∷ []) 0 ∷ Comes (0x40 ∷ 0x81 ∷ 0x7F ∷ []) 0 ∷ []
+
+abbrev pub one_released : List Happening
+one_released = Comes (0x40 ∷ 0x81 ∷ 0x53 ∷ []) 500 ∷ []
+
+-- a check that nobody answers
+abbrev pub vain_check : List Happening
+vain_check = Asked (request.Check 64) 600 ∷ Expires T201 None 1600 ∷ Expires T201 None 2600 ∷ []
+
+-- ---- The user side.
+
+abbrev pub random : Lcg
+random = record { state = 0; increment = 1 }
+
+-- the reference that comes after so many others, and the octets of a Request with it
+abbrev pub after : ℕ → Lcg → Lcg
+after zero g = g
+after (suc n) g = after n (advanced (pcg32 g))
+
+abbrev pub reference : ℕ → ℕ
+reference n = next_reference (after n random)
+
+abbrev pub asking : ℕ → List ℕ
+asking ri = spelling side.User (frame_of_message (tei.request ri))
+
+-- it wants to establish, and nobody answers
+abbrev pub vain_want : List Happening
+vain_want = Asked (request.Establish (of_sapi Call 0)) 0 ∷ Expires T202 None 2000 ∷ Expires T202 None 4000 ∷ Expires T202 None 6000 ∷ []
+
+-- it wants to establish, and is assigned TEI 64
+abbrev pub want_and_tei : List Happening
+want_and_tei = Asked (request.Establish (of_sapi Call 0)) 0 ∷ Comes (0xFE ∷ 0xFF ∷ 0x03 ∷ 0x0F ∷ 0x00 ∷ 0x00 ∷ 0x02 ∷ 0x81 ∷ []) 100 ∷ []

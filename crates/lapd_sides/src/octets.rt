@@ -1,0 +1,39 @@
+ghost use Rattle.std.specs.Prelude.{◌≡◌, ◌≤◌, length};
+
+use arrayvec::ArrayVec;
+use std::marker::Model;
+
+/// The octets of a message or of unit data that goes up to layer 3, at most 260 (N201, Q.921 5.9.3).
+#[derive(Debug, Drop)]
+pub struct Octets {
+    octets: ArrayVec<u8, 260>,
+}
+
+impl Model for Octets {
+    ghost use Rattle.std.specs.Prelude.{ℕ, List};
+
+    ghost Value = { List ℕ };
+
+    ghost view = { λ o. o.octets.items };
+}
+
+impl Octets {
+    /// These octets, at most 260.
+    pub fn new(octets: &[u8]) -> Octets
+        requires { length octets.now ≤ 260 }
+        ensures { result ≡ octets.now }
+    {
+        let mut copy = ArrayVec::new();
+        let Ok(()) = copy.try_extend_from_slice(octets) else {
+            unreachable!()
+        };
+        Octets { octets: copy }
+    }
+
+    /// The octets.
+    pub fn as_slice(&self) -> &[u8]
+        ensures { result.now ≡ self.now }
+    {
+        self.octets.as_slice()
+    }
+}

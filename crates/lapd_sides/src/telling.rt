@@ -1,0 +1,81 @@
+//! What the outputs of a link's step come to: frames, primitives and timers.
+
+ghost use Rattle.std.specs.Prelude.{◌≡◌, ◌≤◌, ◌+◌, ◌++◌, length, map};
+ghost use Rattle.std.specs.List.{filter_map};
+ghost use Rattle.lapd_link.specs.Link.{LinkStandsFor, setup_of};
+ghost use Rattle.lapd_states.specs.End.{End};
+ghost use Rattle.lapd_sides.specs.declared.primitive.Primitive.TheVariants.{Of};
+ghost use Rattle.lapd_sides.specs.Effects.{sent_by, what_of, timed};
+
+use crate::{Acts, Octets, Primitive, What};
+use lapd_link::{Link, Out};
+use lapd_table::LinkId;
+use lapd_timers::TimerSet;
+
+/// Puts the frames of these outputs behind the others, after the step that gave them. `octets` are the unit data handed in.
+pub fn put_frames(link: &Link, octets: &[u8], outs: &[Out], acts: &mut Acts)
+    requires room { length acts.old.frames + length outs.now ≤ 272 }
+    ensures frames { (e : End) → LinkStandsFor link.now e
+        → acts.new.frames ≡ acts.old.frames ++ filter_map (sent_by (setup_of link.now) e octets.now) outs.now }
+    ensures primitives { acts.new.primitives ≡ acts.old.primitives }
+{
+    for out in outs {
+        if let Some(frame) = link.frame(out, octets) {
+            acts.put(link.side(), &frame);
+        }
+    }
+}
+
+/// Tells what these outputs are for the layers above, of the link with this name. `octets` are the information of the frame
+/// just heard, at most 260.
+pub fn tell_all(id: LinkId, octets: &[u8], outs: &[Out], acts: &mut Acts)
+    requires fits { length octets.now ≤ 260 }
+    requires room { length acts.old.primitives + length outs.now ≤ 280 }
+    ensures primitives { acts.new.primitives ≡ acts.old.primitives ++ map (Of id) (filter_map (what_of octets.now) outs.now) }
+    ensures frames { acts.new.frames ≡ acts.old.frames }
+{
+    for out in outs {
+        if let Some(what) = what_of(out, octets) {
+            acts.tell(of_link(&id, what));
+        }
+    }
+}
+
+/// What is told of the link with this name.
+fn of_link(id: &LinkId, what: What) -> Primitive
+    ensures { result ≡ Of id.now what }
+{
+    Primitive::Of(*id, what)
+}
+
+/// What layer 3 or management is told by an output.
+fn what_of(out: &Out, octets: &[u8]) -> Option<What>
+    requires { length octets.now ≤ 260 }
+    ensures { result ≡ what_of octets.now out.now }
+{
+    match out {
+        Out::Up => Some(What::Up(Octets::new(octets))),
+        Out::UnitUp => Some(What::UnitUp(Octets::new(octets))),
+        Out::Established => Some(What::Established),
+        Out::Confirmed => Some(What::Confirmed),
+        Out::Released => Some(What::Released),
+        Out::ReleaseConfirm => Some(What::ReleaseConfirm),
+        Out::Acknowledged(n) => Some(What::Acknowledged(*n)),
+        Out::Dropped(n) => Some(What::Dropped(*n)),
+        Out::Report(letter) => Some(What::Report(*letter)),
+        Out::Send(..) | Out::SendMessage(..) | Out::SendUnit | Out::Start(_) | Out::Stop(_) => None,
+    }
+}
+
+/// Starts and stops the timers as these outputs say, at the moment `now`.
+pub fn time(timers: &mut TimerSet, outs: &[Out], now: u64)
+    ensures { timers.new ≡ timed now outs.now timers.old }
+{
+    for out in outs {
+        match out {
+            Out::Start(timer) => timers.start(*timer, now),
+            Out::Stop(timer) => timers.stop(*timer),
+            _ => {}
+        }
+    }
+}
