@@ -27,3 +27,12 @@ pub returns-in_err-fill-2-clause-next : goal.returns-in_err-fill-2-clause-next
 returns-in_err-fill-2-clause-next g c =
     passes_part _ _ _ _ _ c.from_residual-in_err-fill-2.ensures.1 c.in_err-fill-2.ensures.faults
     (part_of_frame _ _ _ _ _ _ _ (search rules) c.length_of-count.ensures c.in_ok-fill.ensures.octets.0 c.in-2.is (search rules) c.in_err-fill-2.ensures.part)
+
+pub returns-clause-length : goal.returns-clause-length
+returns-clause-length g c = search rules
+
+pub returns-then-branch-count-clause-next : goal.returns-then-branch-count-clause-next
+returns-then-branch-count-clause-next g c = search rules
+
+pub slice_bounds-fill-end-2 : goal.slice_bounds-fill-end-2
+slice_bounds-fill-end-2 g c = search rules
