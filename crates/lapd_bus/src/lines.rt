@@ -5,7 +5,7 @@ ghost use Rattle.std.specs.List.{All};
 ghost use Rattle.std.specs.Io.KnownBytes.{Appends};
 ghost use Rattle.lapd_frame.specs.Frame.{spelling};
 ghost use Rattle.lapd_script.specs.Line.{digits_of, text_line};
-ghost use Rattle.lapd_tei.specs.Out.{IsReadable};
+ghost use Rattle.lapd_tei.specs.Out.{IsInRange};
 ghost use Rattle.lapd_bus.specs.Lines.{mover, network_line, out_line, outs_text, refusal_line, terminal_line, terminal_text};
 
 use lapd_script::{LineFault, put_line, put_number, put_octets};
@@ -18,7 +18,7 @@ use std::io::Write;
 ///
 /// `Device`, where the writer fails.
 pub fn put_outs<W: Write>(who: Option<usize>, outs: &[TeiOut], out: &mut W) -> Result<(), LineFault>
-    requires { All IsReadable outs.now }
+    requires { All IsInRange outs.now }
     ensures ok { OnOk result (Appends (W.contents out.old) (W.contents out.new) (outs_text who outs.now)) }
     ensures err { IsOkUnless result LineFault.Device }
 {
@@ -57,7 +57,7 @@ pub fn put_refusal<W: Write>(fault: BusFault, out: &mut W) -> Result<(), LineFau
 
 /// Prints one output.
 fn put_out<W: Write>(who: Option<usize>, given: &TeiOut, out: &mut W) -> Result<(), LineFault>
-    requires { IsReadable given.now }
+    requires { IsInRange given.now }
     ensures ok { OnOk result (Appends (W.contents out.old) (W.contents out.new) (out_line who given.now)) }
     ensures err { IsOkUnless result LineFault.Device }
 {
@@ -69,7 +69,7 @@ fn put_out<W: Write>(who: Option<usize>, given: &TeiOut, out: &mut W) -> Result<
 
 /// Prints an output of a terminal.
 fn put_terminal_out<W: Write>(t: usize, given: &TeiOut, out: &mut W) -> Result<(), LineFault>
-    requires { IsReadable given.now }
+    requires { IsInRange given.now }
     ensures ok { OnOk result (Appends (W.contents out.old) (W.contents out.new) (terminal_line t given.now)) }
     ensures err { IsOkUnless result LineFault.Device }
 {
@@ -102,7 +102,7 @@ fn put_terminal<W: Write>(t: usize, out: &mut W) -> Result<(), LineFault>
 
 /// Prints an output of the network side.
 fn put_network_out<W: Write>(given: &TeiOut, out: &mut W) -> Result<(), LineFault>
-    requires { IsReadable given.now }
+    requires { IsInRange given.now }
     ensures ok { OnOk result (Appends (W.contents out.old) (W.contents out.new) (network_line given.now)) }
     ensures err { IsOkUnless result LineFault.Device }
 {

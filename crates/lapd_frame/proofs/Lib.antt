@@ -1,2 +1,3 @@
 pub mod FrameAt
 pub mod FirstFault
+pub mod Lengths

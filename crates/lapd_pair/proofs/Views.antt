@@ -19,7 +19,7 @@ use Rattle.lapd_world.specs.Kept.{IsKept}
 use Rattle.lapd_world.specs.Line.{Flight, without_lost, first_poll, first_final}
 use Rattle.lapd_world.specs.Move as world
 use Rattle.lapd_world.specs.Move.{View, Acted, Refusal, Refused, NothingThere, NotRunning, NotYet, view_after, stepped, hears, takes, delivers, busy_input, quietly, loses, restarts, acts, expires_200, expires_203}
-use Rattle.lapd_world.proofs.Keeping.{content_is_short}
+use Rattle.lapd_frame.proofs.Lengths.{content_is_short}
 use Rattle.lapd_pair.specs.declared.line.Line.{Line}
 use Rattle.lapd_pair.specs.declared.moves.Move.{Move}
 use Rattle.lapd_pair.specs.declared.moves.Move.TheVariants as moves

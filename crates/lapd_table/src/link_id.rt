@@ -15,10 +15,11 @@ use std::fmt;
 /// number, then of the TEI's.
 #[derive(Clone, Copy, Debug)]
 pub struct LinkId {
-    /// The service access point.
-    pub sapi: Sapi,
+    // In this order of the two a comparison reads both at once.
     /// The terminal endpoint.
     pub tei: Tei,
+    /// The service access point.
+    pub sapi: Sapi,
 }
 
 impl LinkId {

@@ -1,9 +1,9 @@
 -- What a terminal or an assigner puts out.
-use Rattle.std.specs.Prelude.{◌≡◌, ℕ, ◌≤◌, true, List, [], ◌∷◌, ⊤}
+use Rattle.std.specs.Prelude.{◌≡◌, ℕ, ◌≤◌, ◌<◌, true, List, [], ◌∷◌, Option, Some, None, ⊤}
 use Rattle.lapd_tei.specs.declared.message.TeiMessage.{TeiMessage}
 use Rattle.lapd_tei.specs.declared.kind.TeiKind.TheVariants as kind
 use Rattle.lapd_tei.specs.declared.out.TeiOut.{TeiOut}
-use Rattle.lapd_tei.specs.declared.out.TeiOut.TheVariants.{Send}
+use Rattle.lapd_tei.specs.declared.out.TeiOut.TheVariants.{Send, Given, Got, Gone, Free, Doubled}
 use Rattle.lapd_tei.specs.Message.{group_tei, permits}
 
 -- the messages that are sent: a Request names no TEI, and a check and a removal no reference (Q.921 Table 8)
@@ -31,7 +31,25 @@ sent [] = []
 sent (Send m ∷ outs) = m ∷ sent outs
 sent (out ∷ outs) = sent outs
 
--- a message that is sent has an action indicator that is read again: a TEI, and not the group TEI where one terminal is meant
-abbrev pub IsReadable : TeiOut → Type 0
-IsReadable (Send m) = (m.ai ≤ 127) × (permits m.kind m.ai ≡ true)
-IsReadable out = ⊤
+-- What is put out is in range: a message that is sent has an action indicator that is read again, a TEI, and not the group
+-- TEI where one terminal is meant; and a TEI that is given or got is one of a terminal, 0 to 126 (Q.921 3.3.4).
+abbrev pub IsInRange : TeiOut → Type 0
+IsInRange (Send m) = (m.ai ≤ 127) × (permits m.kind m.ai ≡ true)
+IsInRange (Given tei) = tei < group_tei
+IsInRange (Got tei) = tei < group_tei
+IsInRange out = ⊤
+
+-- the TEI that is given by these outputs, or got; a step gives at most one
+abbrev pub tei_given : List TeiOut → Option ℕ
+tei_given [] = None
+tei_given (Given tei ∷ outs) = Some tei
+tei_given (Got tei ∷ outs) = Some tei
+tei_given (out ∷ outs) = tei_given outs
+
+-- the TEI that is freed, or given up
+abbrev pub tei_freed : List TeiOut → Option ℕ
+tei_freed [] = None
+tei_freed (Free tei ∷ outs) = Some tei
+tei_freed (Doubled tei ∷ outs) = Some tei
+tei_freed (Gone tei ∷ outs) = Some tei
+tei_freed (out ∷ outs) = tei_freed outs

@@ -2,7 +2,7 @@ ghost use Rattle.std.specs.Prelude.{◌≡◌, ◌<◌, [], ◌∷◌, set, fals
 ghost use Rattle.std.specs.List.{All};
 ghost use Rattle.lapd_timers.specs.declared.timer.Timer.TheVariants.{T201};
 ghost use Rattle.lapd_tei.specs.declared.out.TeiOut.TheVariants.{Send, Start};
-ghost use Rattle.lapd_tei.specs.Out.{check_request, IsReadable};
+ghost use Rattle.lapd_tei.specs.Out.{check_request, IsInRange};
 ghost use Rattle.lapd_tei.specs.Assigner.{known_held, is_held, least_free, serves, begins_check, counts_response, one_more, round_ends, timer_ends, assigner_step, checked};
 
 use crate::check::{Check, Responses, Round};
@@ -81,7 +81,7 @@ impl Assigner {
     pub fn handle(&mut self, event: AssignerEvent) -> TeiOuts
         ensures now { self.new ≡ (assigner_step self.old event).now }
         ensures outs { result.items ≡ (assigner_step self.old event).outs }
-        ensures readable { All IsReadable result.items }
+        ensures in_range { All IsInRange result.items }
     {
         match event {
             AssignerEvent::Heard(message) => match message.kind {
@@ -99,7 +99,7 @@ impl Assigner {
     fn serve(&mut self, ri: u16) -> TeiOuts
         ensures now { self.new ≡ (serves ri (least_free self.old.held) self.old).now }
         ensures outs { result.items ≡ (serves ri (least_free self.old.held) self.old).outs }
-        ensures readable { All IsReadable result.items }
+        ensures in_range { All IsInRange result.items }
     {
         match least_free(&self.held) {
             Some(tei) => {
@@ -114,7 +114,7 @@ impl Assigner {
     fn begin_check(&mut self, tei: u8) -> TeiOuts
         ensures now { self.new ≡ (begins_check tei self.old.check self.old).now }
         ensures outs { result.items ≡ (begins_check tei self.old.check self.old).outs }
-        ensures readable { All IsReadable result.items }
+        ensures in_range { All IsInRange result.items }
     {
         match (self.check, Tei::new(tei)) {
             (None, Some(tei)) if tei != Tei::group() => {
@@ -133,7 +133,7 @@ impl Assigner {
     fn count_response(&mut self, tei: u8) -> TeiOuts
         ensures now { self.new ≡ (counts_response tei self.old.check self.old).now }
         ensures outs { result.items ≡ (counts_response tei self.old.check self.old).outs }
-        ensures readable { All IsReadable result.items }
+        ensures in_range { All IsInRange result.items }
     {
         match self.check {
             Some(check) if tei == check.tei.value() => {
@@ -149,7 +149,7 @@ impl Assigner {
     fn end_round(&mut self) -> TeiOuts
         ensures now { self.new ≡ (timer_ends self.old.check self.old).now }
         ensures outs { result.items ≡ (timer_ends self.old.check self.old).outs }
-        ensures readable { All IsReadable result.items }
+        ensures in_range { All IsInRange result.items }
     {
         match self.check {
             Some(check) => self.end_round_of(check.tei, check.round, check.responses),
@@ -161,7 +161,7 @@ impl Assigner {
         requires { tei < 127 }
         ensures now { self.new ≡ (round_ends tei round responses self.old).now }
         ensures outs { result.items ≡ (round_ends tei round responses self.old).outs }
-        ensures readable { All IsReadable result.items }
+        ensures in_range { All IsInRange result.items }
     {
         match (round, responses) {
             (Round::First, Responses::Nobody) => {
@@ -223,7 +223,7 @@ fn message(ri: u16, kind: TeiKind, tei: Tei) -> TeiOut
 
 /// Terminals with this TEI are asked to answer, and T201 is started (Q.921 5.3.3.2).
 fn ask(tei: Tei) -> TeiOuts
-    ensures readable { All IsReadable result.items }
+    ensures in_range { All IsInRange result.items }
     ensures outs { result.items ≡ Send (check_request tei) ∷ Start T201 ∷ [] }
 {
     two_outs(

@@ -1,6 +1,6 @@
 ghost use Rattle.std.specs.Prelude.{◌≡◌, ◌≢◌, ◌<◌, ℕ, List, ◌++◌, take, Some, map, length, slice_get, option_copied, Ok, Err, IsOk, IfOk, IfErr, OnOk, OnErr};
 ghost use Rattle.std.specs.List.{All};
-ghost use Rattle.lapd_tei.specs.Out.{sent, IsReadable};
+ghost use Rattle.lapd_tei.specs.Out.{sent, IsInRange};
 ghost use Rattle.lapd_tei.specs.Bus.{new_bus, broadcast, bus_step, to_terminal, expire_t202, hear, drop_down, drop_up, hear_up, expire_t201, to_assigner, run, refusals};
 ghost use Rattle.lapd_tei.specs.Single.{Single, MeetsPremises};
 ghost use Rattle.lapd_tei.specs.declared.bus_move.BusMove.{BusMove};
@@ -74,7 +74,7 @@ impl Bus {
     /// before, and only else U3 where memory was refused. The bus is unchanged.
     pub fn apply(&mut self, m: BusMove) -> Result<TeiOuts, BusFault>
         ensures done { IfOk result (λ outs. bus_step self.old m ≡ Ok (record { now = self.new; outs = outs.items })) }
-        ensures readable { IfOk result (λ outs. All IsReadable outs.items) }
+        ensures in_range { IfOk result (λ outs. All IsInRange outs.items) }
         ensures refused { IfErr result (λ f. f ≢ fault.Memory → bus_step self.old m ≡ Err f) }
         ensures memory { IfErr result (λ f. f ≡ fault.Memory → IsOk (bus_step self.old m)) }
         ensures unchanged { OnErr result (self.new ≡ self.old) }
@@ -124,7 +124,7 @@ impl Bus {
     /// An event of a terminal.
     fn to_terminal(&mut self, t: usize, event: TerminalEvent) -> Result<TeiOuts, BusFault>
         ensures done { IfOk result (λ outs. to_terminal self.old t event ≡ Ok (record { now = self.new; outs = outs.items })) }
-        ensures readable { IfOk result (λ outs. All IsReadable outs.items) }
+        ensures in_range { IfOk result (λ outs. All IsInRange outs.items) }
         ensures refused { IfErr result (λ f. f ≢ fault.Memory → to_terminal self.old t event ≡ Err f) }
         ensures memory { IfErr result (λ f. f ≡ fault.Memory → IsOk (to_terminal self.old t event)) }
         ensures unchanged { OnErr result (self.new ≡ self.old) }
@@ -154,7 +154,7 @@ impl Bus {
     /// T202 of a terminal expires. It runs in states 2 and 3.
     fn expire_t202(&mut self, t: usize, ri: u16) -> Result<TeiOuts, BusFault>
         ensures done { IfOk result (λ outs. expire_t202 self.old t ri ≡ Ok (record { now = self.new; outs = outs.items })) }
-        ensures readable { IfOk result (λ outs. All IsReadable outs.items) }
+        ensures in_range { IfOk result (λ outs. All IsInRange outs.items) }
         ensures refused { IfErr result (λ f. f ≢ fault.Memory → expire_t202 self.old t ri ≡ Err f) }
         ensures memory { IfErr result (λ f. f ≡ fault.Memory → IsOk (expire_t202 self.old t ri)) }
         ensures unchanged { OnErr result (self.new ≡ self.old) }
@@ -170,7 +170,7 @@ impl Bus {
     /// A terminal hears a message of the network side.
     fn hear(&mut self, i: usize, t: usize, ri: u16) -> Result<TeiOuts, BusFault>
         ensures done { IfOk result (λ outs. hear self.old i t ri ≡ Ok (record { now = self.new; outs = outs.items })) }
-        ensures readable { IfOk result (λ outs. All IsReadable outs.items) }
+        ensures in_range { IfOk result (λ outs. All IsInRange outs.items) }
         ensures refused { IfErr result (λ f. f ≢ fault.Memory → hear self.old i t ri ≡ Err f) }
         ensures memory { IfErr result (λ f. f ≡ fault.Memory → IsOk (hear self.old i t ri)) }
         ensures unchanged { OnErr result (self.new ≡ self.old) }
@@ -192,7 +192,7 @@ impl Bus {
     /// A message of the network side is lost.
     fn drop_down(&mut self, i: usize) -> Result<TeiOuts, BusFault>
         ensures done { IfOk result (λ outs. drop_down self.old i ≡ Ok (record { now = self.new; outs = outs.items })) }
-        ensures readable { IfOk result (λ outs. All IsReadable outs.items) }
+        ensures in_range { IfOk result (λ outs. All IsInRange outs.items) }
         ensures refused { IfErr result (λ f. drop_down self.old i ≡ Err f) }
         ensures unchanged { OnErr result (self.new ≡ self.old) }
     {
@@ -206,7 +206,7 @@ impl Bus {
     /// A message of a terminal is lost.
     fn drop_up(&mut self, i: usize) -> Result<TeiOuts, BusFault>
         ensures done { IfOk result (λ outs. drop_up self.old i ≡ Ok (record { now = self.new; outs = outs.items })) }
-        ensures readable { IfOk result (λ outs. All IsReadable outs.items) }
+        ensures in_range { IfOk result (λ outs. All IsInRange outs.items) }
         ensures refused { IfErr result (λ f. drop_up self.old i ≡ Err f) }
         ensures unchanged { OnErr result (self.new ≡ self.old) }
     {
@@ -220,7 +220,7 @@ impl Bus {
     /// The assigner hears a message of a terminal.
     fn hear_up(&mut self, i: usize) -> Result<TeiOuts, BusFault>
         ensures done { IfOk result (λ outs. hear_up self.old i ≡ Ok (record { now = self.new; outs = outs.items })) }
-        ensures readable { IfOk result (λ outs. All IsReadable outs.items) }
+        ensures in_range { IfOk result (λ outs. All IsInRange outs.items) }
         ensures refused { IfErr result (λ f. f ≢ fault.Memory → hear_up self.old i ≡ Err f) }
         ensures memory { IfErr result (λ f. f ≡ fault.Memory → IsOk (hear_up self.old i)) }
         ensures unchanged { OnErr result (self.new ≡ self.old) }
@@ -237,7 +237,7 @@ impl Bus {
     /// T201 expires. It runs during a check.
     fn expire_t201(&mut self) -> Result<TeiOuts, BusFault>
         ensures done { IfOk result (λ outs. expire_t201 self.old ≡ Ok (record { now = self.new; outs = outs.items })) }
-        ensures readable { IfOk result (λ outs. All IsReadable outs.items) }
+        ensures in_range { IfOk result (λ outs. All IsInRange outs.items) }
         ensures refused { IfErr result (λ f. f ≢ fault.Memory → expire_t201 self.old ≡ Err f) }
         ensures memory { IfErr result (λ f. f ≡ fault.Memory → IsOk (expire_t201 self.old)) }
         ensures unchanged { OnErr result (self.new ≡ self.old) }
@@ -251,7 +251,7 @@ impl Bus {
     /// An event of the assigner.
     fn to_assigner(&mut self, event: AssignerEvent) -> Result<TeiOuts, BusFault>
         ensures done { IfOk result (λ outs. to_assigner self.old event ≡ record { now = self.new; outs = outs.items }) }
-        ensures readable { IfOk result (λ outs. All IsReadable outs.items) }
+        ensures in_range { IfOk result (λ outs. All IsInRange outs.items) }
         ensures memory { IfErr result (λ f. f ≡ fault.Memory) }
         ensures unchanged { OnErr result (self.new ≡ self.old) }
     {

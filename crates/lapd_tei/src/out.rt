@@ -1,6 +1,6 @@
 ghost use Rattle.std.specs.Prelude.{◌≡◌, [], ◌∷◌};
 ghost use Rattle.std.specs.List.{All};
-ghost use Rattle.lapd_tei.specs.Out.{sent, IsReadable};
+ghost use Rattle.lapd_tei.specs.Out.{sent, IsInRange};
 
 use crate::TeiMessage;
 use arrayvec::ArrayVec;
@@ -39,7 +39,7 @@ pub type TeiOuts = ArrayVec<TeiOut, 6>;
 /// No output.
 pub fn no_outs() -> TeiOuts
     ensures items { result.items ≡ [] }
-    ensures readable { All IsReadable result.items }
+    ensures in_range { All IsInRange result.items }
 {
     TeiOuts::new()
 }
@@ -47,7 +47,7 @@ pub fn no_outs() -> TeiOuts
 /// One output.
 pub fn one_out(out: TeiOut) -> TeiOuts
     ensures items { result.items ≡ out ∷ [] }
-    ensures readable { IsReadable out → All IsReadable result.items }
+    ensures in_range { IsInRange out → All IsInRange result.items }
 {
     let mut outs = TeiOuts::new();
     outs.push(out);
@@ -57,7 +57,7 @@ pub fn one_out(out: TeiOut) -> TeiOuts
 /// Two outputs, in this order.
 pub fn two_outs(first: TeiOut, second: TeiOut) -> TeiOuts
     ensures items { result.items ≡ first ∷ second ∷ [] }
-    ensures readable { IsReadable first → IsReadable second → All IsReadable result.items }
+    ensures in_range { IsInRange first → IsInRange second → All IsInRange result.items }
 {
     let mut outs = TeiOuts::new();
     outs.push(first);
@@ -68,7 +68,7 @@ pub fn two_outs(first: TeiOut, second: TeiOut) -> TeiOuts
 /// Three outputs, in this order.
 pub fn three_outs(first: TeiOut, second: TeiOut, third: TeiOut) -> TeiOuts
     ensures items { result.items ≡ first ∷ second ∷ third ∷ [] }
-    ensures readable { IsReadable first → IsReadable second → IsReadable third → All IsReadable result.items }
+    ensures in_range { IsInRange first → IsInRange second → IsInRange third → All IsInRange result.items }
 {
     let mut outs = TeiOuts::new();
     outs.push(first);

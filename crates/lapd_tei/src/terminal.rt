@@ -3,7 +3,7 @@ ghost use Rattle.lapd_timers.specs.declared.timer.Timer.TheVariants.{T202};
 ghost use Rattle.lapd_tei.specs.declared.out.TeiOut.TheVariants.{Send, Start, Gone};
 ghost use Rattle.lapd_tei.specs.declared.phase.Phase.TheVariants.{Unassigned, Awaiting, Assigned};
 ghost use Rattle.std.specs.List.{All};
-ghost use Rattle.lapd_tei.specs.Out.{request, IsReadable};
+ghost use Rattle.lapd_tei.specs.Out.{request, IsInRange};
 ghost use Rattle.lapd_tei.specs.Terminal.{state_number, tei_of, count_of, reference_of, is_awaiting, new_terminal, terminal_step, awaiting_hears, assigned_hears, is_automatic, IsTerminal};
 
 use crate::out::{no_outs, one_out, two_outs};
@@ -139,7 +139,7 @@ impl Terminal {
     pub fn handle(&mut self, event: TerminalEvent) -> TeiOuts
         ensures now { self.new ≡ (terminal_step self.old event).now }
         ensures outs { result.items ≡ (terminal_step self.old event).outs }
-        ensures readable { All IsReadable result.items }
+        ensures in_range { All IsInRange result.items }
     {
         let (phase, outs) = step(self.phase, event);
         self.phase = phase;
@@ -152,7 +152,7 @@ fn step(phase: Phase, event: TerminalEvent) -> (Phase, TeiOuts)
     requires { IsTerminal phase }
     ensures now { result.0 ≡ (terminal_step phase event).now }
     ensures outs { result.1.items ≡ (terminal_step phase event).outs }
-    ensures readable { All IsReadable result.1.items }
+    ensures in_range { All IsInRange result.1.items }
 {
     match phase {
         Phase::Unassigned => unassigned(event),
@@ -165,7 +165,7 @@ fn step(phase: Phase, event: TerminalEvent) -> (Phase, TeiOuts)
 fn unassigned(event: TerminalEvent) -> (Phase, TeiOuts)
     ensures now { result.0 ≡ (terminal_step Unassigned event).now }
     ensures outs { result.1.items ≡ (terminal_step Unassigned event).outs }
-    ensures readable { All IsReadable result.1.items }
+    ensures in_range { All IsInRange result.1.items }
 {
     match event {
         TerminalEvent::Ask(ri) => ask(Purpose::Assignment, 1, ri),
@@ -178,7 +178,7 @@ fn unassigned(event: TerminalEvent) -> (Phase, TeiOuts)
 fn awaiting(purpose: Purpose, count: u8, ri: u16, event: TerminalEvent) -> (Phase, TeiOuts)
     ensures now { result.0 ≡ (terminal_step (Awaiting purpose count ri) event).now }
     ensures outs { result.1.items ≡ (terminal_step (Awaiting purpose count ri) event).outs }
-    ensures readable { All IsReadable result.1.items }
+    ensures in_range { All IsInRange result.1.items }
 {
     match event {
         TerminalEvent::Ask(_) => (Phase::Awaiting { purpose, count, ri }, no_outs()),
@@ -203,7 +203,7 @@ fn assigned(by: Option<u16>, tei: Tei, event: TerminalEvent) -> (Phase, TeiOuts)
     requires { tei < 127 }
     ensures now { result.0 ≡ (terminal_step (Assigned by tei) event).now }
     ensures outs { result.1.items ≡ (terminal_step (Assigned by tei) event).outs }
-    ensures readable { All IsReadable result.1.items }
+    ensures in_range { All IsInRange result.1.items }
 {
     match event {
         TerminalEvent::Heard(message, ri) => assigned_hears(by, tei, message, ri),
@@ -216,7 +216,7 @@ fn assigned(by: Option<u16>, tei: Tei, event: TerminalEvent) -> (Phase, TeiOuts)
 fn ask(purpose: Purpose, count: u8, ri: u16) -> (Phase, TeiOuts)
     ensures now { result.0 ≡ Awaiting purpose count ri }
     ensures outs { result.1.items ≡ Send (request ri) ∷ Start T202 ∷ [] }
-    ensures readable { All IsReadable result.1.items }
+    ensures in_range { All IsInRange result.1.items }
 {
     let request = TeiMessage {
         ri,
@@ -231,7 +231,7 @@ fn ask(purpose: Purpose, count: u8, ri: u16) -> (Phase, TeiOuts)
 fn gone(tei: Tei) -> (Phase, TeiOuts)
     ensures now { result.0 ≡ Unassigned }
     ensures outs { result.1.items ≡ Gone tei ∷ [] }
-    ensures readable { All IsReadable result.1.items }
+    ensures in_range { All IsInRange result.1.items }
 {
     (Phase::Unassigned, one_out(TeiOut::Gone(tei)))
 }
@@ -240,7 +240,7 @@ fn gone(tei: Tei) -> (Phase, TeiOuts)
 fn awaiting_hears(purpose: Purpose, count: u8, ri: u16, message: TeiMessage) -> (Phase, TeiOuts)
     ensures now { result.0 ≡ (awaiting_hears purpose count ri message.kind message.ri message.ai).now }
     ensures outs { result.1.items ≡ (awaiting_hears purpose count ri message.kind message.ri message.ai).outs }
-    ensures readable { All IsReadable result.1.items }
+    ensures in_range { All IsInRange result.1.items }
 {
     match (message.kind, Tei::new(message.ai)) {
         (TeiKind::Assigned, Some(tei)) if message.ri == ri && is_automatic(message.ai) => {
@@ -257,7 +257,7 @@ fn assigned_hears(by: Option<u16>, tei: Tei, message: TeiMessage, ri: u16) -> (P
     requires { tei < 127 }
     ensures now { result.0 ≡ (assigned_hears by tei message.kind message.ri message.ai ri).now }
     ensures outs { result.1.items ≡ (assigned_hears by tei message.kind message.ri message.ai ri).outs }
-    ensures readable { All IsReadable result.1.items }
+    ensures in_range { All IsInRange result.1.items }
 {
     let own = message.ai == tei.value();
     let named = own || message.ai == Tei::group().value();
