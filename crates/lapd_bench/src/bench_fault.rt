@@ -1,6 +1,7 @@
 use lapd_frame::{FaultKind, FrameFault};
 use lapd_link::{LinkFault, Refused};
 use lapd_pair::PairFault;
+use lapd_sides::{SideFault, SideKind};
 use lapd_table::TableFault;
 use std::alloc::AllocError;
 use thiserror::Error;
@@ -9,7 +10,7 @@ use thiserror::Error;
 #[derive(Clone, Copy, Debug, PartialEq, Eq, Error)]
 pub enum BenchFault {
     /// The words ask for nothing that is done.
-    #[error("usage: lapd_bench [MESSAGES], lapd_bench pair MESSAGES, lapd_bench line FRAMES MOVES, or lapd_bench table LINKS FRAMES")]
+    #[error("usage: lapd_bench [MESSAGES], lapd_bench pair MESSAGES, lapd_bench line FRAMES MOVES, or lapd_bench table|side|tick LINKS TIMES")]
     CommandLine,
     /// Memory ran out.
     #[error("out of memory")]
@@ -32,6 +33,9 @@ pub enum BenchFault {
     /// A frame or a link was refused by a table.
     #[error("refused: {0}")]
     Table(TableFault),
+    /// Octets or a link were refused by a side.
+    #[error("refused: {0}")]
+    Side(SideKind),
 }
 
 impl From<AllocError> for BenchFault {
@@ -67,5 +71,11 @@ impl From<PairFault> for BenchFault {
 impl From<TableFault> for BenchFault {
     fn from(fault: TableFault) -> BenchFault {
         BenchFault::Table(fault)
+    }
+}
+
+impl From<SideFault> for BenchFault {
+    fn from(fault: SideFault) -> BenchFault {
+        BenchFault::Side(fault.kind)
     }
 }

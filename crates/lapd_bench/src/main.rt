@@ -15,6 +15,7 @@ mod counts;
 mod end;
 mod line;
 mod over_pair;
+mod over_side;
 mod over_table;
 mod work;
 
@@ -53,6 +54,8 @@ fn counted(rt: &HostRuntime) -> Result<Counts, BenchFault> {
         Work::Pair(messages) => over_pair::pass(rt.alloc(), messages),
         Work::Line(frames, moves) => over_pair::stand(rt.alloc(), frames, moves),
         Work::Table(links, frames) => over_table::answer(rt.alloc(), links, frames),
+        Work::Side(links, frames) => over_side::take(rt.alloc(), links, frames),
+        Work::Tick(links, times) => over_side::tick(rt.alloc(), links, times),
     }
 }
 

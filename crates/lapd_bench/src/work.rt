@@ -14,6 +14,10 @@ pub enum Work {
     Line(u32, u32),
     /// To so many links of a table so many enquiries are handed in.
     Table(u32, u32),
+    /// To so many links of a side so many I frames are handed in.
+    Side(u32, u32),
+    /// A side of so many links is asked so many times what is due, where nothing is.
+    Tick(u32, u32),
 }
 
 /// What the command line asks for.
@@ -35,6 +39,8 @@ pub fn asked(rt: &HostRuntime) -> Result<Work, BenchFault> {
         "pair" => Work::Pair(next_number(&mut words)?),
         "line" => Work::Line(next_number(&mut words)?, next_number(&mut words)?),
         "table" => Work::Table(next_number(&mut words)?, next_number(&mut words)?),
+        "side" => Work::Side(next_number(&mut words)?, next_number(&mut words)?),
+        "tick" => Work::Tick(next_number(&mut words)?, next_number(&mut words)?),
         count => Work::Links(number(count)?),
     };
     match words.next() {

@@ -1,3 +1,4 @@
 pub mod Dialogues
-pub mod Acting
-pub mod Comings
+pub mod Using
+pub mod Managing
+pub mod Networking

@@ -1,9 +1,8 @@
-pub mod Effects
-pub mod Expiries
-pub mod Links
 pub mod Management
 pub mod Network
 pub mod User
 pub mod Worked
-pub mod Shown
-pub mod Places
+pub mod Requests
+pub mod Shows
+pub mod ShowsNetwork
+pub mod ShowsUser

@@ -19,25 +19,27 @@ use Rattle.lapd_tei.specs.declared.assigner.AssignerEvent.{AssignerEvent}
 use Rattle.lapd_tei.specs.declared.assigner.AssignerEvent.TheVariants as event
 use Rattle.lapd_tei.specs.Assigner.{AssignerState, AssignerStep, assigner_step, known_held}
 use Rattle.lapd_tei.specs.Message.{group_tei, message_at}
+use Rattle.lapd_tei.specs.Out.{tei_given}
 use Rattle.lapd_table.specs.declared.link_id.LinkId.{LinkId}
 use Rattle.lapd_table.specs.LinkId.{id_of_address}
-use Rattle.lapd_sides.specs.declared.config.Config.{Config}
+use Rattle.lapd_links.specs.declared.config.Config.{Config}
 use Rattle.lapd_sides.specs.declared.request.Request.{Request}
 use Rattle.lapd_sides.specs.declared.request.Request.TheVariants as request
-use Rattle.lapd_sides.specs.declared.side_fault.SideKind.{SideKind}
-use Rattle.lapd_sides.specs.declared.side_fault.SideKind.TheVariants.{Link}
-use Rattle.lapd_sides.specs.Effects.{no_effects, stopped}
-use Rattle.lapd_sides.specs.Links.{Links, Acted, is_served, in_links, link_acts, link_expires, no_links, with_teis}
-use Rattle.lapd_sides.specs.Management.{Served, carries_message, manages, busy_input}
+use Rattle.lapd_links.specs.declared.side_fault.SideKind.{SideKind}
+use Rattle.lapd_links.specs.declared.side_fault.SideKind.TheVariants.{Link}
+use Rattle.lapd_links.specs.Effects.{no_effects, stopped}
+use Rattle.lapd_links.specs.Links.{Links, Acted, is_served, in_links, link_acts, link_expires, links_of_held}
+use Rattle.lapd_sides.specs.Management.{carries_message, manages, busy_input}
+use Rattle.lapd_links.specs.Links.{Served}
 
 pub record Network : Type 0 where
   pub served : Served
   pub assigner : AssignerState
 
--- as it is made, with the TEIs that are known
+-- as it is made: the TEIs that are known are held, and have their links
 abbrev pub new_network : Config → List ℕ → Network
 new_network config known = record {
-  served = record { links = with_teis config known no_links; timers = at_rest config.durations };
+  served = record { links = links_of_held config (known_held known).held; timers = at_rest config.durations };
   assigner = known_held known;
 }
 
@@ -97,6 +99,18 @@ heard config now (Err fault) s = fault_heard now fault.kind fault.address s
 
 unfoldable pub network_takes : Config → List ℕ → ℕ → Network → Acted Network
 network_takes config octets now s = heard config now (frame_at side.User octets) s
+
+-- The TEI that is given because of these octets, where one is: its links are added, and nothing else takes memory.
+abbrev pub given_for_message : AssignerState → Result TeiMessage TeiFault → Option ℕ
+given_for_message a (Ok message) = tei_given (assigner_step a (event.Heard message)).outs
+given_for_message a (Err fault) = None
+
+abbrev pub given_for_frame : AssignerState → Result Fields FrameFault → Option ℕ
+given_for_frame a (Ok frame) = if carries_message frame then given_for_message a (message_at frame.info) else None
+given_for_frame a (Err fault) = None
+
+unfoldable pub given_for : AssignerState → List ℕ → Option ℕ
+given_for a octets = given_for_frame a (frame_at side.User octets)
 
 -- ---- A timer expires.
 

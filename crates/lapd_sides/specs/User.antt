@@ -1,7 +1,8 @@
 -- The user side: a terminal with the links of its own TEI, and what a frame, a timer or a request comes to.
 use Rattle.std.specs.Prelude.{ℕ, ◌&&◌, ◌%◌, ◌^◌, if◌then◌else◌, Bool, true, false, List, [], ◌∷◌, ◌++◌, length, Option, Some, None, Result, Ok, Err}
 use Rattle.rand_pcg.specs.Lcg.{Lcg}
-use Rattle.rand_pcg.specs.Pcg.{pcg32}
+use Rattle.rand_core.specs.Pcg32Seed.{pcg32_seed}
+use Rattle.rand_pcg.specs.Pcg.{pcg32, pcg32_of_seed}
 use Rattle.lapd_timers.specs.declared.timer.Timer.{Timer}
 use Rattle.lapd_timers.specs.Due.{at_rest}
 use Rattle.lapd_frame.specs.declared.Sapi.{Sapi}
@@ -22,21 +23,23 @@ use Rattle.lapd_tei.specs.declared.phase.Phase.{Phase}
 use Rattle.lapd_tei.specs.declared.phase.Phase.TheVariants.{Unassigned, Awaiting, Assigned}
 use Rattle.lapd_tei.specs.declared.terminal.TerminalEvent.{TerminalEvent}
 use Rattle.lapd_tei.specs.declared.terminal.TerminalEvent.TheVariants as event
+use Rattle.lapd_tei.specs.Out.{tei_given}
 use Rattle.lapd_tei.specs.Terminal.{TerminalStep, terminal_step, new_terminal}
 use Rattle.lapd_tei.specs.Message.{group_tei, message_at}
 use Rattle.lapd_table.specs.declared.link_id.LinkId.{LinkId}
-use Rattle.lapd_sides.specs.declared.config.Config.{Config}
-use Rattle.lapd_sides.specs.declared.primitive.Primitive.{Primitive}
-use Rattle.lapd_sides.specs.declared.primitive.Primitive.TheVariants.{Of}
-use Rattle.lapd_sides.specs.declared.primitive.What.{What}
-use Rattle.lapd_sides.specs.declared.primitive.What.TheVariants as what
+use Rattle.lapd_links.specs.declared.config.Config.{Config}
+use Rattle.lapd_links.specs.declared.primitive.Primitive.{Primitive}
+use Rattle.lapd_links.specs.declared.primitive.Primitive.TheVariants.{Of}
+use Rattle.lapd_links.specs.declared.primitive.What.{What}
+use Rattle.lapd_links.specs.declared.primitive.What.TheVariants as what
 use Rattle.lapd_sides.specs.declared.request.Request.{Request}
 use Rattle.lapd_sides.specs.declared.request.Request.TheVariants as request
-use Rattle.lapd_sides.specs.declared.side_fault.SideKind.{SideKind}
-use Rattle.lapd_sides.specs.declared.side_fault.SideKind.TheVariants.{NoLink, Link}
-use Rattle.lapd_sides.specs.Effects.{no_effects, and_then, stopped}
-use Rattle.lapd_sides.specs.Links.{Links, Acted, of_sapi, is_served, in_links, link_acts, link_expires, no_links, with_tei}
-use Rattle.lapd_sides.specs.Management.{Served, carries_message, is_unit_to_group, manages, busy_input}
+use Rattle.lapd_links.specs.declared.side_fault.SideKind.{SideKind}
+use Rattle.lapd_links.specs.declared.side_fault.SideKind.TheVariants.{NoLink, Link}
+use Rattle.lapd_links.specs.Effects.{no_effects, and_then, stopped}
+use Rattle.lapd_links.specs.Links.{Links, Acted, of_sapi, is_served, in_links, link_acts, link_expires, no_links, with_tei}
+use Rattle.lapd_sides.specs.Management.{carries_message, is_unit_to_group, manages, busy_input}
+use Rattle.lapd_links.specs.Links.{Served}
 
 -- For which SAPIs an establishment is kept until the terminal has a TEI.
 pub record Kept : Type 0 where
@@ -69,6 +72,10 @@ abbrev pub unmoved : User → Acted User
 unmoved s = record { after = s; effects = no_effects }
 
 -- ---- References.
+
+-- the generator that a seed gives, as `seed_from_u64` makes it
+abbrev pub seeded : ℕ → Lcg
+seeded seed = pcg32_of_seed (pcg32_seed 16 seed)
 
 -- the next reference: the low sixteen bits of the next word of the generator (5.3.2)
 abbrev pub low_sixteen : ℕ × Lcg → ℕ
@@ -162,11 +169,17 @@ message_heard config now (Err fault) s = unmoved s
 abbrev pub unit_from_group : Sapi → List ℕ → User → Acted User
 unit_from_group sapi octets s = record { after = s; effects = record no_effects { primitives = Of (of_sapi sapi group_tei) (what.UnitUp octets) ∷ [] } }
 
+-- a frame that is no message: unit data to all terminals, or a frame for the link that it names
+abbrev pub for_layer_3 : Config → Fields → Bool
+for_layer_3 config frame = is_served config frame.address.sapi && is_unit_to_group frame
+
+abbrev pub data_heard : Config → ℕ → Fields → User → Acted User
+data_heard config now frame s =
+    if for_layer_3 config frame then unit_from_group frame.address.sapi frame.info s
+    else or_discarded s (link_of_user now (of_sapi frame.address.sapi frame.address.tei) (Heard frame.control frame.address.role) frame.info s)
+
 abbrev pub frame_heard : Config → ℕ → Fields → User → Acted User
-frame_heard config now frame s =
-    if carries_message frame then message_heard config now (message_at frame.info) s
-    else (if is_served config frame.address.sapi && is_unit_to_group frame then unit_from_group frame.address.sapi frame.info s
-    else or_discarded s (link_of_user now (of_sapi frame.address.sapi frame.address.tei) (Heard frame.control frame.address.role) frame.info s))
+frame_heard config now frame s = if carries_message frame then message_heard config now (message_at frame.info) s else data_heard config now frame s
 
 abbrev pub fault_heard : ℕ → FaultKind → Option Address → User → Acted User
 fault_heard now kind None s = unmoved s
@@ -178,6 +191,18 @@ heard config now (Err fault) s = fault_heard now fault.kind fault.address s
 
 unfoldable pub user_takes : Config → List ℕ → ℕ → User → Acted User
 user_takes config octets now s = heard config now (frame_at side.Network octets) s
+
+-- The TEI that is got because of these octets, where one is: its links are added, and nothing else takes memory.
+abbrev pub got_for_message : User → Result TeiMessage TeiFault → Option ℕ
+got_for_message s (Ok message) = tei_given (terminal_step s.terminal (event.Heard message (next_reference s.random))).outs
+got_for_message s (Err fault) = None
+
+abbrev pub got_for_frame : User → Result Fields FrameFault → Option ℕ
+got_for_frame s (Ok frame) = if carries_message frame then got_for_message s (message_at frame.info) else None
+got_for_frame s (Err fault) = None
+
+unfoldable pub got_for : User → List ℕ → Option ℕ
+got_for s octets = got_for_frame s (frame_at side.Network octets)
 
 -- ---- A timer expires.
 

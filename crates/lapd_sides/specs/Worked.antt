@@ -14,12 +14,12 @@ use Rattle.lapd_frame.specs.declared.Sapi.TheVariants.{Call, Packet}
 use Rattle.lapd_states.specs.declared.state.State.{State}
 use Rattle.lapd_states.specs.Parameters.{basic_parameters}
 use Rattle.lapd_table.specs.declared.link_id.LinkId.{LinkId}
-use Rattle.lapd_sides.specs.declared.config.Config.{Config}
+use Rattle.lapd_links.specs.declared.config.Config.{Config}
 use Rattle.lapd_sides.specs.declared.request.Request.{Request}
 use Rattle.lapd_sides.specs.declared.request.Request.TheVariants as request
-use Rattle.lapd_sides.specs.declared.side_fault.SideKind.{SideKind}
-use Rattle.lapd_sides.specs.Effects.{Effects}
-use Rattle.lapd_sides.specs.Links.{Linked, Acted, of_sapi}
+use Rattle.lapd_links.specs.declared.side_fault.SideKind.{SideKind}
+use Rattle.lapd_links.specs.Effects.{Effects}
+use Rattle.lapd_links.specs.Links.{Linked, Acted, of_sapi}
 use Rattle.lapd_sides.specs.Network.{Network, network_takes, network_expires, network_requested}
 use Rattle.lapd_sides.specs.User.{User, next_reference, advanced, user_takes, user_expires, user_requested}
 

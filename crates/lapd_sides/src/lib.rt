@@ -2,28 +2,22 @@
 //! and their timers.
 #![tactic(auto)]
 
-mod acts;
-mod config;
+mod kept;
 mod laws;
-mod links;
-mod octets;
-mod primitive;
+mod net_side;
+mod references;
 mod request;
-mod side_fault;
-mod telling;
-mod timings;
+mod served;
+mod user_side;
 
-pub use acts::Acts;
-pub use config::Config;
-pub use lapd_link::{Letter, Params, Sapi, Side, Tei};
-pub use lapd_table::LinkId;
-pub use lapd_tei::TeiOut;
-pub use lapd_timers::Durations;
+pub use lapd_links::{
+    Acts, Config, Durations, Expiry, Letter, LinkId, Octets, Params, Primitive, Sapi, Side,
+    SideFault, SideKind, Tei, TeiOut, What,
+};
 pub use laws::{
     assignments_make_links, freed_teis_lose_their_links, kept_establishments_are_done,
     releases_leave_other_links, vain_requests_are_released,
 };
-pub use octets::Octets;
-pub use primitive::{Primitive, What};
+pub use net_side::NetSide;
 pub use request::Request;
-pub use side_fault::{SideFault, SideKind};
+pub use user_side::UserSide;

@@ -1,0 +1,307 @@
+-- The timers of links that run, the moment before which none is due, and which is due.
+use Rattle.std.proofs.Common.{◌≡◌, ◌≢◌, ℕ, ◌<◌, ◌≤◌, List, length, replicate, Bool, true, false, Option, Some, None, option_map, inl, inr, refl, sym, ap, subst, ◌∙◌, arith, rules, ◌⊎◌}
+use Rattle.std.specs.Prelude.{slice_get, IfSome, All}
+use Rattle.std.specs.Cmp.Rules.{comparing}
+use Rattle.std.proofs.lemmas.Bool.{cases_lt}
+use Rattle.std.proofs.lemmas.List.Elements.{All-get_or, All-replicate}
+use Rattle.std.proofs.lemmas.Option.{slice_get_within, get_or_from_slice_get}
+use Rattle.lapd_timers.specs.declared.timer.Timer.{Timer}
+use Rattle.lapd_timers.specs.declared.timer.Timer.TheVariants.{T200, T201, T202, T203}
+use Rattle.lapd_timers.specs.Durations.{Lengths}
+use Rattle.lapd_timers.specs.Due.{Timers, deadline_of, at_rest}
+use Rattle.lapd_timers.specs.Due as due
+use Rattle.lapd_frame.specs.declared.Sapi.{Sapi}
+use Rattle.lapd_frame.specs.declared.Sapi.TheVariants.{Call, Packet, Management}
+use Rattle.lapd_table.specs.declared.link_id.LinkId.{LinkId}
+use Rattle.lapd_table.specs.LinkId.{id_eq}
+use Rattle.lapd_table.proofs.Ids.{same_id_eq}
+use Rattle.lapd_links.specs.declared.expiry.Expiry.{Expiry}
+use Rattle.lapd_links.specs.declared.places.Places.{Places}
+use Rattle.lapd_links.specs.Effects.{stopped}
+use Rattle.lapd_links.specs.Links.{of_sapi}
+use Rattle.lapd_links.specs.Links.{Served}
+use Rattle.lapd_links.specs.Expiries.{IsTimerOf, Runs, IsPast, IsNoLater, IsFirst, IsDue, of_management, of_links, of_served}
+use Rattle.lapd_links.specs.Places.{AreAtRest, EndNoSooner, sooner_moment, soonest, deadline_or_last, RunsBelow, IsSooner, expiry_at}
+use Rattle.lapd_links.specs.Placed.{placed, of_places, NoneEndsBefore}
+use Rattle.lapd_links.proofs.Order.{earlier_deadline, joined, same_first}
+
+false_is_true : false ≡ true → ⊥
+false_is_true h = absurd (cc)
+
+-- the id is its own
+id_eq_self : (a : LinkId) → id_eq a a ≡ true
+id_eq_self a = search (comparing, rules)
+
+-- ---- No timer of these ends before a moment.
+
+at_rest_ends : (moment : ℕ) (durations : Lengths) → EndNoSooner moment (at_rest durations)
+at_rest_ends moment durations T200 deadline own runs = absurd (cc)
+at_rest_ends moment durations T201 deadline own runs = absurd (cc)
+at_rest_ends moment durations T202 deadline own runs = absurd (cc)
+at_rest_ends moment durations T203 deadline own runs = absurd (cc)
+
+-- one that is stopped does not run
+stopped_ends : (moment : ℕ) (timers : Timers) (which : Timer) → EndNoSooner moment timers → EndNoSooner moment (stopped which timers)
+stopped_ends moment timers T200 h T200 deadline own runs = absurd (cc)
+stopped_ends moment timers T201 h T201 deadline own runs = absurd (cc)
+stopped_ends moment timers T202 h T202 deadline own runs = absurd (cc)
+stopped_ends moment timers T203 h T203 deadline own runs = absurd (cc)
+stopped_ends moment timers T200 h T201 deadline own runs = h T201 deadline own runs
+stopped_ends moment timers T200 h T202 deadline own runs = h T202 deadline own runs
+stopped_ends moment timers T200 h T203 deadline own runs = h T203 deadline own runs
+stopped_ends moment timers T201 h T200 deadline own runs = h T200 deadline own runs
+stopped_ends moment timers T201 h T202 deadline own runs = h T202 deadline own runs
+stopped_ends moment timers T201 h T203 deadline own runs = h T203 deadline own runs
+stopped_ends moment timers T202 h T200 deadline own runs = h T200 deadline own runs
+stopped_ends moment timers T202 h T201 deadline own runs = h T201 deadline own runs
+stopped_ends moment timers T202 h T203 deadline own runs = h T203 deadline own runs
+stopped_ends moment timers T203 h T200 deadline own runs = h T200 deadline own runs
+stopped_ends moment timers T203 h T201 deadline own runs = h T201 deadline own runs
+stopped_ends moment timers T203 h T202 deadline own runs = h T202 deadline own runs
+
+-- the moment is lowered to the deadlines of these
+sooner_low : (moment : ℕ) (deadline : Option ℕ) → sooner_moment moment deadline ≤ moment
+sooner_low moment None = omega arith
+sooner_low moment (Some deadline) = omega arith
+
+sooner_ends : (moment : ℕ) (of : Option ℕ) (deadline : ℕ) → of ≡ Some deadline → sooner_moment moment of ≤ deadline
+sooner_ends moment None deadline is = absurd (cc)
+sooner_ends moment (Some other) deadline is = let same : other ≡ deadline = cc in omega arith
+
+both_end : (moment : ℕ) (timers : Timers) → EndNoSooner (sooner_moment (sooner_moment moment timers.t200) timers.t203) timers
+both_end moment timers T200 deadline own runs = omega (arith, sooner_low (sooner_moment moment timers.t200) timers.t203, sooner_ends moment timers.t200 deadline runs)
+both_end moment timers T201 deadline own runs = absurd own
+both_end moment timers T202 deadline own runs = absurd own
+both_end moment timers T203 deadline own runs = sooner_ends (sooner_moment moment timers.t200) timers.t203 deadline runs
+
+soonest_low : (moment : ℕ) (found : Option Timers) → soonest moment found ≤ moment
+soonest_low moment None = omega arith
+soonest_low moment (Some timers) = omega (arith, sooner_low (sooner_moment moment timers.t200) timers.t203, sooner_low moment timers.t200)
+
+soonest_ends : (moment : ℕ) (found : Option Timers) (timers : Timers) → found ≡ Some timers → EndNoSooner (soonest moment found) timers
+soonest_ends moment None timers is = absurd (cc)
+soonest_ends moment (Some found) timers is = let same : found ≡ timers = cc in subst (EndNoSooner (soonest moment (Some found))) same (both_end moment found)
+
+-- ---- The places of a side, of which one is changed.
+
+earlier : (early late : ℕ) (timers : Timers) → early ≤ late → EndNoSooner late timers → EndNoSooner early timers
+earlier early late timers low h = λ timer deadline own runs. omega (arith, h timer deadline own runs)
+
+changed_at : (early late : ℕ) (old new : Places) (id other : LinkId) (timers : Timers) (test : Bool) → id_eq other id ≡ test → early ≤ late
+    → ((t : Timers) → placed new id ≡ Some t → EndNoSooner early t) → ((k : LinkId) → k ≢ id → placed new k ≡ placed old k)
+    → NoneEndsBefore late old → placed new other ≡ Some timers → EndNoSooner early timers
+unfolding NoneEndsBefore
+changed_at early late old new id other timers true is low own others h there = own timers (subst (λ (k : LinkId). placed new k ≡ Some timers) (same_id_eq other id is) there)
+changed_at early late old new id other timers false is low own others h there =
+    let differ : other ≢ id = λ same. absurd (false_is_true (sym is ∙ (ap (λ (k : LinkId). id_eq k id) same ∙ id_eq_self id))) in
+    earlier early late timers low (h other timers (sym (others other differ) ∙ there))
+
+changed : (early late : ℕ) (old new : Places) (id : LinkId) → early ≤ late → ((t : Timers) → placed new id ≡ Some t → EndNoSooner early t)
+    → ((k : LinkId) → k ≢ id → placed new k ≡ placed old k) → NoneEndsBefore late old → NoneEndsBefore early new
+unfolding NoneEndsBefore
+changed early late old new id low own others h = λ other timers there. changed_at early late old new id other timers (id_eq other id) refl low own others h there
+
+mapped : (P : Timers → Type 0) (f : Timers → Timers) (found : Option Timers) (timers : Timers) → ((t : Timers) → found ≡ Some t → P (f t)) → option_map f found ≡ Some timers → P timers
+mapped P f None timers h is = absurd (cc)
+mapped P f (Some t) timers h is = let same : f t ≡ timers = cc in subst P same (h t refl)
+
+pub timed_places : (moment : ℕ) (old new : Places) (id : LinkId) (found : Option Timers) → found ≡ placed new id → ((k : LinkId) → k ≢ id → placed new k ≡ placed old k)
+    → NoneEndsBefore moment old → NoneEndsBefore (soonest moment found) new
+timed_places moment old new id found is others h = changed (soonest moment found) moment old new id (soonest_low moment found) (λ t there. soonest_ends moment found t (is ∙ there)) others h
+
+pub rested_places : (moment : ℕ) (old new : Places) (id : LinkId) (rest : Timers → Lengths) → placed new id ≡ option_map (λ (t : Timers). at_rest (rest t)) (placed old id)
+    → ((k : LinkId) → k ≢ id → placed new k ≡ placed old k) → NoneEndsBefore moment old → NoneEndsBefore moment new
+rested_places moment old new id rest is others h = changed moment moment old new id (omega arith)
+    (λ t there. mapped (EndNoSooner moment) (λ (u : Timers). at_rest (rest u)) (placed old id) t (λ u was. at_rest_ends moment (rest u)) (sym is ∙ there)) others h
+
+pub stopped_places : (moment : ℕ) (old new : Places) (id : LinkId) (which : Timer) → placed new id ≡ option_map (stopped which) (placed old id)
+    → ((k : LinkId) → k ≢ id → placed new k ≡ placed old k) → NoneEndsBefore moment old → NoneEndsBefore moment new
+unfolding NoneEndsBefore
+stopped_places moment old new id which is others h = changed moment moment old new id (omega arith)
+    (λ t there. mapped (EndNoSooner moment) (stopped which) (placed old id) t (λ u was. stopped_ends moment u which (h id u was)) (sym is ∙ there)) others h
+
+-- none runs
+resting_ends : (moment : ℕ) (found : Option Timers) (timers : Timers) → IfSome found AreAtRest → found ≡ Some timers → EndNoSooner moment timers
+resting_ends moment None timers h is = absurd (cc)
+resting_ends moment (Some t) timers h is = λ timer deadline own runs.
+    let same : t ≡ timers = cc in
+    let still : deadline_of timer timers ≡ None = subst AreAtRest same h timer in
+    let k : None ≡ Some deadline = sym still ∙ runs in absurd (cc)
+
+pub new_places : (moment : ℕ) (s : Places) → ((id : LinkId) → IfSome (placed s id) AreAtRest) → NoneEndsBefore moment s
+unfolding NoneEndsBefore
+new_places moment s h = λ id timers is. resting_ends moment (placed s id) timers (h id) is
+
+pub rests : (durations : Lengths) → AreAtRest (at_rest durations)
+rests durations T200 = refl
+rests durations T201 = refl
+rests durations T202 = refl
+rests durations T203 = refl
+
+pub halted : (timers : Option Timers) → IfSome (option_map (λ (t : Timers). at_rest t.durations) timers) AreAtRest
+halted None = tt
+halted (Some timers) = rests timers.durations
+
+rest_among : (durations : Lengths) (places : List Timers) (tei : ℕ) (found : Option Timers) → places ≡ replicate 127 (at_rest durations) → slice_get places tei ≡ found → IfSome found AreAtRest
+rest_among durations places tei None all is = tt
+rest_among durations places tei (Some timers) all is =
+    let each : All AreAtRest places = subst (All AreAtRest) (sym all) (All-replicate AreAtRest 127 (at_rest durations) (rests durations)) in
+    subst AreAtRest (get_or_from_slice_get places tei timers timers is) (All-get_or AreAtRest places tei timers (slice_get_within places tei timers is) each)
+
+pub new_rest : (s : Places) (durations : Lengths) (sapi : Sapi) (tei : ℕ) → s.call.items ≡ replicate 127 (at_rest durations) → s.packet.items ≡ replicate 127 (at_rest durations)
+    → IfSome (placed s (of_sapi sapi tei)) AreAtRest
+unfolding placed
+new_rest s durations Call tei call packet = rest_among durations s.call.items tei (slice_get s.call.items tei) call refl
+new_rest s durations Packet tei call packet = rest_among durations s.packet.items tei (slice_get s.packet.items tei) packet refl
+new_rest s durations Management tei call packet = tt
+
+-- ---- The timers of both SAPIs.
+
+runs_at : (s : Places) (sapi : Sapi) (tei : ℕ) (e : Expiry) → e.of ≡ Some (of_sapi sapi tei) → Runs (of_places s) e
+    → RunsBelow Call s.call.items (length s.call.items) e ⊎ RunsBelow Packet s.packet.items (length s.packet.items) e
+unfolding placed
+runs_at s Call tei e is h =
+    let there : slice_get s.call.items tei ≡ Some h.its = sym (ap (of_places s) is) ∙ h.there in
+    inl (record { tei = tei; below = slice_get_within s.call.items tei h.its there; timers = h.its; there = there; runs = record { is_of = is; own = subst (λ (of : Option LinkId). IsTimerOf of e.timer) is h.own; until = h.until } })
+runs_at s Packet tei e is h =
+    let there : slice_get s.packet.items tei ≡ Some h.its = sym (ap (of_places s) is) ∙ h.there in
+    inr (record { tei = tei; below = slice_get_within s.packet.items tei h.its there; timers = h.its; there = there; runs = record { is_of = is; own = subst (λ (of : Option LinkId). IsTimerOf of e.timer) is h.own; until = h.until } })
+runs_at s Management tei e is h = let there : None ≡ Some h.its = sym (ap (of_places s) is) ∙ h.there in absurd (cc)
+
+runs_somewhere : (s : Places) (of : Option LinkId) (e : Expiry) → e.of ≡ of → Runs (of_places s) e
+    → RunsBelow Call s.call.items (length s.call.items) e ⊎ RunsBelow Packet s.packet.items (length s.packet.items) e
+runs_somewhere s None e is h = let there : None ≡ Some h.its = sym (ap (of_places s) is) ∙ h.there in absurd (cc)
+runs_somewhere s (Some id) e is h = runs_at s id.sapi id.tei e is h
+
+runs_call : (s : Places) (n : ℕ) (e : Expiry) → RunsBelow Call s.call.items n e → Runs (of_places s) e
+unfolding placed
+runs_call s n e h = record {
+  its = h.timers;
+  there = ap (of_places s) h.runs.is_of ∙ h.there;
+  own = subst (λ (of : Option LinkId). IsTimerOf of e.timer) (sym h.runs.is_of) h.runs.own;
+  until = h.runs.until;
+}
+
+runs_packet : (s : Places) (n : ℕ) (e : Expiry) → RunsBelow Packet s.packet.items n e → Runs (of_places s) e
+unfolding placed
+runs_packet s n e h = record {
+  its = h.timers;
+  there = ap (of_places s) h.runs.is_of ∙ h.there;
+  own = subst (λ (of : Option LinkId). IsTimerOf of e.timer) (sym h.runs.is_of) h.runs.own;
+  until = h.runs.until;
+}
+
+pub first_of_places : (s : Places) (call packet first : Option Expiry) → IsFirst (RunsBelow Call s.call.items (length s.call.items)) call
+    → IsFirst (RunsBelow Packet s.packet.items (length s.packet.items)) packet → IsSooner call packet first → IsFirst (Runs (of_places s)) first
+first_of_places s call packet first h k sooner = joined _ _ (Runs (of_places s)) call packet first
+    (λ e x. runs_somewhere s e.of e refl x) (λ e x. runs_call s _ e x) (λ e x. runs_packet s _ e x) h k sooner
+
+-- ---- The moment, and what is due.
+
+least_deadline : (A : Expiry → Type 0) (first : Option Expiry) → IsFirst A first → (e : Expiry) → A e → deadline_or_last first ≤ e.deadline
+least_deadline A None h e x = absurd (h e x)
+least_deadline A (Some a) h e x = earlier_deadline a e (h.1 e x)
+
+-- it is the least deadline
+pub moment_found : (s : Places) (first : Option Expiry) → IsFirst (Runs (of_places s)) first → NoneEndsBefore (deadline_or_last first) s
+unfolding NoneEndsBefore
+moment_found s first h = λ id timers is timer deadline own runs. least_deadline (Runs (of_places s)) first h (expiry_at id timer deadline) (record { its = timers; there = is; own = own; until = runs })
+
+no_sooner : (s : Places) (moment : ℕ) (of : Option LinkId) (e : Expiry) → NoneEndsBefore moment s → e.of ≡ of → Runs (of_places s) e → moment ≤ e.deadline
+unfolding NoneEndsBefore
+no_sooner s moment None e h is x = let there : None ≡ Some x.its = sym (ap (of_places s) is) ∙ x.there in absurd (cc)
+no_sooner s moment (Some id) e h is x = h id x.its (sym (ap (of_places s) is) ∙ x.there) e.timer e.deadline (subst (λ (of : Option LinkId). IsTimerOf of e.timer) is x.own) x.until
+
+-- before the moment none is due
+pub none_due_before : (s : Places) (moment now : ℕ) → NoneEndsBefore moment s → now < moment → IsFirst (IsPast now (of_places s)) None
+none_due_before s moment now h early e x = omega (arith, x.is_past, no_sooner s moment e.of e h refl x.runs)
+
+pub first_is_past : (now : ℕ) (timers : Option LinkId → Option Timers) (first : Option Expiry) → IsFirst (Runs timers) first → deadline_or_last first ≤ now → IsFirst (IsPast now timers) first
+first_is_past now timers None h past = λ e x. h e x.runs
+first_is_past now timers (Some a) h past = (record { runs = h.0; is_past = past }, λ e x. h.1 e x.runs)
+
+pub none_is_past : (now : ℕ) (timers : Option LinkId → Option Timers) (first : Option Expiry) → IsFirst (Runs timers) first → now < deadline_or_last first → IsFirst (IsPast now timers) None
+none_is_past now timers first h later = λ e x. omega (arith, x.is_past, least_deadline (Runs timers) first h e x.runs)
+
+pub own_timer : (now : ℕ) (timers : Option LinkId → Option Timers) (first : Option Expiry) → IsFirst (IsPast now timers) first → IfSome first (λ e. IsTimerOf e.of e.timer)
+own_timer now timers None h = tt
+own_timer now timers (Some e) h = h.0.runs.own
+
+pub sooner_own : (P : Expiry → Type 0) (a b c : Option Expiry) → IfSome a P → IfSome b P → IsSooner a b c → IfSome c P
+sooner_own P None b c h k is = subst (λ x. IfSome x P) (sym is) k
+sooner_own P (Some a) None c h k is = subst (λ x. IfSome x P) (sym is) h
+sooner_own P (Some a) (Some b) c h k (inl is) = subst (λ x. IfSome x P) (sym is.0) h
+sooner_own P (Some a) (Some b) c h k (inr is) = subst (λ x. IfSome x P) (sym is.0) k
+
+-- ---- TEI management beside the links.
+
+past_over : (now : ℕ) (A B : Option LinkId → Option Timers) (e : Expiry) → ((its : Timers) → A e.of ≡ Some its → deadline_of e.timer its ≡ Some e.deadline → B e.of ≡ Some its) → IsPast now A e → IsPast now B e
+past_over now A B e there h = record { runs = record { its = h.runs.its; there = there h.runs.its h.runs.there h.runs.until; own = h.runs.own; until = h.runs.until }; is_past = h.is_past }
+
+-- the same timers run, link by link
+pub same_past : (now : ℕ) (A B : Option LinkId → Option Timers) (first : Option Expiry)
+    → ((of : Option LinkId) (its : Timers) (timer : Timer) (deadline : ℕ) → A of ≡ Some its → deadline_of timer its ≡ Some deadline → B of ≡ Some its)
+    → ((of : Option LinkId) (its : Timers) (timer : Timer) (deadline : ℕ) → B of ≡ Some its → deadline_of timer its ≡ Some deadline → A of ≡ Some its)
+    → IsFirst (IsPast now A) first → IsFirst (IsPast now B) first
+same_past now A B first there back h = same_first (IsPast now A) (IsPast now B) first
+    (λ e x. past_over now A B e (λ its is until. there e.of its e.timer e.deadline is until) x)
+    (λ e x. past_over now B A e (λ its is until. back e.of its e.timer e.deadline is until) x) h
+
+served_at : (now : ℕ) (s : Served) (of : Option LinkId) (e : Expiry) → e.of ≡ of → IsPast now (of_served s) e → IsPast now (of_management s.timers) e ⊎ IsPast now (of_links s.links) e
+served_at now s None e is h = inl (past_over now _ _ e (λ its there until. ap (of_management s.timers) is ∙ (sym (ap (of_served s) is) ∙ there)) h)
+served_at now s (Some id) e is h = inr (past_over now _ _ e (λ its there until. ap (of_links s.links) is ∙ (sym (ap (of_served s) is) ∙ there)) h)
+
+from_management : (s : Served) (of : Option LinkId) (its : Timers) → of_management s.timers of ≡ Some its → of_served s of ≡ Some its
+from_management s None its is = is
+from_management s (Some id) its is = absurd (cc)
+
+from_links : (s : Served) (of : Option LinkId) (its : Timers) → of_links s.links of ≡ Some its → of_served s of ≡ Some its
+from_links s None its is = absurd (cc)
+from_links s (Some id) its is = is
+
+pub first_of_served : (now : ℕ) (s : Served) (own link first : Option Expiry) → IsFirst (IsPast now (of_management s.timers)) own → IsFirst (IsPast now (of_links s.links)) link → IsSooner own link first → IsDue now s first
+first_of_served now s own link first h k sooner = joined _ _ (IsPast now (of_served s)) own link first (λ e x. served_at now s e.of e refl x)
+    (λ e x. past_over now _ _ e (λ its is until. from_management s e.of its is) x)
+    (λ e x. past_over now _ _ e (λ its is until. from_links s e.of its is) x) h k sooner
+
+-- ---- TEI management alone.
+
+expired_at : (now : ℕ) (timers : Timers) (of : Option LinkId) (e : Expiry) → e.of ≡ of → IsPast now (of_management timers) e → deadline_of e.timer timers ≡ Some e.deadline
+expired_at now timers None e is h =
+    let there : Some timers ≡ Some h.runs.its = sym (ap (of_management timers) is) ∙ h.runs.there in
+    let same : h.runs.its ≡ timers = cc in
+    subst (λ (t : Timers). deadline_of e.timer t ≡ Some e.deadline) same h.runs.until
+expired_at now timers (Some id) e is h = let there : None ≡ Some h.runs.its = sym (ap (of_management timers) is) ∙ h.runs.there in absurd (cc)
+
+none_of_all : (now : ℕ) (timers : Timers) → due.IsLeast (due.HasExpired now timers) None → IsFirst (IsPast now (of_management timers)) None
+none_of_all now timers h = λ e x. h (record { deadline = e.deadline; timer = e.timer }) (record { runs = expired_at now timers e.of e refl x; is_past = x.is_past })
+
+pub none_of_management : (now : ℕ) (timers : Timers) → due.IsDue now timers None → IsFirst (IsPast now (of_management timers)) None
+none_of_management now timers h = (elim (h.least) as (λ o. None ≡ due.timer_of o → due.IsLeast (due.HasExpired now timers) o → IsFirst (IsPast now (of_management timers)) None) [
+  | None ↦ λ is k. none_of_all now timers k
+  | Some p ↦ λ is k. absurd (cc)
+]) h.is_its h.is_least
+
+no_later : (deadline : ℕ) (timer : Timer) (other : Expiry) → (deadline < other.deadline) ⊎ ((deadline ≡ other.deadline) × (due.place timer ≤ due.place other.timer))
+    → IsNoLater (record { deadline = deadline; timer = timer; of = None }) other
+no_later deadline timer other (inl less) = inl less
+no_later deadline timer other (inr same) = elim (cases_lt (due.place timer) (due.place other.timer)) [
+  | inl less ↦ inr (same.0, inl less)
+  | inr late ↦ inr (same.0, inr (omega (arith, same.1), tt))
+]
+
+pub due_of_management : (now : ℕ) (timers : Timers) (timer : Timer) (deadline : ℕ) → due.IsDue now timers (Some timer) → deadline_of timer timers ≡ Some deadline
+    → IsFirst (IsPast now (of_management timers)) (Some (record { deadline = deadline; timer = timer; of = None }))
+due_of_management now timers timer deadline h runs = (elim (h.least) as (λ o. Some timer ≡ due.timer_of o → due.IsLeast (due.HasExpired now timers) o → IsFirst (IsPast now (of_management timers)) (Some (record { deadline = deadline; timer = timer; of = None }))) [
+  | None ↦ λ is k. absurd (cc)
+  | Some p ↦ λ is k.
+      let same : timer ≡ p.timer = cc in
+      let its : Some deadline ≡ Some p.deadline = sym runs ∙ (ap (λ (t : Timer). deadline_of t timers) same ∙ k.0.runs) in
+      let when : p.deadline ≡ deadline = cc in (
+        record { runs = record { its = timers; there = refl; own = tt; until = runs }; is_past = omega (arith, when, k.0.is_past) },
+        λ other x. no_later deadline timer other
+            (subst (λ (d : ℕ). (d < other.deadline) ⊎ ((d ≡ other.deadline) × (due.place timer ≤ due.place other.timer))) when
+            (subst (λ (t : Timer). (p.deadline < other.deadline) ⊎ ((p.deadline ≡ other.deadline) × (due.place t ≤ due.place other.timer))) (sym same)
+            (k.1 (record { deadline = other.deadline; timer = other.timer }) (record { runs = expired_at now timers other.of other refl x; is_past = x.is_past })))),
+      )
+]) h.is_its h.is_least

@@ -1,0 +1,6 @@
+pub mod Effects
+pub mod Expiries
+pub mod Links
+pub mod Shown
+pub mod Places
+pub mod Placed

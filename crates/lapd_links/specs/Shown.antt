@@ -1,0 +1,45 @@
+-- How the links of a side in code show those of the definition.
+use Rattle.std.specs.Prelude.{◌≡◌, Option, Some, None, IfSome, Result, Ok}
+use Rattle.lapd_timers.specs.Due.{Timers}
+use Rattle.lapd_frame.specs.declared.Side.{Side}
+use Rattle.lapd_link.specs.Link.{LinkStandsFor}
+use Rattle.lapd_link.specs.declared.link.Link.{Link}
+use Rattle.lapd_states.specs.End.{End}
+use Rattle.lapd_table.specs.declared.link_id.LinkId.{LinkId}
+use Rattle.lapd_table.specs.declared.link_table.LinkTable.{LinkTable}
+use Rattle.lapd_table.specs.LinkTable.{side_of, link_at}
+use Rattle.lapd_links.specs.declared.links.LinkSet.{LinkSet}
+use Rattle.lapd_links.specs.declared.timings.Timings.{Timings}
+use Rattle.lapd_links.specs.declared.side_fault.SideKind.{SideKind}
+use Rattle.lapd_links.specs.Effects.{Effects, and_then}
+use Rattle.lapd_links.specs.Links.{Links, Linked, Acted}
+use Rattle.lapd_links.specs.Places.{AreAtRest}
+use Rattle.lapd_links.specs.Placed.{placed}
+
+-- the timers at the place of a link, be it there or not
+abbrev pub timers_at : Timings → LinkId → Option Timers
+timers_at s id = placed s.places id
+
+-- the link of this name is there, and stands for this end
+pub record StandsAt (table : LinkTable) (id : LinkId) (e : End) : Type 0 where
+  pub link : Link
+  pub there : link_at table id ≡ Some link
+  pub stands : LinkStandsFor link e
+
+-- a link with its timers; or no link, and no timer that runs in its place
+abbrev pub IsLinked : Option Link → Option Timers → Option Linked → Type 0
+IsLinked None timers None = IfSome timers AreAtRest
+IsLinked (Some link) (Some timers) (Some l) = LinkStandsFor link l.end × (timers ≡ l.timers)
+IsLinked link timers l = ⊥
+
+-- The links that are there stand for those of the definition, and so do their timers.
+pub record ShowLinks (side : Side) (s : LinkSet) (links : Links) : Type 0 where
+  pub of_side : side_of s.table ≡ side
+  pub each : (id : LinkId) → IsLinked (link_at s.table id) (timers_at s.timings id) (links id)
+
+-- A step has been done: it came to this, the links show what it leaves, and what it gives stands behind what was there.
+pub record HaveActed (side : Side) (s : LinkSet) (before after : Effects) (outcome : Result (Acted Links) SideKind) : Type 0 where
+  pub acted : Acted Links
+  pub is : outcome ≡ Ok acted
+  pub shown : ShowLinks side s acted.after
+  pub given : after ≡ and_then before acted.effects

@@ -1,0 +1,125 @@
+//! Where the timers of the links of a side stand.
+
+ghost use Rattle.std.specs.Prelude.{◌≡◌, ◌≢◌, ◌<◌, Some, option_map, option_copied, IfOk, IfSome};
+ghost use Rattle.lapd_timers.specs.Due.{at_rest};
+ghost use Rattle.lapd_table.specs.declared.link_id.LinkId.{LinkId};
+ghost use Rattle.lapd_links.specs.Effects.{timed, stopped};
+ghost use Rattle.lapd_links.specs.Expiries.{IsFirst, Runs};
+ghost use Rattle.lapd_links.specs.Places.{HasPlaces, AreAtRest};
+
+use crate::Expiry;
+use crate::expiry::sooner;
+use crate::firsts::first_in;
+use crate::telling::time;
+use lapd_link::{Out, Sapi};
+use lapd_table::LinkId;
+use lapd_timers::{Durations, Timer, TimerSet};
+use std::alloc::{AllocError, Global};
+
+/// A place for the timers of each link of SAPI 0 and of SAPI 16, by TEI, be the link there or not.
+#[derive(Drop)]
+pub struct Places {
+    call: Vec<TimerSet>,
+    packet: Vec<TimerSet>,
+    ghost room: { HasPlaces call.items packet.items },
+}
+
+#[tactic(auto, unfolding(crate::specs::Placed::placed))]
+impl Places {
+    ghost use Rattle.lapd_links.specs.Placed.{placed, of_places};
+
+    /// No timer runs. The room for all is taken here.
+    ///
+    /// # Errors
+    ///
+    /// `AllocError` where memory was refused.
+    pub fn new(alloc: Global, durations: Durations) -> Result<Places, AllocError>
+        ensures { IfOk result (λ s. (id : LinkId) → IfSome (placed s id) AreAtRest) }
+    {
+        Ok(Places {
+            call: Vec::from_array(alloc, [TimerSet::new(durations); 127])?,
+            packet: Vec::from_array(alloc, [TimerSet::new(durations); 127])?,
+        })
+    }
+
+    /// No timer of one link runs any more.
+    pub fn rest(&mut self, id: &LinkId, durations: Durations)
+        ensures own { id.now.sapi ≢ Sapi.Management → id.now.tei < 127 → placed self.new id.now ≡ Some (at_rest durations) }
+        ensures rests { placed self.new id.now ≡ option_map (λ _. at_rest durations) (placed self.old id.now) }
+        ensures others { (other : LinkId) → other ≢ id.now → placed self.new other ≡ placed self.old other }
+    {
+        let tei = usize::from(id.tei.value());
+        match id.sapi {
+            Sapi::Call if tei < self.call.len() => self.call[tei] = TimerSet::new(durations),
+            Sapi::Packet if tei < self.packet.len() => self.packet[tei] = TimerSet::new(durations),
+            _ => {}
+        }
+    }
+
+    /// Stops all timers of one link.
+    pub fn halt(&mut self, id: &LinkId)
+        ensures own { placed self.new id.now ≡ option_map (λ timers. at_rest timers.durations) (placed self.old id.now) }
+        ensures others { (other : LinkId) → other ≢ id.now → placed self.new other ≡ placed self.old other }
+    {
+        let tei = usize::from(id.tei.value());
+        match id.sapi {
+            Sapi::Call if tei < self.call.len() => halt(&mut self.call[tei]),
+            Sapi::Packet if tei < self.packet.len() => halt(&mut self.packet[tei]),
+            _ => {}
+        }
+    }
+
+    /// Those of the link with this name; none where there is no place for them.
+    pub fn get(&self, id: &LinkId) -> Option<&TimerSet>
+        ensures { option_copied result ≡ placed self.now id.now }
+    {
+        let tei = usize::from(id.tei.value());
+        match id.sapi {
+            Sapi::Call => self.call.get(tei),
+            Sapi::Packet => self.packet.get(tei),
+            Sapi::Management => None,
+        }
+    }
+
+    /// Starts and stops those of one link as these outputs say.
+    pub fn time(&mut self, id: &LinkId, outs: &[Out], now: u64)
+        ensures own { placed self.new id.now ≡ option_map (timed now outs.now) (placed self.old id.now) }
+        ensures others { (other : LinkId) → other ≢ id.now → placed self.new other ≡ placed self.old other }
+    {
+        let tei = usize::from(id.tei.value());
+        match id.sapi {
+            Sapi::Call if tei < self.call.len() => time(&mut self.call[tei], outs, now),
+            Sapi::Packet if tei < self.packet.len() => time(&mut self.packet[tei], outs, now),
+            _ => {}
+        }
+    }
+
+    /// Stops a timer of one link.
+    pub fn stop(&mut self, id: &LinkId, timer: Timer)
+        ensures own { placed self.new id.now ≡ option_map (stopped timer) (placed self.old id.now) }
+        ensures others { (other : LinkId) → other ≢ id.now → placed self.new other ≡ placed self.old other }
+    {
+        let tei = usize::from(id.tei.value());
+        match id.sapi {
+            Sapi::Call if tei < self.call.len() => self.call[tei].stop(timer),
+            Sapi::Packet if tei < self.packet.len() => self.packet[tei].stop(timer),
+            _ => {}
+        }
+    }
+
+    /// The first of all T200 and T203 that run.
+    pub fn first(&self) -> Option<Expiry>
+        ensures { IsFirst (Runs (of_places self.now)) result }
+    {
+        let call = first_in(Sapi::Call, &self.call);
+        let packet = first_in(Sapi::Packet, &self.packet);
+        sooner(call, packet)
+    }
+}
+
+/// Stops all timers.
+fn halt(timers: &mut TimerSet)
+    ensures { timers.new ≡ at_rest timers.old.durations }
+{
+    *timers = TimerSet::new(timers.durations());
+}

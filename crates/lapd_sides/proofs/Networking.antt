@@ -1,0 +1,106 @@
+-- What the steps of a network side come to.
+use Rattle.std.proofs.Common.{◌≡◌, ℕ, List, length, Bool, false, Option, Some, None, Result, Ok, Err, sym, ap, subst, ◌∙◌}
+use Rattle.std.specs.Prelude.{OnOk, OnErr, IfErr, ◌&&◌, ◌==◌, if◌then◌else◌}
+use Rattle.lapd_states.specs.Input.{UnitData}
+use Rattle.lapd_timers.specs.Due.{Timers}
+use Rattle.lapd_frame.specs.declared.Side.TheVariants as side
+use Rattle.lapd_tei.specs.declared.assigner.AssignerEvent.{AssignerEvent}
+use Rattle.lapd_tei.specs.declared.out.TeiOut.{TeiOut}
+use Rattle.lapd_tei.specs.Assigner.{assigner_step}
+use Rattle.lapd_tei.specs.Message.{group_tei}
+use Rattle.lapd_tei.specs.Out.{tei_given}
+use Rattle.lapd_links.specs.declared.config.Config.{Config}
+use Rattle.lapd_table.specs.declared.link_id.LinkId.{LinkId}
+use Rattle.lapd_links.specs.declared.expiry.Expiry.{Expiry}
+use Rattle.lapd_sides.specs.declared.net_side.NetSide.{NetSide}
+use Rattle.lapd_sides.specs.declared.served.LinksAndTimer.{LinksAndTimer}
+use Rattle.lapd_links.specs.declared.side_fault.SideKind.{SideKind}
+use Rattle.lapd_links.specs.Effects.{Effects, no_effects}
+use Rattle.lapd_links.specs.Expiries.{IsDue}
+use Rattle.lapd_links.specs.Links.{Links, Acted, is_served}
+use Rattle.lapd_sides.specs.Management.{links_with, manages}
+use Rattle.lapd_links.specs.Links.{Served}
+use Rattle.lapd_sides.specs.Network.{Network, link_of_network, unit_requested, unit_to_group, network_expires, assigner_acts, among_links, or_discarded}
+use Rattle.lapd_links.specs.Shown.{ShowLinks, HaveActed}
+use Rattle.lapd_sides.specs.Shows.{ShowServed, HaveServed}
+use Rattle.lapd_sides.specs.ShowsNetwork.{ShowNetwork, HasDone, HasGranted, HasExpired}
+
+-- ---- TEI management.
+
+pub assigned_so : (code : NetSide) (config : Config) (now : ℕ) (event : AssignerEvent) (s : Network) (outs : List TeiOut) (acts : Effects) → code.config ≡ config
+    → outs ≡ (assigner_step s.assigner event).outs → code.assigner ≡ (assigner_step s.assigner event).now
+    → HaveServed side.Network code.served acts (manages side.Network config now outs s.served) → HasDone code config acts (assigner_acts config now event s)
+unfolding assigner_acts
+assigned_so code config now event s outs acts configured same assigner done =
+    let served = subst (λ (o : List TeiOut). HaveServed side.Network code.served acts (manages side.Network config now o s.served)) same done in
+    record { shown = record { configured = configured; served = served.shown; assigner = assigner }; given = served.given }
+
+-- where no TEI is given, the links are as they were
+pub none_given : (code : LinksAndTimer) (config : Config) (outs : List TeiOut) (s : Served) → tei_given outs ≡ None → ShowServed side.Network code s → ShowServed side.Network code (record s { links = links_with config (tei_given outs) s.links })
+none_given code config outs s none shown = subst (λ (t : Option ℕ). ShowServed side.Network code (record s { links = links_with config t s.links })) (sym none) shown
+
+-- ---- A link.
+
+pub granted : (code : NetSide) (config : Config) (s : Network) (before acts : Effects) (outcome : Result (Acted Links) SideKind) → code.config ≡ config → code.assigner ≡ s.assigner → code.served.timers ≡ s.served.timers
+    → before ≡ no_effects → HaveActed side.Network code.served.links before acts outcome → HasGranted code config acts (among_links s outcome)
+granted code config s before acts outcome configured assigner timers empty h =
+    let done = subst (λ (e : Effects). HaveActed side.Network code.served.links e acts outcome) empty h in
+    record {
+      acted = _;
+      is = ap (among_links s) done.is;
+      done = record { shown = record { configured = configured; served = record { links = done.shown; timers = timers }; assigner = assigner }; given = done.given };
+    }
+
+pub kept : (code : NetSide) (config : Config) (s : Network) → code.config ≡ config → code.assigner ≡ s.assigner → code.served.timers ≡ s.served.timers → ShowLinks side.Network code.served.links s.served.links → ShowNetwork code config s
+kept code config s configured assigner timers shown = record { configured = configured; served = record { links = shown; timers = timers }; assigner = assigner }
+
+granted_is_done : (code : NetSide) (config : Config) (s : Network) (acts : Effects) (outcome : Result (Acted Network) SideKind) → HasGranted code config acts outcome → HasDone code config acts (or_discarded s outcome)
+granted_is_done code config s acts outcome h = subst (λ (o : Result (Acted Network) SideKind). HasDone code config acts (or_discarded s o)) (sym h.is) h.done
+
+pub granted_as : (code : NetSide) (config : Config) (acts : Effects) (outcome same : Result (Acted Network) SideKind) → same ≡ outcome → HasGranted code config acts outcome → HasGranted code config acts same
+granted_as code config acts outcome same is h = subst (HasGranted code config acts) (sym is) h
+
+-- what a link does, or nothing where it refuses or is not there
+pub done_or_discarded : (result : Result (Unit {0}) SideKind) (code : NetSide) (config : Config) (s : Network) (before acts : Effects) (outcome : Result (Acted Links) SideKind)
+    → code.config ≡ config → code.assigner ≡ s.assigner → code.served.timers ≡ s.served.timers → before ≡ no_effects
+    → OnOk result (HaveActed side.Network code.served.links before acts outcome) → IfErr result (λ k. outcome ≡ Err k) → OnErr result (ShowLinks side.Network code.served.links s.served.links) → OnErr result (acts ≡ before)
+    → HasDone code config acts (or_discarded s (among_links s outcome))
+done_or_discarded (Ok u) code config s before acts outcome configured assigner timers empty ok err shown nothing = granted_is_done code config s acts (among_links s outcome) (granted code config s before acts outcome configured assigner timers empty ok)
+done_or_discarded (Err k) code config s before acts outcome configured assigner timers empty ok err shown nothing =
+    subst (λ (o : Result (Acted Links) SideKind). HasDone code config acts (or_discarded s (among_links s o))) (sym err) (record { shown = kept code config s configured assigner timers shown; given = nothing ∙ empty })
+
+-- unit data that is not for all terminals is for a link
+pub not_to_group : (own config : Config) (now : ℕ) (id : LinkId) (octets : List ℕ) (s : Network) (test : Bool) → test ≡ (is_served own id.sapi && (id.tei == group_tei)) → test ≡ false → own ≡ config
+    → unit_requested config now id octets s ≡ link_of_network now id (UnitData (length octets)) octets s
+not_to_group own config now id octets s test is fails same =
+    ap (λ (b : Bool). if b then unit_to_group id.sapi octets s else link_of_network now id (UnitData (length octets)) octets s) (ap (λ (k : Config). is_served k id.sapi && (id.tei == group_tei)) (sym same) ∙ sym is ∙ fails)
+
+-- ---- What is due.
+
+pub due_so : (now : ℕ) (s : Served) (timers : Timers) (result e : Option Expiry) → timers ≡ s.timers → result ≡ e → IsDue now (record { links = s.links; timers = timers }) result → IsDue now s e
+due_so now s timers result e same is due = subst (λ (t : Timers). IsDue now (record { links = s.links; timers = t }) e) same (subst (IsDue now (record { links = s.links; timers = timers })) is due)
+
+pub expired_so : (code : NetSide) (config : Config) (acts : Effects) (now : ℕ) (s : Network) (e : Expiry) (of : Option LinkId) → IsDue now s.served (Some e) → e.of ≡ of → HasDone code config acts (network_expires config now e.timer of s) → HasExpired code config acts now s
+expired_so code config acts now s e of due is done = record {
+  expiry = e;
+  due = due;
+  done = subst (λ (o : Option LinkId). HasDone code config acts (network_expires config now e.timer o s)) (sym is) done;
+}
+
+-- ---- What holds of an answer holds as what follows from it.
+
+pub ok_then : {A E : Type 0} (result : Result A E) (P Q : Type 0) → (P → Q) → OnOk result P → OnOk result Q
+ok_then (Ok a) P Q f p = f p
+ok_then (Err e) P Q f p = tt
+
+pub on_err : {A E : Type 0} (result : Result A E) (P : Type 0) → P → OnErr result P
+on_err (Ok a) P p = tt
+on_err (Err e) P p = p
+
+pub err_then : {A E : Type 0} (result : Result A E) (P Q : Type 0) → (P → Q) → OnErr result P → OnErr result Q
+err_then (Ok a) P Q f p = tt
+err_then (Err e) P Q f p = f p
+
+pub err_each : {A E : Type 0} (result : Result A E) (P Q : E → Type 0) → ((e : E) → P e → Q e) → IfErr result P → IfErr result Q
+err_each (Ok a) P Q f p = tt
+err_each (Err e) P Q f p = f e p

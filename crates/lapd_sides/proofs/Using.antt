@@ -1,0 +1,349 @@
+-- What the steps of a user side come to.
+use Rattle.std.proofs.Common.{◌≡◌, ℕ, List, [], Option, Some, None, Result, Ok, Err, refl, sym, ap, subst, ◌∙◌, ◌<◌, ◌∷◌, length, get_or, drop, suc, append_assoc}
+use Rattle.std.proofs.lemmas.List.{append-nil}
+use Rattle.std.proofs.Math.Seq.{drop-cons}
+use Rattle.std.specs.Prelude.{Bool, true, false, nat_lt, if◌then◌else◌, OnOk, OnErr, IfErr}
+use Rattle.rand_pcg.specs.Pcg.{pcg32}
+use Rattle.lapd_frame.specs.declared.Sapi.{Sapi}
+use Rattle.lapd_frame.specs.declared.Sapi.TheVariants as sapi
+use Rattle.lapd_frame.specs.declared.Side.{Side}
+use Rattle.lapd_frame.specs.declared.Side.TheVariants as side
+use Rattle.lapd_frame.specs.declared.Address.{Address}
+use Rattle.lapd_frame.specs.declared.fault_kind.FaultKind.{FaultKind}
+use Rattle.lapd_frame.specs.Frame.{Fields}
+use Rattle.lapd_states.specs.Input.{Input, Faulty, Heard}
+use Rattle.lapd_timers.specs.Due.{Timers, at_rest}
+use Rattle.lapd_tei.specs.declared.out.TeiOut.{TeiOut}
+use Rattle.lapd_tei.specs.declared.phase.Phase.{Phase}
+use Rattle.lapd_tei.specs.declared.phase.Phase.TheVariants.{Unassigned, Awaiting, Assigned}
+use Rattle.lapd_tei.specs.declared.terminal.TerminalEvent.{TerminalEvent}
+use Rattle.lapd_tei.specs.declared.terminal.TerminalEvent.TheVariants as event
+use Rattle.lapd_tei.specs.Terminal.{TerminalStep, terminal_step, tei_of, n202}
+use Rattle.lapd_tei.specs.Message.{group_tei}
+use Rattle.lapd_tei.specs.Out.{tei_given}
+use Rattle.lapd_table.specs.declared.link_id.LinkId.{LinkId}
+use Rattle.lapd_table.specs.LinkId.{id_of_address}
+use Rattle.lapd_links.specs.declared.config.Config.{Config}
+use Rattle.lapd_links.specs.declared.expiry.Expiry.{Expiry}
+use Rattle.lapd_links.specs.declared.links.LinkSet.{LinkSet}
+use Rattle.lapd_links.specs.declared.primitive.Primitive.TheVariants.{Of}
+use Rattle.lapd_links.specs.declared.primitive.What.TheVariants as what
+use Rattle.lapd_sides.specs.declared.served.LinksAndTimer.{LinksAndTimer}
+use Rattle.lapd_sides.specs.declared.user_side.UserSide.{UserSide}
+use Rattle.lapd_sides.specs.declared.request.Request.{Request}
+use Rattle.lapd_links.specs.declared.side_fault.SideFault.{SideFault}
+use Rattle.lapd_links.specs.declared.side_fault.SideKind.{SideKind}
+use Rattle.lapd_links.specs.declared.side_fault.SideKind.TheVariants.{NoLink}
+use Rattle.lapd_links.specs.Expiries.{IsDue}
+use Rattle.lapd_links.specs.Effects.{Effects, no_effects, and_then}
+use Rattle.lapd_links.specs.Links.{Links, Acted, is_served, in_links, link_acts, of_sapi, no_links, with_tei}
+use Rattle.lapd_sides.specs.Management.{links_with, manages}
+use Rattle.lapd_sides.specs.User.{User, Kept, nothing_kept, among_links, or_discarded, next, link_of_user, with_tei_or, establishes, establishes_kept, terminal_acts, assigned, kept_after, fault_heard, for_layer_3, data_heard, unit_from_group, user_expires, user_requested, wants, keeps, is_kept, forgets, sends_message, next_reference, advanced, drawn, links_of_fixed}
+use Rattle.lapd_sides.specs.Requests.{message_of}
+use Rattle.lapd_links.specs.Shown.{ShowLinks, HaveActed}
+use Rattle.lapd_sides.specs.Shows.{ShowServed, HaveServed}
+use Rattle.lapd_sides.specs.ShowsUser.{ShowUser, ShowReferences, HasDone, HasFollowed, HasGranted, HasExpired, admitted}
+
+-- the side with its links after a step
+abbrev pub relinked : UserSide → LinkSet → UserSide
+relinked code links = record code { served = record code.served { links = links } }
+
+-- ---- A link.
+
+pub reshown : (code : UserSide) (links : LinkSet) (config : Config) (s : User) (shown : Links) → ShowUser code config s → ShowLinks side.User links shown
+    → ShowUser (relinked code links) config (record s { served = record { links = shown; timers = s.served.timers } })
+reshown code links config s shown h l = record { configured = h.configured; served = record { links = l; timers = h.served.timers }; terminal = h.terminal; kept = h.kept; random = h.random }
+
+granted : (code : UserSide) (links : LinkSet) (config : Config) (s : User) (before acts : Effects) (outcome : Result (Acted Links) SideKind) → ShowUser code config s
+    → before ≡ no_effects → HaveActed side.User links before acts outcome → HasGranted (relinked code links) config acts (among_links s outcome)
+granted code links config s before acts outcome shown empty h =
+    let done = subst (λ (e : Effects). HaveActed side.User links e acts outcome) empty h in
+    record { acted = _; is = ap (among_links s) done.is; done = record { shown = reshown code links config s done.acted.after shown done.shown; given = done.given } }
+
+pub link_granted : (code : UserSide) (links : LinkSet) (config : Config) (s : User) (before acts : Effects) (now : ℕ) (id : LinkId) (input : Input) (octets : List ℕ) → ShowUser code config s
+    → before ≡ no_effects → HaveActed side.User links before acts (in_links id (link_acts side.User id now input octets) s.served.links) → HasGranted (relinked code links) config acts (link_of_user now id input octets s)
+unfolding link_of_user
+link_granted code links config s before acts now id input octets shown empty h = granted code links config s before acts (in_links id (link_acts side.User id now input octets) s.served.links) shown empty h
+
+pub link_refused : (s : User) (now : ℕ) (id : LinkId) (input : Input) (octets : List ℕ) (kind : SideKind) → in_links id (link_acts side.User id now input octets) s.served.links ≡ Err kind → link_of_user now id input octets s ≡ Err kind
+unfolding link_of_user
+link_refused s now id input octets kind h = ap (among_links s) h
+
+pub links_kept : (code : UserSide) (links : LinkSet) (config : Config) (s : User) → ShowUser code config s → ShowLinks side.User links s.served.links → ShowUser (relinked code links) config s
+links_kept code links config s shown l = reshown code links config s s.served.links shown l
+
+-- one after another
+in_turn : (before e f : Effects) → and_then (and_then before e) f ≡ and_then before (and_then e f)
+in_turn before e f = rw (append_assoc before.frames e.frames f.frames, append_assoc before.primitives e.primitives f.primitives) refl
+
+-- nothing behind what was there
+behind : (e : Effects) → e ≡ and_then e no_effects
+behind e = rw (append-nil e.frames, append-nil e.primitives) refl
+
+granted_follows : (code : UserSide) (links : LinkSet) (config : Config) (s : User) (before acts : Effects) (outcome : Result (Acted Links) SideKind) → ShowUser code config s
+    → HaveActed side.User links before acts outcome → HasFollowed (relinked code links) config before acts (or_discarded s (among_links s outcome))
+granted_follows code links config s before acts outcome shown done =
+    subst (λ (o : Result (Acted Links) SideKind). HasFollowed (relinked code links) config before acts (or_discarded s (among_links s o))) (sym done.is)
+    (record { shown = reshown code links config s done.acted.after shown done.shown; given = done.given })
+
+-- what a link does, or nothing where it refuses or is not there
+follows : (result : Result (Unit {0}) SideKind) (code : UserSide) (links : LinkSet) (config : Config) (s : User) (before acts : Effects) (outcome : Result (Acted Links) SideKind) → ShowUser code config s
+    → OnOk result (HaveActed side.User links before acts outcome) → IfErr result (λ k. outcome ≡ Err k) → OnErr result (ShowLinks side.User links s.served.links) → OnErr result (acts ≡ before)
+    → HasFollowed (relinked code links) config before acts (or_discarded s (among_links s outcome))
+follows (Ok u) code links config s before acts outcome shown ok err same nothing = granted_follows code links config s before acts outcome shown ok
+follows (Err k) code links config s before acts outcome shown ok err same nothing =
+    subst (λ (o : Result (Acted Links) SideKind). HasFollowed (relinked code links) config before acts (or_discarded s (among_links s o))) (sym err)
+    (record { shown = links_kept code links config s shown same; given = nothing ∙ behind before })
+
+-- what the calls of a link set answer, at the links that are shown
+pub step_follows : (result : Result (Unit {0}) SideKind) (code : UserSide) (links : LinkSet) (config : Config) (s : User) (before acts : Effects) (does : Side → Links → Result (Acted Links) SideKind) → ShowUser code config s
+    → OnOk result ((at : Side) (l : Links) → ShowLinks at code.served.links l → HaveActed at links before acts (does at l))
+    → IfErr result (λ k. (at : Side) (l : Links) → ShowLinks at code.served.links l → does at l ≡ Err k)
+    → OnErr result ((at : Side) (l : Links) → ShowLinks at code.served.links l → ShowLinks at links l) → OnErr result (acts ≡ before)
+    → HasFollowed (relinked code links) config before acts (or_discarded s (among_links s (does side.User s.served.links)))
+step_follows (Ok u) code links config s before acts does shown ok err same nothing = granted_follows code links config s before acts (does side.User s.served.links) shown (ok side.User s.served.links shown.served.links)
+step_follows (Err k) code links config s before acts does shown ok err same nothing =
+    subst (λ (o : Result (Acted Links) SideKind). HasFollowed (relinked code links) config before acts (or_discarded s (among_links s o))) (sym (err side.User s.served.links shown.served.links))
+    (record { shown = links_kept code links config s shown (same side.User s.served.links shown.served.links); given = nothing ∙ behind before })
+
+-- behind nothing
+pub done_first : (code : UserSide) (config : Config) (before acts : Effects) (a : Acted User) → before ≡ no_effects → HasFollowed code config before acts a → HasDone code config acts a
+done_first code config before acts a empty h = record { shown = h.shown; given = h.given ∙ ap (λ (e : Effects). and_then e a.effects) empty }
+
+-- ---- The terminal's own TEI.
+
+-- the link of the terminal's own TEI was looked for, and there is one
+pub record IsOwn (code : UserSide) (found : Option ℕ) (tei : ℕ) (sapi : Sapi) (id : LinkId) : Type 0 where
+  pub of : found ≡ tei_of code.terminal
+  pub is : found ≡ Some tei
+  pub named : id ≡ of_sapi sapi tei
+
+own_link : (phase : Phase) (tei now : ℕ) (sapi : Sapi) (input : Input) (octets : List ℕ) (otherwise : Result (Acted User) SideKind) (s : User) → tei_of phase ≡ Some tei
+    → with_tei_or now phase sapi input octets otherwise s ≡ link_of_user now (of_sapi sapi tei) input octets s
+own_link Unassigned tei now sapi input octets otherwise s h = absurd (cc)
+own_link (Awaiting purpose count ri) tei now sapi input octets otherwise s h = absurd (cc)
+own_link (Assigned by own) tei now sapi input octets otherwise s h = let e : own ≡ tei = cc in rw e refl
+
+no_own_link : (phase : Phase) (now : ℕ) (sapi : Sapi) (input : Input) (octets : List ℕ) (otherwise : Result (Acted User) SideKind) (s : User) → tei_of phase ≡ None
+    → with_tei_or now phase sapi input octets otherwise s ≡ otherwise
+no_own_link Unassigned now sapi input octets otherwise s h = refl
+no_own_link (Awaiting purpose count ri) now sapi input octets otherwise s h = refl
+no_own_link (Assigned by own) now sapi input octets otherwise s h = absurd (cc)
+
+-- with a TEI the link does it
+pub is_own : (code : UserSide) (config : Config) (s : User) (found : Option ℕ) (tei now : ℕ) (sapi : Sapi) (id : LinkId) (input : Input) (octets : List ℕ) (otherwise : Result (Acted User) SideKind) → ShowUser code config s
+    → IsOwn code found tei sapi id → with_tei_or now s.terminal sapi input octets otherwise s ≡ link_of_user now id input octets s
+is_own code config s found tei now sapi id input octets otherwise shown own =
+    own_link s.terminal tei now sapi input octets otherwise s (ap tei_of (sym shown.terminal) ∙ sym own.of ∙ own.is) ∙ ap (λ (i : LinkId). link_of_user now i input octets s) (sym own.named)
+
+-- and without one there is something else
+pub is_none : (code : UserSide) (config : Config) (s : User) (found : Option ℕ) (now : ℕ) (sapi : Sapi) (input : Input) (octets : List ℕ) (otherwise : Result (Acted User) SideKind) → ShowUser code config s
+    → found ≡ tei_of code.terminal → found ≡ None → with_tei_or now s.terminal sapi input octets otherwise s ≡ otherwise
+is_none code config s found now sapi input octets otherwise shown of is =
+    no_own_link s.terminal now sapi input octets otherwise s (ap tei_of (sym shown.terminal) ∙ sym of ∙ is)
+
+pub granted_as : (code : UserSide) (config : Config) (acts : Effects) (a b : Result (Acted User) SideKind) → b ≡ a → HasGranted code config acts a → HasGranted code config acts b
+granted_as code config acts a b e h = subst (λ (o : Result (Acted User) SideKind). HasGranted code config acts o) (sym e) h
+
+-- ---- One step after another.
+
+pub follows_next : (first second : UserSide) (config : Config) (before mid after : Effects) (a : Acted User) (does : User → Acted User) → HasFollowed first config before mid a → HasFollowed second config mid after (does a.after)
+    → HasFollowed second config before after (next a does)
+follows_next first second config before mid after a does h k = record {
+  shown = k.shown;
+  given = k.given ∙ ap (λ (e : Effects). and_then e (does a.after).effects) h.given ∙ in_turn before a.effects (does a.after).effects;
+}
+
+pub both_establish : (code first second : UserSide) (kept : Kept) (config : Config) (s : User) (before mid after : Effects) (call packet : Bool) (one other : LinkId) (now own : ℕ) → kept ≡ nothing_kept
+    → call ≡ code.kept.call → packet ≡ code.kept.packet → one ≡ of_sapi sapi.Call own → other ≡ of_sapi sapi.Packet own
+    → ((k : Config) (t : User) → ShowUser (record code { kept = kept }) k t → HasFollowed first k before mid (establishes call now one t))
+    → ((k : Config) (t : User) → ShowUser first k t → HasFollowed second k mid after (establishes packet now other t))
+    → ShowUser code config s → HasFollowed second config before after (establishes_kept now own s)
+both_establish code first second kept config s before mid after call packet one other now own nothing is_call is_packet is_one is_other does other_does shown =
+    let t : User = record s { kept = nothing_kept } in
+    let a : Acted User = establishes s.kept.call now (of_sapi sapi.Call own) t in
+    let done : HasFollowed first config before mid a =
+    subst (λ (b : Bool). HasFollowed first config before mid (establishes b now (of_sapi sapi.Call own) t)) (is_call ∙ ap (λ (k : Kept). k.call) shown.kept)
+    (subst (λ (i : LinkId). HasFollowed first config before mid (establishes call now i t)) is_one
+    (does config t (record { configured = shown.configured; served = shown.served; terminal = shown.terminal; kept = nothing; random = shown.random }))) in
+    follows_next first second config before mid after a (establishes s.kept.packet now (of_sapi sapi.Packet own)) done
+    (subst (λ (b : Bool). HasFollowed second config mid after (establishes b now (of_sapi sapi.Packet own) a.after)) (is_packet ∙ ap (λ (k : Kept). k.packet) shown.kept)
+    (subst (λ (i : LinkId). HasFollowed second config mid after (establishes packet now i a.after)) is_other (other_does config a.after done.shown)))
+
+-- the first of these outputs that means something for what is kept
+at_item : (now i : ℕ) (outs : List TeiOut) (item out : TeiOut) (s : User) → i < length outs → item ≡ get_or outs i item → item ≡ out → kept_after now (drop i outs) s ≡ kept_after now outs s → kept_after now outs s ≡ kept_after now (out ∷ drop (suc i) outs) s
+at_item now i outs item out s below is_item is same = sym same ∙ ap (λ (l : List TeiOut). kept_after now l s) (drop-cons outs i item below ∙ ap (λ (o : TeiOut). o ∷ drop (suc i) outs) (sym is_item ∙ is))
+
+pub settles : (code after : UserSide) (config : Config) (now i : ℕ) (outs : List TeiOut) (item out : TeiOut) (s : User) (before last : Effects) (a : Acted User) → i < length outs → item ≡ get_or outs i item → item ≡ out → kept_after now (drop i outs) s ≡ kept_after now outs s
+    → kept_after now (out ∷ drop (suc i) outs) s ≡ a → HasFollowed after config before last a → HasFollowed after config before last (kept_after now outs s)
+settles code after config now i outs item out s before last a below is_item is same means h = subst (λ (x : Acted User). HasFollowed after config before last x) (sym (at_item now i outs item out s below is_item is same ∙ means)) h
+
+-- ---- TEI management.
+
+-- the outputs of the terminal have been carried out, and then what is kept
+pub carried : (code after : UserSide) (config : Config) (now : ℕ) (s : User) (step : TerminalStep) (outs : List TeiOut) (sent : Bool) (acts last : Effects) → step.outs ≡ outs → sent ≡ sends_message outs
+    → code.config ≡ config → code.terminal ≡ step.now → code.kept ≡ s.kept → ShowReferences code.references (if sent then advanced (pcg32 s.random) else s.random)
+    → HaveServed side.User code.served acts (manages side.User config now outs s.served)
+    → ((k : Config) (t : User) → ShowUser code k t → HasFollowed after k acts last (kept_after now outs t))
+    → HasDone after config last (assigned config now step s)
+carried code after config now s step outs sent acts last same is_sent configured terminal kept random served rest =
+    let a : Acted User = record {
+      after = record s { served = (manages side.User config now step.outs s.served).after; terminal = step.now; random = drawn step.outs s.random };
+      effects = (manages side.User config now step.outs s.served).effects;
+    } in
+    let managed = subst (λ (o : List TeiOut). HaveServed side.User code.served acts (manages side.User config now o s.served)) (sym same) served in
+    let shown : ShowUser code config a.after = record {
+      configured = configured;
+      served = managed.shown;
+      terminal = terminal;
+      kept = kept;
+      random = subst (λ (b : Bool). ShowReferences code.references (if b then advanced (pcg32 s.random) else s.random)) (is_sent ∙ ap sends_message (sym same)) random;
+    } in
+    let k : HasFollowed after config acts last (kept_after now step.outs a.after) = subst (λ (o : List TeiOut). HasFollowed after config acts last (kept_after now o a.after)) (sym same) (rest config a.after shown) in
+    record { shown = k.shown; given = k.given ∙ ap (λ (e : Effects). and_then e (kept_after now step.outs a.after).effects) managed.given }
+
+-- the links as they are before these outputs are carried out
+pub served_before : (code : UserSide) (config : Config) (s : User) (step : TerminalStep) (outs : List TeiOut) → step.outs ≡ outs → ShowUser code config (admitted config step s)
+    → ShowServed side.User code.served (record s.served { links = links_with config (tei_given outs) s.served.links })
+served_before code config s step outs same shown = subst (λ (o : List TeiOut). ShowServed side.User code.served (record s.served { links = links_with config (tei_given o) s.served.links })) same shown.served
+
+-- the terminal has done its step, which got no TEI
+pub handled : (code : UserSide) (config : Config) (s : User) (event : TerminalEvent) (phase : Phase) → ShowUser code config s → phase ≡ (terminal_step code.terminal event).now
+    → tei_given (terminal_step s.terminal event).outs ≡ None → ShowUser (record code { terminal = phase }) config (admitted config (terminal_step s.terminal event) s)
+handled code config s event phase shown is none = record {
+  configured = shown.configured;
+  served = subst (λ (t : Option ℕ). ShowServed side.User code.served (record s.served { links = links_with config t s.served.links })) (sym none) shown.served;
+  terminal = is ∙ ap (λ (p : Phase). (terminal_step p event).now) shown.terminal;
+  kept = shown.kept;
+  random = shown.random;
+}
+
+pub outs_of : (code : UserSide) (config : Config) (s : User) (event : TerminalEvent) (outs : List TeiOut) → ShowUser code config s → outs ≡ (terminal_step code.terminal event).outs → (terminal_step s.terminal event).outs ≡ outs
+outs_of code config s event outs shown is = ap (λ (p : Phase). (terminal_step p event).outs) (sym shown.terminal) ∙ sym is
+
+-- an event has the reference that is the next
+pub acts_so : (after : UserSide) (config : Config) (now : ℕ) (s : User) (acts : Effects) (event : ℕ → TerminalEvent) (ri : ℕ) → ri ≡ next_reference s.random
+    → HasDone after config acts (assigned config now (terminal_step s.terminal (event ri)) s) → HasDone after config acts (terminal_acts config now event s)
+unfolding terminal_acts
+acts_so after config now s acts event ri is h = subst (λ (r : ℕ). HasDone after config acts (assigned config now (terminal_step s.terminal (event r)) s)) is h
+
+pub ask_gets_none : (ri : ℕ) (phase : Phase) → tei_given (terminal_step phase (event.Ask ri)).outs ≡ None
+ask_gets_none ri Unassigned = refl
+ask_gets_none ri (Awaiting purpose count old) = refl
+ask_gets_none ri (Assigned by tei) = refl
+
+pub want_gets_none : (ri : ℕ) (phase : Phase) → tei_given (terminal_step phase (event.Want ri)).outs ≡ None
+want_gets_none ri Unassigned = refl
+want_gets_none ri (Awaiting purpose count old) = refl
+want_gets_none ri (Assigned by tei) = refl
+
+asked_or_not : (again : Bool) (asking failed : TerminalStep) → tei_given asking.outs ≡ None → tei_given failed.outs ≡ None → tei_given (if again then asking else failed).outs ≡ None
+asked_or_not true asking failed h k = h
+asked_or_not false asking failed h k = k
+
+pub t202_gets_none : (ri : ℕ) (phase : Phase) → tei_given (terminal_step phase (event.T202 ri)).outs ≡ None
+t202_gets_none ri Unassigned = refl
+t202_gets_none ri (Awaiting purpose count old) = asked_or_not (nat_lt count n202) _ _ refl refl
+t202_gets_none ri (Assigned by tei) = refl
+
+-- ---- As it is made.
+
+pub without_fixed : (served after : LinksAndTimer) (config : Config) (fixed : Option ℕ) → fixed ≡ None → after ≡ served → ShowServed side.User served (record { links = no_links; timers = at_rest config.durations })
+    → ShowServed side.User after (record { links = links_of_fixed config fixed; timers = at_rest config.durations })
+without_fixed served after config fixed none same shown = rw (same, none) shown
+
+pub with_fixed : (served after : LinksAndTimer) (links : LinkSet) (config : Config) (fixed : Option ℕ) (tei : ℕ) → fixed ≡ Some tei → after ≡ record { links = links; timers = served.timers }
+    → ShowServed side.User served (record { links = no_links; timers = at_rest config.durations }) → ShowLinks side.User links (with_tei config tei no_links)
+    → ShowServed side.User after (record { links = links_of_fixed config fixed; timers = at_rest config.durations })
+with_fixed served after links config fixed tei some same shown added = rw (same, some) (record { links = added; timers = shown.timers })
+
+-- ---- A fault.
+
+pub faulty : (after : UserSide) (config : Config) (acts : Effects) (now : ℕ) (kind : FaultKind) (found : Option Address) (address : Address) (id : LinkId) (s : User) → found ≡ Some address → id ≡ id_of_address address
+    → HasDone after config acts (or_discarded s (link_of_user now id (Faulty kind) [] s)) → HasDone after config acts (fault_heard now kind found s)
+faulty after config acts now kind found address id s is named h =
+    subst (λ (f : Option Address). HasDone after config acts (fault_heard now kind f s)) (sym is)
+    (subst (λ (i : LinkId). HasDone after config acts (or_discarded s (link_of_user now i (Faulty kind) [] s))) named h)
+
+-- ---- A frame that is no message.
+
+-- what was looked at of it, by what the side was made with
+pub record IsTested (code : UserSide) (frame : Fields) (test : Bool) (answer : Bool) : Type 0 where
+  pub is : test ≡ for_layer_3 code.config frame
+  pub answered : test ≡ answer
+
+data_as : (code : UserSide) (config : Config) (now : ℕ) (frame : Fields) (s : User) (test answer : Bool) → ShowUser code config s → IsTested code frame test answer
+    → data_heard config now frame s ≡ (if answer then unit_from_group frame.address.sapi frame.info s else or_discarded s (link_of_user now (of_sapi frame.address.sapi frame.address.tei) (Heard frame.control frame.address.role) frame.info s))
+data_as code config now frame s test answer shown t =
+    ap (λ (b : Bool). if b then unit_from_group frame.address.sapi frame.info s else or_discarded s (link_of_user now (of_sapi frame.address.sapi frame.address.tei) (Heard frame.control frame.address.role) frame.info s))
+    (ap (λ (k : Config). for_layer_3 k frame) (sym shown.configured) ∙ sym t.is ∙ t.answered)
+
+-- it is told
+pub unit_told : (code : UserSide) (config : Config) (now : ℕ) (frame : Fields) (s : User) (test : Bool) (address : Address) (octets : List ℕ) (acts : Effects) → IsTested code frame test true → address ≡ frame.address → octets ≡ frame.info
+    → acts ≡ record no_effects { primitives = Of (of_sapi address.sapi group_tei) (what.UnitUp octets) ∷ [] } → ShowUser code config s → HasDone code config acts (data_heard config now frame s)
+unit_told code config now frame s test address octets acts t is_address is_octets told shown =
+    subst (λ (a : Acted User). HasDone code config acts a) (sym (data_as code config now frame s test true shown t)) (record {
+      shown = shown;
+      given = told ∙ ap (λ (a : Address). record no_effects { primitives = Of (of_sapi a.sapi group_tei) (what.UnitUp octets) ∷ [] }) is_address
+          ∙ ap (λ (o : List ℕ). record no_effects { primitives = Of (of_sapi frame.address.sapi group_tei) (what.UnitUp o) ∷ [] }) is_octets;
+    })
+
+-- or heard by a link
+pub data_for_link : (code after : UserSide) (config : Config) (now : ℕ) (frame : Fields) (s : User) (test : Bool) (id : LinkId) (octets : List ℕ) (acts : Effects) → IsTested code frame test false → id ≡ of_sapi frame.address.sapi frame.address.tei → octets ≡ frame.info
+    → ShowUser code config s → HasDone after config acts (or_discarded s (link_of_user now id (Heard frame.control frame.address.role) octets s)) → HasDone after config acts (data_heard config now frame s)
+data_for_link code after config now frame s test id octets acts t named is_octets shown h =
+    subst (λ (a : Acted User). HasDone after config acts a) (sym (data_as code config now frame s test false shown t))
+    (subst (λ (o : List ℕ). HasDone after config acts (or_discarded s (link_of_user now (of_sapi frame.address.sapi frame.address.tei) (Heard frame.control frame.address.role) o s))) is_octets
+    (subst (λ (i : LinkId). HasDone after config acts (or_discarded s (link_of_user now i (Heard frame.control frame.address.role) octets s))) named h))
+
+-- ---- What is due.
+
+pub reshown_after : (code : UserSide) (links : LinkSet) (timers : Timers) (config : Config) (s : User) (own : Timers) → ShowUser code config s → timers ≡ own → ShowLinks side.User links s.served.links
+    → ShowUser (record code { served = record { links = links; timers = timers } }) config (record s { served = record { links = s.served.links; timers = own } })
+reshown_after code links timers config s own shown is l = record { configured = shown.configured; served = record { links = l; timers = is }; terminal = shown.terminal; kept = shown.kept; random = shown.random }
+
+pub expired_so : (code : UserSide) (config : Config) (acts : Effects) (now : ℕ) (s : User) (e : Expiry) (of : Option LinkId) → IsDue now s.served (Some e) → e.of ≡ of → HasDone code config acts (user_expires config now e.timer of s) → HasExpired code config acts now s
+expired_so code config acts now s e of due is done = record {
+  expiry = e;
+  due = due;
+  done = subst (λ (o : Option LinkId). HasDone code config acts (user_expires config now e.timer o s)) (sym is) done;
+}
+
+-- ---- An establishment without TEI.
+
+pub wanted : (code after : UserSide) (config : Config) (now : ℕ) (sapi : Sapi) (s : User) (acts : Effects) (test : Bool) → test ≡ is_served code.config sapi → test ≡ true → ShowUser code config s
+    → HasDone after config acts (terminal_acts config now event.Want (record s { kept = keeps sapi true s.kept })) → HasGranted after config acts (wants config now sapi s)
+wanted code after config now sapi s acts test is holds shown done = record {
+  acted = terminal_acts config now event.Want (record s { kept = keeps sapi true s.kept });
+  is = ap (λ (b : Bool). if b then Ok (terminal_acts config now event.Want (record s { kept = keeps sapi true s.kept })) else Err NoLink) (ap (λ (k : Config). is_served k sapi) (sym shown.configured) ∙ sym is ∙ holds);
+  done = done;
+}
+
+-- ---- A request is the one that was looked for.
+
+pub granted_for : (result : Result (Unit {0}) SideFault) (old after : UserSide) (acts : Effects) (now : ℕ) (r q : Request) → r ≡ q
+    → OnOk result ((config : Config) (s : User) → ShowUser old config s → HasGranted after config acts (user_requested config q now s))
+    → OnOk result ((config : Config) (s : User) → ShowUser old config s → HasGranted after config acts (user_requested config r now s))
+granted_for result old after acts now r q is h = subst (λ (x : Request). OnOk result ((config : Config) (s : User) → ShowUser old config s → HasGranted after config acts (user_requested config x now s))) (sym is) h
+
+pub refused_for : (result : Result (Unit {0}) SideFault) (old : UserSide) (now : ℕ) (r q : Request) → r ≡ q
+    → IfErr result (λ fault. (config : Config) (s : User) → ShowUser old config s → user_requested config q now s ≡ Err fault.kind)
+    → IfErr result (λ fault. (config : Config) (s : User) → ShowUser old config s → user_requested config r now s ≡ Err fault.kind)
+refused_for result old now r q is h = subst (λ (x : Request). IfErr result (λ fault. (config : Config) (s : User) → ShowUser old config s → user_requested config x now s ≡ Err fault.kind)) (sym is) h
+
+pub handed_back_for : (result : Result (Unit {0}) SideFault) (r q : Request) → r ≡ q → IfErr result (λ fault. fault.message ≡ message_of q) → IfErr result (λ fault. fault.message ≡ message_of r)
+handed_back_for result r q is h = subst (λ (x : Request). IfErr result (λ fault. fault.message ≡ message_of x)) (sym is) h
+
+-- ---- An establishment is forgotten.
+
+pub forgotten : (code : UserSide) (kept : Kept) (config : Config) (sapi : Sapi) (s : User) (acts : Effects) (test : Bool) → test ≡ is_kept sapi code.kept → test ≡ true → kept ≡ keeps sapi false code.kept
+    → acts ≡ record no_effects { primitives = Of (of_sapi sapi group_tei) what.ReleaseConfirm ∷ [] } → ShowUser code config s → HasGranted (record code { kept = kept }) config acts (forgets sapi s)
+forgotten code kept config sapi s acts test is holds forgot told shown = record {
+  acted = record { after = record s { kept = keeps sapi false s.kept }; effects = record no_effects { primitives = Of (of_sapi sapi group_tei) what.ReleaseConfirm ∷ [] } };
+  is = ap (λ (b : Bool). if b then Ok (record { after = record s { kept = keeps sapi false s.kept }; effects = record no_effects { primitives = Of (of_sapi sapi group_tei) what.ReleaseConfirm ∷ [] } }) else Err NoLink)
+      (ap (λ (k : Kept). is_kept sapi k) (sym shown.kept) ∙ sym is ∙ holds);
+  done = record {
+    shown = record { configured = shown.configured; served = shown.served; terminal = shown.terminal; kept = forgot ∙ ap (λ (k : Kept). keeps sapi false k) shown.kept; random = shown.random };
+    given = told;
+  };
+}

@@ -1,0 +1,14 @@
+use Rattle.lapd_frame.specs.declared.Side.TheVariants as side
+use Rattle.lapd_sides.specs.Network.{network_expires}
+use Rattle.lapd_sides.proofs.Networking.{done_or_discarded, ok_then, err_then, err_each}
+use Rattle.lapd_sides.proofs.net_side.NetSide.expire.Goals as goal
+
+pub returns : goal.returns
+unfolding network_expires
+returns c = λ config s shown.
+    let result = c.expire.result in
+    let links = s.served.links in
+    let here = shown.served.links in
+    done_or_discarded result _ config s c.args.acts.now c.expire.new.acts _ shown.configured shown.assigner shown.served.timers c.requires.empty
+    (ok_then result _ _ (λ f. f side.Network links here) c.expire.ensures.ok) (err_each result _ _ (λ k f. f side.Network links here) c.expire.ensures.err)
+    (err_then result _ _ (λ f. f side.Network links here) c.expire.ensures.unchanged) c.expire.ensures.nothing

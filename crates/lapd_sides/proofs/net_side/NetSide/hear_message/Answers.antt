@@ -1,0 +1,30 @@
+use Rattle.std.proofs.Common.{List, sym, ap, subst, ◌∙◌}
+use Rattle.lapd_frame.specs.declared.Side.TheVariants as side
+use Rattle.lapd_tei.specs.declared.assigner.AssignerEvent.TheVariants as event
+use Rattle.lapd_tei.specs.declared.out.TeiOut.{TeiOut}
+use Rattle.lapd_tei.specs.Assigner.{AssignerState, assigner_step}
+use Rattle.lapd_tei.specs.Out.{tei_given}
+use Rattle.lapd_links.specs.declared.config.Config.{Config}
+use Rattle.lapd_sides.specs.Management.{links_with}
+use Rattle.lapd_sides.specs.Shows.{ShowServed}
+use Rattle.lapd_sides.proofs.Networking.{assigned_so, on_err}
+use Rattle.lapd_sides.proofs.net_side.NetSide.hear_message.Goals as goal
+
+pub returns-in_err-admit-clause-unchanged : goal.returns-in_err-admit-clause-unchanged
+returns-in_err-admit-clause-unchanged c = on_err c.from_residual.result _ (λ config s shown. record {
+  configured = shown.configured;
+  served = c.in_err-admit.ensures.unchanged side.Network s.served shown.served;
+  assigner = shown.assigner;
+})
+
+pub returns-clause-ok : goal.returns-clause-ok
+returns-clause-ok c = λ config s shown.
+    let outs = c.as_slice-2.result.now in
+    let heard = event.Heard c.args.message in
+    let are = c.as_slice-2.ensures.value ∙ c.handle-outs.ensures.outs in
+    assigned_so _ config c.args.now heard s outs c.carry_out.new.acts shown.configured
+    (are ∙ ap (λ (a : AssignerState). (assigner_step a heard).outs) shown.assigner)
+    (c.handle-outs.ensures.now ∙ ap (λ (a : AssignerState). (assigner_step a heard).now) shown.assigner)
+    (c.carry_out.ensures.done config s.served
+    (subst (λ (o : List TeiOut). ShowServed side.Network c.admit.new.self (record s.served { links = links_with config (tei_given o) s.served.links })) (c.as_slice.ensures.value ∙ sym c.as_slice-2.ensures.value)
+    (subst (λ (k : Config). ShowServed side.Network c.admit.new.self (record s.served { links = links_with k (tei_given c.as_slice.result.now) s.served.links })) shown.configured (c.in_ok-admit.ensures.ok side.Network s.served shown.served))))

@@ -1,0 +1,9 @@
+use Rattle.lapd_tei.specs.declared.terminal.TerminalEvent.TheVariants as event
+use Rattle.lapd_sides.proofs.Using.{acts_so, ask_gets_none}
+use Rattle.lapd_sides.proofs.user_side.UserSide.ask.Goals as goal
+
+pub manage-requires-clause-gets_none : goal.manage-requires-clause-gets_none
+manage-requires-clause-gets_none c = ask_gets_none c.next.result
+
+pub returns : goal.returns
+returns c = λ config s shown. acts_so c.manage.new.self config c.args.now s c.manage.new.acts event.Ask c.next.result (c.next.ensures s.random shown.random) (c.manage.ensures config s shown)

@@ -1,0 +1,39 @@
+use Rattle.std.proofs.Common.{List, sym, ap, subst, ◌∙◌}
+use Rattle.lapd_frame.specs.declared.Side.TheVariants as side
+use Rattle.lapd_tei.specs.declared.out.TeiOut.{TeiOut}
+use Rattle.lapd_tei.specs.declared.phase.Phase.{Phase}
+use Rattle.lapd_tei.specs.declared.terminal.TerminalEvent.TheVariants as event
+use Rattle.lapd_tei.specs.Out.{tei_given}
+use Rattle.lapd_tei.specs.Terminal.{terminal_step}
+use Rattle.lapd_links.specs.declared.config.Config.{Config}
+use Rattle.lapd_sides.specs.Management.{links_with}
+use Rattle.lapd_sides.specs.Shows.{ShowServed}
+use Rattle.lapd_sides.proofs.Networking.{on_err}
+use Rattle.lapd_sides.proofs.Using.{acts_so, outs_of}
+use Rattle.lapd_sides.proofs.user_side.UserSide.hear_message.Goals as goal
+
+pub returns-in_err-admit-clause-unchanged : goal.returns-in_err-admit-clause-unchanged
+returns-in_err-admit-clause-unchanged c = on_err c.from_residual.result _ (λ config s shown. record {
+  configured = shown.configured;
+  served = c.in_err-admit.ensures.unchanged side.User s.served shown.served;
+  terminal = shown.terminal;
+  kept = shown.kept;
+  random = shown.random;
+})
+
+pub returns-clause-ok : goal.returns-clause-ok
+returns-clause-ok c = λ config s shown.
+    let heard = event.Heard c.args.message c.next.result in
+    let outs = c.as_slice-2.result.now in
+    let are = outs_of c.args.self.now config s heard outs shown (c.as_slice-2.ensures.value ∙ c.handle-outs.ensures.outs) in
+    let served =
+    subst (λ (o : List TeiOut). ShowServed side.User c.admit.new.self (record s.served { links = links_with config (tei_given o) s.served.links })) (c.as_slice.ensures.value ∙ sym c.as_slice-2.ensures.value ∙ sym are)
+    (subst (λ (k : Config). ShowServed side.User c.admit.new.self (record s.served { links = links_with k (tei_given c.as_slice.result.now) s.served.links })) shown.configured (c.in_ok-admit.ensures.ok side.User s.served shown.served)) in
+    acts_so c.carry_out.new.self config c.args.now s c.carry_out.new.acts (event.Heard c.args.message) c.next.result (c.next.ensures s.random shown.random)
+    (c.carry_out.ensures config s (terminal_step s.terminal heard) are (record {
+      configured = shown.configured;
+      served = served;
+      terminal = c.handle-outs.ensures.now ∙ ap (λ (p : Phase). (terminal_step p heard).now) shown.terminal;
+      kept = shown.kept;
+      random = shown.random;
+    }))

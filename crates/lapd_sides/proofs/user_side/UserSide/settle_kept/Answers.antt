@@ -1,0 +1,22 @@
+use Rattle.std.proofs.Common.{refl, sym, subst}
+use Rattle.lapd_links.specs.Effects.{Effects}
+use Rattle.lapd_sides.specs.declared.user_side.UserSide.{UserSide}
+use Rattle.lapd_sides.specs.ShowsUser.{ShowUser, HasFollowed}
+use Rattle.lapd_sides.specs.User.{establishes_kept, gives_up_kept}
+use Rattle.lapd_tei.specs.declared.out.TeiOut.TheVariants as tei
+use Rattle.lapd_sides.proofs.Using.{settles}
+use Rattle.lapd_sides.proofs.user_side.UserSide.settle_kept.Goals as goal
+
+pub returns-in-Got : goal.returns-in-Got
+returns-in-Got c = λ config s shown.
+    let same = c.loop-out.invariant in
+    settles c.args.self.now c.establish_kept.new.self config c.args.now c.loop-out.out-index c.args.outs.now c.out-item.result (tei.Got c.in-Got.tei) s c.args.acts.now c.establish_kept.new.acts (establishes_kept c.args.now c.in-Got.tei s) c.loop-out-test.true c.out-item.is c.in-Got.is (same.0 s) refl
+    (subst (λ (e : Effects). HasFollowed c.establish_kept.new.self config e c.establish_kept.new.acts (establishes_kept c.args.now c.in-Got.tei s)) same.1.1
+    (c.establish_kept.ensures config s (subst (λ (u : UserSide). ShowUser u config s) (sym same.1.0) shown)))
+
+pub returns-in-Failed : goal.returns-in-Failed
+returns-in-Failed c = λ config s shown.
+    let same = c.loop-out.invariant in
+    settles c.args.self.now c.give_up_kept.new.self config c.args.now c.loop-out.out-index c.args.outs.now c.out-item.result tei.Failed s c.args.acts.now c.give_up_kept.new.acts (gives_up_kept s) c.loop-out-test.true c.out-item.is c.in-Failed.is (same.0 s) refl
+    (subst (λ (e : Effects). HasFollowed c.give_up_kept.new.self config e c.give_up_kept.new.acts (gives_up_kept s)) same.1.1
+    (c.give_up_kept.ensures config s (subst (λ (u : UserSide). ShowUser u config s) (sym same.1.0) shown)))

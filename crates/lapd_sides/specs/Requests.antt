@@ -1,0 +1,11 @@
+-- What is handed back where a request is refused.
+use Rattle.std.specs.Prelude.{ℕ, Option, Some, None, Vec}
+use Rattle.std.specs.declared.alloc.Global.{Global}
+use Rattle.lapd_sides.specs.declared.request.Request.{Request}
+use Rattle.lapd_sides.specs.declared.request.Request.TheVariants as request
+
+-- the message or the unit data that a request came with
+abbrev pub message_of : Request → Option (Vec ℕ Global)
+message_of (request.Unit id octets) = Some octets
+message_of (request.Give id message) = Some message
+message_of other = None

@@ -1,0 +1,373 @@
+//! The network side.
+
+ghost use Rattle.std.specs.Prelude.{◌≡◌, ◌≤◌, ◌<◌, true, false, length, [], Some, None, Ok, Err, OnOk, OnErr, IfOk, IfErr, IfSome, IsSome, option_copied};
+ghost use Rattle.std.specs.List.{All};
+ghost use Rattle.lapd_states.specs.Input.{input_of, Give};
+ghost use Rattle.lapd_tei.specs.Assigner.{AssignerState, assigner_step};
+ghost use Rattle.lapd_tei.specs.Out.{tei_given};
+ghost use Rattle.lapd_table.specs.LinkTable.{IsFor};
+ghost use Rattle.lapd_frame.specs.Fault.{is_for_link};
+ghost use Rattle.lapd_links.specs.Effects.{no_effects};
+ghost use Rattle.lapd_links.specs.Expiries.{IsDue, of_served};
+ghost use Rattle.lapd_sides.specs.Requests.{message_of};
+ghost use Rattle.lapd_sides.specs.Shows.{ShowEnds};
+ghost use Rattle.lapd_links.specs.Links.{IsOfLink};
+ghost use Rattle.lapd_sides.specs.Network.{Network, new_network, network_takes, network_expires, network_requested, assigner_acts, message_heard, link_of_network, or_discarded, frame_heard, fault_heard, unit_requested, unit_to_group, given_for, given_for_frame};
+
+use crate::served::{LinksAndTimer, carries_message};
+use crate::{Acts, Config, Expiry, Request, SideFault, SideKind};
+use lapd_frame::{Address, Control, FaultKind, Frame, FrameFault, Role, Sapi, Side, Tei, read};
+use lapd_link::{Event, LinkFault};
+use lapd_links::{due, refused};
+use lapd_table::{LinkId, LinkTable};
+use lapd_tei::{Assigner, AssignerEvent, TeiMessage};
+use lapd_timers::{Timer, TimerSet};
+use std::alloc::{AllocError, Global};
+
+/// The network side of an interface: its links, the assigner of its TEIs, and their timers.
+///
+/// A call empties the [`Acts`] that it is handed, and puts into them what it gives: the frames that are to be sent, and what
+/// the layers above are told. It has no clock: the moment is handed in, in milliseconds.
+#[derive(Drop)]
+pub struct NetSide {
+    alloc: Global,
+    config: Config,
+    served: LinksAndTimer,
+    assigner: Assigner,
+}
+
+impl NetSide {
+    ghost use Rattle.lapd_sides.specs.ShowsNetwork.{ShowNetwork, HasDone, HasGranted, HasExpired};
+
+    /// A network side that holds the TEIs that are known, each 0 to 126: their links are there, in state 4.
+    ///
+    /// # Errors
+    ///
+    /// `AllocError` where memory was refused.
+    pub fn new(alloc: Global, config: Config, known: &[Tei]) -> Result<NetSide, AllocError>
+        requires { All (λ tei. tei < 127) known.now }
+        ensures { IfOk result (λ side. ShowNetwork side config (new_network config known.now)) }
+    {
+        let assigner = Assigner::new(known);
+        let mut served = LinksAndTimer::new(alloc, Side::Network, config.durations)?;
+        served.links.add_held(alloc, &config, &assigner)?;
+        Ok(NetSide {
+            alloc,
+            config,
+            served,
+            assigner,
+        })
+    }
+
+    /// Octets come from the line at the moment `now`: a frame is heard by the link that it names, or a message by TEI
+    /// management. What is for no link, and octets with one of F1 to F3, are discarded. It takes memory only where a TEI is
+    /// assigned, for its links.
+    ///
+    /// # Errors
+    ///
+    /// B3 where that memory was refused. Nothing is changed, and nothing given.
+    pub fn take(&mut self, bytes: &[u8], now: u64, acts: &mut Acts) -> Result<(), SideFault>
+        ensures ok { OnOk result ((config : Config) (s : Network) → ShowNetwork self.old config s → HasDone self.new config acts.new (network_takes config bytes.now now s)) }
+        ensures err { IfErr result (λ fault. fault ≡ record { kind = SideKind.Memory; message = None }) }
+        ensures only { OnErr result ((config : Config) (s : Network) → ShowNetwork self.old config s → IsSome (given_for s.assigner bytes.now)) }
+        ensures unchanged { OnErr result ((config : Config) (s : Network) → ShowNetwork self.old config s → ShowNetwork self.new config s) }
+        ensures nothing { OnErr result (acts.new ≡ no_effects) }
+    {
+        acts.clear();
+        match self.hear_octets(bytes, now, acts) {
+            Ok(()) => Ok(()),
+            Err(AllocError) => Err(SideFault {
+                kind: SideKind::Memory,
+                message: None,
+            }),
+        }
+    }
+
+    /// Octets of the user side: a frame, or a fault.
+    fn hear_octets(&mut self, bytes: &[u8], now: u64, acts: &mut Acts) -> Result<(), AllocError>
+        requires empty { acts.old ≡ no_effects }
+        ensures ok { OnOk result ((config : Config) (s : Network) → ShowNetwork self.old config s → HasDone self.new config acts.new (network_takes config bytes.now now s)) }
+        ensures only { OnErr result ((config : Config) (s : Network) → ShowNetwork self.old config s → IsSome (given_for s.assigner bytes.now)) }
+        ensures unchanged { OnErr result ((config : Config) (s : Network) → ShowNetwork self.old config s → ShowNetwork self.new config s) }
+        ensures nothing { OnErr result (acts.new ≡ no_effects) }
+    {
+        match read(bytes, Side::User) {
+            Ok(frame) => self.hear(&frame, now, acts),
+            Err(fault) => {
+                self.hear_fault(&fault, now, acts);
+                Ok(())
+            }
+        }
+    }
+
+    /// A frame, which is a message of TEI management or is for the link that it names.
+    fn hear(&mut self, frame: &Frame<'_>, now: u64, acts: &mut Acts) -> Result<(), AllocError>
+        requires fits { length frame.now.info ≤ 260 }
+        requires empty { acts.old ≡ no_effects }
+        ensures ok { OnOk result ((config : Config) (s : Network) → ShowNetwork self.old config s → HasDone self.new config acts.new (frame_heard config now frame.now s)) }
+        ensures only { OnErr result ((config : Config) (s : Network) → ShowNetwork self.old config s → IsSome (given_for_frame s.assigner (Ok frame.now))) }
+        ensures unchanged { OnErr result ((config : Config) (s : Network) → ShowNetwork self.old config s → ShowNetwork self.new config s) }
+        ensures nothing { OnErr result (acts.new ≡ no_effects) }
+    {
+        if carries_message(frame) {
+            match TeiMessage::read(frame.info()) {
+                Ok(message) => self.hear_message(message, now, acts),
+                Err(_) => Ok(()),
+            }
+        } else {
+            let id = LinkId::of_address(&frame.address());
+            self.act_or_discard(id, Event::Heard(frame), frame.info(), now, acts);
+            Ok(())
+        }
+    }
+
+    /// A fault of a frame for a link, or of octets for none.
+    fn hear_fault(&mut self, fault: &FrameFault, now: u64, acts: &mut Acts)
+        requires empty { acts.old ≡ no_effects }
+        requires of_link { IfSome fault.now.address (λ address. is_for_link fault.now.kind ≡ true) }
+        ensures { (config : Config) (s : Network) → ShowNetwork self.old config s → HasDone self.new config acts.new (fault_heard now fault.now.kind fault.now.address s) }
+    {
+        if let Some(address) = fault.address {
+            let id = LinkId::of_address(&address);
+            self.act_or_discard(id, Event::Fault(fault.kind), &[], now, acts);
+        }
+    }
+
+    /// A message of TEI management, for the assigner. The links of a TEI that it assigns are added before anything else is
+    /// done.
+    fn hear_message(
+        &mut self,
+        message: TeiMessage,
+        now: u64,
+        acts: &mut Acts,
+    ) -> Result<(), AllocError>
+        requires empty { acts.old ≡ no_effects }
+        ensures ok { OnOk result ((config : Config) (s : Network) → ShowNetwork self.old config s → HasDone self.new config acts.new (assigner_acts config now (AssignerEvent.Heard message) s)) }
+        ensures only { OnErr result ((config : Config) (s : Network) → ShowNetwork self.old config s → IsSome (tei_given (assigner_step s.assigner (AssignerEvent.Heard message)).outs)) }
+        ensures unchanged { OnErr result ((config : Config) (s : Network) → ShowNetwork self.old config s → ShowNetwork self.new config s) }
+        ensures nothing { OnErr result (acts.new ≡ no_effects) }
+    {
+        let mut assigner = self.assigner;
+        let outs = assigner.handle(AssignerEvent::Heard(message));
+        self.served
+            .admit(self.alloc, &self.config, outs.as_slice())?;
+        self.assigner = assigner;
+        self.served
+            .carry_out(Side::Network, outs.as_slice(), now, acts);
+        Ok(())
+    }
+
+    /// An event of the assigner by which no TEI is given.
+    fn manage(&mut self, event: AssignerEvent, now: u64, acts: &mut Acts)
+        requires empty { acts.old ≡ no_effects }
+        requires gives_none { (a : AssignerState) → tei_given (assigner_step a event).outs ≡ None }
+        ensures { (config : Config) (s : Network) → ShowNetwork self.old config s → HasDone self.new config acts.new (assigner_acts config now event s) }
+    {
+        let outs = self.assigner.handle(event);
+        self.served
+            .carry_out(Side::Network, outs.as_slice(), now, acts);
+    }
+
+    /// An event for the link with this name; it is discarded where there is none.
+    fn act_or_discard(&mut self, id: LinkId, event: Event, octets: &[u8], now: u64, acts: &mut Acts)
+        requires empty { acts.old ≡ no_effects }
+        requires for_link { IsFor id event }
+        requires fits { length octets.now ≤ 260 }
+        ensures { (config : Config) (s : Network) → ShowNetwork self.old config s → HasDone self.new config acts.new (or_discarded s (link_of_network now id (input_of event.entry) octets.now s)) }
+    {
+        let _ = self.served.links.act(id, event, octets, now, acts);
+    }
+
+    /// What is due at the moment `now`, the first alone: its timer has expired. `false` where nothing is due. It takes no
+    /// memory. Call it until it answers `false`.
+    pub fn tick(&mut self, now: u64, acts: &mut Acts) -> bool
+        ensures due { result ≡ true → (config : Config) (s : Network) → ShowNetwork self.old config s → HasExpired self.new config acts.new now s }
+        ensures none { result ≡ false → (config : Config) (s : Network) → ShowNetwork self.old config s → IsDue now s.served None × ShowNetwork self.new config s }
+        ensures nothing { result ≡ false → acts.new ≡ no_effects }
+    {
+        acts.clear();
+        let Some(Expiry { timer, of, .. }) = due(&self.served.timers, &mut self.served.links, now)
+        else {
+            return false;
+        };
+        match of {
+            None => {
+                self.served.timers.stop(timer);
+                self.manage(AssignerEvent::T201, now, acts);
+            }
+            Some(id) => self.expire(id, timer, now, acts),
+        }
+        true
+    }
+
+    /// This timer of the link with this name has expired.
+    fn expire(&mut self, id: LinkId, timer: Timer, now: u64, acts: &mut Acts)
+        requires empty { acts.old ≡ no_effects }
+        requires of_link { IsOfLink timer }
+        ensures { (config : Config) (s : Network) → ShowNetwork self.old config s → HasDone self.new config acts.new (network_expires config now timer (Some id) s) }
+    {
+        let _ = self.served.links.expire(id, timer, now, acts);
+    }
+
+    /// What is asked for at the moment `now`. It takes no memory.
+    ///
+    /// # Errors
+    ///
+    /// B1 where the link is not there, and L1 to L5 where it refuses. What was to be sent is handed back. Nothing is
+    /// changed, and nothing given.
+    #[tactic(auto, unfolding(crate::specs::Network::network_requested))]
+    pub fn request(&mut self, request: Request, now: u64, acts: &mut Acts) -> Result<(), SideFault>
+        ensures ok { OnOk result ((config : Config) (s : Network) → ShowNetwork self.old config s → HasGranted self.new config acts.new (network_requested config request now s)) }
+        ensures err { IfErr result (λ fault. (config : Config) (s : Network) → ShowNetwork self.old config s → network_requested config request now s ≡ Err fault.kind) }
+        ensures handed_back { IfErr result (λ fault. fault.message ≡ message_of request) }
+        ensures unchanged { OnErr result ((config : Config) (s : Network) → ShowNetwork self.old config s → ShowNetwork self.new config s) }
+        ensures nothing { OnErr result (acts.new ≡ no_effects) }
+    {
+        acts.clear();
+        if let Request::Check(tei) = &request {
+            self.manage(AssignerEvent::Check(*tei), now, acts);
+            return Ok(());
+        }
+        match request {
+            Request::Establish(id) => self.act(id, Event::Establish, now, acts),
+            Request::Release(id) => self.act(id, Event::Release, now, acts),
+            Request::Busy(id, true) => self.act(id, Event::BusyOn, now, acts),
+            Request::Busy(id, false) => self.act(id, Event::BusyOff, now, acts),
+            Request::Unit(id, octets) => self.send_unit(id, octets, now, acts),
+            Request::Give(id, message) => self.give(id, message, now, acts),
+            Request::AskTei | Request::Check(_) => Ok(()),
+        }
+    }
+}
+
+impl NetSide {
+    ghost use Rattle.lapd_sides.specs.ShowsNetwork.{ShowNetwork, HasGranted};
+
+    /// An event for the link with this name.
+    fn act(&mut self, id: LinkId, event: Event, now: u64, acts: &mut Acts) -> Result<(), SideFault>
+        requires empty { acts.old ≡ no_effects }
+        requires for_link { IsFor id event }
+        ensures ok { OnOk result ((config : Config) (s : Network) → ShowNetwork self.old config s → HasGranted self.new config acts.new (link_of_network now id (input_of event.entry) [] s)) }
+        ensures err { IfErr result (λ fault. (config : Config) (s : Network) → ShowNetwork self.old config s → link_of_network now id (input_of event.entry) [] s ≡ Err fault.kind) }
+        ensures handed_back { IfErr result (λ fault. fault.message ≡ None) }
+        ensures unchanged { OnErr result ((config : Config) (s : Network) → ShowNetwork self.old config s → ShowNetwork self.new config s) }
+        ensures nothing { OnErr result (acts.new ≡ no_effects) }
+    {
+        match self.served.links.act(id, event, &[], now, acts) {
+            Ok(()) => Ok(()),
+            Err(kind) => Err(SideFault {
+                kind,
+                message: None,
+            }),
+        }
+    }
+
+    /// Unit data for a link, or for all terminals.
+    fn send_unit(
+        &mut self,
+        id: LinkId,
+        octets: Vec<u8>,
+        now: u64,
+        acts: &mut Acts,
+    ) -> Result<(), SideFault>
+        requires empty { acts.old ≡ no_effects }
+        ensures ok { OnOk result ((config : Config) (s : Network) → ShowNetwork self.old config s → HasGranted self.new config acts.new (unit_requested config now id octets.items s)) }
+        ensures err { IfErr result (λ fault. (config : Config) (s : Network) → ShowNetwork self.old config s → unit_requested config now id octets.items s ≡ Err fault.kind) }
+        ensures handed_back { IfErr result (λ fault. fault.message ≡ Some octets) }
+        ensures unchanged { OnErr result ((config : Config) (s : Network) → ShowNetwork self.old config s → ShowNetwork self.new config s) }
+        ensures nothing { OnErr result (acts.new ≡ no_effects) }
+    {
+        match self.put_unit(id, octets.as_slice(), now, acts) {
+            Ok(()) => Ok(()),
+            Err(kind) => Err(refused(kind, octets)),
+        }
+    }
+
+    /// These octets as unit data for a link, or for all terminals.
+    fn put_unit(
+        &mut self,
+        id: LinkId,
+        octets: &[u8],
+        now: u64,
+        acts: &mut Acts,
+    ) -> Result<(), SideKind>
+        requires empty { acts.old ≡ no_effects }
+        ensures ok { OnOk result ((config : Config) (s : Network) → ShowNetwork self.old config s → HasGranted self.new config acts.new (unit_requested config now id octets.now s)) }
+        ensures err { IfErr result (λ kind. (config : Config) (s : Network) → ShowNetwork self.old config s → unit_requested config now id octets.now s ≡ Err kind) }
+        ensures unchanged { OnErr result ((config : Config) (s : Network) → ShowNetwork self.old config s → ShowNetwork self.new config s) }
+        ensures nothing { OnErr result (acts.new ≡ no_effects) }
+    {
+        if self.config.serves_group(&id) {
+            put_group_unit(id.sapi, octets, acts)
+        } else {
+            self.served.links.send_unit(id, octets, now, acts)
+        }
+    }
+
+    /// A message for a link.
+    fn give(
+        &mut self,
+        id: LinkId,
+        message: Vec<u8>,
+        now: u64,
+        acts: &mut Acts,
+    ) -> Result<(), SideFault>
+        requires empty { acts.old ≡ no_effects }
+        ensures ok { OnOk result ((config : Config) (s : Network) → ShowNetwork self.old config s → HasGranted self.new config acts.new (link_of_network now id (Give message.items) [] s)) }
+        ensures err { IfErr result (λ fault. (config : Config) (s : Network) → ShowNetwork self.old config s → link_of_network now id (Give message.items) [] s ≡ Err fault.kind) }
+        ensures handed_back { IfErr result (λ fault. fault.message ≡ Some message) }
+        ensures unchanged { OnErr result ((config : Config) (s : Network) → ShowNetwork self.old config s → ShowNetwork self.new config s) }
+        ensures nothing { OnErr result (acts.new ≡ no_effects) }
+    {
+        self.served.links.give(id, message, now, acts)
+    }
+
+    /// The links that are there.
+    pub fn table(&self) -> &LinkTable
+        ensures { (config : Config) (s : Network) → ShowNetwork self.now config s → ShowEnds Side.Network result.now s.served.links }
+    {
+        &self.served.links.table
+    }
+
+    /// The timers of a link that is there; `None` names T201 of TEI management.
+    pub fn timers(&self, of: Option<LinkId>) -> Option<&TimerSet>
+        ensures { (config : Config) (s : Network) → ShowNetwork self.now config s → option_copied result ≡ of_served s.served of }
+    {
+        match of {
+            None => Some(&self.served.timers),
+            Some(id) => self.served.links.timers(id),
+        }
+    }
+
+    /// The assigner of TEIs.
+    pub fn assigner(&self) -> &Assigner
+        ensures { (config : Config) (s : Network) → ShowNetwork self.now config s → result.now ≡ s.assigner }
+    {
+        &self.assigner
+    }
+}
+
+/// Puts a frame of unit data to all terminals of a SAPI (Q.921 5.2).
+///
+/// # Errors
+///
+/// L3 for more than 260 octets.
+fn put_group_unit(sapi: Sapi, octets: &[u8], acts: &mut Acts) -> Result<(), SideKind>
+    requires empty { acts.old ≡ no_effects }
+    ensures ok { OnOk result ((s : Network) → unit_to_group sapi octets.now s ≡ Ok (record { after = s; effects = acts.new })) }
+    ensures err { IfErr result (λ kind. (s : Network) → unit_to_group sapi octets.now s ≡ Err kind) }
+    ensures nothing { OnErr result (acts.new ≡ no_effects) }
+{
+    let address = Address {
+        sapi,
+        tei: Tei::group(),
+        role: Role::Command,
+    };
+    match Frame::new(address, Control::Ui { p: false }, octets) {
+        Ok(frame) => {
+            acts.put(Side::Network, &frame);
+            Ok(())
+        }
+        Err(_) => Err(SideKind::Link(LinkFault::TooLong)),
+    }
+}

@@ -1,0 +1,178 @@
+//! What both sides have: their links, and the timer of TEI management.
+
+ghost use Rattle.std.specs.Prelude.{◌≡◌, ◌≤◌, ◌<◌, ◌+◌, ◌++◌, length, Some, None, OnOk, OnErr, IfOk, IfSome, IsSome};
+ghost use Rattle.std.specs.List.{All, filter_map};
+ghost use Rattle.lapd_frame.specs.declared.Side.{Side};
+ghost use Rattle.lapd_timers.specs.Due.{at_rest};
+ghost use Rattle.lapd_tei.specs.Out.{IsInRange, tei_given, tei_freed};
+ghost use Rattle.lapd_links.specs.Effects.{managed, message_sent, outcome_of, no_effects};
+ghost use Rattle.lapd_links.specs.Links.{no_links};
+ghost use Rattle.lapd_sides.specs.Management.{carries_message, is_unit_to_group, links_with, manages};
+ghost use Rattle.lapd_links.specs.Links.{Served};
+ghost use Rattle.lapd_sides.specs.Shows.{ShowServed, HaveServed};
+
+use crate::{Acts, Config, Primitive};
+use lapd_frame::{Control, Frame, Sapi, Side, Tei};
+use lapd_links::LinkSet;
+use lapd_tei::TeiOut;
+use lapd_timers::{Durations, TimerSet};
+use std::alloc::{AllocError, Global};
+
+/// The links of a side with their timers, and the timer of TEI management, T201 or T202.
+#[derive(Drop)]
+pub struct LinksAndTimer {
+    pub links: LinkSet,
+    pub timers: TimerSet,
+}
+
+impl LinksAndTimer {
+    /// No links, and no timer runs.
+    ///
+    /// # Errors
+    ///
+    /// `AllocError` where memory was refused.
+    pub fn new(alloc: Global, side: Side, durations: Durations) -> Result<LinksAndTimer, AllocError>
+        ensures { IfOk result (λ s. ShowServed side s (record { links = no_links; timers = at_rest durations })) }
+    {
+        Ok(LinksAndTimer {
+            links: LinkSet::new(alloc, side, durations)?,
+            timers: TimerSet::new(durations),
+        })
+    }
+
+    /// Adds the links of the TEI that is given by these outputs of TEI management, or got.
+    ///
+    /// # Errors
+    ///
+    /// `AllocError` where memory was refused. Nothing is changed.
+    pub fn admit(
+        &mut self,
+        alloc: Global,
+        config: &Config,
+        outs: &[TeiOut],
+    ) -> Result<(), AllocError>
+        requires in_range { All IsInRange outs.now }
+        ensures ok { OnOk result ((side : Side) (s : Served) → ShowServed side self.old s → ShowServed side self.new (record s { links = links_with config.now (tei_given outs.now) s.links })) }
+        ensures unchanged { OnErr result ((side : Side) (s : Served) → ShowServed side self.old s → ShowServed side self.new s) }
+        ensures only { OnErr result (IsSome (tei_given outs.now)) }
+    {
+        if let Some(tei) = given(outs) {
+            self.links.add_tei(alloc, config, tei)?;
+        }
+        Ok(())
+    }
+
+    /// All else that these outputs of TEI management come to: the messages are sent, the outcomes told, the timer started
+    /// and stopped, and the links of a TEI that is freed or given up go. What it gives goes behind what `acts` has.
+    pub fn carry_out(&mut self, side: Side, outs: &[TeiOut], now: u64, acts: &mut Acts)
+        requires in_range { All IsInRange outs.now }
+        requires at_most { length outs.now ≤ 6 }
+        requires empty { acts.old ≡ no_effects }
+        ensures done { (config : Config) (s : Served) → ShowServed side self.old (record s { links = links_with config (tei_given outs.now) s.links })
+            → HaveServed side self.new acts.new (manages side config now outs.now s) }
+        ensures most_frames { length acts.new.frames ≤ 6 }
+        ensures most_primitives { length acts.new.primitives ≤ 8 }
+    {
+        put_messages(side, outs, acts);
+        tell_outcomes(outs, acts);
+        time_management(&mut self.timers, outs, now);
+        if let Some(tei) = freed(outs) {
+            self.links.remove_tei(tei, acts);
+        }
+    }
+}
+
+/// A frame carries a message of TEI management: a UI frame of SAPI 63 and the group TEI (Q.921 5.3.6.1).
+pub fn carries_message(frame: &Frame<'_>) -> bool
+    ensures { result ≡ carries_message frame.now }
+{
+    frame.address().sapi == Sapi::Management && is_unit_to_group(frame)
+}
+
+/// A UI frame to the group TEI, with either P.
+pub fn is_unit_to_group(frame: &Frame<'_>) -> bool
+    ensures { result ≡ is_unit_to_group frame.now }
+{
+    match frame.control() {
+        Control::Ui { .. } => frame.address().tei == Tei::group(),
+        _ => false,
+    }
+}
+
+/// The TEI that is given by these outputs, or got.
+fn given(outs: &[TeiOut]) -> Option<Tei>
+    requires { All IsInRange outs.now }
+    ensures value { result ≡ tei_given outs.now }
+    ensures in_range { IfSome result (λ tei. tei < 127) }
+{
+    for out in outs {
+        if let TeiOut::Given(tei) | TeiOut::Got(tei) = out {
+            return Some(*tei);
+        }
+    }
+    None
+}
+
+/// The TEI that is freed by these outputs, or given up.
+fn freed(outs: &[TeiOut]) -> Option<Tei>
+    ensures { result ≡ tei_freed outs.now }
+{
+    for out in outs {
+        if let TeiOut::Free(tei) | TeiOut::Doubled(tei) | TeiOut::Gone(tei) = out {
+            return Some(*tei);
+        }
+    }
+    None
+}
+
+/// Puts the messages that these outputs send behind the others.
+fn put_messages(side: Side, outs: &[TeiOut], acts: &mut Acts)
+    requires in_range { All IsInRange outs.now }
+    requires room { length acts.old.frames + length outs.now ≤ 280 }
+    ensures frames { acts.new.frames ≡ acts.old.frames ++ filter_map (message_sent side) outs.now }
+    ensures primitives { acts.new.primitives ≡ acts.old.primitives }
+    ensures at_most { length acts.new.frames ≤ length acts.old.frames + length outs.now }
+{
+    for out in outs {
+        if let TeiOut::Send(message) = out {
+            acts.put_message(side, message);
+        }
+    }
+}
+
+/// Tells the outcomes among these outputs.
+fn tell_outcomes(outs: &[TeiOut], acts: &mut Acts)
+    requires room { length acts.old.primitives + length outs.now ≤ 280 }
+    ensures primitives { acts.new.primitives ≡ acts.old.primitives ++ filter_map outcome_of outs.now }
+    ensures room { length acts.new.primitives ≤ length acts.old.primitives + length outs.now }
+    ensures frames { acts.new.frames ≡ acts.old.frames }
+{
+    for out in outs {
+        if let Some(outcome) = outcome_of(out) {
+            acts.tell(outcome);
+        }
+    }
+}
+
+/// What the layers above are told by an output: an outcome, and neither a message nor a timer.
+fn outcome_of(out: &TeiOut) -> Option<Primitive>
+    ensures { result ≡ outcome_of out.now }
+{
+    match out {
+        TeiOut::Send(_) | TeiOut::Start(_) | TeiOut::Stop(_) => None,
+        outcome => Some(Primitive::Management(*outcome)),
+    }
+}
+
+/// Starts and stops the timer of TEI management as these outputs say, at the moment `now`.
+fn time_management(timers: &mut TimerSet, outs: &[TeiOut], now: u64)
+    ensures { timers.new ≡ managed now outs.now timers.old }
+{
+    for out in outs {
+        match out {
+            TeiOut::Start(timer) => timers.start(*timer, now),
+            TeiOut::Stop(timer) => timers.stop(*timer),
+            _ => {}
+        }
+    }
+}

@@ -1,0 +1,601 @@
+//! The user side.
+
+ghost use Rattle.std.specs.Prelude.{◌≡◌, ◌≤◌, ◌<◌, ◌+◌, ◌++◌, ◌∷◌, true, false, length, [], Some, None, Ok, Err, OnOk, OnErr, IfOk, IfErr, IfSome, IsSome, option_copied};
+ghost use Rattle.std.specs.List.{All};
+ghost use Rattle.lapd_states.specs.Input.{input_of, Establish, Release, UnitData, Give};
+ghost use Rattle.lapd_states.specs.declared.event.LinkFault.TheVariants.{NotEstablished};
+ghost use Rattle.lapd_tei.specs.Message.{group_tei};
+ghost use Rattle.lapd_tei.specs.Out.{IsInRange, tei_given};
+ghost use Rattle.lapd_tei.specs.Terminal.{TerminalStep, terminal_step};
+ghost use Rattle.lapd_tei.specs.declared.phase.Phase.{Phase};
+ghost use Rattle.lapd_table.specs.LinkTable.{IsFor};
+ghost use Rattle.lapd_frame.specs.Fault.{is_for_link};
+ghost use Rattle.lapd_links.specs.declared.primitive.Primitive.TheVariants.{Of};
+ghost use Rattle.lapd_links.specs.declared.side_fault.SideKind.TheVariants.{NoLink, Link};
+ghost use Rattle.lapd_links.specs.Effects.{no_effects};
+ghost use Rattle.lapd_links.specs.Expiries.{IsDue, of_served};
+ghost use Rattle.lapd_links.specs.Links.{IsOfLink, of_sapi};
+ghost use Rattle.lapd_sides.specs.Requests.{message_of};
+ghost use Rattle.lapd_sides.specs.Shows.{ShowEnds};
+ghost use Rattle.lapd_sides.specs.User.{User, seeded, sends_message, new_user, user_takes, user_expires, user_requested, terminal_acts, assigned, kept_after, establishes_kept, establishes, gives_up_kept, told_of_sapi, link_of_user, or_discarded, frame_heard, data_heard, for_layer_3, fault_heard, got_for, got_for_frame, got_for_message, wants, forgets, with_tei_or};
+
+use crate::kept::Kept;
+use crate::references::References;
+use crate::served::{LinksAndTimer, carries_message, is_unit_to_group};
+use crate::{Acts, Config, Expiry, Octets, Primitive, Request, SideFault, SideKind, What};
+use lapd_frame::{FaultKind, Frame, FrameFault, Sapi, Side, Tei, read};
+use lapd_link::{Event, LinkFault};
+use lapd_links::{due, refused};
+use lapd_table::{LinkId, LinkTable};
+use lapd_tei::{TeiMessage, TeiOut, Terminal, TerminalEvent};
+use lapd_timers::{Timer, TimerSet};
+use std::alloc::{AllocError, Global};
+
+/// The user side of an interface: a terminal, the links of its TEI, and their timers.
+///
+/// A call empties the [`Acts`] that it is handed, and puts into them what it gives: the frames that are to be sent, and what
+/// the layers above are told. It has no clock: the moment is handed in, in milliseconds.
+#[derive(Drop)]
+pub struct UserSide {
+    alloc: Global,
+    config: Config,
+    served: LinksAndTimer,
+    terminal: Terminal,
+    kept: Kept,
+    references: References,
+}
+
+impl UserSide {
+    ghost use Rattle.lapd_sides.specs.ShowsUser.{ShowUser, HasDone, HasGranted, HasExpired};
+
+    /// A user side with a fixed TEI, 0 to 126, whose links are there, in state 4; or with none, which has no links yet.
+    ///
+    /// # Errors
+    ///
+    /// `AllocError` where memory was refused.
+    pub fn new(alloc: Global, config: Config, fixed: Option<Tei>) -> Result<UserSide, AllocError>
+        requires { IfSome fixed (λ tei. tei < 127) }
+        ensures { IfOk result (λ side. ShowUser side config (new_user config fixed (seeded config.seed))) }
+    {
+        let mut served = LinksAndTimer::new(alloc, Side::User, config.durations)?;
+        if let Some(tei) = fixed {
+            served.links.add_tei(alloc, &config, tei)?;
+        }
+        Ok(UserSide {
+            alloc,
+            config,
+            served,
+            terminal: Terminal::new(fixed),
+            kept: Kept::nothing(),
+            references: References::new(config.seed),
+        })
+    }
+
+    /// Octets come from the line at the moment `now`: a frame is heard by the link that it names, a message by TEI
+    /// management, and unit data to all terminals by layer 3. What is for no link, and octets with one of F1 to F3, are
+    /// discarded. It takes memory only where the terminal gets a TEI, for its links.
+    ///
+    /// # Errors
+    ///
+    /// B3 where that memory was refused. Nothing is changed, and nothing given.
+    pub fn take(&mut self, bytes: &[u8], now: u64, acts: &mut Acts) -> Result<(), SideFault>
+        ensures ok { OnOk result ((config : Config) (s : User) → ShowUser self.old config s → HasDone self.new config acts.new (user_takes config bytes.now now s)) }
+        ensures err { IfErr result (λ fault. fault ≡ record { kind = SideKind.Memory; message = None }) }
+        ensures only { OnErr result ((config : Config) (s : User) → ShowUser self.old config s → IsSome (got_for s bytes.now)) }
+        ensures unchanged { OnErr result ((config : Config) (s : User) → ShowUser self.old config s → ShowUser self.new config s) }
+        ensures nothing { OnErr result (acts.new ≡ no_effects) }
+    {
+        acts.clear();
+        match self.hear_octets(bytes, now, acts) {
+            Ok(()) => Ok(()),
+            Err(AllocError) => Err(SideFault {
+                kind: SideKind::Memory,
+                message: None,
+            }),
+        }
+    }
+
+    /// Octets of the network side: a frame, or a fault.
+    fn hear_octets(&mut self, bytes: &[u8], now: u64, acts: &mut Acts) -> Result<(), AllocError>
+        requires empty { acts.old ≡ no_effects }
+        ensures ok { OnOk result ((config : Config) (s : User) → ShowUser self.old config s → HasDone self.new config acts.new (user_takes config bytes.now now s)) }
+        ensures only { OnErr result ((config : Config) (s : User) → ShowUser self.old config s → IsSome (got_for s bytes.now)) }
+        ensures unchanged { OnErr result ((config : Config) (s : User) → ShowUser self.old config s → ShowUser self.new config s) }
+        ensures nothing { OnErr result (acts.new ≡ no_effects) }
+    {
+        match read(bytes, Side::Network) {
+            Ok(frame) => self.hear(&frame, now, acts),
+            Err(fault) => {
+                self.hear_fault(&fault, now, acts);
+                Ok(())
+            }
+        }
+    }
+
+    /// A frame, which is a message of TEI management or is none.
+    fn hear(&mut self, frame: &Frame<'_>, now: u64, acts: &mut Acts) -> Result<(), AllocError>
+        requires empty { acts.old ≡ no_effects }
+        requires fits { length frame.now.info ≤ 260 }
+        ensures ok { OnOk result ((config : Config) (s : User) → ShowUser self.old config s → HasDone self.new config acts.new (frame_heard config now frame.now s)) }
+        ensures only { OnErr result ((config : Config) (s : User) → ShowUser self.old config s → IsSome (got_for_frame s (Ok frame.now))) }
+        ensures unchanged { OnErr result ((config : Config) (s : User) → ShowUser self.old config s → ShowUser self.new config s) }
+        ensures nothing { OnErr result (acts.new ≡ no_effects) }
+    {
+        if carries_message(frame) {
+            match TeiMessage::read(frame.info()) {
+                Ok(message) => self.hear_message(message, now, acts),
+                Err(_) => Ok(()),
+            }
+        } else {
+            self.hear_data(frame, now, acts);
+            Ok(())
+        }
+    }
+
+    /// A frame that is no message of TEI management: unit data to all terminals, or a frame for the link that it names.
+    fn hear_data(&mut self, frame: &Frame<'_>, now: u64, acts: &mut Acts)
+        requires empty { acts.old ≡ no_effects }
+        requires fits { length frame.now.info ≤ 260 }
+        ensures { (config : Config) (s : User) → ShowUser self.old config s → HasDone self.new config acts.new (data_heard config now frame.now s) }
+    {
+        let address = frame.address();
+        if is_for_layer_3(&self.config, frame) {
+            tell_unit(address.sapi, frame.info(), acts);
+        } else {
+            let id = LinkId::of_address(&address);
+            self.act_or_discard(id, Event::Heard(frame), frame.info(), now, acts);
+        }
+    }
+
+    /// A fault of a frame for a link, or of octets for none.
+    fn hear_fault(&mut self, fault: &FrameFault, now: u64, acts: &mut Acts)
+        requires empty { acts.old ≡ no_effects }
+        requires of_link { IfSome fault.now.address (λ address. is_for_link fault.now.kind ≡ true) }
+        ensures { (config : Config) (s : User) → ShowUser self.old config s → HasDone self.new config acts.new (fault_heard now fault.now.kind fault.now.address s) }
+    {
+        if let Some(address) = fault.address {
+            let id = LinkId::of_address(&address);
+            self.act_or_discard(id, Event::Fault(fault.kind), &[], now, acts);
+        }
+    }
+
+    /// A message of TEI management, for the terminal. The links of a TEI that it gets are added before anything else is done.
+    fn hear_message(
+        &mut self,
+        message: TeiMessage,
+        now: u64,
+        acts: &mut Acts,
+    ) -> Result<(), AllocError>
+        requires empty { acts.old ≡ no_effects }
+        ensures ok { OnOk result ((config : Config) (s : User) → ShowUser self.old config s → HasDone self.new config acts.new (terminal_acts config now (TerminalEvent.Heard message) s)) }
+        ensures only { OnErr result ((config : Config) (s : User) → ShowUser self.old config s → IsSome (got_for_message s (Ok message))) }
+        ensures unchanged { OnErr result ((config : Config) (s : User) → ShowUser self.old config s → ShowUser self.new config s) }
+        ensures nothing { OnErr result (acts.new ≡ no_effects) }
+    {
+        let event = TerminalEvent::Heard(message, self.references.next());
+        let mut terminal = self.terminal;
+        let outs = terminal.handle(event);
+        self.served
+            .admit(self.alloc, &self.config, outs.as_slice())?;
+        self.terminal = terminal;
+        self.carry_out(outs.as_slice(), now, acts);
+        Ok(())
+    }
+
+    /// An event for the link with this name; it is discarded where there is none.
+    fn act_or_discard(&mut self, id: LinkId, event: Event, octets: &[u8], now: u64, acts: &mut Acts)
+        requires empty { acts.old ≡ no_effects }
+        requires for_link { IsFor id event }
+        requires fits { length octets.now ≤ 260 }
+        ensures { (config : Config) (s : User) → ShowUser self.old config s → HasDone self.new config acts.new (or_discarded s (link_of_user now id (input_of event.entry) octets.now s)) }
+    {
+        let _ = self.served.links.act(id, event, octets, now, acts);
+    }
+
+    /// What is due at the moment `now`, the first alone: its timer has expired. `false` where nothing is due. It takes no
+    /// memory. Call it until it answers `false`.
+    pub fn tick(&mut self, now: u64, acts: &mut Acts) -> bool
+        ensures due { result ≡ true → (config : Config) (s : User) → ShowUser self.old config s → HasExpired self.new config acts.new now s }
+        ensures none { result ≡ false → (config : Config) (s : User) → ShowUser self.old config s → IsDue now s.served None × ShowUser self.new config s }
+        ensures nothing { result ≡ false → acts.new ≡ no_effects }
+    {
+        acts.clear();
+        let Some(Expiry { timer, of, .. }) = due(&self.served.timers, &mut self.served.links, now)
+        else {
+            return false;
+        };
+        match of {
+            None => {
+                self.served.timers.stop(timer);
+                self.ask_again(now, acts);
+            }
+            Some(id) => self.expire(id, timer, now, acts),
+        }
+        true
+    }
+
+    /// This timer of the link with this name has expired.
+    fn expire(&mut self, id: LinkId, timer: Timer, now: u64, acts: &mut Acts)
+        requires empty { acts.old ≡ no_effects }
+        requires of_link { IsOfLink timer }
+        ensures { (config : Config) (s : User) → ShowUser self.old config s → HasDone self.new config acts.new (user_expires config now timer (Some id) s) }
+    {
+        let _ = self.served.links.expire(id, timer, now, acts);
+    }
+
+    /// What is asked for at the moment `now`. Of a link's name the SAPI alone is looked at: the TEI is the terminal's own. An
+    /// establishment without TEI is kept until there is one, and a TEI is asked for. It takes no memory.
+    ///
+    /// # Errors
+    ///
+    /// B1 where the link is not there, and L1 to L5 where it refuses; L1 for a message without TEI. What was to be sent is
+    /// handed back. Nothing is changed, and nothing given.
+    #[tactic(auto, unfolding(crate::specs::User::user_requested))]
+    pub fn request(&mut self, request: Request, now: u64, acts: &mut Acts) -> Result<(), SideFault>
+        ensures ok { OnOk result ((config : Config) (s : User) → ShowUser self.old config s → HasGranted self.new config acts.new (user_requested config request now s)) }
+        ensures err { IfErr result (λ fault. (config : Config) (s : User) → ShowUser self.old config s → user_requested config request now s ≡ Err fault.kind) }
+        ensures handed_back { IfErr result (λ fault. fault.message ≡ message_of request) }
+        ensures unchanged { OnErr result ((config : Config) (s : User) → ShowUser self.old config s → ShowUser self.new config s) }
+        ensures nothing { OnErr result (acts.new ≡ no_effects) }
+    {
+        acts.clear();
+        if let Request::AskTei = &request {
+            self.ask(now, acts);
+            return Ok(());
+        }
+        match request {
+            Request::Establish(id) => self.establish(id.sapi, now, acts),
+            Request::Release(id) => self.release(id.sapi, now, acts),
+            Request::Busy(id, true) => self.be_busy(id.sapi, Event::BusyOn, now, acts),
+            Request::Busy(id, false) => self.be_busy(id.sapi, Event::BusyOff, now, acts),
+            Request::Unit(id, octets) => self.send_unit(id.sapi, octets, now, acts),
+            Request::Give(id, message) => self.give(id.sapi, message, now, acts),
+            Request::AskTei | Request::Check(_) => Ok(()),
+        }
+    }
+
+    /// The links that are there.
+    pub fn table(&self) -> &LinkTable
+        ensures { (config : Config) (s : User) → ShowUser self.now config s → ShowEnds Side.User result.now s.served.links }
+    {
+        &self.served.links.table
+    }
+
+    /// The timers of a link that is there; `None` names T202 of TEI management.
+    pub fn timers(&self, of: Option<LinkId>) -> Option<&TimerSet>
+        ensures { (config : Config) (s : User) → ShowUser self.now config s → option_copied result ≡ of_served s.served of }
+    {
+        match of {
+            None => Some(&self.served.timers),
+            Some(id) => self.served.links.timers(id),
+        }
+    }
+
+    /// The terminal.
+    pub fn terminal(&self) -> &Terminal
+        ensures { (config : Config) (s : User) → ShowUser self.now config s → result.now ≡ s.terminal }
+    {
+        &self.terminal
+    }
+}
+
+/// Requests.
+impl UserSide {
+    ghost use Rattle.lapd_sides.specs.ShowsUser.{ShowUser, HasGranted};
+
+    /// The link of this SAPI is to be established; without TEI that is kept.
+    fn establish(&mut self, sapi: Sapi, now: u64, acts: &mut Acts) -> Result<(), SideFault>
+        requires empty { acts.old ≡ no_effects }
+        ensures ok { OnOk result ((config : Config) (s : User) → ShowUser self.old config s → HasGranted self.new config acts.new (with_tei_or now s.terminal sapi Establish [] (wants config now sapi s) s)) }
+        ensures err { IfErr result (λ fault. (config : Config) (s : User) → ShowUser self.old config s → with_tei_or now s.terminal sapi Establish [] (wants config now sapi s) s ≡ Err fault.kind) }
+        ensures handed_back { IfErr result (λ fault. fault.message ≡ None) }
+        ensures unchanged { OnErr result ((config : Config) (s : User) → ShowUser self.old config s → ShowUser self.new config s) }
+        ensures nothing { OnErr result (acts.new ≡ no_effects) }
+    {
+        match self.terminal.tei() {
+            Some(tei) => self.act(name(sapi, tei), Event::Establish, now, acts),
+            None => self.want(sapi, now, acts),
+        }
+    }
+
+    /// An establishment without TEI, of a SAPI that is served: it is kept, and a TEI is asked for.
+    fn want(&mut self, sapi: Sapi, now: u64, acts: &mut Acts) -> Result<(), SideFault>
+        requires empty { acts.old ≡ no_effects }
+        ensures ok { OnOk result ((config : Config) (s : User) → ShowUser self.old config s → HasGranted self.new config acts.new (wants config now sapi s)) }
+        ensures err { IfErr result (λ fault. (config : Config) (s : User) → ShowUser self.old config s → wants config now sapi s ≡ Err fault.kind) }
+        ensures handed_back { IfErr result (λ fault. fault.message ≡ None) }
+        ensures unchanged { OnErr result ((config : Config) (s : User) → ShowUser self.old config s → ShowUser self.new config s) }
+        ensures nothing { OnErr result (acts.new ≡ no_effects) }
+    {
+        if !self.config.serves(sapi) {
+            return Err(no_link());
+        }
+        self.kept.set(sapi, true);
+        let event = TerminalEvent::Want(self.references.next());
+        self.manage(event, now, acts);
+        Ok(())
+    }
+
+    /// The link of this SAPI is to be released; without TEI an establishment that is kept is forgotten.
+    fn release(&mut self, sapi: Sapi, now: u64, acts: &mut Acts) -> Result<(), SideFault>
+        requires empty { acts.old ≡ no_effects }
+        ensures ok { OnOk result ((config : Config) (s : User) → ShowUser self.old config s → HasGranted self.new config acts.new (with_tei_or now s.terminal sapi Release [] (forgets sapi s) s)) }
+        ensures err { IfErr result (λ fault. (config : Config) (s : User) → ShowUser self.old config s → with_tei_or now s.terminal sapi Release [] (forgets sapi s) s ≡ Err fault.kind) }
+        ensures handed_back { IfErr result (λ fault. fault.message ≡ None) }
+        ensures unchanged { OnErr result ((config : Config) (s : User) → ShowUser self.old config s → ShowUser self.new config s) }
+        ensures nothing { OnErr result (acts.new ≡ no_effects) }
+    {
+        match self.terminal.tei() {
+            Some(tei) => self.act(name(sapi, tei), Event::Release, now, acts),
+            None => self.forget(sapi, acts),
+        }
+    }
+
+    /// An establishment that is kept is forgotten. The terminal goes on asking for a TEI.
+    fn forget(&mut self, sapi: Sapi, acts: &mut Acts) -> Result<(), SideFault>
+        requires empty { acts.old ≡ no_effects }
+        ensures ok { OnOk result ((config : Config) (s : User) → ShowUser self.old config s → HasGranted self.new config acts.new (forgets sapi s)) }
+        ensures err { IfErr result (λ fault. (config : Config) (s : User) → ShowUser self.old config s → forgets sapi s ≡ Err fault.kind) }
+        ensures handed_back { IfErr result (λ fault. fault.message ≡ None) }
+        ensures unchanged { OnErr result ((config : Config) (s : User) → ShowUser self.old config s → ShowUser self.new config s) }
+        ensures nothing { OnErr result (acts.new ≡ no_effects) }
+    {
+        if !self.kept.has(sapi) {
+            return Err(no_link());
+        }
+        self.kept.set(sapi, false);
+        tell_sapi(sapi, What::ReleaseConfirm, acts);
+        Ok(())
+    }
+
+    /// Own receiver busy begins or ends, on the link of this SAPI.
+    fn be_busy(
+        &mut self,
+        sapi: Sapi,
+        event: Event,
+        now: u64,
+        acts: &mut Acts,
+    ) -> Result<(), SideFault>
+        requires empty { acts.old ≡ no_effects }
+        requires for_link { (id : LinkId) → IsFor id event }
+        ensures ok { OnOk result ((config : Config) (s : User) → ShowUser self.old config s → HasGranted self.new config acts.new (with_tei_or now s.terminal sapi (input_of event.entry) [] (Err NoLink) s)) }
+        ensures err { IfErr result (λ fault. (config : Config) (s : User) → ShowUser self.old config s → with_tei_or now s.terminal sapi (input_of event.entry) [] (Err NoLink) s ≡ Err fault.kind) }
+        ensures handed_back { IfErr result (λ fault. fault.message ≡ None) }
+        ensures unchanged { OnErr result ((config : Config) (s : User) → ShowUser self.old config s → ShowUser self.new config s) }
+        ensures nothing { OnErr result (acts.new ≡ no_effects) }
+    {
+        match self.terminal.tei() {
+            Some(tei) => self.act(name(sapi, tei), event, now, acts),
+            None => Err(no_link()),
+        }
+    }
+
+    /// Unit data for the link of this SAPI.
+    fn send_unit(
+        &mut self,
+        sapi: Sapi,
+        octets: Vec<u8>,
+        now: u64,
+        acts: &mut Acts,
+    ) -> Result<(), SideFault>
+        requires empty { acts.old ≡ no_effects }
+        ensures ok { OnOk result ((config : Config) (s : User) → ShowUser self.old config s → HasGranted self.new config acts.new (with_tei_or now s.terminal sapi (UnitData (length octets.items)) octets.items (Err NoLink) s)) }
+        ensures err { IfErr result (λ fault. (config : Config) (s : User) → ShowUser self.old config s → with_tei_or now s.terminal sapi (UnitData (length octets.items)) octets.items (Err NoLink) s ≡ Err fault.kind) }
+        ensures handed_back { IfErr result (λ fault. fault.message ≡ Some octets) }
+        ensures unchanged { OnErr result ((config : Config) (s : User) → ShowUser self.old config s → ShowUser self.new config s) }
+        ensures nothing { OnErr result (acts.new ≡ no_effects) }
+    {
+        let Some(tei) = self.terminal.tei() else {
+            return Err(refused(SideKind::NoLink, octets));
+        };
+        let sent = self
+            .served
+            .links
+            .send_unit(name(sapi, tei), octets.as_slice(), now, acts);
+        match sent {
+            Ok(()) => Ok(()),
+            Err(kind) => Err(refused(kind, octets)),
+        }
+    }
+
+    /// A message of layer 3 for the link of this SAPI.
+    fn give(
+        &mut self,
+        sapi: Sapi,
+        message: Vec<u8>,
+        now: u64,
+        acts: &mut Acts,
+    ) -> Result<(), SideFault>
+        requires empty { acts.old ≡ no_effects }
+        ensures ok { OnOk result ((config : Config) (s : User) → ShowUser self.old config s → HasGranted self.new config acts.new (with_tei_or now s.terminal sapi (Give message.items) [] (Err (Link NotEstablished)) s)) }
+        ensures err { IfErr result (λ fault. (config : Config) (s : User) → ShowUser self.old config s → with_tei_or now s.terminal sapi (Give message.items) [] (Err (Link NotEstablished)) s ≡ Err fault.kind) }
+        ensures handed_back { IfErr result (λ fault. fault.message ≡ Some message) }
+        ensures unchanged { OnErr result ((config : Config) (s : User) → ShowUser self.old config s → ShowUser self.new config s) }
+        ensures nothing { OnErr result (acts.new ≡ no_effects) }
+    {
+        match self.terminal.tei() {
+            Some(tei) => self.served.links.give(name(sapi, tei), message, now, acts),
+            None => Err(refused(SideKind::Link(LinkFault::NotEstablished), message)),
+        }
+    }
+
+    /// An event for the link with this name.
+    fn act(&mut self, id: LinkId, event: Event, now: u64, acts: &mut Acts) -> Result<(), SideFault>
+        requires empty { acts.old ≡ no_effects }
+        requires for_link { IsFor id event }
+        ensures ok { OnOk result ((config : Config) (s : User) → ShowUser self.old config s → HasGranted self.new config acts.new (link_of_user now id (input_of event.entry) [] s)) }
+        ensures err { IfErr result (λ fault. (config : Config) (s : User) → ShowUser self.old config s → link_of_user now id (input_of event.entry) [] s ≡ Err fault.kind) }
+        ensures handed_back { IfErr result (λ fault. fault.message ≡ None) }
+        ensures unchanged { OnErr result ((config : Config) (s : User) → ShowUser self.old config s → ShowUser self.new config s) }
+        ensures nothing { OnErr result (acts.new ≡ no_effects) }
+    {
+        match self.served.links.act(id, event, &[], now, acts) {
+            Ok(()) => Ok(()),
+            Err(kind) => Err(SideFault {
+                kind,
+                message: None,
+            }),
+        }
+    }
+}
+
+/// TEI management.
+impl UserSide {
+    ghost use Rattle.lapd_sides.specs.ShowsUser.{ShowUser, HasDone, HasFollowed, admitted};
+
+    /// A TEI is to be asked for.
+    fn ask(&mut self, now: u64, acts: &mut Acts)
+        requires { acts.old ≡ no_effects }
+        ensures { (config : Config) (s : User) → ShowUser self.old config s → HasDone self.new config acts.new (terminal_acts config now TerminalEvent.Ask s) }
+    {
+        let event = TerminalEvent::Ask(self.references.next());
+        self.manage(event, now, acts);
+    }
+
+    /// T202 has expired, and no longer runs.
+    fn ask_again(&mut self, now: u64, acts: &mut Acts)
+        requires { acts.old ≡ no_effects }
+        ensures { (config : Config) (s : User) → ShowUser self.old config s → HasDone self.new config acts.new (terminal_acts config now TerminalEvent.T202 s) }
+    {
+        let event = TerminalEvent::T202(self.references.next());
+        self.manage(event, now, acts);
+    }
+
+    /// An event of the terminal by which no TEI is got.
+    fn manage(&mut self, event: TerminalEvent, now: u64, acts: &mut Acts)
+        requires empty { acts.old ≡ no_effects }
+        requires gets_none { (phase : Phase) → tei_given (terminal_step phase event).outs ≡ None }
+        ensures { (config : Config) (s : User) → ShowUser self.old config s → HasDone self.new config acts.new (assigned config now (terminal_step s.terminal event) s) }
+    {
+        let outs = self.terminal.handle(event);
+        self.carry_out(outs.as_slice(), now, acts);
+    }
+
+    /// What these outputs of the terminal come to: all but the links of a TEI that it got, which are there already.
+    fn carry_out(&mut self, outs: &[TeiOut], now: u64, acts: &mut Acts)
+        requires in_range { All IsInRange outs.now }
+        requires at_most { length outs.now ≤ 6 }
+        requires empty { acts.old ≡ no_effects }
+        ensures { (config : Config) (s : User) (step : TerminalStep) → step.outs ≡ outs.now → ShowUser self.old config (admitted config step s)
+            → HasDone self.new config acts.new (assigned config now step s) }
+    {
+        self.references.advance_if(sends_message(outs));
+        self.served.carry_out(Side::User, outs, now, acts);
+        self.settle_kept(outs, now, acts);
+    }
+
+    /// What these outputs mean for the establishments that are kept: they are done where a TEI was got, and released where
+    /// none was.
+    fn settle_kept(&mut self, outs: &[TeiOut], now: u64, acts: &mut Acts)
+        requires frame_room { length acts.old.frames ≤ 8 }
+        requires primitive_room { length acts.old.primitives ≤ 8 }
+        ensures { (config : Config) (s : User) → ShowUser self.old config s → HasFollowed self.new config acts.old acts.new (kept_after now outs.now s) }
+    {
+        for out in outs {
+            match out {
+                TeiOut::Got(tei) => return self.establish_kept(*tei, now, acts),
+                TeiOut::Failed => return self.give_up_kept(acts),
+                _ => {}
+            }
+        }
+    }
+
+    /// The terminal has got this TEI: what is kept is done, SAPI 0 first.
+    fn establish_kept(&mut self, tei: Tei, now: u64, acts: &mut Acts)
+        requires frame_room { length acts.old.frames ≤ 8 }
+        requires primitive_room { length acts.old.primitives ≤ 8 }
+        ensures { (config : Config) (s : User) → ShowUser self.old config s → HasFollowed self.new config acts.old acts.new (establishes_kept now tei s) }
+    {
+        let kept = self.kept;
+        self.kept = Kept::nothing();
+        self.establish_if(kept.has(Sapi::Call), name(Sapi::Call, tei), now, acts);
+        self.establish_if(kept.has(Sapi::Packet), name(Sapi::Packet, tei), now, acts);
+    }
+
+    /// The link with this name is to be established, where that was kept. What it gives goes behind what `acts` has.
+    fn establish_if(&mut self, kept: bool, id: LinkId, now: u64, acts: &mut Acts)
+        requires frame_room { length acts.old.frames ≤ 144 }
+        requires primitive_room { length acts.old.primitives ≤ 144 }
+        ensures done { (config : Config) (s : User) → ShowUser self.old config s → HasFollowed self.new config acts.old acts.new (establishes kept now id s) }
+        ensures most_frames { length acts.new.frames ≤ length acts.old.frames + 136 }
+        ensures most_primitives { length acts.new.primitives ≤ length acts.old.primitives + 136 }
+    {
+        if kept {
+            let _ = self.served.links.act(id, Event::Establish, &[], now, acts);
+        }
+    }
+
+    /// The terminal has got no TEI: what is kept is released, SAPI 0 first.
+    fn give_up_kept(&mut self, acts: &mut Acts)
+        requires { length acts.old.primitives ≤ 8 }
+        ensures { (config : Config) (s : User) → ShowUser self.old config s → HasFollowed self.new config acts.old acts.new (gives_up_kept s) }
+    {
+        let kept = self.kept;
+        self.kept = Kept::nothing();
+        release_if(kept.has(Sapi::Call), Sapi::Call, acts);
+        release_if(kept.has(Sapi::Packet), Sapi::Packet, acts);
+    }
+}
+
+/// Whether a frame is unit data to all terminals, of a SAPI that is served (Q.921 5.2).
+fn is_for_layer_3(config: &Config, frame: &Frame<'_>) -> bool
+    ensures { result ≡ for_layer_3 config.now frame.now }
+{
+    config.serves(frame.address().sapi) && is_unit_to_group(frame)
+}
+
+/// Whether these outputs send a message.
+fn sends_message(outs: &[TeiOut]) -> bool
+    ensures { result ≡ sends_message outs.now }
+{
+    for out in outs {
+        if let TeiOut::Send(_) = out {
+            return true;
+        }
+    }
+    false
+}
+
+/// Tells layer 3 of unit data to all terminals, of this SAPI (Q.921 5.2).
+fn tell_unit(sapi: Sapi, octets: &[u8], acts: &mut Acts)
+    requires empty { acts.old ≡ no_effects }
+    requires fits { length octets.now ≤ 260 }
+    ensures { acts.new ≡ record no_effects { primitives = Of (of_sapi sapi group_tei) (What.UnitUp octets.now) ∷ [] } }
+{
+    tell_sapi(sapi, What::UnitUp(Octets::new(octets)), acts);
+}
+
+/// Tells layer 3 that a SAPI without TEI is released, where its establishment was kept.
+fn release_if(kept: bool, sapi: Sapi, acts: &mut Acts)
+    requires { length acts.old.primitives < 280 }
+    ensures { acts.new ≡ record acts.old { primitives = acts.old.primitives ++ told_of_sapi kept sapi What.Released } }
+{
+    if kept {
+        tell_sapi(sapi, What::Released, acts);
+    }
+}
+
+/// Tells layer 3 of a SAPI without TEI, which is named by the group TEI.
+fn tell_sapi(sapi: Sapi, what: What, acts: &mut Acts)
+    requires { length acts.old.primitives < 280 }
+    ensures { acts.new ≡ record acts.old { primitives = acts.old.primitives ++ Of (of_sapi sapi group_tei) what ∷ [] } }
+{
+    acts.tell(Primitive::Of(name(sapi, Tei::group()), what));
+}
+
+/// B1, where no octets were handed in.
+fn no_link() -> SideFault
+    ensures { result ≡ record { kind = SideKind.NoLink; message = None } }
+{
+    SideFault {
+        kind: SideKind::NoLink,
+        message: None,
+    }
+}
+
+/// The name of a link.
+fn name(sapi: Sapi, tei: Tei) -> LinkId
+    ensures { result ≡ of_sapi sapi tei }
+{
+    LinkId { sapi, tei }
+}

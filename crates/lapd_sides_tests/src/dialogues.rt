@@ -1,0 +1,311 @@
+//! Dialogues of a side with the line, layer 3 and its clock.
+
+use crate::calls::{AnySide, Call, config};
+use crate::wants::wants;
+use lapd_sides::{Acts, NetSide, Tei, UserSide};
+use std::alloc::Global;
+use std::test::Fail;
+
+/// Which side it is, what TEI it has or knows of, and whether it serves SAPI 16.
+#[derive(Clone, Copy, Debug)]
+enum Made {
+    Net(Option<u8>, bool),
+    User(Option<u8>, bool),
+}
+
+/// A name, the side, and calls with what they give.
+type Row = (&'static str, Made, &'static [(Call, &'static str)]);
+
+const NETWORK: &[Row] = &[
+    (
+        "a link goes, and the timer of the other runs on",
+        Made::Net(Some(64), true),
+        &[
+            (Call::Take(0, "00817f"), "008173;0 64 established;"),
+            (Call::Take(0, "40817f"), "408173;16 64 established;"),
+            (Call::Take(500, "408153"), "408173;16 64 released;"),
+            (Call::Tick(9_999), "none;"),
+            (Call::Tick(10_000), "02810101;"),
+            (Call::Tick(10_000), "none;"),
+        ],
+    ),
+    (
+        "a TEI is given, and its links are there",
+        Made::Net(None, true),
+        &[
+            (
+                Call::Take(0, "fcff030f123401ff"),
+                "feff030f12340281;given 64;",
+            ),
+            (Call::Take(0, "008153"), "00811f;"),
+            (Call::Take(0, "408153"), "40811f;"),
+            (Call::Take(0, "008353"), ""),
+            (
+                Call::Take(0, "fcff030f567801ff"),
+                "feff030f56780283;given 65;",
+            ),
+            (Call::Take(0, "008353"), "00831f;"),
+        ],
+    ),
+    (
+        "what is for nobody is discarded",
+        Made::Net(Some(64), false),
+        &[
+            (Call::Take(0, ""), ""),
+            (Call::Take(0, "00"), ""),
+            (Call::Take(0, "018173"), ""),
+            (Call::Take(0, "04817f"), ""),
+            (Call::Take(0, "00837f"), ""),
+            (Call::Take(0, "40817f"), ""),
+            (Call::Take(0, "00ff030a"), ""),
+            (Call::Take(0, "fcff030f123401"), ""),
+            (Call::Take(0, "fc81030f123401ff"), ""),
+            (Call::Take(0, "fcff030f56780581"), ""),
+            (Call::Take(0, "00817f00"), "0 64 report M;"),
+            (Call::Take(0, "00817f"), "008173;0 64 established;"),
+        ],
+    ),
+    (
+        "a TEI is free again, and its links go",
+        Made::Net(Some(64), true),
+        &[
+            (Call::Establish(0, 0, 64), "02817f;"),
+            (Call::Take(0, "40817f"), "408173;16 64 established;"),
+            (Call::Give(0, 16, 64, "01"), "4281000001;"),
+            (Call::Check(0, 127), ""),
+            (Call::Check(0, 64), "feff030f00000481;"),
+            (Call::Check(0, 65), ""),
+            // T200 of SAPI 0, then of SAPI 16, before T201
+            (Call::Tick(1_000), "02817f;"),
+            (Call::Tick(1_000), "42810101;"),
+            (Call::Tick(1_000), "feff030f00000481;"),
+            (Call::Tick(1_000), "none;"),
+            (Call::Take(1_500, "028173"), "0 64 confirmed;"),
+            (Call::Take(1_500, "42810103"), "16 64 acknowledged 1;"),
+            (Call::Release(1_600, 16, 64), "428153;"),
+            (
+                Call::Tick(2_000),
+                "free 64;0 64 released;16 64 release-confirmed;",
+            ),
+            (Call::Tick(100_000), "none;"),
+            (Call::Take(100_000, "00817f"), ""),
+            (Call::Establish(100_000, 0, 64), "refused B1;"),
+        ],
+    ),
+    (
+        "a TEI is in use, then doubled",
+        Made::Net(Some(64), false),
+        &[
+            (Call::Check(0, 64), "feff030f00000481;"),
+            (Call::Take(1, "fcff030f56780581"), ""),
+            (Call::Tick(1_000), "in-use 64;"),
+            (Call::Take(2_000, "fcff030f00000781"), "feff030f00000481;"),
+            (Call::Take(2_001, "fcff030f56780581"), ""),
+            (Call::Take(2_002, "fcff030f9abc0581"), ""),
+            (Call::Tick(2_999), "none;"),
+            (
+                Call::Tick(3_000),
+                "feff030f00000681;feff030f00000681;doubled 64;",
+            ),
+            (Call::Take(3_000, "008153"), ""),
+        ],
+    ),
+    (
+        "unit data to all terminals",
+        Made::Net(None, false),
+        &[
+            (Call::Unit(0, 0, 127, "0a"), "02ff030a;"),
+            (Call::Unit(0, 0, 127, ""), "02ff03;"),
+            (Call::Unit(0, 16, 127, "0a"), "refused B1 0a;"),
+            (Call::Unit(0, 63, 127, "0a"), "refused B1 0a;"),
+            (Call::Unit(0, 0, 64, "0a"), "refused B1 0a;"),
+            (Call::AskTei(0), ""),
+        ],
+    ),
+    (
+        "a receiver is busy",
+        Made::Net(Some(64), false),
+        &[
+            (Call::Busy(0, 0, 65, true), "refused B1;"),
+            (Call::Take(0, "00817f"), "008173;0 64 established;"),
+            (Call::Busy(0, 0, 64, true), "00810500;"),
+            (Call::Busy(0, 0, 64, true), ""),
+            (Call::Take(0, "0081000108"), "00810501;"),
+            (Call::Busy(0, 0, 64, false), "00810100;"),
+            (Call::Take(0, "0081000108"), "00810103;0 64 data 08;"),
+        ],
+    ),
+];
+
+const USER: &[Row] = &[
+    (
+        "no TEI is assigned",
+        Made::User(None, false),
+        &[
+            (Call::Establish(0, 0, 127), "fcff030f619901ff;"),
+            (Call::Tick(1_999), "none;"),
+            (Call::Tick(2_000), "fcff030f769101ff;"),
+            (Call::Tick(2_000), "none;"),
+            (Call::Tick(4_000), "fcff030f15ec01ff;"),
+            (Call::Tick(6_000), "failed;0 127 released;"),
+            (Call::Tick(100_000), "none;"),
+            (Call::Release(100_000, 0, 127), "refused B1;"),
+            (Call::Establish(100_000, 0, 127), "fcff030f983001ff;"),
+        ],
+    ),
+    (
+        "a TEI is got, and the establishment done",
+        Made::User(None, false),
+        &[
+            (Call::Establish(0, 0, 127), "fcff030f619901ff;"),
+            (Call::Take(100, "feff030f769102c1"), ""),
+            (Call::Take(100, "feff030f619903ff"), ""),
+            (Call::Take(100, "feff030f61990281"), "00817f;got 64;"),
+            (Call::Tick(1_099), "none;"),
+            (Call::Tick(1_100), "00817f;"),
+            (Call::Take(1_200, "008173"), "0 64 confirmed;"),
+            (Call::Give(1_200, 0, 0, "0801"), "008100000801;"),
+        ],
+    ),
+    (
+        "without a TEI there is no link",
+        Made::User(None, false),
+        &[
+            (Call::Give(0, 0, 127, "0801"), "refused L1 0801;"),
+            (Call::Give(0, 16, 64, "0801"), "refused L1 0801;"),
+            (Call::Give(0, 63, 64, "0801"), "refused L1 0801;"),
+            (Call::Unit(0, 0, 127, "0801"), "refused B1 0801;"),
+            (Call::Release(0, 0, 127), "refused B1;"),
+            (Call::Busy(0, 0, 127, true), "refused B1;"),
+            (Call::Establish(0, 16, 127), "refused B1;"),
+            (Call::Establish(0, 63, 127), "refused B1;"),
+            (Call::Check(0, 64), ""),
+            (Call::Take(0, "02817f"), ""),
+        ],
+    ),
+    (
+        "two establishments are kept, of each SAPI one",
+        Made::User(None, true),
+        &[
+            (Call::AskTei(0), "fcff030f619901ff;"),
+            (Call::Establish(0, 16, 127), ""),
+            (Call::Establish(0, 0, 127), ""),
+            (Call::Establish(0, 16, 127), ""),
+            (Call::Take(0, "feff030f61990281"), "00817f;40817f;got 64;"),
+            (Call::Establish(0, 0, 127), ""),
+        ],
+    ),
+    (
+        "two establishments are kept in vain",
+        Made::User(None, true),
+        &[
+            (Call::Establish(0, 16, 127), "fcff030f619901ff;"),
+            (Call::Establish(0, 0, 127), ""),
+            (Call::Tick(2_000), "fcff030f769101ff;"),
+            (Call::Tick(4_000), "fcff030f15ec01ff;"),
+            (Call::Tick(6_000), "failed;0 127 released;16 127 released;"),
+        ],
+    ),
+    (
+        "an establishment is forgotten",
+        Made::User(None, true),
+        &[
+            (Call::Establish(0, 0, 127), "fcff030f619901ff;"),
+            (Call::Release(0, 16, 127), "refused B1;"),
+            (Call::Release(0, 0, 127), "0 127 release-confirmed;"),
+            (Call::Release(0, 0, 127), "refused B1;"),
+            (Call::Tick(2_000), "fcff030f769101ff;"),
+            (Call::Take(2_000, "feff030f76910281"), "got 64;"),
+            (Call::Establish(2_000, 0, 127), "00817f;"),
+        ],
+    ),
+    (
+        "unit data to all terminals",
+        Made::User(None, false),
+        &[
+            (Call::Take(0, "02ff030a"), "0 127 unit 0a;"),
+            (Call::Take(0, "02ff130a"), "0 127 unit 0a;"),
+            (Call::Take(0, "42ff030a"), ""),
+            (Call::Take(0, "02ff7f"), ""),
+            (Call::AskTei(0), "fcff030f619901ff;"),
+            (Call::Take(0, "feff030f61990281"), "got 64;"),
+            (Call::Take(0, "02ff03"), "0 127 unit ;"),
+            (Call::Take(0, "0281030b"), "0 64 unit 0b;"),
+            (Call::Unit(0, 0, 127, "0c"), "0081030c;"),
+            (Call::Unit(0, 16, 64, "0c"), "refused B1 0c;"),
+        ],
+    ),
+    (
+        "a TEI is fixed, checked and removed",
+        Made::User(Some(64), true),
+        &[
+            (Call::Take(0, "02817f"), "028173;0 64 established;"),
+            (Call::Establish(0, 16, 5), "40817f;"),
+            (Call::AskTei(0), ""),
+            (Call::Take(0, "feff030f00000483"), ""),
+            (Call::Take(0, "feff030f00000481"), "fcff030f61990581;"),
+            (Call::Take(0, "feff030f000004ff"), "fcff030f76910581;"),
+            (
+                Call::Take(0, "feff030f00000681"),
+                "gone 64;0 64 released;16 64 released;",
+            ),
+            (Call::Tick(100_000), "none;"),
+            (Call::Take(100_000, "02817f"), ""),
+            (Call::AskTei(100_000), "fcff030f15ec01ff;"),
+        ],
+    ),
+    (
+        "its TEI is assigned to another",
+        Made::User(Some(64), false),
+        &[
+            (Call::Release(0, 0, 0), "0 64 release-confirmed;"),
+            (Call::Take(0, "feff030f12340281"), "gone 64;"),
+            (Call::Release(0, 0, 0), "refused B1;"),
+        ],
+    ),
+];
+
+/// A side as the row wants it.
+fn side_of(alloc: Global, made: Made) -> Result<AnySide, Fail> {
+    match made {
+        Made::Net(None, sapi16) => Ok(AnySide::Network(NetSide::new(alloc, config(sapi16), &[])?)),
+        Made::Net(Some(known), sapi16) => {
+            let known = Tei::new(known).ok_or("no TEI")?;
+            if known == Tei::group() {
+                return Err(Fail::new("the group TEI"));
+            }
+            Ok(AnySide::Network(NetSide::new(alloc, config(sapi16), &[known, known])?))
+        }
+        Made::User(None, sapi16) => Ok(AnySide::User(UserSide::new(alloc, config(sapi16), None)?)),
+        Made::User(Some(fixed), sapi16) => {
+            let fixed = Tei::new(fixed).ok_or("no TEI")?;
+            if fixed == Tei::group() {
+                return Err(Fail::new("the group TEI"));
+            }
+            Ok(AnySide::User(UserSide::new(alloc, config(sapi16), Some(fixed))?))
+        }
+    }
+}
+
+/// Goes over the calls of each row.
+fn go_over(alloc: Global, rows: &[Row]) -> Result<(), Fail> {
+    for (name, made, calls) in rows {
+        let mut side = side_of(alloc, *made)?;
+        let mut acts = Acts::new(alloc)?;
+        for (call, wanted) in *calls {
+            let given = side.given(alloc, *call, &mut acts)?;
+            wants(given.as_slice() == wanted.as_bytes(), name, wanted)?;
+        }
+    }
+    Ok(())
+}
+
+#[test]
+fn a_network_side_gives_as_said(rt: HostRuntime) -> Result<(), Fail> {
+    go_over(rt.alloc(), NETWORK)
+}
+
+#[test]
+fn a_user_side_gives_as_said(rt: HostRuntime) -> Result<(), Fail> {
+    go_over(rt.alloc(), USER)
+}
