@@ -27,6 +27,12 @@ pub enum Chosen {
     Bus { terminals: u8 },
     /// Makes the moves of a script on two ends, made with these parameters, and the line between them.
     Pair { user: Params, network: Params },
+    /// As `Pair`, where each frame crosses a connection of the process to itself.
+    Loop { user: Params, network: Params },
+    /// Goes over a script as the network side, over the first connection that comes to this address.
+    Net,
+    /// Goes over a script as the user side, over a connection to this address.
+    User,
     /// Prints octets as trace lines.
     Decode,
 }
@@ -67,8 +73,32 @@ pub fn choose<'a, S: AsStr>(alloc: Global, words: &'a [S]) -> Result<Chosen, Unc
     match matches.subcommand() {
         Some(("answer", given)) => answer_chosen(given),
         Some(("bus", given)) => bus_chosen(given),
-        Some(("pair", given)) => pair_chosen(given),
+        Some(("pair", given)) => {
+            let (user, network) = ends_given(given)?;
+            Ok(Chosen::Pair { user, network })
+        }
+        Some(("loop", given)) => {
+            let (user, network) = ends_given(given)?;
+            Ok(Chosen::Loop { user, network })
+        }
+        Some(("net", _)) => Ok(Chosen::Net),
+        Some(("user", _)) => Ok(Chosen::User),
         _ => Ok(Chosen::Decode),
+    }
+}
+
+/// The address of `net` or `user` among the program's words, which chose one of the two.
+///
+/// # Errors
+///
+/// As [`choose`].
+pub fn address<'a, S: AsStr>(alloc: Global, words: &'a [S]) -> Result<&'a str, Unchosen<'a>> {
+    let program: Command<'a> = program(alloc)?;
+    let matches = program.try_get_matches_from(words)?;
+    match matches.subcommand() {
+        Some(("net", given)) => Ok(address_given(given, "listen")),
+        Some(("user", given)) => Ok(address_given(given, "connect")),
+        _ => Ok(""),
     }
 }
 
@@ -83,15 +113,20 @@ fn answer_chosen<'a>(given: &ArgMatches<'a>) -> Result<Chosen, Unchosen<'a>> {
     }
 }
 
-// What the options of `pair` choose.
-fn pair_chosen<'a>(given: &ArgMatches<'a>) -> Result<Chosen, Unchosen<'a>> {
+// What the user side and the network side of `pair` or `loop` are made with.
+fn ends_given<'a>(given: &ArgMatches<'a>) -> Result<(Params, Params), Unchosen<'a>> {
     match params_given(given) {
-        Ok(params) => Ok(Chosen::Pair {
-            user: params.with_recovery(recovery_given(given, "recovery-user")),
-            network: params.with_recovery(recovery_given(given, "recovery-net")),
-        }),
+        Ok(params) => Ok((
+            params.with_recovery(recovery_given(given, "recovery-user")),
+            params.with_recovery(recovery_given(given, "recovery-net")),
+        )),
         Err(fault) => Err(Unchosen::OutOfRange(fault)),
     }
+}
+
+// The address of this option, which the parser requires.
+fn address_given<'a>(given: &ArgMatches<'a>, option: &str) -> &'a str {
+    given.get_str(option).unwrap_or("")
 }
 
 // What the option of `bus` chooses.
@@ -167,6 +202,9 @@ fn program<'a>(alloc: Global) -> Result<Command<'a>, Error> {
         .subcommand(answer_command(alloc)?)?
         .subcommand(bus_command(alloc)?)?
         .subcommand(pair_command(alloc)?)?
+        .subcommand(loop_command(alloc)?)?
+        .subcommand(net_command(alloc)?)?
+        .subcommand(user_command(alloc)?)?
         .subcommand(decode_command(alloc))?;
     Ok(program)
 }
@@ -183,9 +221,22 @@ fn answer_command<'a>(alloc: Global) -> Result<Command<'a>, AllocError> {
 }
 
 fn pair_command<'a>(alloc: Global) -> Result<Command<'a>, AllocError> {
-    Command::new(alloc, "pair")
+    let command = Command::new(alloc, "pair")
         .about(help::PAIR_ABOUT)
-        .after_help(help::PAIR)
+        .after_help(help::PAIR);
+    with_ends(alloc, command)
+}
+
+fn loop_command<'a>(alloc: Global) -> Result<Command<'a>, AllocError> {
+    let command = Command::new(alloc, "loop")
+        .about(help::LOOP_ABOUT)
+        .after_help(help::LOOP);
+    with_ends(alloc, command)
+}
+
+// The options of two ends.
+fn with_ends<'a>(alloc: Global, command: Command<'a>) -> Result<Command<'a>, AllocError> {
+    command
         .arg(K.arg(alloc))?
         .arg(N200.arg(alloc))?
         .arg(ROOM.arg(alloc))?
@@ -204,6 +255,30 @@ fn decode_command<'a>(alloc: Global) -> Command<'a> {
     Command::new(alloc, "decode")
         .about(help::DECODE_ABOUT)
         .after_help(help::DECODE)
+}
+
+fn net_command<'a>(alloc: Global) -> Result<Command<'a>, AllocError> {
+    Command::new(alloc, "net")
+        .about(help::NET_ABOUT)
+        .after_help(help::NET)
+        .arg(address_option(alloc, "listen", help::LISTEN))
+}
+
+fn user_command<'a>(alloc: Global) -> Result<Command<'a>, AllocError> {
+    Command::new(alloc, "user")
+        .about(help::USER_ABOUT)
+        .after_help(help::USER)
+        .arg(address_option(alloc, "connect", help::CONNECT))
+}
+
+// An address, which has to be given. It is handed to the system as it stands.
+fn address_option<'a>(alloc: Global, name: &'static str, help: &'static str) -> Arg<'a> {
+    Arg::new(alloc, name)
+        .long(name)
+        .value_name("ADDRESS")
+        .help(help)
+        .action(ArgAction::Set)
+        .required(true)
 }
 
 static SIDES: [&str; 2] = ["net", "user"];

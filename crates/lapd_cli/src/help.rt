@@ -14,22 +14,38 @@ pub const BUS_ABOUT: &str = "Assigns TEIs to terminals on a bus, by a script of 
 pub const PAIR_ABOUT: &str =
     "Plays two ends of a link and the line between them, by a script of moves";
 
+/// What the command `loop` does.
+pub const LOOP_ABOUT: &str = "As `pair`, with each frame sent over TCP to the program itself";
+
+/// What the command `net` does.
+pub const NET_ABOUT: &str = "Is the network side of an interface, over TCP, by a script";
+
+/// What the command `user` does.
+pub const USER_ABOUT: &str = "Is the user side of an interface, over TCP, by a script";
+
+/// What the address of `net` is.
+pub const LISTEN: &str = "Waits here for one connection, such as 127.0.0.1:4000";
+
+/// What the address of `user` is.
+pub const CONNECT: &str = "Connects to this address, such as 127.0.0.1:4000";
+
 /// What the command `decode` does.
 pub const DECODE_ABOUT: &str = "Prints octets as trace lines";
 
 /// What the recovery of `answer` is.
 pub const RECOVERY: &str = "What T200 sends in state 7: an enquiry, or the last message again";
 
-/// What the recovery of the user side of `pair` is.
+/// What the recovery of the user side of `pair` and `loop` is.
 pub const RECOVERY_USER: &str = "What T200 of the user side sends in state 7";
 
-/// What the recovery of the network side of `pair` is.
+/// What the recovery of the network side of `pair` and `loop` is.
 pub const RECOVERY_NET: &str = "What T200 of the network side sends in state 7";
 
 /// What all commands share.
 pub const PROGRAM: &str = "\
-`lapd` alone is `lapd answer --side net`. `lapd answer --help`, `lapd pair --help`, `lapd bus --help`
-and `lapd decode --help` list the lines of a script, and what is printed for them.
+`lapd` alone is `lapd answer --side net`. `lapd answer --help`, `lapd pair --help`, `lapd bus --help`,
+`lapd net --help`, `lapd user --help` and `lapd decode --help` list the lines of a script, and what is
+printed for them. The lines of `lapd loop` are those of `lapd pair`.
 
 Scripts:
   A script comes on standard input. Each line is answered on standard output before the next one is
@@ -57,7 +73,9 @@ Exit status:
   1  `line N: bad command`: line N, counted from 1, is not one of the command's lines; the lines
      before it were answered
   2  a fault of the command line
-  3  `device fault`: a read or a write failed, or 1,000,000 reads did not reach the script's end
+  3  `device fault`: a read or a write failed, or 1,000,000 reads did not reach the script's end; in
+     `lapd loop`, `net` and `user` also where no connection can be had; in `net` and `user`
+     `port S3 Cut`, or another of S2 to S6, where the connection fails
   4  `out of memory`
 The text of 1 to 4 goes to standard error.";
 
@@ -338,6 +356,173 @@ The network side begins anew while the user side is still in state 7, `lapd pair
   > net confirmed
   > user: state 7, given 0, received 0, acknowledged 0, dropped 0
   > net: state 7, given 0, received 0, acknowledged 0, dropped 0";
+
+/// What `loop` does otherwise than `pair`.
+pub const LOOP: &str = "\
+`lapd --help` tells what scripts and HEX are, and has the exit status. `lapd pair --help` has the lines
+of the script, what is printed for them, and the refusals: they are the same here.
+
+Before the script is read, the program connects to itself by TCP, at 127.0.0.1 and a port that the
+system chooses. Each frame that a line of the script puts on the line between the ends goes over this
+connection before the next line is waited for, and has to come back as it was. On the connection the
+octets of a frame stand behind their number, which has two octets, the high one first.
+
+If the program can't connect to itself, or a frame doesn't come back, or comes back otherwise, the
+script ends with `device fault`, and exit status 3. What the line calls for is printed then.
+
+Example. A line of the script stands behind <, and what is printed for it stands behind >.
+
+A message is sent, `lapd loop`. The connection carries 0003 00817f, 0003 008173, 0006 008100000801 and
+0004 00810102:
+  < establish user
+  > U>N SAPI 0 TEI 64 C SABME P=1
+  < deliver net
+  > N>U SAPI 0 TEI 64 R UA F=1
+  > net established
+  < deliver user
+  > user confirmed
+  < give user 0801
+  > U>N SAPI 0 TEI 64 C I N(S)=0 N(R)=0 P=0 info=0801
+  < deliver net
+  > net data 0801
+  > N>U SAPI 0 TEI 64 R RR N(R)=1 F=0
+  < deliver user
+  > user acknowledged 1
+  > user: state 7, given 1, received 0, acknowledged 1, dropped 0
+  > net: state 7, given 0, received 1, acknowledged 0, dropped 0";
+
+/// The lines of `net`.
+pub const NET: &str = "\
+`lapd --help` tells what scripts and HEX are, and has the exit status. `lapd answer --help` has the
+states, the error codes and the refusals L1 to L5.
+
+The program waits for one connection, and then does the script. Behind the connection are user sides,
+such as `lapd user`. No TEI is known at first: one is assigned to each terminal that asks, from 64 on,
+and its links with SAPI 0 and 16 are there from then on. The clock begins at 0, and goes on only by
+`tick`: T200 takes 1000 ms, T201 1000 ms, T203 10000 ms.
+
+Lines of the script. SAPI is 0, 16 or 63, and TEI 0 to 127; 127 stands for all terminals:
+  read                  the next frame is read from the connection
+  tick MS               the clock goes on by MS milliseconds, 1 to 3600000, and what is due is done
+  establish SAPI TEI    layer 3 asks for the link to be established (DL-ESTABLISH request)
+  release SAPI TEI      layer 3 asks for the link to be released (DL-RELEASE request)
+  give SAPI TEI HEX     layer 3 gives a message of at most 260 octets (DL-DATA request)
+  unit SAPI TEI HEX     layer 3 gives unit data of at most 260 octets (DL-UNIT DATA request)
+  check TEI             a TEI is checked: is it in use, and by one terminal?
+
+What is printed for a line, in this order: the frame that was read and the frames that are sent, and
+then what the layers above are told:
+  U>N SAPI 0 TEI 64 C SABME P=1
+                        a frame; `lapd decode --help` has the parts of the text
+  tei given N           TEI N is assigned
+  tei free N            nobody answered for TEI N, which is free again, and its links are gone
+  tei in-use N          one terminal answered for TEI N
+  tei doubled N         more than one terminal answered for TEI N: it is removed, and its links gone
+  SAPI TEI established  the link is established; the other words are those of `lapd answer`
+  refused B1 NoLink     there is no such link; a TEI has to be assigned first
+  refused L1 NotEstablished
+                        the link refuses, by one of L1 to L5
+  refused S1 End        `read`: the other side has closed the connection
+What is refused changes nothing. What is no frame, or for no link, is read and printed, and discarded.
+
+On the connection the octets of a frame stand behind their number, which has two octets, the high one
+first. A connection that fails ends the script: `port`, its fault and exit status 3. The faults are
+S2 BadLength (a length that is not from 3 to 264), S3 Cut (the end inside a frame), S4 Device,
+S5 TooManyTurns and S6 Failed.
+
+Example, with `lapd user --connect 127.0.0.1:4000` on the other side. `lapd user --help` has its lines. A
+line of the script stands behind <, and what is printed for it stands behind >.
+  < # a terminal asks for a TEI
+  < read
+  > U>N SAPI 63 TEI 127 C UI P=0 info=0f619901ff
+  > N>U SAPI 63 TEI 127 C UI P=0 info=0f61990281
+  > tei given 64
+  < # it establishes its link
+  < read
+  > U>N SAPI 0 TEI 64 C SABME P=1
+  > N>U SAPI 0 TEI 64 R UA F=1
+  > 0 64 established
+  < # it sends a message
+  < read
+  > U>N SAPI 0 TEI 64 C I N(S)=0 N(R)=0 P=0 info=0801
+  > N>U SAPI 0 TEI 64 R RR N(R)=1 F=0
+  > 0 64 data 0801
+  < give 0 64 0807
+  > N>U SAPI 0 TEI 64 C I N(S)=0 N(R)=1 P=0 info=0807
+  < read
+  > U>N SAPI 0 TEI 64 R RR N(R)=1 F=0
+  > 0 64 acknowledged 1
+  < # it releases its link
+  < read
+  > U>N SAPI 0 TEI 64 C DISC P=1
+  > N>U SAPI 0 TEI 64 R UA F=1
+  > 0 64 released";
+
+/// The lines of `user`.
+pub const USER: &str = "\
+`lapd --help` tells what scripts and HEX are, and has the exit status. `lapd answer --help` has the
+states, the error codes and the refusals L1 to L5.
+
+The program connects, and then does the script. Behind the connection is a network side, such as
+`lapd net`. This side is one terminal without a TEI: it asks for one by `ask`, or by `establish`, which
+is kept until it has one. The clock begins at 0, and goes on only by `tick`: T200 takes 1000 ms, T202
+2000 ms, T203 10000 ms.
+
+Lines of the script. SAPI is 0, 16 or 63. TEI is 0 to 127, and is not looked at: it is the terminal's own:
+  read                  the next frame is read from the connection
+  tick MS               the clock goes on by MS milliseconds, 1 to 3600000, and what is due is done
+  establish SAPI TEI    layer 3 asks for the link to be established (DL-ESTABLISH request)
+  release SAPI TEI      layer 3 asks for the link to be released (DL-RELEASE request)
+  give SAPI TEI HEX     layer 3 gives a message of at most 260 octets (DL-DATA request)
+  unit SAPI TEI HEX     layer 3 gives unit data of at most 260 octets (DL-UNIT DATA request)
+  ask                   a TEI is asked for
+
+What is printed for a line, in this order: the frame that was read and the frames that are sent, and
+then what the layers above are told:
+  U>N SAPI 0 TEI 64 C SABME P=1
+                        a frame; `lapd decode --help` has the parts of the text
+  tei got N             the terminal has TEI N, and its links are there
+  tei gone N            it no longer has TEI N, and its links are gone
+  tei failed            it was not answered, and no longer asks
+  SAPI TEI established  the link is established; the other words are those of `lapd answer`
+  refused B1 NoLink     there is no such link; the terminal has no TEI
+  refused L1 NotEstablished
+                        the link refuses, by one of L1 to L5
+  refused S1 End        `read`: the other side has closed the connection
+What is refused changes nothing. What is no frame, or for no link, is read and printed, and discarded.
+
+On the connection the octets of a frame stand behind their number, which has two octets, the high one
+first. A connection that fails ends the script: `port`, its fault and exit status 3. The faults are
+S2 BadLength (a length that is not from 3 to 264), S3 Cut (the end inside a frame), S4 Device,
+S5 TooManyTurns and S6 Failed.
+
+Example, with `lapd net --listen 127.0.0.1:4000` on the other side. `lapd net --help` has its lines. A line
+of the script stands behind <, and what is printed for it stands behind >.
+  < establish 0 127
+  > U>N SAPI 63 TEI 127 C UI P=0 info=0f619901ff
+  < # it has a TEI now, and establishes its link
+  < read
+  > N>U SAPI 63 TEI 127 C UI P=0 info=0f61990281
+  > U>N SAPI 0 TEI 64 C SABME P=1
+  > tei got 64
+  < read
+  > N>U SAPI 0 TEI 64 R UA F=1
+  > 0 64 confirmed
+  < give 0 64 0801
+  > U>N SAPI 0 TEI 64 C I N(S)=0 N(R)=0 P=0 info=0801
+  < read
+  > N>U SAPI 0 TEI 64 R RR N(R)=1 F=0
+  > 0 64 acknowledged 1
+  < # the network side sends a message
+  < read
+  > N>U SAPI 0 TEI 64 C I N(S)=0 N(R)=1 P=0 info=0807
+  > U>N SAPI 0 TEI 64 R RR N(R)=1 F=0
+  > 0 64 data 0807
+  < release 0 64
+  > U>N SAPI 0 TEI 64 C DISC P=1
+  < read
+  > N>U SAPI 0 TEI 64 R UA F=1
+  > 0 64 release-confirmed";
 
 /// The lines of `decode`.
 pub const DECODE: &str = "\

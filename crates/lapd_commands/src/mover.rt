@@ -58,6 +58,8 @@ pub fn pair<R: Read, W: Write>(
 impl Mover {
     ghost use Rattle.std.specs.Prelude.{IfOk};
     ghost use Rattle.lapd_commands.specs.Playing.{IsMover};
+    ghost use Rattle.lapd_pair.specs.Runs.{PairStandsFor};
+    ghost use Rattle.lapd_world.specs.World.{World};
 
     /// Two ends in state 4, with nothing on the line.
     ///
@@ -69,6 +71,13 @@ impl Mover {
     {
         let pair = Pair::new(alloc, user, network)?;
         Ok(Mover { alloc, pair })
+    }
+
+    /// The two ends and their line.
+    pub fn pair(&self) -> &Pair
+        ensures { (w : World) → IsMover self.now w → PairStandsFor result.now w }
+    {
+        &self.pair
     }
 }
 
@@ -165,7 +174,11 @@ impl Mover {
     }
 
     /// Prints where both sides are in the end, and hands it to the device.
-    fn close<W: Write>(&self, out: &mut W) -> Result<(), ScriptFault>
+    ///
+    /// # Errors
+    ///
+    /// `Device`, where a write or the flush fails.
+    pub fn close<W: Write>(&self, out: &mut W) -> Result<(), ScriptFault>
         ensures ok { (w : World) → IsMover self.now w → OnOk result (Appends (W.contents out.old) (W.contents out.new) (closing_lines w)) }
         ensures err { IsOkUnless result ScriptFault.Device }
     {

@@ -7,7 +7,7 @@ use Rattle.std.proofs.KnownBytes.{Appends-nil, Appends-trans, Appends-kept, Keep
 use Rattle.lapd_script.specs.Script.{Step, outcome_of, is_passed_over, before_rest, number_or, state_or, output_of, bad_from, bad_line, state_after, EndsAs, with_first, lines_of}
 use Rattle.lapd_script.specs.Walked.{HasNoFeed, Ran, Walked, WalkEnds, KeepsFault, Came}
 use Rattle.lapd_script.specs.declared.script.ScriptFault.{ScriptFault}
-use Rattle.lapd_script.specs.declared.script.ScriptFault.TheVariants.{BadLine, Device, Memory}
+use Rattle.lapd_script.specs.declared.script.ScriptFault.TheVariants.{BadLine, Device, Memory, Port}
 
 -- ---- values in an Option
 
@@ -143,6 +143,7 @@ WalkEnds-after stands_for step s t (Err (BadLine number)) lines mid last command
 WalkEnds-after stands_for step s t (Err Memory) lines mid last command n i m a b c p q =
     (q.0, q.1, q.2, Walked-trans step s lines mid q.1 t q.0 n i q.2 a b c p q.3)
 WalkEnds-after stands_for step s t (Err Device) lines mid last command n i m a b c p q = tt
+WalkEnds-after stands_for step s t (Err (Port fault)) lines mid last command n i m a b c p q = q
 
 -- a walk whose output was handed out
 pub WalkEnds-kept : {C S : Type 0} (stands_for : C → S → Type 0) (step : Step S) (s : S) (result : Result ⊤ ScriptFault) (lines last : List (List ℕ)) (command : C) (n m : ℕ) (a b c : Option (List ℕ))
@@ -154,6 +155,7 @@ WalkEnds-kept stands_for step s (Err (BadLine number)) lines last command n m a 
 WalkEnds-kept stands_for step s (Err Memory) lines last command n m a b c q k =
     (q.0, q.1, q.2, Walked-kept step s lines q.1 q.0 n q.2 a b c q.3 k)
 WalkEnds-kept stands_for step s (Err Device) lines last command n m a b c q k = tt
+WalkEnds-kept stands_for step s (Err (Port fault)) lines last command n m a b c q k = q
 
 -- a walk to the end of a script
 EndsAs-walk : {C S : Type 0} (stands_for : C → S → Type 0) (step : Step S) (s : S) (result : Result ⊤ ScriptFault) (lines : List (List ℕ)) (command : C) (m : ℕ) (a b : Option (List ℕ))
@@ -180,6 +182,7 @@ EndsAs-walk stands_for step s (Err Memory) lines command m a b q =
     let good : bad_line step s w.finished ≡ None = ap (bad_from 1 step s) (sym whole) ∙ bad_from-ran step 1 s w.finished [] w.text q.0 w.ran in
     (w.finished, q.1, w.parted, good, subst (Appends a b) (sym text) w.grew)
 EndsAs-walk stands_for step s (Err Device) lines command m a b q = tt
+EndsAs-walk stands_for step s (Err (Port fault)) lines command m a b q = q
 
 -- the walk ends as it did, or with a device fault
 pub WalkEnds-handed : {C S : Type 0} (stands_for : C → S → Type 0) (step : Step S) (s : S) (ended result : Result ⊤ ScriptFault) (lines : List (List ℕ)) (command : C) (m : ℕ) (a b c : Option (List ℕ))
@@ -240,6 +243,7 @@ fails_after {C} {S} stands_for step s t (Err e) fault lines mid last other comma
     left_open stands_for step s (BadLine number) lines other last command n k m a c q = q
     left_open stands_for step s Device lines other last command n k m a c q = q
     left_open stands_for step s Memory lines other last command n k m a c q = q
+    left_open stands_for step s (Port fault) lines other last command n k m a c q = q
 
 -- memory ran out after a walk
 pub memory_after : {C S : Type 0} (stands_for : C → S → Type 0) (step : Step S) (s t : S) (result : Result ⊤ ScriptFault) (fault : ScriptFault) (lines mid last : List (List ℕ)) (command : C) (n i m : ℕ) (a b : Option (List ℕ))

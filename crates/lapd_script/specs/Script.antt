@@ -2,7 +2,7 @@
 use Rattle.std.specs.Prelude.{◌≡◌, ℕ, ◌+◌, List, [], ◌∷◌, ◌++◌, Bool, true, Option, None, Some, if◌then◌else◌, ◌==◌, Result, Ok, Err, ⊤, IsNone, IsSomeAnd}
 use Rattle.std.specs.Io.KnownBytes.{Appends, Keeps}
 use Rattle.lapd_script.specs.declared.script.ScriptFault.{ScriptFault}
-use Rattle.lapd_script.specs.declared.script.ScriptFault.TheVariants.{BadLine, Device, Memory}
+use Rattle.lapd_script.specs.declared.script.ScriptFault.TheVariants.{BadLine, Device, Memory, Port}
 use Rattle.lapd_script.specs.declared.script.LineFault.{LineFault}
 use Rattle.lapd_script.specs.declared.script.LineFault.TheVariants.{Bad, Device as LineDevice, Memory as LineMemory}
 
@@ -69,12 +69,13 @@ abbrev pub PrintsFront : {S : Type 0} → Step S → S → List (List ℕ) → O
 PrintsFront step s lines old new =
     (before : List (List ℕ)) × (after : List (List ℕ)) × (lines ≡ before ++ after) × (bad_line step s before ≡ None) × Appends old new (output_of step s before)
 
--- how a command that goes over these lines ends, and what the writer that it was given holds
+-- how a command that goes over these lines and no port ends, and what the writer that it was given holds
 abbrev pub EndsAs : {S : Type 0} → Step S → S → Result ⊤ ScriptFault → List (List ℕ) → Option (List ℕ) → Option (List ℕ) → Type 0
 EndsAs step s (Ok done) lines old new = (bad_line step s lines ≡ None) × Appends old new (output_of step s lines)
 EndsAs step s (Err (BadLine number)) lines old new = (bad_line step s lines ≡ Some number) × Appends old new (output_of step s lines)
 EndsAs step s (Err Memory) lines old new = PrintsFront step s lines old new
 EndsAs step s (Err Device) lines old new = ⊤
+EndsAs step s (Err (Port fault)) lines old new = ⊥
 
 -- how one line of a command ends, where this is what it calls for
 abbrev pub LineEndsAs : {C S : Type 0} → (C → S → Type 0) → Outcome S → Result ⊤ LineFault → C → Option (List ℕ) → Option (List ℕ) → Type 0
@@ -88,3 +89,4 @@ abbrev pub status_of : ScriptFault → ℕ
 status_of (BadLine number) = 1
 status_of Device = 3
 status_of Memory = 4
+status_of (Port fault) = 3

@@ -4,7 +4,7 @@ use Rattle.std.specs.List.{AllByRecursion}
 use Rattle.std.specs.Io.KnownBytes.{Appends}
 use Rattle.lapd_script.specs.Script.{Step, outcome_of, lines_of}
 use Rattle.lapd_script.specs.declared.script.ScriptFault.{ScriptFault}
-use Rattle.lapd_script.specs.declared.script.ScriptFault.TheVariants.{BadLine, Device, Memory}
+use Rattle.lapd_script.specs.declared.script.ScriptFault.TheVariants.{BadLine, Device, Memory, Port}
 
 -- no octet is a line feed
 abbrev pub HasNoFeed : List ℕ → Type 0
@@ -32,6 +32,7 @@ WalkEnds {C} {S} stands_for step s (Err (BadLine number)) lines last command n m
 WalkEnds {C} {S} stands_for step s (Err Memory) lines last command n m old new =
     (t : S) × (more : List (List ℕ)) × (i : ℕ) × Walked step s lines more t n i old new
 WalkEnds {C} {S} stands_for step s (Err Device) lines last command n m old new = ⊤
+WalkEnds stands_for step s (Err (Port fault)) lines last command n m old new = ⊥
 
 -- the walk ends as it did, or with a device fault
 abbrev pub KeepsFault : Result ⊤ ScriptFault → Result ⊤ ScriptFault → Type 0

@@ -12,6 +12,7 @@ mod line;
 mod print;
 mod script;
 
+pub use lapd_port::PortFault;
 pub use line::Words;
 pub use print::{put_hex, put_line, put_number, put_octets};
 pub use script::{Command, LineFault, ScriptFault, walk};

@@ -6,6 +6,7 @@ ghost use Rattle.lapd_script.specs.Script.{Step, EndsAs, LineEndsAs, outcome_of,
 ghost use Rattle.lapd_script.specs.declared.script.LineFault.TheVariants.{Device as LineDevice};
 ghost use Rattle.lapd_script.specs.Walked.{HasNoFeed, KeepsFault, WalkEnds};
 
+use lapd_port::PortFault;
 use memchr::memchr;
 use std::alloc::Global;
 use std::io::{self, ErrorKind, Read, Write};
@@ -23,6 +24,9 @@ pub enum ScriptFault {
     /// Memory ran out.
     #[error("out of memory")]
     Memory,
+    /// A port answered this in place of a frame. Only a command over a port ends so, and no [`walk`].
+    #[error("port {0}")]
+    Port(PortFault),
 }
 
 impl ScriptFault {
@@ -32,7 +36,7 @@ impl ScriptFault {
     {
         match self {
             ScriptFault::BadLine(_) => 1,
-            ScriptFault::Device => 3,
+            ScriptFault::Device | ScriptFault::Port(_) => 3,
             ScriptFault::Memory => 4,
         }
     }

@@ -7,6 +7,7 @@ use lapd_bus::bus;
 use lapd_commands::{answer, decode, pair};
 use lapd_frame::{Sapi, Side};
 use lapd_link::{Params, Recovery};
+use lapd_script::{PortFault, ScriptFault};
 use std::env::{Env, FillError};
 use std::test::Fail;
 
@@ -162,6 +163,45 @@ fn words_choose_two_ends(rt: HostRuntime) -> Result<(), Fail> {
     Ok(())
 }
 
+#[test]
+fn words_choose_a_loop(rt: HostRuntime) -> Result<(), Fail> {
+    let params = Params::basic(Sapi::Call);
+    let chosen = Chosen::Loop {
+        user: params,
+        network: params,
+    };
+    wants(chooses(&rt, &["lapd", "loop"], chosen), "no loop is chosen")?;
+    let params = Params::new(7, 2, 9).ok_or("the numbers are in range")?;
+    let words = [
+        "lapd",
+        "loop",
+        "--k=7",
+        "--n200=2",
+        "--room=9",
+        "--recovery-net=last",
+    ];
+    let chosen = Chosen::Loop {
+        user: params,
+        network: params.with_recovery(Recovery::LastMessage),
+    };
+    wants(chooses(&rt, &words, chosen), "another loop is chosen")
+}
+
+// Words that choose a side, over a connection at an address, which is taken as it stands.
+#[test]
+fn words_choose_sides(rt: HostRuntime) -> Result<(), Fail> {
+    let words = ["lapd", "net", "--listen", "127.0.0.1:7000"];
+    wants(
+        chooses(&rt, &words, Chosen::Net),
+        "no network side is chosen",
+    )?;
+    let words = ["lapd", "user", "--connect=no address"];
+    wants(
+        chooses(&rt, &words, Chosen::User),
+        "no user side is chosen",
+    )
+}
+
 // Words that the parser does not take.
 const FAULTS: &[&[&str]] = &[
     &["lapd", "--side", "user"],
@@ -180,6 +220,16 @@ const FAULTS: &[&[&str]] = &[
     &["lapd", "pair", "--recovery-user", "other"],
     &["lapd", "pair", "--recovery-net"],
     &["lapd", "pair", "--k", "3", "--k", "3"],
+    &["lapd", "loop", "more"],
+    &["lapd", "loop", "--side", "user"],
+    &["lapd", "loop", "--recovery", "last"],
+    &["lapd", "loop", "--k"],
+    &["lapd", "net"],
+    &["lapd", "net", "--listen"],
+    &["lapd", "net", "--connect", "127.0.0.1:7000"],
+    &["lapd", "net", "--listen", "a:1", "--listen", "a:1"],
+    &["lapd", "user"],
+    &["lapd", "user", "--listen", "127.0.0.1:7000"],
     &["lapd", "decode", "--side", "user"],
     &["lapd", "decode", "--k", "3"],
     &["lapd", "decode", "more"],
@@ -224,6 +274,9 @@ const ASKED: &[&[&str]] = &[
     &["lapd", "answer", "--help"],
     &["lapd", "bus", "--help"],
     &["lapd", "pair", "--help"],
+    &["lapd", "loop", "--help"],
+    &["lapd", "net", "--help"],
+    &["lapd", "user", "--help"],
     &["lapd", "decode", "--help"],
     &["lapd", "--version"],
     &["lapd", "-V"],
@@ -294,6 +347,10 @@ const NUMBERS: &[(&[&str], &str)] = &[
     (
         &["lapd", "answer", "--room", "18446744073709551617"],
         "error: invalid value '18446744073709551617' for '--room <MESSAGES>': not a number from 1 to 1024 in decimal digits",
+    ),
+    (
+        &["lapd", "loop", "--n200", "101"],
+        "error: invalid value '101' for '--n200 <TIMES>': not a number from 1 to 100 in decimal digits",
     ),
     (
         &["lapd", "bus", "--terminals", "0"],
@@ -442,6 +499,42 @@ fn examples_of_pair(rt: HostRuntime) -> Result<(), Fail> {
     };
     example_of_pair(&rt, first)?;
     example_of_pair(&rt, second)
+}
+
+// What `loop` prints is what `pair` prints.
+#[test]
+fn example_of_loop(rt: HostRuntime) -> Result<(), Fail> {
+    example_of_pair(&rt, help::LOOP)
+}
+
+// How a script ends, what is said of it, and the exit status.
+const ENDS: &[(ScriptFault, &str, u8)] = &[
+    (ScriptFault::BadLine(7), "line 7: bad command", 1),
+    (ScriptFault::Device, "device fault", 3),
+    (ScriptFault::Memory, "out of memory", 4),
+    (
+        ScriptFault::Port(PortFault::BadLength),
+        "port S2 BadLength",
+        3,
+    ),
+    (ScriptFault::Port(PortFault::Cut), "port S3 Cut", 3),
+    (ScriptFault::Port(PortFault::Failed), "port S6 Failed", 3),
+];
+
+// Whether this is said of it, with this status.
+fn is_said(rt: &HostRuntime, fault: ScriptFault, text: &str, status: u8) -> Result<bool, Fail> {
+    Ok(fault.to_string(rt.alloc())?.as_str() == text && fault.status() == status)
+}
+
+#[test]
+fn faults_are_said(rt: HostRuntime) -> Result<(), Fail> {
+    for (fault, text, status) in ENDS {
+        wants(
+            is_said(&rt, *fault, text, *status)?,
+            "another text or status",
+        )?;
+    }
+    Ok(())
 }
 
 #[test]

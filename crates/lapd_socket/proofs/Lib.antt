@@ -1,0 +1,4 @@
+pub mod Clocks
+mod Crossed
+mod Loops
+pub mod SideWalks

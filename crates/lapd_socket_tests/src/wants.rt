@@ -1,0 +1,10 @@
+use std::test::Fail;
+
+/// Fails the test where this does not hold: `row` names the line of a table, and `what` is then wrong with it.
+pub(crate) fn wants(holds: bool, row: &str, what: &str) -> Result<(), Fail> {
+    if holds {
+        Ok(())
+    } else {
+        Err(Fail::new(format_args!("{row}: {what}")))
+    }
+}
