@@ -1,4 +1,4 @@
-use Rattle.std.proofs.Common.{refl, sym, ap, subst, ◌∙◌, IsSome, ◌≡◌, None}
+use Rattle.std.proofs.Common.{refl, sym, ap, subst, ◌∙◌, IsSome, ◌≡◌, None, rules}
 use Rattle.slab.specs.Slab as slab
 use Rattle.lapd_table.specs.LinkTable.{link_at}
 use Rattle.lapd_table.proofs.Tables.{key_is_there, no_key, none_at, with_link_index, with_link, as_before_index, as_before, with_room}
@@ -44,3 +44,6 @@ returns-in-Err-clause-unchanged c =
     as_before c.args.self.now c.args.link c.requires.side c.of_link-id.result c.of_link-id.ensures (no_key _ (sym c.contains_key.ensures ∙ c.if-contains_key.false))
     c.reserve.new.self (λ at. ap (λ l. slab.get l at) c.reserve.ensures.rest_kept) c.insert_reserved-key.result c.insert_reserved-key.ensures.was_vacant _ c.insert_reserved-key.ensures.updates
     c.remove.new.self c.remove.ensures.updates _ c.in-Err.ensures.err _ refl refl refl
+
+pub invariant_of-self : goal.invariant_of-self
+invariant_of-self c = search rules

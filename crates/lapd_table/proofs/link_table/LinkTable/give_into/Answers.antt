@@ -1,4 +1,4 @@
-use Rattle.std.proofs.Common.{refl, ap}
+use Rattle.std.proofs.Common.{refl, ap, rules}
 use Rattle.std.specs.Prelude.{is_some}
 use Rattle.lapd_table.proofs.Tables.{on_ok, on_err, if_err, has_key, has_link, after_index, steps_at, refuses_at, unchanged_by}
 use Rattle.lapd_table.proofs.link_table.LinkTable.give_into.Goals as goal
@@ -22,3 +22,6 @@ returns-clause-err c = if_err c.give_into.result _ _ (λ refused h. refuses_at c
 
 pub returns-clause-unchanged : goal.returns-clause-unchanged
 returns-clause-unchanged c = on_err c.give_into.result _ _ (λ same. unchanged_by c.args.self.now c.args.id c.index-key.result.now c.index-key.ensures _ c.index_mut.ensures.value _ same _ refl refl refl) c.give_into.ensures.unchanged
+
+pub returns-clause-handed_back : goal.returns-clause-handed_back
+returns-clause-handed_back c = search rules

@@ -1,4 +1,4 @@
-use Rattle.std.proofs.Common.{refl, sym, ◌∙◌}
+use Rattle.std.proofs.Common.{refl, sym, ◌∙◌, rules}
 use Rattle.lapd_states.specs.Input.{input_of}
 use Rattle.lapd_table.proofs.Tables.{none_at, never_refused_at}
 use Rattle.lapd_table.proofs.link_table.LinkTable.hear.Goals as goal
@@ -8,3 +8,12 @@ returns-in_default-clause-err c = (refl, none_at c.args.self.now c.args.id (sym 
 
 pub unreachable-requires : goal.unreachable-requires
 unreachable-requires c = never_refused_at c.args.self.now c.args.id (input_of c.args.event) _ c.requires.heard c.in-Err.ensures.err
+
+pub returns-clause-err : goal.returns-clause-err
+returns-clause-err c = search rules
+
+pub returns-clause-unchanged : goal.returns-clause-unchanged
+returns-clause-unchanged c = search rules
+
+pub returns-clause-empty : goal.returns-clause-empty
+returns-clause-empty c = search rules
