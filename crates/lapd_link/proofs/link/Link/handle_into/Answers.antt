@@ -1,3 +1,4 @@
+use Rattle.std.proofs.Common.{rules}
 use Rattle.lapd_states.specs.Input.{input_of}
 use Rattle.lapd_link.proofs.BetweenSteps.{end_of, shows_end, settles, stays_between, step_done, step_refused}
 use Rattle.lapd_link.proofs.link.Link.handle_into.Goals as goal
@@ -18,3 +19,9 @@ pub returns-in-None-clause-ok : goal.returns-in-None-clause-ok
 returns-in-None-clause-ok c = λ e h.
     let done = c.step.ensures.step _ h in
     (_, step_done (input_of c.args.event) e (c.in-None.ensures e h), done.put, settles _ _ _ done)
+
+pub step-requires-clause-empty : goal.step-requires-clause-empty
+step-requires-clause-empty c = search rules
+
+pub returns-in-Some-clause-empty : goal.returns-in-Some-clause-empty
+returns-in-Some-clause-empty c = search rules

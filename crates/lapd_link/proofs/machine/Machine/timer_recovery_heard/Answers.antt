@@ -1,5 +1,5 @@
 use Rattle.lapd_states.specs.TimerRecovery.{timer_recovery}
-use Rattle.std.proofs.Common.{sym}
+use Rattle.std.proofs.Common.{rules, sym}
 use Rattle.lapd_link.proofs.machine.Machine.timer_recovery_heard.Goals as goal
 
 pub returns-in-I-clause-step : goal.returns-in-I-clause-step
@@ -19,3 +19,7 @@ returns-in-Rej-clause-step c = λ s h. rw (c.in-Rej.is, sym c.is_final-in-Rej.en
 pub returns-in-Rnr-clause-step : goal.returns-in-Rnr-clause-step
 unfolding timer_recovery
 returns-in-Rnr-clause-step c = λ s h. rw (c.in-Rnr.is, sym c.is_final-in-Rnr.ensures) (c.rnr_nr_in_recovery.ensures.step _ (c.poll-in-Rnr.ensures.step _ (c.set_peer_busy-in-Rnr.ensures.step _ _ h)))
+
+pub rr_nr_in_recovery-requires-in-Rej-clause-counted :
+    goal.rr_nr_in_recovery-requires-in-Rej-clause-counted
+rr_nr_in_recovery-requires-in-Rej-clause-counted c = search rules

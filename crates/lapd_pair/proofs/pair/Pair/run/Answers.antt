@@ -1,4 +1,5 @@
-use Rattle.std.proofs.Common.{◌≡◌, ◌<◌, map, get_or, length, sym, ap, ◌∙◌}
+use Rattle.std.proofs.Common.{◌≡◌, ◌<◌, map, get_or, length, sym, ap, ◌∙◌, arith}
+use Rattle.std.proofs.lemmas.Grind.{common_steps}
 use Rattle.std.proofs.Math.ListN.{get_or-map}
 use Rattle.std.proofs.lemmas.List.{length-map}
 use Rattle.lapd_pair.specs.Moves.{move_of}
@@ -27,6 +28,9 @@ loop-at-preserved c =
       | in-Ok w ↦ rw w.refused-is (one_done c.args.self.now c.loop-at.self c.apply_into.new.self moves at c.loop-at.refused m c.apply_into.new.outs.items within there w.in-Ok.ensures.ok c.loop-at.invariant)
       | in-Err+else-is_memory w ↦ rw w.refused-is (one_skipped c.args.self.now c.loop-at.self c.apply_into.new.self moves at c.loop-at.refused m w.in-Err.fault within there (sym w.is_memory.ensures ∙ w.if-is_memory.false) w.in-Err.ensures.err w.in-Err.ensures.unchanged c.loop-at.invariant)
     ]
+
+pub returns-clause-ok : goal.returns-clause-ok
+returns-clause-ok c = grind (arith, common_steps)
 
 pub returns-clause-safe : goal.returns-clause-safe
 returns-clause-safe c = pair_is_safe _
