@@ -46,12 +46,12 @@ impl LinkSet {
     /// # Errors
     ///
     /// `AllocError` where memory was refused.
-    pub fn new(alloc: Global, side: Side, durations: Durations) -> Result<LinkSet, AllocError>
+    pub fn new(alloc: Global, side: Side) -> Result<LinkSet, AllocError>
         ensures { IfOk result (λ s. ShowLinks side s no_links) }
     {
         Ok(LinkSet {
             table: LinkTable::new(alloc, side),
-            timings: Timings::new(alloc, durations)?,
+            timings: Timings::new(alloc)?,
             outs: Outs::new(),
         })
     }

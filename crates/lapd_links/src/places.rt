@@ -28,17 +28,18 @@ pub struct Places {
 impl Places {
     ghost use Rattle.lapd_links.specs.Placed.{placed, of_places};
 
-    /// No timer runs. The room for all is taken here.
+    /// No timer runs. The room for all is taken here. How long they run is said for each link by [`Places::rest`].
     ///
     /// # Errors
     ///
     /// `AllocError` where memory was refused.
-    pub fn new(alloc: Global, durations: Durations) -> Result<Places, AllocError>
+    pub fn new(alloc: Global) -> Result<Places, AllocError>
         ensures { IfOk result (λ s. (id : LinkId) → IfSome (placed s id) AreAtRest) }
     {
+        let timers = [TimerSet::new(Durations::standard()); 127];
         Ok(Places {
-            call: Vec::from_array(alloc, [TimerSet::new(durations); 127])?,
-            packet: Vec::from_array(alloc, [TimerSet::new(durations); 127])?,
+            call: Vec::from_array(alloc, timers)?,
+            packet: Vec::from_array(alloc, timers)?,
         })
     }
 

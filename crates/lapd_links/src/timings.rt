@@ -25,16 +25,16 @@ pub struct Timings {
 }
 
 impl Timings {
-    /// No timer runs. The room for all is taken here.
+    /// No timer runs. The room for all is taken here. How long they run is said for each link by [`Timings::rest`].
     ///
     /// # Errors
     ///
     /// `AllocError` where memory was refused.
-    pub fn new(alloc: Global, durations: Durations) -> Result<Timings, AllocError>
+    pub fn new(alloc: Global) -> Result<Timings, AllocError>
         ensures { IfOk result (λ s. (id : LinkId) → IfSome (placed s.places id) AreAtRest) }
     {
         Ok(Timings {
-            places: Places::new(alloc, durations)?,
+            places: Places::new(alloc)?,
             moment: u64::MAX,
         })
     }

@@ -5,6 +5,8 @@
 #![tactic(auto)]
 
 #[cfg(test)]
+mod losses;
+#[cfg(test)]
 mod made;
 #[cfg(test)]
 mod memory;
@@ -16,6 +18,8 @@ mod readers;
 mod refusals;
 #[cfg(test)]
 mod schedule;
+#[cfg(test)]
+mod steps;
 #[cfg(test)]
 mod wants;
 #[cfg(test)]

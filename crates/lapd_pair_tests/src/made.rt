@@ -1,6 +1,5 @@
 //! Pairs that are made and led on.
 
-use lapd_frame::Side;
 use lapd_link::{Params, Recovery};
 use lapd_pair::{Move, Pair};
 use std::alloc::Global;
@@ -13,25 +12,16 @@ pub(crate) fn params(k: u8, room: u16) -> Result<Params, Fail> {
 
 /// Two new ends with a window of `k` frames and room for 512 messages.
 pub(crate) fn new_pair(alloc: Global, k: u8) -> Result<Pair, Fail> {
-    let params = params(k, 512)?;
-    Ok(Pair::new(alloc, params, params)?)
+    pair_with(alloc, k, Recovery::Enquiry)
 }
 
-/// The same, where the user sends its last message again.
-pub(crate) fn pair_with_last_message(alloc: Global, k: u8) -> Result<Pair, Fail> {
+/// The same, where the user recovers so.
+pub(crate) fn pair_with(alloc: Global, k: u8, user: Recovery) -> Result<Pair, Fail> {
     let params = params(k, 512)?;
-    let user = params.with_recovery(Recovery::LastMessage);
-    Ok(Pair::new(alloc, user, params)?)
+    Ok(Pair::new(alloc, params.with_recovery(user), params)?)
 }
 
 /// Makes a move, and tells whether it was admitted.
 pub(crate) fn moves(pair: &mut Pair, deed: &Move) -> bool {
     pair.apply(deed).is_ok()
-}
-
-/// The user establishes the link, and the network answers.
-pub(crate) fn establish(pair: &mut Pair) -> bool {
-    moves(pair, &Move::Establish(Side::User))
-        && moves(pair, &Move::Deliver(Side::Network))
-        && moves(pair, &Move::Deliver(Side::User))
 }

@@ -4,8 +4,8 @@
 
 use crate::made::params;
 use crate::readers::digest;
+use crate::steps::{Deed, move_of};
 use crate::wants::wants;
-use crate::worked::{Deed, move_of};
 use lapd_frame::Side;
 use lapd_link::{Outs, Params, Recovery};
 use lapd_pair::{Move, Pair, PairFault};

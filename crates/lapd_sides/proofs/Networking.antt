@@ -87,20 +87,7 @@ expired_so code config acts now s e of due is done = record {
   done = subst (λ (o : Option LinkId). HasDone code config acts (network_expires config now e.timer o s)) (sym is) done;
 }
 
--- ---- What holds of an answer holds as what follows from it.
-
-pub ok_then : {A E : Type 0} (result : Result A E) (P Q : Type 0) → (P → Q) → OnOk result P → OnOk result Q
-ok_then (Ok a) P Q f p = f p
-ok_then (Err e) P Q f p = tt
-
+-- what holds anyhow holds of a refusal
 pub on_err : {A E : Type 0} (result : Result A E) (P : Type 0) → P → OnErr result P
 on_err (Ok a) P p = tt
 on_err (Err e) P p = p
-
-pub err_then : {A E : Type 0} (result : Result A E) (P Q : Type 0) → (P → Q) → OnErr result P → OnErr result Q
-err_then (Ok a) P Q f p = tt
-err_then (Err e) P Q f p = f p
-
-pub err_each : {A E : Type 0} (result : Result A E) (P Q : E → Type 0) → ((e : E) → P e → Q e) → IfErr result P → IfErr result Q
-err_each (Ok a) P Q f p = tt
-err_each (Err e) P Q f p = f e p

@@ -35,7 +35,7 @@ impl LinksAndTimer {
         ensures { IfOk result (λ s. ShowServed side s (record { links = no_links; timers = at_rest durations })) }
     {
         Ok(LinksAndTimer {
-            links: LinkSet::new(alloc, side, durations)?,
+            links: LinkSet::new(alloc, side)?,
             timers: TimerSet::new(durations),
         })
     }

@@ -1,4 +1,4 @@
-use Rattle.std.proofs.Common.{[], Err, ◌∙◌}
+use Rattle.std.proofs.Common.{[], Err, ◌∙◌, rules}
 use Rattle.lapd_frame.specs.declared.Side.TheVariants as side
 use Rattle.lapd_states.specs.Input.{Give}
 use Rattle.lapd_states.specs.declared.event.LinkFault.TheVariants.{NotEstablished}
@@ -19,3 +19,6 @@ returns-in-Some-clause-err c = each_err c.give.result _ _ (λ fault h. λ config
 
 pub returns-in-Some-clause-unchanged : goal.returns-in-Some-clause-unchanged
 returns-in-Some-clause-unchanged c = err_gives c.give.result _ _ (λ h. λ config s shown. links_kept c.args.self.now c.give.new.self config s shown (h side.User s.served.links shown.served.links)) c.give.ensures.unchanged
+
+pub returns-in-None-clause-err : goal.returns-in-None-clause-err
+returns-in-None-clause-err c = search rules

@@ -1,0 +1,126 @@
+//! Three hundred messages over a line that loses every tenth frame.
+
+use crate::made::new_pair;
+use crate::wants::wants;
+use lapd_frame::Side;
+use lapd_link::Out;
+use lapd_pair::{Move, Pair, Received};
+use std::alloc::Global;
+use std::test::Fail;
+
+/// Frames are numbered from 1 as they come on the line, and one whose number is a multiple of ten is lost.
+#[derive(Drop)]
+struct Numbered {
+    pair: Pair,
+    /// The number of the next frame.
+    next: u64,
+    to_user: Vec<u64>,
+    to_network: Vec<u64>,
+    /// Whether an error was reported.
+    reported: bool,
+}
+
+impl Numbered {
+    fn new(alloc: Global) -> Result<Numbered, Fail> {
+        Ok(Numbered {
+            pair: new_pair(alloc, 127)?,
+            next: 1,
+            to_user: Vec::new(alloc),
+            to_network: Vec::new(alloc),
+            reported: false,
+        })
+    }
+
+    /// Makes a move, and numbers the frames that it puts on the line.
+    fn makes(&mut self, deed: &Move) -> Result<bool, Fail> {
+        let to = deed.side().other();
+        let before = self.pair.line(to).len();
+        let Ok(outs) = self.pair.apply(deed) else {
+            return Ok(false);
+        };
+        self.reported = self.reported || outs.iter().any(|out| matches!(out, Out::Report(_)));
+        for _ in before..self.pair.line(to).len() {
+            let number = self.next;
+            self.numbers(to).push(number)?;
+            self.next = number.wrapping_add(1);
+        }
+        Ok(true)
+    }
+
+    /// The numbers of the frames on their way to this side.
+    fn numbers(&mut self, to: Side) -> &mut Vec<u64> {
+        match to {
+            Side::User => &mut self.to_user,
+            Side::Network => &mut self.to_network,
+        }
+    }
+
+    /// Delivers the first frame on its way to this side, or loses it, where there is one.
+    fn passes(&mut self, to: Side) -> Result<bool, Fail> {
+        let numbers = self.numbers(to);
+        if numbers.is_empty() {
+            return Ok(false);
+        }
+        if numbers.remove(0) % 10 == 0 {
+            self.makes(&Move::Lose(to, 0))
+        } else {
+            self.makes(&Move::Deliver(to))
+        }
+    }
+
+    /// The first of these that is possible: a frame to the network, one to the user, T200 of the user, of the network.
+    fn turn(&mut self) -> Result<bool, Fail> {
+        Ok(
+            self.passes(Side::Network)?
+                || self.passes(Side::User)?
+                || self.makes(&Move::Expire200(Side::User))?
+                || self.makes(&Move::Expire200(Side::Network))?,
+        )
+    }
+}
+
+/// The octets of the message of this number.
+fn octets_of(number: u32) -> [u8; 4] {
+    number.to_be_bytes()
+}
+
+/// Whether messages were received in order, in the first establishment.
+fn are_in_order(received: &[Received]) -> bool {
+    let mut number: u32 = 0;
+    for message in received {
+        if message.octets.as_slice() != octets_of(number).as_slice() || message.establishment != 1 {
+            return false;
+        }
+        number = number.wrapping_add(1);
+    }
+    true
+}
+
+#[test]
+fn every_tenth_frame_is_lost(rt: HostRuntime) -> Result<(), Fail> {
+    let mut numbered = Numbered::new(rt.alloc())?;
+    let _ = numbered.makes(&Move::Establish(Side::User))?;
+    let _ = numbered.turn()? && numbered.turn()?;
+    for number in 0..300u32 {
+        let message = octets_of(number).to_vec(rt.alloc())?;
+        let given = numbered.makes(&Move::Give(Side::User, message))?;
+        wants(given, "every tenth", "a message is refused")?;
+    }
+    let mut more = true;
+    for _ in 0..100_000u32 {
+        more = more && numbered.turn()?;
+    }
+    wants(!more, "every tenth", "no end")?;
+    let pair = &numbered.pair;
+    let received = pair.received(Side::Network);
+    let all = received.len() == 300 && are_in_order(received);
+    wants(all, "every tenth", "received in order")?;
+    wants(
+        pair.acknowledged(Side::User) == 300,
+        "every tenth",
+        "acknowledged",
+    )?;
+    wants(!numbered.reported, "every tenth", "an error is reported")?;
+    let vs = pair.link(Side::User).window().vs().value();
+    wants(vs == 44 && pair.left() == 0, "every tenth", "V(S)")
+}
