@@ -1,6 +1,7 @@
 use lapd_frame::{FaultKind, FrameFault};
 use lapd_link::{LinkFault, Refused};
 use lapd_pair::PairFault;
+use lapd_port::PortFault;
 use lapd_sides::{SideFault, SideKind};
 use lapd_table::TableFault;
 use std::alloc::AllocError;
@@ -10,7 +11,7 @@ use thiserror::Error;
 #[derive(Clone, Copy, Debug, PartialEq, Eq, Error)]
 pub enum BenchFault {
     /// The words ask for nothing that is done.
-    #[error("usage: lapd_bench [MESSAGES], lapd_bench pair MESSAGES, lapd_bench line FRAMES MOVES, or lapd_bench table|side|tick LINKS TIMES")]
+    #[error("usage: lapd_bench [MESSAGES], lapd_bench pair MESSAGES, lapd_bench line FRAMES MOVES, lapd_bench table|side|tick LINKS TIMES, lapd_bench port FRAMES OCTETS, or lapd_bench due|terminal|check|request TIMES")]
     CommandLine,
     /// Memory ran out.
     #[error("out of memory")]
@@ -36,6 +37,9 @@ pub enum BenchFault {
     /// Octets or a link were refused by a side.
     #[error("refused: {0}")]
     Side(SideKind),
+    /// A port answered this.
+    #[error("port {0}")]
+    Port(PortFault),
 }
 
 impl From<AllocError> for BenchFault {
@@ -77,5 +81,11 @@ impl From<TableFault> for BenchFault {
 impl From<SideFault> for BenchFault {
     fn from(fault: SideFault) -> BenchFault {
         BenchFault::Side(fault.kind)
+    }
+}
+
+impl From<PortFault> for BenchFault {
+    fn from(fault: PortFault) -> BenchFault {
+        BenchFault::Port(fault)
     }
 }

@@ -5,3 +5,21 @@ pub struct Counts {
     pub received: u64,
     pub acknowledged: u64,
 }
+
+/// How many octets were written to a port, and how many frames were read from them.
+#[derive(Clone, Copy, Debug, PartialEq, Eq)]
+pub struct Octets {
+    pub written: usize,
+    pub read: u32,
+}
+
+/// What was done.
+#[derive(Clone, Copy, Debug, PartialEq, Eq)]
+pub enum Done {
+    /// Messages were passed.
+    Messages(Counts),
+    /// Frames were written to a port and read back.
+    Frames(Octets),
+    /// So many timers were due, or so many outputs came of steps.
+    Outputs(u64),
+}

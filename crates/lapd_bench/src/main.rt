@@ -6,8 +6,11 @@
 //! number of messages, 1,000 where it is left out: they go over two links, and nothing is kept of them. `pair MESSAGES`
 //! passes them over a pair of `lapd_pair`, which keeps what became of each. `line FRAMES MOVES` puts so many frames on
 //! the line of a pair, and then sends and delivers so many more. `table LINKS FRAMES` hands in so many enquiries, one
-//! after another to each link of a table of `lapd_table`, and writes the answers. It prints how many messages were given,
-//! received and acknowledged. Begin with `run`.
+//! after another to each link of a table of `lapd_table`, and writes the answers; `side LINKS FRAMES` hands in I frames to
+//! the links of a side of `lapd_sides`, and `tick LINKS TIMES` asks what is due. It prints how many messages were given,
+//! received and acknowledged. `port FRAMES OCTETS` writes frames to a port in memory and reads them back. `due`, `terminal`,
+//! `check` and `request`, each with TIMES behind it, look for due timers and make steps of TEI management, and print how many
+//! timers were due or how many outputs there were. Begin with `run`.
 #![tactic(auto)]
 
 mod bench_fault;
@@ -15,12 +18,14 @@ mod counts;
 mod end;
 mod line;
 mod over_pair;
+mod over_port;
 mod over_side;
 mod over_table;
+mod over_tei;
 mod work;
 
 use bench_fault::BenchFault;
-use counts::Counts;
+use counts::{Counts, Done, Octets};
 use end::End;
 use lapd_frame::Side;
 use line::Line;
@@ -38,8 +43,8 @@ const WINDOW: u32 = 7;
 const OCTETS: usize = 20;
 
 fn main(rt: HostRuntime) -> ExitCode {
-    match counted(&rt) {
-        Ok(counts) => show(&rt, counts),
+    match done(&rt) {
+        Ok(done) => show(&rt, done),
         Err(fault) => {
             let _ = eprintln!(rt; "{fault}");
             ExitCode::FAILURE
@@ -47,26 +52,40 @@ fn main(rt: HostRuntime) -> ExitCode {
     }
 }
 
-/// What becomes of the messages of the command line.
-fn counted(rt: &HostRuntime) -> Result<Counts, BenchFault> {
+/// Does what the command line asks for.
+fn done(rt: &HostRuntime) -> Result<Done, BenchFault> {
+    let alloc = rt.alloc();
     match asked(rt)? {
-        Work::Links(messages) => run(rt.alloc(), messages),
-        Work::Pair(messages) => over_pair::pass(rt.alloc(), messages),
-        Work::Line(frames, moves) => over_pair::stand(rt.alloc(), frames, moves),
-        Work::Table(links, frames) => over_table::answer(rt.alloc(), links, frames),
-        Work::Side(links, frames) => over_side::take(rt.alloc(), links, frames),
-        Work::Tick(links, times) => over_side::tick(rt.alloc(), links, times),
+        Work::Links(messages) => Ok(Done::Messages(run(alloc, messages)?)),
+        Work::Pair(messages) => Ok(Done::Messages(over_pair::pass(alloc, messages)?)),
+        Work::Line(frames, moves) => Ok(Done::Messages(over_pair::stand(alloc, frames, moves)?)),
+        Work::Table(links, frames) => Ok(Done::Messages(over_table::answer(alloc, links, frames)?)),
+        Work::Side(links, frames) => Ok(Done::Messages(over_side::take(alloc, links, frames)?)),
+        Work::Tick(links, times) => Ok(Done::Messages(over_side::tick(alloc, links, times)?)),
+        Work::Port(frames, octets) => Ok(Done::Frames(over_port::pass(alloc, frames, octets)?)),
+        Work::Due(times) => Ok(Done::Outputs(over_tei::due(times))),
+        Work::Terminal(times) => Ok(Done::Outputs(over_tei::terminal(times))),
+        Work::Check(times) => Ok(Done::Outputs(over_tei::check(times))),
+        Work::Request(times) => Ok(Done::Outputs(over_tei::request(times))),
     }
 }
 
-/// Prints what became of the messages.
-fn show(rt: &HostRuntime, counts: Counts) -> ExitCode {
-    let Counts {
-        given,
-        received,
-        acknowledged,
-    } = counts;
-    match println!(rt; "{given} given, {received} received, {acknowledged} acknowledged") {
+/// Prints what was done.
+fn show(rt: &HostRuntime, done: Done) -> ExitCode {
+    let shown = match done {
+        Done::Messages(
+            Counts {
+                given,
+                received,
+                acknowledged,
+            },
+        ) => println!(rt; "{given} given, {received} received, {acknowledged} acknowledged"),
+        Done::Frames(Octets { written, read }) => {
+            println!(rt; "{written} octets written, {read} frames read")
+        }
+        Done::Outputs(outputs) => println!(rt; "{outputs} outputs"),
+    };
+    match shown {
         Ok(()) => ExitCode::SUCCESS,
         Err(_) => ExitCode::FAILURE,
     }

@@ -18,6 +18,16 @@ pub enum Work {
     Side(u32, u32),
     /// A side of so many links is asked so many times what is due, where nothing is.
     Tick(u32, u32),
+    /// So many frames of so many octets are written to a port and read back.
+    Port(u32, u32),
+    /// So many times the timer that is due is started anew.
+    Due(u32),
+    /// So many times a terminal asks for a TEI, gets it and leaves.
+    Terminal(u32),
+    /// So many times an assigner checks a TEI.
+    Check(u32),
+    /// So many times an assigner serves a request.
+    Request(u32),
 }
 
 /// What the command line asks for.
@@ -41,6 +51,11 @@ pub fn asked(rt: &HostRuntime) -> Result<Work, BenchFault> {
         "table" => Work::Table(next_number(&mut words)?, next_number(&mut words)?),
         "side" => Work::Side(next_number(&mut words)?, next_number(&mut words)?),
         "tick" => Work::Tick(next_number(&mut words)?, next_number(&mut words)?),
+        "port" => Work::Port(next_number(&mut words)?, next_number(&mut words)?),
+        "due" => Work::Due(next_number(&mut words)?),
+        "terminal" => Work::Terminal(next_number(&mut words)?),
+        "check" => Work::Check(next_number(&mut words)?),
+        "request" => Work::Request(next_number(&mut words)?),
         count => Work::Links(number(count)?),
     };
     match words.next() {

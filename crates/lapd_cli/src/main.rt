@@ -2,19 +2,15 @@
 //! line between them, also over a socket, is a whole side of an interface over a socket, assigns TEIs on a bus of terminals, or prints octets as trace lines.
 //!
 //! Scripts come on standard input, a line for each thing that happens, and each line's answer goes
-//! to standard output before more is read. The commands stand in `lapd_commands`, `lapd_bus` and `lapd_socket`, and the
-//! walk over a script in `lapd_script`.
+//! to standard output before more is read. The commands stand in `lapd_commands`, `lapd_bus` and `lapd_socket`, the
+//! walk over a script in `lapd_script`, and the command line in `lapd_command_line`.
 #![tactic(auto)]
 
-mod command_line;
 mod connection;
-mod help;
-#[cfg(test)]
-mod tests;
 
 use clap::error::ErrorKind;
-use command_line::{Chosen, Unchosen, WordsFault, address, choose, words};
 use lapd_bus::bus;
+use lapd_command_line::{Chosen, Unchosen, WordsFault, address, choose, words};
 use lapd_commands::{answer, decode, pair};
 use lapd_link::Params;
 use lapd_script::ScriptFault;

@@ -1,7 +1,8 @@
-//! Tests of whole sides on their public calls: dialogues octet by octet, requests that are refused, and 10,000 drawn moves
-//! beside a pair of links.
+//! Tests of whole sides on their public calls, and of what they stand on: dialogues octet by octet, requests that are refused,
+//! and 10,000 drawn moves beside a pair of links; a table of links; timers and TEI management, with the command `bus`.
 //!
-//! They stand apart so that each crate is proved once. `wants` fails a test with the row's name.
+//! They stand apart so that each crate is proved once. What a contract says is not tested again. A row shows that the
+//! definitions say what is meant, that a call can succeed, and what is printed. `wants` fails a test with the row's name.
 #![tactic(auto)]
 
 #[cfg(test)]
@@ -14,5 +15,9 @@ mod follow;
 mod readers;
 #[cfg(test)]
 mod refusals;
+#[cfg(test)]
+mod table;
+#[cfg(test)]
+mod tei;
 #[cfg(test)]
 mod wants;

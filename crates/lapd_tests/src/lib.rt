@@ -1,5 +1,5 @@
-//! Tests of the crates below, as tables: scripts, rows of the state table, counters and queues, and what they call for.
-//! Those of fields, frames and trace lines stand in `lapd_trace`, and those of two ends in `lapd_pair_tests`.
+//! Tests of the crates below, as tables: octets, scripts, rows of the state table, counters and queues, and what they call
+//! for. Those of two ends stand in `lapd_pair_tests`.
 //!
 //! They stand apart so that each crate is proved once. What a contract says is not tested again. A row shows that the
 //! definitions say what is meant, that a call can succeed, and what a value prints. `wants` fails a test with the row's
@@ -16,6 +16,8 @@ mod decodes;
 mod devices;
 #[cfg(test)]
 mod links;
+#[cfg(test)]
+mod octets;
 #[cfg(test)]
 mod queues;
 #[cfg(test)]

@@ -2,14 +2,11 @@
 //!
 //! Begin with [`line`]: it takes any octets and who sent them, and gives the text of the frame, or of the first fault
 //! where they are none. [`History`] keeps the last lines of a trace in room that is taken once, and [`Lines`] goes
-//! over them from the oldest. The test `every_control_field_and_fault` shows a
-//! line for each frame.
+//! over them from the oldest. Rows of lines for every frame and fault stand in `lapd_tests`.
 #![tactic(auto)]
 
 mod history;
 mod lines;
-#[cfg(test)]
-mod tests;
 mod trace;
 
 pub use history::History;

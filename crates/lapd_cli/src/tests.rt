@@ -1,3 +1,0 @@
-//! Tests of the command line.
-
-mod command_line;

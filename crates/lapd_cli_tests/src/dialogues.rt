@@ -1,0 +1,376 @@
+//! Dialogues of a side with what comes through its port: what it prints, and what it sends.
+
+use crate::devices::{Devices, MemoryPort, Paper, SOUND, port_of};
+use crate::wants::wants;
+use arrayvec::ArrayVec;
+use lapd_script::ScriptFault;
+use lapd_socket::{net, user};
+use std::alloc::Global;
+use std::test::Fail;
+
+/// Which command goes over a script.
+#[derive(Clone, Copy, Debug)]
+pub(crate) enum Who {
+    Net,
+    User,
+}
+
+/// A dialogue.
+#[derive(Clone, Copy, Debug)]
+pub(crate) struct Row {
+    pub(crate) name: &'static str,
+    pub(crate) who: Who,
+    /// The octets that come, in hexadecimal digits.
+    pub(crate) coming: &'static str,
+    pub(crate) script: &'static str,
+    pub(crate) printed: &'static str,
+    /// The octets that go, in hexadecimal digits.
+    pub(crate) going: &'static str,
+}
+
+/// What a side came to, what it printed, and its port.
+#[derive(Drop)]
+pub(crate) struct Ended<'a> {
+    pub(crate) result: Result<(), ScriptFault>,
+    pub(crate) printed: Paper,
+    pub(crate) port: MemoryPort<'a>,
+}
+
+impl Ended<'_> {
+    /// The octets that it sent.
+    pub(crate) fn sent(&self) -> &[u8] {
+        self.port.sink().taken.as_slice()
+    }
+
+    /// How often it read and wrote.
+    pub(crate) fn calls(&self) -> (u64, u64) {
+        (
+            self.port.source().trouble.calls,
+            self.port.sink().trouble.calls,
+        )
+    }
+}
+
+/// What a script comes to as this side over this port, on paper with room for so many octets.
+pub(crate) fn play<'a>(
+    alloc: Global,
+    who: Who,
+    script: &str,
+    port: MemoryPort<'a>,
+    room: usize,
+) -> Ended<'a> {
+    let mut printed = Paper::with_room(room);
+    let mut script = script.as_bytes();
+    let (result, port) = match who {
+        Who::Net => net(alloc, &mut script, &mut printed, port),
+        Who::User => user(alloc, &mut script, &mut printed, port),
+    };
+    Ended {
+        result,
+        printed,
+        port,
+    }
+}
+
+/// The octets that these digits write, 1,024 at most.
+pub(crate) fn octets_of(digits: &str) -> Result<ArrayVec<u8, 1024>, Fail> {
+    let mut octets = ArrayVec::from([0; 1024]);
+    octets.truncate(digits.len() / 2);
+    match hex::decode_to_slice(digits.as_bytes(), octets.as_mut_slice()) {
+        Ok(()) => Ok(octets),
+        Err(_) => Err(Fail::new(format_args!("these are no octets: {digits}"))),
+    }
+}
+
+/// A TEI is assigned, a link established, and its T203 expires.
+pub(crate) const WORKED_NET: Row = Row {
+    name: "the network side assigns a TEI",
+    who: Who::Net,
+    coming: "0008fcff030f123401ff000300817f",
+    script: "read\nread\ntick 10000\nread\n",
+    printed: "U>N SAPI 63 TEI 127 C UI P=0 info=0f123401ff\n\
+        N>U SAPI 63 TEI 127 C UI P=0 info=0f12340281\n\
+        tei given 64\n\
+        U>N SAPI 0 TEI 64 C SABME P=1\n\
+        N>U SAPI 0 TEI 64 R UA F=1\n\
+        0 64 established\n\
+        N>U SAPI 0 TEI 64 C RR N(R)=0 P=1\n\
+        refused S1 End\n",
+    going: "0008feff030f12340281000300817300040281\
+        0101",
+};
+
+/// A TEI is asked for and got, a link established, and a message crosses it each way. The reference is the low sixteen bits of
+/// the first word of a Pcg32 that is seeded with 921.
+pub(crate) const WORKED_USER: Row = Row {
+    name: "the user side gets a TEI",
+    who: Who::User,
+    coming: "0008feff030f619902810003008173000400810102000602810002\
+        0902",
+    script: "ask\nestablish 0 127\nread\nread\ngive 0 64 0801\nread\nread\n",
+    printed: "U>N SAPI 63 TEI 127 C UI P=0 info=0f619901ff\n\
+        N>U SAPI 63 TEI 127 C UI P=0 info=0f61990281\n\
+        U>N SAPI 0 TEI 64 C SABME P=1\n\
+        tei got 64\n\
+        N>U SAPI 0 TEI 64 R UA F=1\n\
+        0 64 confirmed\n\
+        U>N SAPI 0 TEI 64 C I N(S)=0 N(R)=0 P=0 info=0801\n\
+        N>U SAPI 0 TEI 64 R RR N(R)=1 F=0\n\
+        0 64 acknowledged 1\n\
+        N>U SAPI 0 TEI 64 C I N(S)=0 N(R)=1 P=0 info=0902\n\
+        U>N SAPI 0 TEI 64 R RR N(R)=1 F=0\n\
+        0 64 data 0902\n",
+    going: "0008fcff030f619901ff000300817f0006008100000801000402810102",
+};
+
+/// What the user sends in the dialogue of both ends, and what the network sends.
+const FROM_USER: &str = "0008fcff030f619901ff000300817f00060081000008010004028101020003008153";
+
+const FROM_NET: &str = "0008feff030f619902810003008173000400810102000602810002\
+    08070003008173";
+
+/// The network's end of a dialogue of both: each of them gives a message, and the user releases the link.
+pub(crate) const BOTH_NET: Row = Row {
+    name: "the network's end of a dialogue",
+    who: Who::Net,
+    coming: FROM_USER,
+    script: "read\nread\nread\ngive 0 64 0807\nread\nread\n",
+    printed: "U>N SAPI 63 TEI 127 C UI P=0 info=0f619901ff\n\
+        N>U SAPI 63 TEI 127 C UI P=0 info=0f61990281\n\
+        tei given 64\n\
+        U>N SAPI 0 TEI 64 C SABME P=1\n\
+        N>U SAPI 0 TEI 64 R UA F=1\n\
+        0 64 established\n\
+        U>N SAPI 0 TEI 64 C I N(S)=0 N(R)=0 P=0 info=0801\n\
+        N>U SAPI 0 TEI 64 R RR N(R)=1 F=0\n\
+        0 64 data 0801\n\
+        N>U SAPI 0 TEI 64 C I N(S)=0 N(R)=1 P=0 info=0807\n\
+        U>N SAPI 0 TEI 64 R RR N(R)=1 F=0\n\
+        0 64 acknowledged 1\n\
+        U>N SAPI 0 TEI 64 C DISC P=1\n\
+        N>U SAPI 0 TEI 64 R UA F=1\n\
+        0 64 released\n",
+    going: FROM_NET,
+};
+
+/// The user's end of it.
+pub(crate) const BOTH_USER: Row = Row {
+    name: "the user's end of a dialogue",
+    who: Who::User,
+    coming: FROM_NET,
+    script: "establish 0 127\nread\nread\ngive 0 64 0801\nread\nread\nrelease 0 64\nread\n",
+    printed: "U>N SAPI 63 TEI 127 C UI P=0 info=0f619901ff\n\
+        N>U SAPI 63 TEI 127 C UI P=0 info=0f61990281\n\
+        U>N SAPI 0 TEI 64 C SABME P=1\n\
+        tei got 64\n\
+        N>U SAPI 0 TEI 64 R UA F=1\n\
+        0 64 confirmed\n\
+        U>N SAPI 0 TEI 64 C I N(S)=0 N(R)=0 P=0 info=0801\n\
+        N>U SAPI 0 TEI 64 R RR N(R)=1 F=0\n\
+        0 64 acknowledged 1\n\
+        N>U SAPI 0 TEI 64 C I N(S)=0 N(R)=1 P=0 info=0807\n\
+        U>N SAPI 0 TEI 64 R RR N(R)=1 F=0\n\
+        0 64 data 0807\n\
+        U>N SAPI 0 TEI 64 C DISC P=1\n\
+        N>U SAPI 0 TEI 64 R UA F=1\n\
+        0 64 release-confirmed\n",
+    going: FROM_USER,
+};
+
+const ROWS: &[Row] = &[
+    WORKED_NET,
+    WORKED_USER,
+    BOTH_NET,
+    BOTH_USER,
+    Row {
+        name: "of one tick all frames come before all primitives",
+        who: Who::Net,
+        coming: "0008fcff030f123401ff",
+        script: "read\nestablish 0 64\ntick 1000\nestablish 16 64\ntick 1000\ntick 1000\ntick 1000\n",
+        printed: "U>N SAPI 63 TEI 127 C UI P=0 info=0f123401ff\n\
+            N>U SAPI 63 TEI 127 C UI P=0 info=0f12340281\n\
+            tei given 64\n\
+            N>U SAPI 0 TEI 64 C SABME P=1\n\
+            N>U SAPI 0 TEI 64 C SABME P=1\n\
+            N>U SAPI 16 TEI 64 C SABME P=1\n\
+            N>U SAPI 0 TEI 64 C SABME P=1\n\
+            N>U SAPI 16 TEI 64 C SABME P=1\n\
+            N>U SAPI 0 TEI 64 C SABME P=1\n\
+            N>U SAPI 16 TEI 64 C SABME P=1\n\
+            N>U SAPI 16 TEI 64 C SABME P=1\n\
+            0 64 report G\n\
+            0 64 released\n",
+        going: "0008feff030f12340281000302817f000302817f000342817f000302817f000342817f000302817f000342817f000342817f",
+    },
+    Row {
+        name: "no terminal answers for a TEI",
+        who: Who::Net,
+        coming: "",
+        script: "check 64\ntick 1000\ntick 1000\n",
+        printed: "N>U SAPI 63 TEI 127 C UI P=0 info=0f00000481\n\
+            N>U SAPI 63 TEI 127 C UI P=0 info=0f00000481\n\
+            tei free 64\n",
+        going: "0008feff030f000004810008feff030f00000481",
+    },
+    Row {
+        name: "one terminal answers for a TEI, then two",
+        who: Who::Net,
+        coming: "0008fcff030f567805810008fcff030f567805810008fcff030f56780581",
+        script: "check 64\nread\ntick 1000\ncheck 64\nread\nread\ntick 1000\n",
+        printed: "N>U SAPI 63 TEI 127 C UI P=0 info=0f00000481\n\
+            U>N SAPI 63 TEI 127 C UI P=0 info=0f56780581\n\
+            tei in-use 64\n\
+            N>U SAPI 63 TEI 127 C UI P=0 info=0f00000481\n\
+            U>N SAPI 63 TEI 127 C UI P=0 info=0f56780581\n\
+            U>N SAPI 63 TEI 127 C UI P=0 info=0f56780581\n\
+            N>U SAPI 63 TEI 127 C UI P=0 info=0f00000681\n\
+            N>U SAPI 63 TEI 127 C UI P=0 info=0f00000681\n\
+            tei doubled 64\n",
+        going: "0008feff030f000004810008feff030f000004810008feff030f000006810008feff030f00000681",
+    },
+    Row {
+        name: "unit data to one terminal and to all, and from one",
+        who: Who::Net,
+        coming: "0008fcff030f123401ff0004008103ff00030081030003028103",
+        script: "read\nunit 16 64 0a0B\nunit 0 127 0a\nunit 16 127\nread\nread\nread\n",
+        printed: "U>N SAPI 63 TEI 127 C UI P=0 info=0f123401ff\n\
+            N>U SAPI 63 TEI 127 C UI P=0 info=0f12340281\n\
+            tei given 64\n\
+            N>U SAPI 16 TEI 64 C UI P=0 info=0a0b\n\
+            N>U SAPI 0 TEI 127 C UI P=0 info=0a\n\
+            N>U SAPI 16 TEI 127 C UI P=0\n\
+            U>N SAPI 0 TEI 64 C UI P=0 info=ff\n\
+            0 64 unit ff\n\
+            U>N SAPI 0 TEI 64 C UI P=0\n\
+            0 64 unit\n\
+            U>N F4 Undefined 028103\n\
+            0 64 report L\n",
+        going: "0008feff030f1234028100054281030a0b000402ff030a000342ff03",
+    },
+    Row {
+        name: "messages are dropped where the peer releases the link",
+        who: Who::Net,
+        coming: "0008fcff030f123401ff000300817f0003008153000408810000",
+        script: "read\nread\ngive 0 64 01\ngive 0 64 02\nread\nread\n",
+        printed: "U>N SAPI 63 TEI 127 C UI P=0 info=0f123401ff\n\
+            N>U SAPI 63 TEI 127 C UI P=0 info=0f12340281\n\
+            tei given 64\n\
+            U>N SAPI 0 TEI 64 C SABME P=1\n\
+            N>U SAPI 0 TEI 64 R UA F=1\n\
+            0 64 established\n\
+            N>U SAPI 0 TEI 64 C I N(S)=0 N(R)=0 P=0 info=01\n\
+            U>N SAPI 0 TEI 64 C DISC P=1\n\
+            N>U SAPI 0 TEI 64 R UA F=1\n\
+            0 64 dropped 2\n\
+            0 64 released\n\
+            U>N F3 SapiNotServed 08810000\n",
+        going: "0008feff030f123402810003008173000502810000010003008173",
+    },
+    Row {
+        name: "what the network side refuses",
+        who: Who::Net,
+        coming: "0008fcff030f123401ff",
+        script: "establish 0 64\nrelease 16 64\ngive 0 64 01\nunit 0 64 01\nestablish 63 64\nunit 63 127 0a\ngive 0 127 01\n\
+            check 127\nread\ngive 0 64 01\nrelease 0 64\nestablish 0 64\ngive 0 64\nrelease 0 64\nestablish 0 64\nread\n",
+        printed: "refused B1 NoLink\n\
+            refused B1 NoLink\n\
+            refused B1 NoLink\n\
+            refused B1 NoLink\n\
+            refused B1 NoLink\n\
+            refused B1 NoLink\n\
+            refused B1 NoLink\n\
+            U>N SAPI 63 TEI 127 C UI P=0 info=0f123401ff\n\
+            N>U SAPI 63 TEI 127 C UI P=0 info=0f12340281\n\
+            tei given 64\n\
+            refused L1 NotEstablished\n\
+            0 64 release-confirmed\n\
+            N>U SAPI 0 TEI 64 C SABME P=1\n\
+            refused L5 LayerThreeEstablishing\n\
+            refused L4 Releasing\n\
+            refused S1 End\n",
+        going: "0008feff030f12340281000302817f",
+    },
+    Row {
+        name: "what a user side without a TEI refuses",
+        who: Who::User,
+        coming: "",
+        script: "give 0 64 01\ngive 63 64 01\nunit 0 64 01\nrelease 0 64\nestablish 63 64\nread\nread\n",
+        printed: "refused L1 NotEstablished\n\
+            refused L1 NotEstablished\n\
+            refused B1 NoLink\n\
+            refused B1 NoLink\n\
+            refused B1 NoLink\n\
+            refused S1 End\n\
+            refused S1 End\n",
+        going: "",
+    },
+    Row {
+        name: "no TEI is assigned",
+        who: Who::User,
+        coming: "0008feff030f619903ff",
+        script: "establish 16 0\nread\ntick 2000\ntick 2000\ntick 1999\ntick 1\n",
+        printed: "U>N SAPI 63 TEI 127 C UI P=0 info=0f619901ff\n\
+            N>U SAPI 63 TEI 127 C UI P=0 info=0f619903ff\n\
+            U>N SAPI 63 TEI 127 C UI P=0 info=0f769101ff\n\
+            U>N SAPI 63 TEI 127 C UI P=0 info=0f15ec01ff\n\
+            tei failed\n\
+            16 127 released\n",
+        going: "0008fcff030f619901ff0008fcff030f769101ff0008fcff030f15ec01ff",
+    },
+    Row {
+        name: "an establishment is forgotten, and a TEI removed",
+        who: Who::User,
+        coming: "0008feff030f619902810004feff030a000402ff030a0008feff030f00000681",
+        script: "# the terminal goes on asking\nestablish 0 0\n\nrelease 0 0\nread\nread\nread\nestablish 0 0\nunit 0 127 0a\nread\n",
+        printed: "U>N SAPI 63 TEI 127 C UI P=0 info=0f619901ff\n\
+            0 127 release-confirmed\n\
+            N>U SAPI 63 TEI 127 C UI P=0 info=0f61990281\n\
+            tei got 64\n\
+            N>U SAPI 63 TEI 127 C UI P=0 info=0a\n\
+            N>U SAPI 0 TEI 127 C UI P=0 info=0a\n\
+            0 127 unit 0a\n\
+            U>N SAPI 0 TEI 64 C SABME P=1\n\
+            U>N SAPI 0 TEI 64 C UI P=0 info=0a\n\
+            N>U SAPI 63 TEI 127 C UI P=0 info=0f00000681\n\
+            tei gone 64\n\
+            0 64 released\n",
+        going: "0008fcff030f619901ff000300817f00040081030a",
+    },
+];
+
+/// Whether it ended well, with what the row says.
+fn is_as_said(ended: &Ended<'_>, row: &Row, going: &[u8]) -> bool {
+    ended.result == Ok(())
+        && ended.printed.text.as_slice() == row.printed.as_bytes()
+        && ended.sent() == going
+}
+
+/// How many octets go through a device at a time.
+const MOST: [usize; 3] = [512, 7, 1];
+
+#[test]
+fn dialogues_are_as_said(rt: HostRuntime) -> Result<(), Fail> {
+    for row in ROWS {
+        let coming = octets_of(row.coming)?;
+        let going = octets_of(row.going)?;
+        for most in MOST {
+            let port = port_of(coming.as_slice(), Devices { most, ..SOUND });
+            let ended = play(rt.alloc(), row.who, row.script, port, 2048);
+            let as_said = is_as_said(&ended, row, going.as_slice());
+            wants(as_said, row.name, "it ends otherwise")?;
+        }
+    }
+    Ok(())
+}
+
+/// Each frame is written in one call of the device, and read in two.
+#[test]
+fn each_frame_is_one_write(rt: HostRuntime) -> Result<(), Fail> {
+    for (row, calls) in [(WORKED_NET, (5, 3)), (WORKED_USER, (8, 4))] {
+        let coming = octets_of(row.coming)?;
+        let port = port_of(coming.as_slice(), SOUND);
+        let ended = play(rt.alloc(), row.who, row.script, port, 2048);
+        wants(ended.calls() == calls, row.name, "another number of calls")?;
+    }
+    Ok(())
+}

@@ -1,0 +1,35 @@
+//! Tests of the edge of the program: of frames over devices, of the commands over a port, and of the command line. `loop` goes
+//! over devices in memory, which give back what they took, and over a connection: it prints what `pair` prints, and each fault
+//! of a device is a device fault. `net` and `user` have dialogues with what comes through a port, in memory and over a
+//! connection, and devices that end or fail at each call.
+//!
+//! They stand apart so that each crate is proved once. What a contract says is not tested again. A row shows that the
+//! definitions say what is meant, that a call can succeed, and what is printed. `wants` fails a test with the row's name.
+#![tactic(auto)]
+
+#[cfg(test)]
+mod command_line;
+#[cfg(test)]
+mod connections;
+#[cfg(test)]
+mod devices;
+#[cfg(test)]
+mod dialogues;
+#[cfg(test)]
+mod faults;
+#[cfg(test)]
+mod port;
+#[cfg(test)]
+mod scripts;
+#[cfg(test)]
+mod side_connections;
+#[cfg(test)]
+mod side_faults;
+#[cfg(test)]
+mod side_lines;
+#[cfg(test)]
+mod side_memory;
+#[cfg(test)]
+mod wants;
+#[cfg(test)]
+mod wire;

@@ -1,0 +1,7 @@
+//! Tests of frames over devices, as tables: what a port answers, what its devices gave and took, and in how many turns.
+
+mod adapters;
+mod calls;
+pub(crate) mod devices;
+mod reads;
+mod writes;

@@ -1,0 +1,204 @@
+//! Octets, events and messages for the links of a network side.
+
+use crate::table::made::{id_of, network_table};
+use crate::wants::wants;
+use lapd_frame::{Control, FaultKind, MOST_OCTETS, Role, Side, write};
+use lapd_link::{Event, Letter, LinkFault, Out, Timer};
+use lapd_table::{LinkId, LinkTable, TableFault};
+use std::alloc::Global;
+use std::test::Fail;
+
+const UA: Out = Out::Send(Role::Answer, Control::Ua { f: true });
+
+/// A table with two links of TEI 64, of SAPI 0 and 16.
+fn two_links(alloc: Global) -> Result<LinkTable, Fail> {
+    network_table(alloc, &[(0, 64), (16, 64)])
+}
+
+/// Whether octets are for this link, which does this for them.
+fn hears(table: &mut LinkTable, octets: &[u8], id: &LinkId, outs: &[Out]) -> bool {
+    match table.dispatch(octets) {
+        Ok((found, made)) => found == *id && made.as_slice() == outs,
+        Err(_) => false,
+    }
+}
+
+/// Whether these octets go out for an output of this link.
+fn sends(table: &LinkTable, id: &LinkId, out: &Out, octets: &[u8]) -> bool {
+    let Some(link) = table.link(*id) else {
+        return false;
+    };
+    match link.frame(out, &[]) {
+        Some(frame) => {
+            let mut room = [0; MOST_OCTETS];
+            let len = write(&frame, Side::Network, &mut room);
+            &room[..len] == octets
+        }
+        None => false,
+    }
+}
+
+/// Whether a link is there, in this state.
+fn is_in(table: &LinkTable, id: &LinkId, state: u8) -> bool {
+    match table.link(*id) {
+        Some(link) => link.state() == state,
+        None => false,
+    }
+}
+
+/// Establishes both links.
+fn establishes(table: &mut LinkTable, call: &LinkId, packet: &LinkId) -> bool {
+    let outs = [UA, Out::Established, Out::Start(Timer::T203)];
+    hears(table, b"\x00\x81\x7f", call, &outs) && hears(table, b"\x40\x81\x7f", packet, &outs)
+}
+
+#[test]
+fn one_of_two_links_is_released(rt: HostRuntime) -> Result<(), Fail> {
+    let mut table = two_links(rt.alloc())?;
+    let call = id_of((0, 64))?;
+    let packet = id_of((16, 64))?;
+    let both = establishes(&mut table, &call, &packet);
+    wants(both, "two SABMEs", "not established")?;
+    let outs = [UA, Out::Released, Out::Stop(Timer::T203)];
+    let released = hears(&mut table, b"\x40\x81\x53", &packet, &outs);
+    wants(released, "DISC", "not released")?;
+    let sent = sends(&table, &packet, &UA, b"\x40\x81\x73");
+    wants(sent, "DISC", "another UA")?;
+    wants(is_in(&table, &packet, 4), "DISC", "not in state 4")?;
+    wants(
+        is_in(&table, &call, 7),
+        "DISC",
+        "the other link is not in 7",
+    )
+}
+
+#[test]
+fn a_link_that_was_taken_out_hears_nothing(rt: HostRuntime) -> Result<(), Fail> {
+    let mut table = two_links(rt.alloc())?;
+    let packet = id_of((16, 64))?;
+    wants(table.remove(packet).is_some(), "taken out", "not there")?;
+    let fault = table.dispatch(b"\x40\x81\x53").err();
+    wants(fault == Some(TableFault::NoLink), "DISC", "another fault")?;
+    wants(is_in(&table, &id_of((0, 64))?, 4), "DISC", "not in state 4")
+}
+
+/// A name, octets, and why they are for no link of the table.
+type Row = (&'static str, &'static [u8], TableFault);
+
+const REFUSED: &[Row] = &[
+    ("none", b"", TableFault::Discarded(FaultKind::TooShort)),
+    (
+        "an extension bit",
+        b"\x01\x81\x7f",
+        TableFault::Discarded(FaultKind::BadAddress),
+    ),
+    (
+        "SAPI 1",
+        b"\x04\x81\x7f",
+        TableFault::Discarded(FaultKind::SapiNotServed),
+    ),
+    ("another TEI", b"\x00\x83\x7f", TableFault::NoLink),
+    (
+        "a fault of another TEI",
+        b"\x00\x83\x11\x00",
+        TableFault::NoLink,
+    ),
+    ("management", b"\xfc\xff\x03", TableFault::NoLink),
+];
+
+#[test]
+fn octets_for_no_link(rt: HostRuntime) -> Result<(), Fail> {
+    let mut table = two_links(rt.alloc())?;
+    for (name, octets, fault) in REFUSED {
+        let found = table.dispatch(octets).err();
+        wants(found == Some(*fault), name, "another fault")?;
+    }
+    let idle = is_in(&table, &id_of((0, 64))?, 4) && is_in(&table, &id_of((16, 64))?, 4);
+    wants(idle, "octets for no link", "a link is not in state 4")
+}
+
+#[test]
+fn a_fault_goes_to_its_link(rt: HostRuntime) -> Result<(), Fail> {
+    let mut table = two_links(rt.alloc())?;
+    let packet = id_of((16, 64))?;
+    // A reserved bit of an S frame.
+    let octets = b"\x40\x81\x11\x00";
+    let reported = hears(&mut table, octets, &packet, &[Out::Report(Letter::L)]);
+    wants(reported, "F4", "no report L")
+}
+
+/// Whether a request for establishment sends a SABME.
+fn asks(table: &mut LinkTable, id: &LinkId) -> bool {
+    let sabme = Out::Send(Role::Command, Control::Sabme { p: true });
+    if table.link(*id).is_none() {
+        return false;
+    }
+    match table.handle(*id, Event::Establish) {
+        Ok(outs) => outs.as_slice() == [sabme, Out::Start(Timer::T200)].as_slice(),
+        Err(_) => false,
+    }
+}
+
+/// Whether a message is handed back for this fault.
+fn hands_back(
+    alloc: Global,
+    table: &mut LinkTable,
+    id: &LinkId,
+    fault: LinkFault,
+) -> Result<bool, Fail> {
+    if table.link(*id).is_none() {
+        return Ok(false);
+    }
+    match table.give(*id, b"early".to_vec(alloc)?) {
+        Ok(_) => Ok(false),
+        Err(refused) => Ok(
+            refused.fault == fault && refused.message.as_slice() == b"early".as_slice(),
+        ),
+    }
+}
+
+/// Whether a message is taken.
+fn takes(alloc: Global, table: &mut LinkTable, id: &LinkId) -> Result<bool, Fail> {
+    if table.link(*id).is_none() {
+        return Ok(false);
+    }
+    Ok(table.give(*id, [8, 1].to_vec(alloc)?).is_ok())
+}
+
+/// Whether just one message waits in the queue of a link, and is sent.
+fn has_sent_one(table: &LinkTable, id: &LinkId) -> bool {
+    match table.link(*id) {
+        Some(link) => link.queue().len() == 1 && link.queue().sent() == 1,
+        None => false,
+    }
+}
+
+#[test]
+fn requests_for_one_link(rt: HostRuntime) -> Result<(), Fail> {
+    let mut table = two_links(rt.alloc())?;
+    let call = id_of((0, 64))?;
+    let packet = id_of((16, 64))?;
+    let early = hands_back(rt.alloc(), &mut table, &packet, LinkFault::NotEstablished)?;
+    wants(early, "state 4", "a message is not handed back")?;
+    wants(asks(&mut table, &packet), "Establish", "no SABME")?;
+    let ua = hears(
+        &mut table,
+        b"\x42\x81\x73",
+        &packet,
+        &[
+            Out::Confirmed,
+            Out::Stop(Timer::T200),
+            Out::Start(Timer::T203),
+        ],
+    );
+    wants(ua, "UA", "not confirmed")?;
+    let taken = takes(rt.alloc(), &mut table, &packet)?;
+    wants(taken, "a message", "refused")?;
+    let sent = has_sent_one(&table, &packet);
+    wants(sent, "a message", "not sent")?;
+    wants(
+        is_in(&table, &call, 4),
+        "SAPI 16",
+        "the other link is not in 4",
+    )
+}

@@ -1,0 +1,8 @@
+//! Tests of timers, of TEI management and of the command `bus`, as tables: moves and events, and what they call for.
+
+mod assigners;
+mod messages;
+mod runs;
+mod scripts;
+mod terminals;
+mod timers;
