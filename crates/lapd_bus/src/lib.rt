@@ -9,4 +9,5 @@ mod lines;
 mod moves;
 mod runner;
 
+pub use lapd_script::ScriptFault;
 pub use runner::bus;

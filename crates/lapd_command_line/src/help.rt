@@ -36,10 +36,12 @@ pub const DECODE_ABOUT: &str = "Prints octets as trace lines";
 pub const RECOVERY: &str = "What T200 sends in state 7: an enquiry, or the last message again";
 
 /// What the recovery of the user side of `pair` and `loop` is.
-pub const RECOVERY_USER: &str = "What T200 of the user side sends in state 7";
+pub const RECOVERY_USER: &str =
+    "What T200 of the user side sends in state 7: an enquiry, or the last message again";
 
 /// What the recovery of the network side of `pair` and `loop` is.
-pub const RECOVERY_NET: &str = "What T200 of the network side sends in state 7";
+pub const RECOVERY_NET: &str =
+    "What T200 of the network side sends in state 7: an enquiry, or the last message again";
 
 /// What all commands share.
 pub const PROGRAM: &str = "\
@@ -50,7 +52,8 @@ printed for them. The lines of `lapd loop` are those of `lapd pair`.
 Scripts:
   A script comes on standard input. Each line is answered on standard output before the next one is
   waited for. A line ends with a line feed, which the last one may lack. Words are separated by one
-  space. Empty lines and lines that begin with # are passed over, but counted.
+  space. Empty lines and lines that begin with # are passed over, but counted. The program ends where
+  its script ends: at a terminal, Ctrl-D at the beginning of a line ends it.
 
   HEX stands for octets, with two hexadecimal digits each, in upper or lower case. The octets of a
   frame are those between its flags, without the frame check sequence. If there are no octets, HEX is
@@ -365,7 +368,7 @@ of the script, what is printed for them, and the refusals: they are the same her
 Before the script is read, the program connects to itself by TCP, at 127.0.0.1 and a port that the
 system chooses. Each frame that a line of the script puts on the line between the ends goes over this
 connection before the next line is waited for, and has to come back as it was. On the connection the
-octets of a frame stand behind their number, which has two octets, the high one first.
+octets of a frame stand behind their length, a number of two octets, the high one first.
 
 If the program can't connect to itself, or a frame doesn't come back, or comes back otherwise, the
 script ends with `device fault`, and exit status 3. What the line calls for is printed then.
@@ -393,8 +396,8 @@ A message is sent, `lapd loop`. The connection carries 0003 00817f, 0003 008173,
 
 /// The lines of `net`.
 pub const NET: &str = "\
-`lapd --help` tells what scripts and HEX are, and has the exit status. `lapd answer --help` has the
-states, the error codes and the refusals L1 to L5.
+`lapd --help` tells what scripts and HEX are, and has the faults F1 to F7 and the exit status.
+`lapd answer --help` has the states, the error codes and the refusals L1 to L5.
 
 The program waits for one connection, and then does the script. Behind the connection are user sides,
 such as `lapd user`. No TEI is known at first: one is assigned to each terminal that asks, from 64 on,
@@ -402,7 +405,7 @@ and its links with SAPI 0 and 16 are there from then on. The clock begins at 0, 
 `tick`: T200 takes 1000 ms, T201 1000 ms, T203 10000 ms.
 
 Lines of the script. SAPI is 0, 16 or 63, and TEI 0 to 127; 127 stands for all terminals:
-  read                  the next frame is read from the connection
+  read                  the next frame is waited for, and read from the connection
   tick MS               the clock goes on by MS milliseconds, 1 to 3600000, and what is due is done
   establish SAPI TEI    layer 3 asks for the link to be established (DL-ESTABLISH request)
   release SAPI TEI      layer 3 asks for the link to be released (DL-RELEASE request)
@@ -423,9 +426,10 @@ then what the layers above are told:
   refused L1 NotEstablished
                         the link refuses, by one of L1 to L5
   refused S1 End        `read`: the other side has closed the connection
-What is refused changes nothing. What is no frame, or for no link, is read and printed, and discarded.
+What is refused changes nothing. Octets with one of F1 to F3, and what is for no link, are printed and
+discarded. Octets with one of F4 to F7 are printed, and their link reports them.
 
-On the connection the octets of a frame stand behind their number, which has two octets, the high one
+On the connection the octets of a frame stand behind their length, a number of two octets, the high one
 first. A connection that fails ends the script: `port`, its fault and exit status 3. The faults are
 S2 BadLength (a length that is not from 3 to 264), S3 Cut (the end inside a frame), S4 Device,
 S5 TooManyTurns and S6 Failed.
@@ -460,8 +464,8 @@ line of the script stands behind <, and what is printed for it stands behind >.
 
 /// The lines of `user`.
 pub const USER: &str = "\
-`lapd --help` tells what scripts and HEX are, and has the exit status. `lapd answer --help` has the
-states, the error codes and the refusals L1 to L5.
+`lapd --help` tells what scripts and HEX are, and has the faults F1 to F7 and the exit status.
+`lapd answer --help` has the states, the error codes and the refusals L1 to L5.
 
 The program connects, and then does the script. Behind the connection is a network side, such as
 `lapd net`. This side is one terminal without a TEI: it asks for one by `ask`, or by `establish`, which
@@ -469,7 +473,7 @@ is kept until it has one. The clock begins at 0, and goes on only by `tick`: T20
 2000 ms, T203 10000 ms.
 
 Lines of the script. SAPI is 0, 16 or 63. TEI is 0 to 127, and is not looked at: it is the terminal's own:
-  read                  the next frame is read from the connection
+  read                  the next frame is waited for, and read from the connection
   tick MS               the clock goes on by MS milliseconds, 1 to 3600000, and what is due is done
   establish SAPI TEI    layer 3 asks for the link to be established (DL-ESTABLISH request)
   release SAPI TEI      layer 3 asks for the link to be released (DL-RELEASE request)
@@ -489,9 +493,10 @@ then what the layers above are told:
   refused L1 NotEstablished
                         the link refuses, by one of L1 to L5
   refused S1 End        `read`: the other side has closed the connection
-What is refused changes nothing. What is no frame, or for no link, is read and printed, and discarded.
+What is refused changes nothing. Octets with one of F1 to F3, and what is for no link, are printed and
+discarded. Octets with one of F4 to F7 are printed, and their link reports them.
 
-On the connection the octets of a frame stand behind their number, which has two octets, the high one
+On the connection the octets of a frame stand behind their length, a number of two octets, the high one
 first. A connection that fails ends the script: `port`, its fault and exit status 3. The faults are
 S2 BadLength (a length that is not from 3 to 264), S3 Cut (the end inside a frame), S4 Device,
 S5 TooManyTurns and S6 Failed.

@@ -15,8 +15,9 @@ mod program_words;
 
 use clap::{Arg, ArgAction, ArgMatches, Command, Error};
 use lapd_commands::{number_of, params_of};
-use lapd_frame::{Sapi, Side};
-use lapd_link::{Params, Recovery};
+use lapd_frame::Sapi;
+use lapd_link::Recovery;
+pub use lapd_link::{Params, Side};
 use number_option::{K, N200, ROOM, TERMINALS};
 pub use number_option::{NumberOption, OutOfRange};
 pub use program_words::{WordsFault, words};

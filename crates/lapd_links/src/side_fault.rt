@@ -23,7 +23,7 @@ pub enum SideKind {
 pub struct SideFault {
     /// Why.
     pub kind: SideKind,
-    /// The octets of [`crate::Request::Give`] and [`crate::Request::Unit`].
+    /// The octets of a message or of unit data; `None` where neither was handed in.
     pub message: Option<Vec<u8>>,
 }
 

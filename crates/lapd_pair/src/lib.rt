@@ -20,6 +20,8 @@ mod received;
 mod station;
 
 pub use fate::{Ending, Fate};
+pub use frame_octets::FrameOctets;
+pub use lapd_link::{Link, LinkFault, Out, Outs, Params, Side};
 pub use moves::Move;
 pub use pair::Pair;
 pub use pair_fault::{PairFault, RunFault};

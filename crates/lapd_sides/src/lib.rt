@@ -11,9 +11,10 @@ mod served;
 mod user_side;
 
 pub use lapd_links::{
-    Acts, Config, Durations, Expiry, Letter, LinkId, Octets, Params, Primitive, Sapi, Side,
-    SideFault, SideKind, Tei, TeiOut, What,
+    Acts, Config, Durations, Expiry, Letter, LinkFault, LinkId, LinkTable, Octets, Params,
+    Primitive, Sapi, Side, SideFault, SideKind, Tei, TeiMessage, TeiOut, Timer, TimerSet, What,
 };
+pub use lapd_tei::{Assigner, Terminal};
 pub use laws::{
     assignments_make_links, freed_teis_lose_their_links, kept_establishments_are_done,
     releases_leave_other_links, vain_requests_are_released,

@@ -5,8 +5,8 @@ ghost use Rattle.lapd_timers.specs.Due.{at_rest, deadline_of, with_deadline, dea
 use crate::{Durations, Timer};
 use std::marker::Model;
 
-/// The timers of a side: which of them run, and until when. A moment is a number of milliseconds; the caller's clock says
-/// from when on.
+/// The timers of one link, or of TEI management: which of them run, and until when. A moment is a number of milliseconds;
+/// the caller's clock says from when on.
 #[derive(Clone, Copy, Debug, PartialEq, Eq)]
 pub struct TimerSet {
     durations: Durations,
