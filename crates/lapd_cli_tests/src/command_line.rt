@@ -1,8 +1,10 @@
 //! What the program's words choose, and the texts of the help.
 
+use crate::devices::{SOUND, port_of};
+use crate::dialogues::{BOTH_NET, BOTH_USER, Row, octets_of, play};
 use clap::error::ErrorKind;
 use lapd_bus::bus;
-use lapd_command_line::{Chosen, Unchosen, WordsFault, choose, help, words};
+use lapd_command_line::{Chosen, Unchosen, WordsFault, address, choose, help, words};
 use lapd_commands::{answer, decode, pair};
 use lapd_frame::{Sapi, Side};
 use lapd_link::{Params, Recovery};
@@ -186,16 +188,20 @@ fn words_choose_a_loop(rt: HostRuntime) -> Result<(), Fail> {
     wants(chooses(&rt, &words, chosen), "another loop is chosen")
 }
 
+// Whether the side that the words choose has this address.
+fn is_at(rt: &HostRuntime, words: &[&str], wanted: &str) -> bool {
+    address(rt.alloc(), words).is_ok_and(|found| found == wanted)
+}
+
 // Words that choose a side, over a connection at an address, which is taken as it stands.
 #[test]
 fn words_choose_sides(rt: HostRuntime) -> Result<(), Fail> {
     let words = ["lapd", "net", "--listen", "127.0.0.1:7000"];
-    wants(
-        chooses(&rt, &words, Chosen::Net),
-        "no network side is chosen",
-    )?;
+    let side = chooses(&rt, &words, Chosen::Net) && is_at(&rt, &words, "127.0.0.1:7000");
+    wants(side, "no network side is chosen, or another address")?;
     let words = ["lapd", "user", "--connect=no address"];
-    wants(chooses(&rt, &words, Chosen::User), "no user side is chosen")
+    let side = chooses(&rt, &words, Chosen::User) && is_at(&rt, &words, "no address");
+    wants(side, "no user side is chosen, or another address")
 }
 
 // Words that the parser does not take.
@@ -531,6 +537,26 @@ fn faults_are_said(rt: HostRuntime) -> Result<(), Fail> {
         )?;
     }
     Ok(())
+}
+
+// What an example prints, with what the other side of a worked dialogue sends.
+fn example_of_side(rt: &HostRuntime, row: &Row, example: &str) -> Result<(), Fail> {
+    let script = lines_behind(rt, example, "  < ")?;
+    let script = String::from_utf8(script).map_err(|_| "the help is text")?;
+    let coming = octets_of(row.coming)?;
+    let port = port_of(coming.as_slice(), SOUND);
+    let ended = play(rt.alloc(), row.who, script.as_str(), port, 2048);
+    wants(
+        ended.result == Ok(()),
+        "an example of the help does not end well",
+    )?;
+    prints(rt, example, ended.printed.text.as_slice())
+}
+
+#[test]
+fn examples_of_sides(rt: HostRuntime) -> Result<(), Fail> {
+    example_of_side(&rt, &BOTH_NET, help::NET)?;
+    example_of_side(&rt, &BOTH_USER, help::USER)
 }
 
 #[test]

@@ -31,6 +31,38 @@ impl Numbered {
         })
     }
 
+    /// The user side establishes the link.
+    fn establish(&mut self) -> Result<(), Fail> {
+        let _ = self.makes(&Move::Establish(Side::User))?;
+        let _ = self.turn()? && self.turn()?;
+        Ok(())
+    }
+
+    /// The user side gives three hundred messages.
+    fn give_all(&mut self, alloc: Global) -> Result<(), Fail> {
+        for number in 0..300u32 {
+            self.give(alloc, number)?;
+        }
+        Ok(())
+    }
+
+    /// The user side gives the message of this number.
+    fn give(&mut self, alloc: Global, number: u32) -> Result<(), Fail> {
+        let message = octets_of(number).to_vec(alloc)?;
+        let given = self.makes(&Move::Give(Side::User, message))?;
+        wants(given, "every tenth", "a message is refused")
+    }
+
+    /// Makes one move after another, until none is possible.
+    fn turn_to_the_end(&mut self) -> Result<(), Fail> {
+        for _ in 0..100_000u32 {
+            if !self.turn()? {
+                return Ok(());
+            }
+        }
+        Err(Fail::new("every tenth: no end"))
+    }
+
     /// Makes a move, and numbers the frames that it puts on the line.
     fn makes(&mut self, deed: &Move) -> Result<bool, Fail> {
         let to = deed.side().other();
@@ -96,31 +128,31 @@ fn are_in_order(received: &[Received]) -> bool {
     true
 }
 
+/// Whether all messages were received, in order.
+fn all_received(pair: &Pair) -> bool {
+    let received = pair.received(Side::Network);
+    received.len() == 300 && are_in_order(received)
+}
+
+/// Whether all messages are acknowledged, and nothing was left out on the way.
+fn all_acknowledged(pair: &Pair) -> bool {
+    let vs = pair.link(Side::User).window().vs().value();
+    pair.acknowledged(Side::User) == 300 && vs == 44 && pair.left() == 0
+}
+
+/// Plays all of it. (What is lent is not let go at each of its ends, which makes this short to prove.)
+fn play(alloc: Global, numbered: &mut Numbered) -> Result<(), Fail> {
+    numbered.establish()?;
+    numbered.give_all(alloc)?;
+    numbered.turn_to_the_end()?;
+    let row = "every tenth";
+    wants(all_received(&numbered.pair), row, "received in order")?;
+    wants(all_acknowledged(&numbered.pair), row, "acknowledged")?;
+    wants(!numbered.reported, row, "an error is reported")
+}
+
 #[test]
 fn every_tenth_frame_is_lost(rt: HostRuntime) -> Result<(), Fail> {
     let mut numbered = Numbered::new(rt.alloc())?;
-    let _ = numbered.makes(&Move::Establish(Side::User))?;
-    let _ = numbered.turn()? && numbered.turn()?;
-    for number in 0..300u32 {
-        let message = octets_of(number).to_vec(rt.alloc())?;
-        let given = numbered.makes(&Move::Give(Side::User, message))?;
-        wants(given, "every tenth", "a message is refused")?;
-    }
-    let mut more = true;
-    for _ in 0..100_000u32 {
-        more = more && numbered.turn()?;
-    }
-    wants(!more, "every tenth", "no end")?;
-    let pair = &numbered.pair;
-    let received = pair.received(Side::Network);
-    let all = received.len() == 300 && are_in_order(received);
-    wants(all, "every tenth", "received in order")?;
-    wants(
-        pair.acknowledged(Side::User) == 300,
-        "every tenth",
-        "acknowledged",
-    )?;
-    wants(!numbered.reported, "every tenth", "an error is reported")?;
-    let vs = pair.link(Side::User).window().vs().value();
-    wants(vs == 44 && pair.left() == 0, "every tenth", "V(S)")
+    play(rt.alloc(), &mut numbered)
 }

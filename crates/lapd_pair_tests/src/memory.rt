@@ -154,6 +154,30 @@ impl Twins {
         let same = one == other && digest(&self.one) == digest(&self.other);
         same.then_some(one)
     }
+
+    /// Makes a deed with both, and tells whether it is refused.
+    fn is_refused(&mut self, row: &str, side: Side, deed: Deed) -> Result<bool, Fail> {
+        let deed = self.made(side, deed)?;
+        match self.apply(&deed) {
+            Some(outcome) => Ok(outcome.is_err()),
+            None => Err(Fail::new(format_args!("{row}: a move comes to something else"))),
+        }
+    }
+
+    /// Leads both through a row, and tells where memory was refused.
+    fn keep(&mut self, row: &Row) -> Result<Refusals, Fail> {
+        let (name, _, _, deeds, refused, received) = *row;
+        let mut faults = 0usize;
+        for (side, deed) in deeds {
+            if self.is_refused(name, *side, *deed)? {
+                faults = faults.saturating_add(1);
+            }
+        }
+        wants(faults == refused, name, "how many are refused")?;
+        let all = self.one.received(NETWORK).len() == received;
+        wants(all, name, "another number of messages is received")?;
+        Ok(self.met)
+    }
 }
 
 /// A pair, at the second try where the first finds no memory.
@@ -193,21 +217,9 @@ fn is_without_memory(outcome: &Result<Outs, PairFault>) -> bool {
 
 /// Leads two pairs through a row, and tells where memory was refused.
 fn keeps(alloc: Global, row: &Row) -> Result<Refusals, Fail> {
-    let (name, k, user, deeds, refused, received) = *row;
+    let (_, k, user, _, _, _) = *row;
     let mut twins = Twins::new(alloc, k, user)?;
-    let mut faults = 0usize;
-    for (side, deed) in deeds {
-        let deed = twins.made(*side, *deed)?;
-        match twins.apply(&deed) {
-            Some(Ok(_)) => {}
-            Some(Err(_)) => faults = faults.saturating_add(1),
-            None => return Err(Fail::new(format_args!("{name}: a move comes to something else"))),
-        }
-    }
-    wants(faults == refused, name, "how many are refused")?;
-    let all = twins.one.received(NETWORK).len() == received;
-    wants(all, name, "another number of messages is received")?;
-    Ok(twins.met)
+    twins.keep(row)
 }
 
 #[test]

@@ -2,7 +2,7 @@
 
 use crate::made::{moves, new_pair, params};
 use crate::readers::digest;
-use crate::steps::{Comes, Deed, Step, makes};
+use crate::steps::{Comes, Deed, Step, makes, move_of};
 use crate::wants::wants;
 use lapd_frame::Side;
 use lapd_link::LinkFault;
@@ -117,7 +117,7 @@ const PLACES: &[Place] = &[
         ],
     ),
     (
-        "both establish: a command to the network is told before a response to the user",
+        "both establish: each waits for its own frame on its way to the user",
         &[
             (USER, Deed::Establish, Comes::Sends(&["00817f"])),
             (NETWORK, Deed::Establish, Comes::Sends(&["02817f"])),
@@ -179,45 +179,69 @@ const PLACES: &[Place] = &[
     ),
 ];
 
+/// Checks a place.
+fn refuses_there(alloc: Global, place: &Place) -> Result<(), Fail> {
+    let (name, steps, refusals) = *place;
+    let params = params(1, 2)?;
+    let mut pair = Pair::new(alloc, params, params)?;
+    makes(alloc, &mut pair, name, steps)?;
+    makes(alloc, &mut pair, name, refusals)
+}
+
 #[test]
 fn refused_moves_change_nothing(rt: HostRuntime) -> Result<(), Fail> {
-    let params = params(1, 2)?;
-    for (name, steps, refusals) in PLACES {
-        let mut pair = Pair::new(rt.alloc(), params, params)?;
-        makes(rt.alloc(), &mut pair, name, steps)?;
-        makes(rt.alloc(), &mut pair, name, refusals)?;
+    for place in PLACES {
+        refuses_there(rt.alloc(), place)?;
     }
     Ok(())
 }
 
-/// Moves of which the second, fifth and sixth are refused.
-fn some_moves(alloc: Global) -> Result<Vec<Move>, Fail> {
+/// Deeds of which the second, fifth and sixth are refused.
+const SOME_DEEDS: &[(Side, Deed)] = &[
+    (USER, Deed::Establish),
+    (USER, Deed::Expire200),
+    (NETWORK, Deed::Deliver),
+    (USER, Deed::Deliver),
+    (USER, Deed::Deliver),
+    (NETWORK, Deed::Lose(0)),
+    (USER, Deed::Give(&[8, 1])),
+    (NETWORK, Deed::Deliver),
+];
+
+/// The moves of these deeds.
+fn moves_of(alloc: Global, deeds: &[(Side, Deed)]) -> Result<Vec<Move>, Fail> {
     let mut all = Vec::new(alloc);
-    all.push(Move::Establish(USER))?;
-    all.push(Move::Expire200(USER))?;
-    all.push(Move::Deliver(NETWORK))?;
-    all.push(Move::Deliver(USER))?;
-    all.push(Move::Deliver(USER))?;
-    all.push(Move::Lose(NETWORK, 0))?;
-    all.push(Move::Give(USER, [8, 1].to_vec(alloc)?))?;
-    all.push(Move::Deliver(NETWORK))?;
+    for (side, deed) in deeds {
+        all.push(move_of(alloc, *side, *deed)?)?;
+    }
     Ok(all)
+}
+
+/// Makes the moves one by one, and tells how many of them are refused.
+fn refused_one_by_one(pair: &mut Pair, all: &[Move]) -> u64 {
+    let mut refused: u64 = 0;
+    for deed in all {
+        refused = refused.wrapping_add(u64::from(!moves(pair, deed)));
+    }
+    refused
+}
+
+/// Checks that a run of one pair comes to what the moves come to one by one with the other, and that one of no moves
+/// changes nothing.
+fn run_alike(at_once: &mut Pair, in_turn: &mut Pair, all: &[Move]) -> Result<(), Fail> {
+    wants(at_once.run(all) == Ok(3), "a run", "how many are refused")?;
+    let refused = refused_one_by_one(in_turn, all);
+    wants(refused == 3, "one by one", "how many are refused")?;
+    let same = digest(at_once) == digest(in_turn);
+    wants(same, "a run", "it comes to something else")?;
+    wants(at_once.run(&[]) == Ok(0), "no moves", "refused")?;
+    wants(digest(at_once) == digest(in_turn), "no moves", "changed")
 }
 
 #[test]
 fn a_run_counts_what_is_refused(rt: HostRuntime) -> Result<(), Fail> {
-    let all = some_moves(rt.alloc())?;
+    let all = moves_of(rt.alloc(), SOME_DEEDS)?;
     let mut at_once = new_pair(rt.alloc(), 7)?;
-    let counted = at_once.run(all.as_slice());
-    wants(counted == Ok(3), "a run", "how many are refused")?;
     let mut in_turn = new_pair(rt.alloc(), 7)?;
-    let mut refused: u64 = 0;
-    for deed in &all {
-        refused = refused.wrapping_add(u64::from(!moves(&mut in_turn, deed)));
-    }
-    wants(refused == 3, "one by one", "how many are refused")?;
-    let same = digest(&at_once) == digest(&in_turn);
-    wants(same, "a run", "it comes to something else")?;
-    wants(at_once.run(&[]) == Ok(0), "no moves", "refused")?;
-    wants(digest(&at_once) == digest(&in_turn), "no moves", "changed")
+    run_alike(&mut at_once, &mut in_turn, all.as_slice())
 }

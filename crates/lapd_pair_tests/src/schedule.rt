@@ -75,6 +75,15 @@ impl Schedule {
         Ok(Move::Give(side, octets.to_vec(self.alloc)?))
     }
 
+    /// Makes all moves, and looks at whether enough happened.
+    fn run(&mut self, row: &str) -> Result<(), Fail> {
+        for _ in 0..MOVES {
+            wants(self.turn()?, row, "it is not safe")?;
+        }
+        let lively = is_lively(&self.pair, Side::User) && is_lively(&self.pair, Side::Network);
+        wants(lively, row, "too little happened")
+    }
+
     /// Makes a drawn move, and looks at what both sides received.
     fn turn(&mut self) -> Result<bool, Fail> {
         let deed = self.draw()?;
@@ -164,12 +173,7 @@ fn is_lively(pair: &Pair, side: Side) -> bool {
 
 fn runs_so(alloc: Global, row: &str, user: Recovery, network: Recovery) -> Result<(), Fail> {
     let mut schedule = Schedule::new(alloc, user, network)?;
-    for _ in 0..MOVES {
-        wants(schedule.turn()?, row, "it is not safe")?;
-    }
-    let pair = &schedule.pair;
-    let lively = is_lively(pair, Side::User) && is_lively(pair, Side::Network);
-    wants(lively, row, "too little happened")
+    schedule.run(row)
 }
 
 #[test]

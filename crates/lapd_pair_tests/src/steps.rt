@@ -90,11 +90,17 @@ fn sends(alloc: Global, pair: &mut Pair, deed: &Move, octets: &[&str]) -> Result
 
 /// Whether these are the frames.
 fn are(alloc: Global, sent: &[ArrayVec<u8, 264>], octets: &[&str]) -> Result<bool, Fail> {
-    let mut all = sent.len() == octets.len();
     for (frame, digits) in sent.iter().zip(octets) {
-        all = all && hex::encode(alloc, frame.as_slice())?.as_str() == *digits;
+        if !is_frame(alloc, frame.as_slice(), digits)? {
+            return Ok(false);
+        }
     }
-    Ok(all)
+    Ok(sent.len() == octets.len())
+}
+
+/// Whether these are the octets, in hexadecimal.
+fn is_frame(alloc: Global, octets: &[u8], digits: &str) -> Result<bool, Fail> {
+    Ok(hex::encode(alloc, octets)?.as_str() == digits)
 }
 
 /// Whether a move gives just these outputs.
@@ -107,11 +113,17 @@ fn tells(alloc: Global, pair: &mut Pair, deed: &Move, texts: &[&str]) -> Result<
 
 /// Whether these outputs are printed so.
 fn are_printed(alloc: Global, outs: &[Out], texts: &[&str]) -> Result<bool, Fail> {
-    let mut all = outs.len() == texts.len();
     for (out, text) in outs.iter().zip(texts) {
-        all = all && out.to_string(alloc)?.as_str() == *text;
+        if !is_printed(alloc, out, text)? {
+            return Ok(false);
+        }
     }
-    Ok(all)
+    Ok(outs.len() == texts.len())
+}
+
+/// Whether this output is printed so.
+fn is_printed(alloc: Global, out: &Out, text: &str) -> Result<bool, Fail> {
+    Ok(out.to_string(alloc)?.as_str() == text)
 }
 
 /// Whether a move is refused by this fault, and all that the pair shows is as before.

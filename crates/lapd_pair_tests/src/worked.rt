@@ -6,6 +6,7 @@ use crate::wants::wants;
 use lapd_frame::Side;
 use lapd_link::Recovery;
 use lapd_pair::{Ending, Fate, Pair, PairFault, Received};
+use std::alloc::Global;
 use std::test::Fail;
 
 const USER: Side = Side::User;
@@ -233,7 +234,7 @@ const ROWS: &[Worked] = &[
         network: RECEIVED,
     },
     Worked {
-        name: "the network is busy, so that the last message does not go out again",
+        name: "the network is busy, and the user, which recovers by its last message, has none to send again",
         k: 3,
         recovery: Recovery::LastMessage,
         before: &[],
@@ -362,14 +363,19 @@ const ROWS: &[Worked] = &[
 fn worked_moves(rt: HostRuntime) -> Result<(), Fail> {
     for row in ROWS {
         let mut pair = pair_with(rt.alloc(), row.k, row.recovery)?;
-        makes(rt.alloc(), &mut pair, row.name, row.before)?;
-        makes(rt.alloc(), &mut pair, row.name, row.steps)?;
-        wants(is_so(&pair, USER, &row.user), row.name, "the user")?;
-        wants(is_so(&pair, NETWORK, &row.network), row.name, "the network")?;
-        let left = waiting(&row.user).wrapping_add(waiting(&row.network));
-        wants(pair.left() == left, row.name, "how many messages are left")?;
+        moves_so(rt.alloc(), &mut pair, row)?;
     }
     Ok(())
+}
+
+/// Makes the moves of a row, and looks at what is known then.
+fn moves_so(alloc: Global, pair: &mut Pair, row: &Worked) -> Result<(), Fail> {
+    makes(alloc, pair, row.name, row.before)?;
+    makes(alloc, pair, row.name, row.steps)?;
+    wants(is_so(pair, USER, &row.user), row.name, "the user")?;
+    wants(is_so(pair, NETWORK, &row.network), row.name, "the network")?;
+    let left = waiting(&row.user).wrapping_add(waiting(&row.network));
+    wants(pair.left() == left, row.name, "how many messages are left")
 }
 
 /// Whether this is known of a side.

@@ -285,6 +285,24 @@ impl Following {
             }
     }
 
+    /// Makes all moves, and looks at both sides after each.
+    fn run(&mut self) -> Result<(), Fail> {
+        for _ in 0..MOVES {
+            wants(self.turn()?, "a move", "the side gives otherwise")?;
+            wants(self.stands_as(), "a move", "the links differ")?;
+        }
+        wants(self.is_lively(), "all moves", "too little happened")
+    }
+
+    /// Whether enough happened.
+    fn is_lively(&self) -> bool {
+        self.made > 5_000
+            && self.refused > 100
+            && self.left_out > 1_000
+            && self.pair.received(Side::Network).len() > 250
+            && self.pair.received(Side::User).len() > 250
+    }
+
     /// Whether the links of both sides are where those of the pair are.
     fn stands_as(&self) -> bool {
         let network = self.network.table().link(id());
@@ -309,15 +327,5 @@ fn is_alike(link: Option<&Link>, wanted: &Link) -> bool {
 #[test]
 fn sides_follow_pair(rt: HostRuntime) -> Result<(), Fail> {
     let mut following = Following::new(rt.alloc())?;
-    for _ in 0..MOVES {
-        wants(following.turn()?, "a move", "the side gives otherwise")?;
-        wants(following.stands_as(), "a move", "the links differ")?;
-    }
-    let lively = following.made > 5_000 && following.refused > 100 && following.left_out > 1_000;
-    wants(lively, "all moves", "too little happened")?;
-    for side in [Side::Network, Side::User] {
-        let received = following.pair.received(side).len() > 250;
-        wants(received, "all moves", "too little was received")?;
-    }
-    Ok(())
+    following.run()
 }

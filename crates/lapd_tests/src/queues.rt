@@ -49,42 +49,51 @@ fn holds(queue: &IQueue, place: u16, octets: &[u8]) -> bool {
     place < queue.len() && queue.at(place) == octets && queue.get(place) == Some(octets)
 }
 
-#[test]
-fn the_third_of_two_is_handed_back(rt: HostRuntime) -> Result<(), Fail> {
-    let alloc = rt.alloc();
-    let mut queue = IQueue::new(alloc, 2)?;
+/// Two messages fill a queue with room for two, and go out of it.
+fn fills_two_places(alloc: Global, queue: &mut IQueue) -> Result<(), Fail> {
     wants(queue.room() == 2, "a new queue", "its room")?;
-    wants(counts(&queue, 0, 0), "a new queue", "not empty")?;
-    wants(puts(alloc, &mut queue, b"a")?, "a", "not taken")?;
-    wants(puts(alloc, &mut queue, b"b")?, "b", "not taken")?;
-    wants(hands_back(alloc, &mut queue, b"c")?, "c", "not handed back")?;
-    wants(counts(&queue, 2, 0), "a, b", "how many wait")?;
-    sends(&mut queue)?;
-    acknowledges(&mut queue, 1)?;
-    wants(counts(&queue, 1, 0), "b", "how many wait")?;
-    wants(holds(&queue, 0, b"b"), "b", "not the first")?;
+    wants(counts(queue, 0, 0), "a new queue", "not empty")?;
+    wants(puts(alloc, queue, b"a")?, "a", "not taken")?;
+    wants(puts(alloc, queue, b"b")?, "b", "not taken")?;
+    wants(hands_back(alloc, queue, b"c")?, "c", "not handed back")?;
+    wants(counts(queue, 2, 0), "a, b", "how many wait")?;
+    sends(queue)?;
+    acknowledges(queue, 1)?;
+    wants(counts(queue, 1, 0), "b", "how many wait")?;
+    wants(holds(queue, 0, b"b"), "b", "not the first")?;
     wants(queue.get(1).is_none(), "b", "not the last")?;
     wants(queue.discard() == 1, "b", "not discarded")?;
-    wants(counts(&queue, 0, 0), "discarded", "not empty")
+    wants(counts(queue, 0, 0), "discarded", "not empty")
+}
+
+#[test]
+fn the_third_of_two_is_handed_back(rt: HostRuntime) -> Result<(), Fail> {
+    let mut queue = IQueue::new(rt.alloc(), 2)?;
+    fills_two_places(rt.alloc(), &mut queue)
+}
+
+/// Three messages are sent, and then all are unsent again.
+fn goes_back(alloc: Global, queue: &mut IQueue) -> Result<(), Fail> {
+    for octet in 1..4u8 {
+        let taken = puts(alloc, queue, &[octet])?;
+        wants(taken, "1, 2, 3", "not taken")?;
+    }
+    sends(queue)?;
+    wants(counts(queue, 3, 1), "1 sent", "how many wait")?;
+    sends(queue)?;
+    queue.go_back();
+    wants(counts(queue, 3, 0), "gone back", "how many wait")?;
+    for octet in 1..4u8 {
+        let place = u16::from(octet).wrapping_sub(1);
+        wants(holds(queue, place, &[octet]), "gone back", "another order")?;
+    }
+    Ok(())
 }
 
 #[test]
 fn messages_are_sent_again_from_the_front(rt: HostRuntime) -> Result<(), Fail> {
     let mut queue = IQueue::new(rt.alloc(), 3)?;
-    for octet in 1..4u8 {
-        let taken = puts(rt.alloc(), &mut queue, &[octet])?;
-        wants(taken, "1, 2, 3", "not taken")?;
-    }
-    sends(&mut queue)?;
-    wants(counts(&queue, 3, 1), "1 sent", "how many wait")?;
-    sends(&mut queue)?;
-    queue.go_back();
-    wants(counts(&queue, 3, 0), "gone back", "how many wait")?;
-    for octet in 1..4u8 {
-        let place = u16::from(octet).wrapping_sub(1);
-        wants(holds(&queue, place, &[octet]), "gone back", "another order")?;
-    }
-    Ok(())
+    goes_back(rt.alloc(), &mut queue)
 }
 
 /// Puts each of these octets at the end, as a message of its own.
@@ -96,22 +105,26 @@ fn puts_each(alloc: Global, queue: &mut IQueue, octets: &[u8]) -> Result<(), Fai
     Ok(())
 }
 
+/// Two messages go out of a queue with room for three, and two more come.
+fn goes_round(alloc: Global, queue: &mut IQueue) -> Result<(), Fail> {
+    puts_each(alloc, queue, b"abc")?;
+    sends(queue)?;
+    sends(queue)?;
+    acknowledges(queue, 2)?;
+    puts_each(alloc, queue, b"de")?;
+    wants(counts(queue, 3, 0), "c, d, e", "how many wait")?;
+    wants(holds(queue, 0, b"c"), "c, d, e", "the first")?;
+    wants(holds(queue, 1, b"d"), "c, d, e", "the second")?;
+    wants(holds(queue, 2, b"e"), "c, d, e", "the third")?;
+    wants(hands_back(alloc, queue, b"f")?, "f", "not handed back")?;
+    wants(holds(queue, 0, b"c"), "f", "the first is another")?;
+    wants(holds(queue, 2, b"e"), "f", "the last is another")
+}
+
 #[test]
 fn the_fourth_and_fifth_take_the_places_of_the_first(rt: HostRuntime) -> Result<(), Fail> {
-    let alloc = rt.alloc();
-    let mut queue = IQueue::new(alloc, 3)?;
-    puts_each(alloc, &mut queue, b"abc")?;
-    sends(&mut queue)?;
-    sends(&mut queue)?;
-    acknowledges(&mut queue, 2)?;
-    puts_each(alloc, &mut queue, b"de")?;
-    wants(counts(&queue, 3, 0), "c, d, e", "how many wait")?;
-    wants(holds(&queue, 0, b"c"), "c, d, e", "the first")?;
-    wants(holds(&queue, 1, b"d"), "c, d, e", "the second")?;
-    wants(holds(&queue, 2, b"e"), "c, d, e", "the third")?;
-    wants(hands_back(alloc, &mut queue, b"f")?, "f", "not handed back")?;
-    wants(holds(&queue, 0, b"c"), "f", "the first is another")?;
-    wants(holds(&queue, 2, b"e"), "f", "the last is another")
+    let mut queue = IQueue::new(rt.alloc(), 3)?;
+    goes_round(rt.alloc(), &mut queue)
 }
 
 /// One message goes through the queue.

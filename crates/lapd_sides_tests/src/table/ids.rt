@@ -6,11 +6,12 @@ use lapd_table::{LinkTable, TableFault};
 use std::alloc::{AllocError, Global};
 use std::test::Fail;
 
-/// What is done to a table: a link is added or taken out.
+/// What is done to a table: a link is added or taken out, or octets of the user side come.
 #[derive(Clone, Copy)]
 enum Deed {
     Add(Numbers),
     Remove(Numbers),
+    Hear(&'static [u8]),
 }
 
 /// A name, what is done, why it is refused, and the links that are there then.
@@ -34,6 +35,12 @@ const ROWS: &[Row] = &[
         "another under the key that became free",
         Deed::Add((0, 70)),
         None,
+        &[(0, 64), (0, 65), (0, 70)],
+    ),
+    (
+        "DISC for the link that was taken out",
+        Deed::Hear(b"\x40\x81\x53"),
+        Some(TableFault::NoLink),
         &[(0, 64), (0, 65), (0, 70)],
     ),
     (
@@ -70,6 +77,7 @@ fn fault_of(alloc: Global, table: &mut LinkTable, deed: Deed) -> Result<Option<T
             Some(_) => Ok(None),
             None => Ok(Some(TableFault::NoLink)),
         },
+        Deed::Hear(octets) => Ok(table.dispatch(octets).err()),
     }
 }
 
@@ -90,13 +98,17 @@ pub(crate) fn has(table: &LinkTable, links: &[Numbers]) -> Result<bool, AllocErr
 #[test]
 fn links_are_added_and_taken_out(rt: HostRuntime) -> Result<(), Fail> {
     let mut table = network_table(rt.alloc(), &[(0, 64), (16, 64), (0, 65)])?;
-    let all = has(&table, &[(0, 64), (0, 65), (16, 64)])?;
+    comes_and_goes(rt.alloc(), &mut table)
+}
+
+/// Does the deeds, and looks at which links are there after each.
+fn comes_and_goes(alloc: Global, table: &mut LinkTable) -> Result<(), Fail> {
+    let all = has(table, &[(0, 64), (0, 65), (16, 64)])?;
     wants(all, "three links", "others are there")?;
     for (name, deed, fault, links) in ROWS {
-        let found = fault_of(rt.alloc(), &mut table, *deed)?;
+        let found = fault_of(alloc, table, *deed)?;
         wants(found == *fault, name, "another fault")?;
-        let all = has(&table, links)?;
-        wants(all, name, "other links are there")?;
+        wants(has(table, links)?, name, "other links are there")?;
     }
     Ok(())
 }

@@ -52,24 +52,25 @@ fn establishes(table: &mut LinkTable, call: &LinkId, packet: &LinkId) -> bool {
     hears(table, b"\x00\x81\x7f", call, &outs) && hears(table, b"\x40\x81\x7f", packet, &outs)
 }
 
-#[test]
-fn one_of_two_links_is_released(rt: HostRuntime) -> Result<(), Fail> {
-    let mut table = two_links(rt.alloc())?;
-    let call = id_of((0, 64))?;
-    let packet = id_of((16, 64))?;
-    let both = establishes(&mut table, &call, &packet);
+/// Both links are established, and that of SAPI 16 is released.
+fn releases_one(table: &mut LinkTable, call: &LinkId, packet: &LinkId) -> Result<(), Fail> {
+    let both = establishes(table, call, packet);
     wants(both, "two SABMEs", "not established")?;
     let outs = [UA, Out::Released, Out::Stop(Timer::T203)];
-    let released = hears(&mut table, b"\x40\x81\x53", &packet, &outs);
+    let released = hears(table, b"\x40\x81\x53", packet, &outs);
     wants(released, "DISC", "not released")?;
-    let sent = sends(&table, &packet, &UA, b"\x40\x81\x73");
+    let sent = sends(table, packet, &UA, b"\x40\x81\x73");
     wants(sent, "DISC", "another UA")?;
-    wants(is_in(&table, &packet, 4), "DISC", "not in state 4")?;
-    wants(
-        is_in(&table, &call, 7),
-        "DISC",
-        "the other link is not in 7",
-    )
+    wants(is_in(table, packet, 4), "DISC", "not in state 4")?;
+    wants(is_in(table, call, 7), "DISC", "the other link is not in 7")
+}
+
+#[test]
+fn one_of_two_links_is_released(rt: HostRuntime) -> Result<(), Fail> {
+    let call = id_of((0, 64))?;
+    let packet = id_of((16, 64))?;
+    let mut table = two_links(rt.alloc())?;
+    releases_one(&mut table, &call, &packet)
 }
 
 #[test]
@@ -173,32 +174,28 @@ fn has_sent_one(table: &LinkTable, id: &LinkId) -> bool {
     }
 }
 
+/// The link of SAPI 16 is established, and sends a message, while that of SAPI 0 rests.
+fn asks_and_sends(alloc: Global, table: &mut LinkTable) -> Result<(), Fail> {
+    let call = id_of((0, 64))?;
+    let packet = &id_of((16, 64))?;
+    let early = hands_back(alloc, table, packet, LinkFault::NotEstablished)?;
+    wants(early, "state 4", "a message is not handed back")?;
+    wants(asks(table, packet), "Establish", "no SABME")?;
+    let outs = [
+        Out::Confirmed,
+        Out::Stop(Timer::T200),
+        Out::Start(Timer::T203),
+    ];
+    let ua = hears(table, b"\x42\x81\x73", packet, &outs);
+    wants(ua, "UA", "not confirmed")?;
+    wants(takes(alloc, table, packet)?, "a message", "refused")?;
+    wants(has_sent_one(table, packet), "a message", "not sent")?;
+    let rests = is_in(table, &call, 4);
+    wants(rests, "SAPI 16", "the other link is not in 4")
+}
+
 #[test]
 fn requests_for_one_link(rt: HostRuntime) -> Result<(), Fail> {
     let mut table = two_links(rt.alloc())?;
-    let call = id_of((0, 64))?;
-    let packet = id_of((16, 64))?;
-    let early = hands_back(rt.alloc(), &mut table, &packet, LinkFault::NotEstablished)?;
-    wants(early, "state 4", "a message is not handed back")?;
-    wants(asks(&mut table, &packet), "Establish", "no SABME")?;
-    let ua = hears(
-        &mut table,
-        b"\x42\x81\x73",
-        &packet,
-        &[
-            Out::Confirmed,
-            Out::Stop(Timer::T200),
-            Out::Start(Timer::T203),
-        ],
-    );
-    wants(ua, "UA", "not confirmed")?;
-    let taken = takes(rt.alloc(), &mut table, &packet)?;
-    wants(taken, "a message", "refused")?;
-    let sent = has_sent_one(&table, &packet);
-    wants(sent, "a message", "not sent")?;
-    wants(
-        is_in(&table, &call, 4),
-        "SAPI 16",
-        "the other link is not in 4",
-    )
+    asks_and_sends(rt.alloc(), &mut table)
 }

@@ -47,10 +47,8 @@ fn sixty_four() -> Tei
     Tei::new(64).unwrap()
 }
 
-#[test]
-fn a_tei_is_got_and_given_up() -> Result<(), Fail> {
-    let mut terminal = Terminal::new(None);
-    let t = &mut terminal;
+/// A terminal without a TEI asks for one, and hears what is not for it.
+fn asks_in_vain(t: &mut Terminal) -> Result<(), Fail> {
     wants(
         steps(t, TerminalEvent::T202(1), 1, 0, None),
         "T202 in state 1",
@@ -81,7 +79,14 @@ fn a_tei_is_got_and_given_up() -> Result<(), Fail> {
         steps(t, heard(TeiKind::Assigned, 5, 63, 7), 3, 0, None),
         "TEI 63",
         "taken",
-    )?;
+    )
+}
+
+#[test]
+fn a_tei_is_got_and_given_up() -> Result<(), Fail> {
+    let mut terminal = Terminal::new(None);
+    let t = &mut terminal;
+    asks_in_vain(t)?;
     let got = Some(TeiOut::Got(sixty_four()));
     wants(
         steps(t, heard(TeiKind::Assigned, 5, 64, 7), 4, 2, got),

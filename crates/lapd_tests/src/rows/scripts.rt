@@ -46,7 +46,7 @@ const LAST_MESSAGE: &[(&str, &str)] = &[
     ("give 03", "send 0081040003; stop T203; start T200"),
 ];
 
-/// With the peer busy, or nothing outstanding, it is an enquiry.
+/// With the peer busy it is an enquiry.
 const LAST_MESSAGE_WITHHELD: &[(&str, &str)] = &[
     ("establish", "send 00817f; start T200"),
     ("frame 008173", "confirmed; stop T200; start T203"),
