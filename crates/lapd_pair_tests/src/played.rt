@@ -8,320 +8,313 @@ use lapd_script::ScriptFault;
 use std::alloc::Global;
 use std::test::Fail;
 
-/// A name, lines, and what each calls for; and the two lines at the end.
-type Play = (
-    &'static str,
-    &'static [(&'static str, &'static str)],
-    &'static str,
-);
+/// Plays with a window of one frame, an empty line between two. Each is its name, lines, and, set in by four spaces, what
+/// each line calls for; and the two lines at the end.
+const PLAYS: &str = "\
+# a message is received and acknowledged
+establish user
+    U>N SAPI 0 TEI 64 C SABME P=1
+deliver net
+    N>U SAPI 0 TEI 64 R UA F=1
+    net established
+deliver user
+    user confirmed
+give user 0801
+    U>N SAPI 0 TEI 64 C I N(S)=0 N(R)=0 P=0 info=0801
+deliver net
+    net data 0801
+    N>U SAPI 0 TEI 64 R RR N(R)=1 F=0
+deliver user
+    user acknowledged 1
+    user: state 7, given 1, received 0, acknowledged 1, dropped 0
+    net: state 7, given 0, received 1, acknowledged 0, dropped 0
 
-/// A window of one frame.
-const PLAYS: &[Play] = &[
-    (
-        "a message is received and acknowledged",
-        &[
-            ("establish user", "U>N SAPI 0 TEI 64 C SABME P=1\n"),
-            (
-                "deliver net",
-                "N>U SAPI 0 TEI 64 R UA F=1\nnet established\n",
-            ),
-            ("deliver user", "user confirmed\n"),
-            (
-                "give user 0801",
-                "U>N SAPI 0 TEI 64 C I N(S)=0 N(R)=0 P=0 info=0801\n",
-            ),
-            (
-                "deliver net",
-                "net data 0801\nN>U SAPI 0 TEI 64 R RR N(R)=1 F=0\n",
-            ),
-            ("deliver user", "user acknowledged 1\n"),
-        ],
-        "user: state 7, given 1, received 0, acknowledged 1, dropped 0\n\
-         net: state 7, given 0, received 1, acknowledged 0, dropped 0\n",
-    ),
-    (
-        "the network starts anew while a SABME is on its way",
-        &[
-            ("establish user", "U>N SAPI 0 TEI 64 C SABME P=1\n"),
-            ("restart net", ""),
-            ("deliver net", "refused P1 NothingThere\n"),
-            ("expire200 user", "U>N SAPI 0 TEI 64 C SABME P=1\n"),
-            (
-                "deliver net",
-                "N>U SAPI 0 TEI 64 R UA F=1\nnet established\n",
-            ),
-            ("deliver user", "user confirmed\n"),
-        ],
-        "user: state 7, given 0, received 0, acknowledged 0, dropped 0\n\
-         net: state 7, given 0, received 0, acknowledged 0, dropped 0\n",
-    ),
-    (
-        "both establish",
-        &[
-            ("establish user", "U>N SAPI 0 TEI 64 C SABME P=1\n"),
-            ("establish net", "N>U SAPI 0 TEI 64 C SABME P=1\n"),
-            ("deliver net", "N>U SAPI 0 TEI 64 R UA F=1\n"),
-            ("deliver user", "U>N SAPI 0 TEI 64 R UA F=1\n"),
-            ("deliver net", "net confirmed\n"),
-            ("deliver user", "user confirmed\n"),
-        ],
-        "user: state 7, given 0, received 0, acknowledged 0, dropped 0\n\
-         net: state 7, given 0, received 0, acknowledged 0, dropped 0\n",
-    ),
-    (
-        "T200 waits for the SABME",
-        &[
-            ("establish user", "U>N SAPI 0 TEI 64 C SABME P=1\n"),
-            ("expire200 user", "refused P3 NotYet net 0\n"),
-            ("expire200 net", "refused P2 NotRunning\n"),
-            ("expire203 user", "refused P2 NotRunning\n"),
-            ("give user 01", "refused L5 LayerThreeEstablishing\n"),
-            ("give net 01", "refused L1 NotEstablished\n"),
-            ("lose net 1", "refused P1 NothingThere\n"),
-            ("lose user 0", "refused P1 NothingThere\n"),
-            ("lose net 00", ""),
-            ("lose net 0", "refused P1 NothingThere\n"),
-        ],
-        "user: state 5, given 0, received 0, acknowledged 0, dropped 0\n\
-         net: state 4, given 0, received 0, acknowledged 0, dropped 0\n",
-    ),
-    (
-        "no SABME is answered",
-        &[
-            ("establish user", "U>N SAPI 0 TEI 64 C SABME P=1\n"),
-            ("lose net 0", ""),
-            ("expire200 user", "U>N SAPI 0 TEI 64 C SABME P=1\n"),
-            ("lose net 0", ""),
-            ("expire200 user", "U>N SAPI 0 TEI 64 C SABME P=1\n"),
-            ("lose net 0", ""),
-            ("expire200 user", "U>N SAPI 0 TEI 64 C SABME P=1\n"),
-            ("lose net 0", ""),
-            ("expire200 user", "user report G\nuser released\n"),
-            ("expire200 user", "refused P2 NotRunning\n"),
-        ],
-        "user: state 4, given 0, received 0, acknowledged 0, dropped 0\n\
-         net: state 4, given 0, received 0, acknowledged 0, dropped 0\n",
-    ),
-    (
-        "a message is lost, and T200 waits for the enquiry and for its answer",
-        &[
-            ("establish user", "U>N SAPI 0 TEI 64 C SABME P=1\n"),
-            (
-                "deliver net",
-                "N>U SAPI 0 TEI 64 R UA F=1\nnet established\n",
-            ),
-            ("deliver user", "user confirmed\n"),
-            (
-                "give user 0801",
-                "U>N SAPI 0 TEI 64 C I N(S)=0 N(R)=0 P=0 info=0801\n",
-            ),
-            ("lose net 0", ""),
-            ("expire200 user", "U>N SAPI 0 TEI 64 C RR N(R)=0 P=1\n"),
-            ("expire200 user", "refused P3 NotYet net 0\n"),
-            ("deliver net", "N>U SAPI 0 TEI 64 R RR N(R)=0 F=1\n"),
-            ("expire200 user", "refused P3 NotYet user 0\n"),
-            (
-                "deliver user",
-                "U>N SAPI 0 TEI 64 C I N(S)=0 N(R)=0 P=0 info=0801\n",
-            ),
-            (
-                "deliver net",
-                "net data 0801\nN>U SAPI 0 TEI 64 R RR N(R)=1 F=0\n",
-            ),
-            ("deliver user", "user acknowledged 1\n"),
-        ],
-        "user: state 7, given 1, received 0, acknowledged 1, dropped 0\n\
-         net: state 7, given 0, received 1, acknowledged 0, dropped 0\n",
-    ),
-    (
-        "the network is busy for a while",
-        &[
-            ("establish user", "U>N SAPI 0 TEI 64 C SABME P=1\n"),
-            (
-                "deliver net",
-                "N>U SAPI 0 TEI 64 R UA F=1\nnet established\n",
-            ),
-            ("deliver user", "user confirmed\n"),
-            ("busy net on", "N>U SAPI 0 TEI 64 R RNR N(R)=0 F=0\n"),
-            ("deliver user", ""),
-            ("give user 0801", ""),
-            ("expire200 user", "U>N SAPI 0 TEI 64 C RR N(R)=0 P=1\n"),
-            ("deliver net", "N>U SAPI 0 TEI 64 R RNR N(R)=0 F=1\n"),
-            ("deliver user", ""),
-            ("busy net off", "N>U SAPI 0 TEI 64 R RR N(R)=0 F=0\n"),
-            (
-                "deliver user",
-                "U>N SAPI 0 TEI 64 C I N(S)=0 N(R)=0 P=0 info=0801\n",
-            ),
-            (
-                "deliver net",
-                "net data 0801\nN>U SAPI 0 TEI 64 R RR N(R)=1 F=0\n",
-            ),
-        ],
-        "user: state 7, given 1, received 0, acknowledged 0, dropped 0\n\
-         net: state 7, given 0, received 1, acknowledged 0, dropped 0\n",
-    ),
-    (
-        "both establish, and what the network gives is dropped",
-        &[
-            ("establish user", "U>N SAPI 0 TEI 64 C SABME P=1\n"),
-            ("establish net", "N>U SAPI 0 TEI 64 C SABME P=1\n"),
-            ("deliver net", "N>U SAPI 0 TEI 64 R UA F=1\n"),
-            ("deliver user", "U>N SAPI 0 TEI 64 R UA F=1\n"),
-            ("lose user 0", ""),
-            ("deliver net", "net confirmed\n"),
-            (
-                "give net AA",
-                "N>U SAPI 0 TEI 64 C I N(S)=0 N(R)=0 P=0 info=aa\n",
-            ),
-            ("deliver user", ""),
-            ("expire200 user", "U>N SAPI 0 TEI 64 C SABME P=1\n"),
-            (
-                "deliver net",
-                "N>U SAPI 0 TEI 64 R UA F=1\nnet report F\nnet dropped 1\nnet established\n",
-            ),
-            ("deliver user", "user confirmed\n"),
-        ],
-        "user: state 7, given 0, received 0, acknowledged 0, dropped 0\n\
-         net: state 7, given 1, received 0, acknowledged 0, dropped 1\n",
-    ),
-    (
-        "unit data passes in state 4, and none of it",
-        &[
-            ("unit user 0a", "U>N SAPI 0 TEI 64 C UI P=0 info=0a\n"),
-            ("unit user", "U>N SAPI 0 TEI 64 C UI P=0\n"),
-            ("deliver net", "net unit 0a\n"),
-            ("deliver net", "net unit\n"),
-            ("release net", "net release-confirmed\n"),
-        ],
-        "user: state 4, given 0, received 0, acknowledged 0, dropped 0\n\
-         net: state 4, given 0, received 0, acknowledged 0, dropped 0\n",
-    ),
-    (
-        "T203 enquires, and a release drops what waits",
-        &[
-            ("establish net", "N>U SAPI 0 TEI 64 C SABME P=1\n"),
-            (
-                "deliver user",
-                "U>N SAPI 0 TEI 64 R UA F=1\nuser established\n",
-            ),
-            ("deliver net", "net confirmed\n"),
-            ("expire203 user", "U>N SAPI 0 TEI 64 C RR N(R)=0 P=1\n"),
-            ("deliver net", "N>U SAPI 0 TEI 64 R RR N(R)=0 F=1\n"),
-            ("deliver user", ""),
-            ("give net", "N>U SAPI 0 TEI 64 C I N(S)=0 N(R)=0 P=0\n"),
-            (
-                "release net",
-                "net dropped 1\nN>U SAPI 0 TEI 64 C DISC P=1\n",
-            ),
-            (
-                "deliver user",
-                "user data\nU>N SAPI 0 TEI 64 R RR N(R)=1 F=0\n",
-            ),
-            (
-                "deliver user",
-                "U>N SAPI 0 TEI 64 R UA F=1\nuser released\n",
-            ),
-            ("deliver net", ""),
-            ("deliver net", "net release-confirmed\n"),
-        ],
-        "user: state 4, given 0, received 1, acknowledged 0, dropped 0\n\
-         net: state 4, given 1, received 0, acknowledged 0, dropped 1\n",
-    ),
-];
+# the network starts anew while a SABME is on its way
+establish user
+    U>N SAPI 0 TEI 64 C SABME P=1
+restart net
+deliver net
+    refused P1 NothingThere
+expire200 user
+    U>N SAPI 0 TEI 64 C SABME P=1
+deliver net
+    N>U SAPI 0 TEI 64 R UA F=1
+    net established
+deliver user
+    user confirmed
+    user: state 7, given 0, received 0, acknowledged 0, dropped 0
+    net: state 7, given 0, received 0, acknowledged 0, dropped 0
+
+# both establish
+establish user
+    U>N SAPI 0 TEI 64 C SABME P=1
+establish net
+    N>U SAPI 0 TEI 64 C SABME P=1
+deliver net
+    N>U SAPI 0 TEI 64 R UA F=1
+deliver user
+    U>N SAPI 0 TEI 64 R UA F=1
+deliver net
+    net confirmed
+deliver user
+    user confirmed
+    user: state 7, given 0, received 0, acknowledged 0, dropped 0
+    net: state 7, given 0, received 0, acknowledged 0, dropped 0
+
+# T200 waits for the SABME
+establish user
+    U>N SAPI 0 TEI 64 C SABME P=1
+expire200 user
+    refused P3 NotYet net 0
+expire200 net
+    refused P2 NotRunning
+expire203 user
+    refused P2 NotRunning
+give user 01
+    refused L5 LayerThreeEstablishing
+give net 01
+    refused L1 NotEstablished
+lose net 1
+    refused P1 NothingThere
+lose user 0
+    refused P1 NothingThere
+lose net 00
+lose net 0
+    refused P1 NothingThere
+    user: state 5, given 0, received 0, acknowledged 0, dropped 0
+    net: state 4, given 0, received 0, acknowledged 0, dropped 0
+
+# no SABME is answered
+establish user
+    U>N SAPI 0 TEI 64 C SABME P=1
+lose net 0
+expire200 user
+    U>N SAPI 0 TEI 64 C SABME P=1
+lose net 0
+expire200 user
+    U>N SAPI 0 TEI 64 C SABME P=1
+lose net 0
+expire200 user
+    U>N SAPI 0 TEI 64 C SABME P=1
+lose net 0
+expire200 user
+    user report G
+    user released
+expire200 user
+    refused P2 NotRunning
+    user: state 4, given 0, received 0, acknowledged 0, dropped 0
+    net: state 4, given 0, received 0, acknowledged 0, dropped 0
+
+# a message is lost, and T200 waits for the enquiry and for its answer
+establish user
+    U>N SAPI 0 TEI 64 C SABME P=1
+deliver net
+    N>U SAPI 0 TEI 64 R UA F=1
+    net established
+deliver user
+    user confirmed
+give user 0801
+    U>N SAPI 0 TEI 64 C I N(S)=0 N(R)=0 P=0 info=0801
+lose net 0
+expire200 user
+    U>N SAPI 0 TEI 64 C RR N(R)=0 P=1
+expire200 user
+    refused P3 NotYet net 0
+deliver net
+    N>U SAPI 0 TEI 64 R RR N(R)=0 F=1
+expire200 user
+    refused P3 NotYet user 0
+deliver user
+    U>N SAPI 0 TEI 64 C I N(S)=0 N(R)=0 P=0 info=0801
+deliver net
+    net data 0801
+    N>U SAPI 0 TEI 64 R RR N(R)=1 F=0
+deliver user
+    user acknowledged 1
+    user: state 7, given 1, received 0, acknowledged 1, dropped 0
+    net: state 7, given 0, received 1, acknowledged 0, dropped 0
+
+# the network is busy for a while
+establish user
+    U>N SAPI 0 TEI 64 C SABME P=1
+deliver net
+    N>U SAPI 0 TEI 64 R UA F=1
+    net established
+deliver user
+    user confirmed
+busy net on
+    N>U SAPI 0 TEI 64 R RNR N(R)=0 F=0
+deliver user
+give user 0801
+expire200 user
+    U>N SAPI 0 TEI 64 C RR N(R)=0 P=1
+deliver net
+    N>U SAPI 0 TEI 64 R RNR N(R)=0 F=1
+deliver user
+busy net off
+    N>U SAPI 0 TEI 64 R RR N(R)=0 F=0
+deliver user
+    U>N SAPI 0 TEI 64 C I N(S)=0 N(R)=0 P=0 info=0801
+deliver net
+    net data 0801
+    N>U SAPI 0 TEI 64 R RR N(R)=1 F=0
+    user: state 7, given 1, received 0, acknowledged 0, dropped 0
+    net: state 7, given 0, received 1, acknowledged 0, dropped 0
+
+# both establish, and what the network gives is dropped
+establish user
+    U>N SAPI 0 TEI 64 C SABME P=1
+establish net
+    N>U SAPI 0 TEI 64 C SABME P=1
+deliver net
+    N>U SAPI 0 TEI 64 R UA F=1
+deliver user
+    U>N SAPI 0 TEI 64 R UA F=1
+lose user 0
+deliver net
+    net confirmed
+give net AA
+    N>U SAPI 0 TEI 64 C I N(S)=0 N(R)=0 P=0 info=aa
+deliver user
+expire200 user
+    U>N SAPI 0 TEI 64 C SABME P=1
+deliver net
+    N>U SAPI 0 TEI 64 R UA F=1
+    net report F
+    net dropped 1
+    net established
+deliver user
+    user confirmed
+    user: state 7, given 0, received 0, acknowledged 0, dropped 0
+    net: state 7, given 1, received 0, acknowledged 0, dropped 1
+
+# unit data passes in state 4, and none of it
+unit user 0a
+    U>N SAPI 0 TEI 64 C UI P=0 info=0a
+unit user
+    U>N SAPI 0 TEI 64 C UI P=0
+deliver net
+    net unit 0a
+deliver net
+    net unit
+release net
+    net release-confirmed
+    user: state 4, given 0, received 0, acknowledged 0, dropped 0
+    net: state 4, given 0, received 0, acknowledged 0, dropped 0
+
+# T203 enquires, and a release drops what waits
+establish net
+    N>U SAPI 0 TEI 64 C SABME P=1
+deliver user
+    U>N SAPI 0 TEI 64 R UA F=1
+    user established
+deliver net
+    net confirmed
+expire203 user
+    U>N SAPI 0 TEI 64 C RR N(R)=0 P=1
+deliver net
+    N>U SAPI 0 TEI 64 R RR N(R)=0 F=1
+deliver user
+give net
+    N>U SAPI 0 TEI 64 C I N(S)=0 N(R)=0 P=0
+release net
+    net dropped 1
+    N>U SAPI 0 TEI 64 C DISC P=1
+deliver user
+    user data
+    U>N SAPI 0 TEI 64 R RR N(R)=1 F=0
+deliver user
+    U>N SAPI 0 TEI 64 R UA F=1
+    user released
+deliver net
+deliver net
+    net release-confirmed
+    user: state 4, given 0, received 1, acknowledged 0, dropped 0
+    net: state 4, given 1, received 0, acknowledged 0, dropped 1";
 
 #[test]
 fn plays_scripts(rt: HostRuntime) -> Result<(), Fail> {
     let params = params(1, 512)?;
-    for play in PLAYS {
-        plays_so(rt.alloc(), play, params)?;
-    }
-    Ok(())
+    plays_all(rt.alloc(), PLAYS, params)
 }
 
 /// A window of three frames, and the user sends its last message again.
-const WITH_LAST_MESSAGE: &[Play] = &[(
-    "two acknowledgements are lost, and the last message goes out again",
-    &[
-        ("establish user", "U>N SAPI 0 TEI 64 C SABME P=1\n"),
-        (
-            "deliver net",
-            "N>U SAPI 0 TEI 64 R UA F=1\nnet established\n",
-        ),
-        ("deliver user", "user confirmed\n"),
-        (
-            "give user 01",
-            "U>N SAPI 0 TEI 64 C I N(S)=0 N(R)=0 P=0 info=01\n",
-        ),
-        (
-            "give user 02",
-            "U>N SAPI 0 TEI 64 C I N(S)=1 N(R)=0 P=0 info=02\n",
-        ),
-        (
-            "deliver net",
-            "net data 01\nN>U SAPI 0 TEI 64 R RR N(R)=1 F=0\n",
-        ),
-        (
-            "deliver net",
-            "net data 02\nN>U SAPI 0 TEI 64 R RR N(R)=2 F=0\n",
-        ),
-        ("lose user 1", ""),
-        ("lose user 0", ""),
-        (
-            "expire200 user",
-            "U>N SAPI 0 TEI 64 C I N(S)=1 N(R)=0 P=1 info=02\n",
-        ),
-        ("expire200 user", "refused P3 NotYet net 0\n"),
-        ("deliver net", "N>U SAPI 0 TEI 64 R REJ N(R)=2 F=1\n"),
-        ("deliver user", "user acknowledged 2\n"),
-        (
-            "give user 03",
-            "U>N SAPI 0 TEI 64 C I N(S)=2 N(R)=0 P=0 info=03\n",
-        ),
-        (
-            "deliver net",
-            "net data 03\nN>U SAPI 0 TEI 64 R RR N(R)=3 F=0\n",
-        ),
-    ],
-    "user: state 7, given 3, received 0, acknowledged 2, dropped 0\n\
-     net: state 7, given 0, received 3, acknowledged 0, dropped 0\n",
-)];
+const WITH_LAST_MESSAGE: &str = "\
+# two acknowledgements are lost, and the last message goes out again
+establish user
+    U>N SAPI 0 TEI 64 C SABME P=1
+deliver net
+    N>U SAPI 0 TEI 64 R UA F=1
+    net established
+deliver user
+    user confirmed
+give user 01
+    U>N SAPI 0 TEI 64 C I N(S)=0 N(R)=0 P=0 info=01
+give user 02
+    U>N SAPI 0 TEI 64 C I N(S)=1 N(R)=0 P=0 info=02
+deliver net
+    net data 01
+    N>U SAPI 0 TEI 64 R RR N(R)=1 F=0
+deliver net
+    net data 02
+    N>U SAPI 0 TEI 64 R RR N(R)=2 F=0
+lose user 1
+lose user 0
+expire200 user
+    U>N SAPI 0 TEI 64 C I N(S)=1 N(R)=0 P=1 info=02
+expire200 user
+    refused P3 NotYet net 0
+deliver net
+    N>U SAPI 0 TEI 64 R REJ N(R)=2 F=1
+deliver user
+    user acknowledged 2
+give user 03
+    U>N SAPI 0 TEI 64 C I N(S)=2 N(R)=0 P=0 info=03
+deliver net
+    net data 03
+    N>U SAPI 0 TEI 64 R RR N(R)=3 F=0
+    user: state 7, given 3, received 0, acknowledged 2, dropped 0
+    net: state 7, given 0, received 3, acknowledged 0, dropped 0";
 
 #[test]
 fn plays_scripts_with_last_message(rt: HostRuntime) -> Result<(), Fail> {
     let params = params(3, 512)?.with_recovery(Recovery::LastMessage);
-    for play in WITH_LAST_MESSAGE {
-        plays_so(rt.alloc(), play, params)?;
+    plays_all(rt.alloc(), WITH_LAST_MESSAGE, params)
+}
+
+fn plays_all(alloc: Global, plays: &str, params: Params) -> Result<(), Fail> {
+    for play in plays.split("\n\n") {
+        plays_so(alloc, play, params)?;
     }
     Ok(())
 }
 
-/// The lines of a play, as a script.
-fn script_of(alloc: Global, lines: &[(&str, &str)]) -> Result<String, Fail> {
+fn plays_so(alloc: Global, play: &str, params: Params) -> Result<(), Fail> {
     let mut script = String::new(alloc);
-    for (line, _) in lines {
-        script.push_str(line)?;
-        script.push_str("\n")?;
-    }
-    Ok(script)
-}
-
-/// What is printed for the lines, and then the closing lines.
-fn text_of(alloc: Global, lines: &[(&str, &str)], closing: &str) -> Result<String, Fail> {
     let mut text = String::new(alloc);
-    for (_, printed) in lines {
-        text.push_str(printed)?;
-    }
-    text.push_str(closing)?;
-    Ok(text)
+    push_lines(play, &mut script, &mut text)?;
+    prints(alloc, play, params, script.as_str(), text.as_str())
 }
 
-fn plays_so(alloc: Global, play: &Play, params: Params) -> Result<(), Fail> {
-    let (row, lines, closing) = play;
-    let script = script_of(alloc, lines)?;
-    let printed = printed_for(alloc, script.as_str(), params)?;
-    let text = text_of(alloc, lines, closing)?;
-    wants(printed.as_slice() == text.as_bytes(), row, "its text")
+/// Parts a play into its script and what is printed for it.
+fn push_lines(play: &str, script: &mut String, text: &mut String) -> Result<(), Fail> {
+    for line in play.lines() {
+        match line.strip_prefix("    ") {
+            Some(printed) => push_line(text, printed)?,
+            None => push_line(script, line)?,
+        }
+    }
+    Ok(())
+}
+
+fn push_line(text: &mut String, line: &str) -> Result<(), Fail> {
+    text.push_str(line)?;
+    Ok(text.push_str("\n")?)
+}
+
+fn prints(alloc: Global, play: &str, params: Params, script: &str, text: &str) -> Result<(), Fail> {
+    let printed = printed_for(alloc, script, params)?;
+    wants(printed.as_slice() == text.as_bytes(), play, "its text")
 }
 
 /// What `pair` prints for a script.

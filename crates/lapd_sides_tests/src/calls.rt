@@ -1,5 +1,7 @@
 //! Calls of a side, and what they give as text.
 
+ghost use Rattle.std.specs.Prelude.{◌≡◌, ◌<◌};
+
 use lapd_link::LinkFault;
 use lapd_script::put_hex;
 use lapd_sides::{
@@ -12,7 +14,7 @@ use std::io::Write;
 use std::test::Fail;
 
 /// A call of a side: its moment, and the SAPI, the TEI and the octets, in hexadecimal digits, that it names.
-#[derive(Clone, Copy, Debug)]
+#[derive(Clone, Copy)]
 pub(crate) enum Call {
     Take(u64, &'static str),
     Tick(u64),
@@ -43,6 +45,14 @@ pub(crate) fn config(sapi16: bool) -> Config {
     }
 }
 
+/// The TEI of this number, of a terminal.
+pub(crate) fn tei(number: u8) -> Tei
+    requires { number < 127 }
+    ensures { result ≡ number }
+{
+    Tei::new(number).unwrap()
+}
+
 /// The link of this SAPI and TEI.
 pub(crate) fn id_of(sapi: u8, tei: u8) -> Result<LinkId, Fail> {
     let sapi = Sapi::new(sapi).ok_or("a SAPI is none")?;
@@ -58,52 +68,38 @@ pub(crate) fn octets_of(alloc: Global, digits: &str) -> Result<Vec<u8>, Fail> {
     }
 }
 
-/// The moment and the request that a call makes; none where it is no request.
-fn request_of(alloc: Global, call: Call) -> Result<Option<(u64, Request)>, Fail> {
-    Ok(match call {
-        Call::Take(..) | Call::Tick(_) => None,
-        Call::Establish(now, sapi, tei) => Some((now, Request::Establish(id_of(sapi, tei)?))),
-        Call::Release(now, sapi, tei) => Some((now, Request::Release(id_of(sapi, tei)?))),
-        Call::Unit(now, sapi, tei, digits) => {
-            Some((
-                now,
-                Request::Unit(id_of(sapi, tei)?, octets_of(alloc, digits)?),
-            ))
+impl Call {
+    /// Its moment, and the SAPI, the TEI and the octets that it names: 0, 0 and no octets where it names none.
+    fn parts(self) -> (u64, u8, u8, &'static str) {
+        match self {
+            Call::Take(now, digits) => (now, 0, 0, digits),
+            Call::Tick(now) | Call::AskTei(now) => (now, 0, 0, ""),
+            Call::Establish(now, sapi, tei)
+            | Call::Release(now, sapi, tei)
+            | Call::Busy(now, sapi, tei, _) => (now, sapi, tei, ""),
+            Call::Unit(now, sapi, tei, digits) | Call::Give(now, sapi, tei, digits) => {
+                (now, sapi, tei, digits)
+            }
+            Call::Check(now, tei) => (now, 0, tei, ""),
         }
-        Call::Give(now, sapi, tei, digits) => {
-            Some((
-                now,
-                Request::Give(id_of(sapi, tei)?, octets_of(alloc, digits)?),
-            ))
+    }
+
+    /// The request that it makes, for this link and with these octets; none where it is no request.
+    fn request(self, id: LinkId, octets: Vec<u8>) -> Option<Request> {
+        match self {
+            Call::Take(..) | Call::Tick(_) => None,
+            Call::Establish(..) => Some(Request::Establish(id)),
+            Call::Release(..) => Some(Request::Release(id)),
+            Call::Unit(..) => Some(Request::Unit(id, octets)),
+            Call::Give(..) => Some(Request::Give(id, octets)),
+            Call::Busy(_, _, _, busy) => Some(Request::Busy(id, busy)),
+            Call::AskTei(_) => Some(Request::AskTei),
+            Call::Check(..) => Some(Request::Check(id.tei)),
         }
-        Call::Busy(now, sapi, tei, busy) => Some((now, Request::Busy(id_of(sapi, tei)?, busy))),
-        Call::AskTei(now) => Some((now, Request::AskTei)),
-        Call::Check(now, tei) => Some((now, Request::Check(Tei::new(tei).ok_or("no TEI")?))),
-    })
+    }
 }
 
 impl AnySide {
-    /// Octets come.
-    pub(crate) fn take(
-        &mut self,
-        octets: &[u8],
-        now: u64,
-        acts: &mut Acts,
-    ) -> Result<(), SideFault> {
-        match self {
-            AnySide::Network(side) => side.take(octets, now, acts),
-            AnySide::User(side) => side.take(octets, now, acts),
-        }
-    }
-
-    /// What is due first is done.
-    pub(crate) fn tick(&mut self, now: u64, acts: &mut Acts) -> bool {
-        match self {
-            AnySide::Network(side) => side.tick(now, acts),
-            AnySide::User(side) => side.tick(now, acts),
-        }
-    }
-
     /// Something is asked for.
     pub(crate) fn request(
         &mut self,
@@ -117,50 +113,110 @@ impl AnySide {
         }
     }
 
-    /// What a call gives: each frame, each primitive and a refusal, with `;` behind it; `none` where nothing is due.
-    pub(crate) fn given(
+    /// Octets come. A refusal is written.
+    fn take(
+        &mut self,
+        octets: &[u8],
+        now: u64,
+        acts: &mut Acts,
+        text: &mut Vec<u8>,
+    ) -> io::Result<()> {
+        let done = match self {
+            AnySide::Network(side) => side.take(octets, now, acts),
+            AnySide::User(side) => side.take(octets, now, acts),
+        };
+        put_end(&done, text)
+    }
+
+    /// What is due first is done. `none` is written where nothing is.
+    fn tick(&mut self, now: u64, acts: &mut Acts, text: &mut Vec<u8>) -> io::Result<()> {
+        let done = match self {
+            AnySide::Network(side) => side.tick(now, acts),
+            AnySide::User(side) => side.tick(now, acts),
+        };
+        if done {
+            Ok(())
+        } else {
+            text.write_all(b"none;")
+        }
+    }
+
+    /// Something is asked for. A refusal is written.
+    fn ask(
+        &mut self,
+        request: Option<Request>,
+        now: u64,
+        acts: &mut Acts,
+        text: &mut Vec<u8>,
+    ) -> io::Result<()> {
+        match request {
+            Some(request) => put_end(&self.request(request, now, acts), text),
+            None => text.write_all(b"no request;"),
+        }
+    }
+
+    /// Makes a call. A refusal is written, and `none` where nothing is due.
+    fn make(
         &mut self,
         alloc: Global,
         call: Call,
         acts: &mut Acts,
-    ) -> Result<Vec<u8>, Fail> {
-        let mut text = Vec::new(alloc);
+        text: &mut Vec<u8>,
+    ) -> Result<(), Fail> {
+        let (now, sapi, tei, digits) = call.parts();
+        let id = id_of(sapi, tei)?;
+        let octets = octets_of(alloc, digits)?;
         let done = match call {
-            Call::Take(now, digits) => {
-                self.take(octets_of(alloc, digits)?.as_slice(), now, acts)
-            }
-            Call::Tick(now) => {
-                if !self.tick(now, acts) {
-                    text.write_all(b"none;")?;
-                }
-                Ok(())
-            }
-            _ => {
-                let (now, request) = request_of(alloc, call)?.ok_or("no request")?;
-                self.request(request, now, acts)
-            }
+            Call::Take(..) => self.take(octets.as_slice(), now, acts, text),
+            Call::Tick(_) => self.tick(now, acts, text),
+            _ => self.ask(call.request(id, octets), now, acts, text),
         };
-        put_acts(acts, &mut text)?;
-        if let Err(fault) = done {
-            put_refusal(&fault, &mut text)?;
-        }
-        Ok(text)
+        Ok(done?)
+    }
+
+    /// Whether this is what a call gives: a refusal, or that nothing is due, then each frame and each primitive, with `;`
+    /// behind it.
+    pub(crate) fn gives(
+        &mut self,
+        alloc: Global,
+        call: Call,
+        acts: &mut Acts,
+        wanted: &str,
+    ) -> Result<bool, Fail> {
+        let mut text = Vec::new(alloc);
+        self.write_given(alloc, call, acts, &mut text)?;
+        Ok(text.as_slice() == wanted.as_bytes())
+    }
+
+    /// Writes what a call gives.
+    fn write_given(
+        &mut self,
+        alloc: Global,
+        call: Call,
+        acts: &mut Acts,
+        text: &mut Vec<u8>,
+    ) -> Result<(), Fail> {
+        self.make(alloc, call, acts, text)?;
+        put_frames(acts, text)?;
+        put_primitives(acts, text)?;
+        Ok(())
     }
 }
 
-/// Writes the frames and the primitives.
-fn put_acts(acts: &Acts, text: &mut Vec<u8>) -> io::Result<()> {
+/// Writes the frames.
+fn put_frames(acts: &Acts, text: &mut Vec<u8>) -> io::Result<()> {
     for frame in acts.frames() {
         put_hex(frame.as_slice(), text)?;
         text.write_all(b";")?;
     }
+    Ok(())
+}
+
+/// Writes the primitives.
+fn put_primitives(acts: &Acts, text: &mut Vec<u8>) -> io::Result<()> {
     for primitive in acts.primitives() {
         match primitive {
-            Primitive::Of(id, what) => {
-                let (sapi, tei) = (id.sapi, id.tei);
-                write!(text, "{sapi} {tei} ")?;
-                put_what(what, text)?;
-            }
+            Primitive::Of(id, what) => put_told(*id, what, text)?,
             Primitive::Management(output) => put_outcome(output, text)?,
         }
         text.write_all(b";")?;
@@ -168,59 +224,91 @@ fn put_acts(acts: &Acts, text: &mut Vec<u8>) -> io::Result<()> {
     Ok(())
 }
 
-/// Writes what is told of a link.
-fn put_what(what: &What, text: &mut Vec<u8>) -> io::Result<()> {
+/// Writes the SAPI and the TEI of a link, and what is told of it.
+fn put_told(id: LinkId, what: &What, text: &mut Vec<u8>) -> io::Result<()> {
+    let (sapi, tei) = (id.sapi, id.tei);
+    write!(text, "{sapi} {tei} ")?;
+    text.write_all(name_of(what).as_bytes())?;
+    put_rest(what, text)
+}
+
+/// What is told of a link, without octets and numbers.
+fn name_of(what: &What) -> &'static str {
     match what {
-        What::Up(octets) => {
-            text.write_all(b"data ")?;
-            put_hex(octets.as_slice(), text)
-        }
-        What::UnitUp(octets) => {
-            text.write_all(b"unit ")?;
-            put_hex(octets.as_slice(), text)
-        }
-        What::Established => text.write_all(b"established"),
-        What::Confirmed => text.write_all(b"confirmed"),
-        What::Released => text.write_all(b"released"),
-        What::ReleaseConfirm => text.write_all(b"release-confirmed"),
-        What::Acknowledged(n) => write!(text, "acknowledged {n}"),
-        What::Dropped(n) => write!(text, "dropped {n}"),
-        What::Report(letter) => {
-            text.write_all(b"report ")?;
-            text.write_all(letter.name().as_bytes())
-        }
+        What::Up(_) => "data ",
+        What::UnitUp(_) => "unit ",
+        What::Established => "established",
+        What::Confirmed => "confirmed",
+        What::Released => "released",
+        What::ReleaseConfirm => "release-confirmed",
+        What::Acknowledged(_) => "acknowledged ",
+        What::Dropped(_) => "dropped ",
+        What::Report(_) => "report ",
+    }
+}
+
+/// Writes the octets, the number or the letter that is told of a link.
+fn put_rest(what: &What, text: &mut Vec<u8>) -> io::Result<()> {
+    match what {
+        What::Up(octets) | What::UnitUp(octets) => put_hex(octets.as_slice(), text),
+        What::Acknowledged(number) | What::Dropped(number) => write!(text, "{number}"),
+        What::Report(letter) => text.write_all(letter.name().as_bytes()),
+        What::Established | What::Confirmed | What::Released | What::ReleaseConfirm => Ok(()),
     }
 }
 
 /// Writes what became of a TEI.
 fn put_outcome(output: &TeiOut, text: &mut Vec<u8>) -> io::Result<()> {
+    let (name, tei) = outcome(output);
+    text.write_all(name.as_bytes())?;
+    match tei {
+        Some(tei) => write!(text, "{tei}"),
+        None => Ok(()),
+    }
+}
+
+/// What became of a TEI, and of which.
+fn outcome(output: &TeiOut) -> (&'static str, Option<Tei>) {
     match output {
-        TeiOut::Given(tei) => write!(text, "given {tei}"),
-        TeiOut::Got(tei) => write!(text, "got {tei}"),
-        TeiOut::Gone(tei) => write!(text, "gone {tei}"),
-        TeiOut::Failed => text.write_all(b"failed"),
-        TeiOut::Free(tei) => write!(text, "free {tei}"),
-        TeiOut::InUse(tei) => write!(text, "in-use {tei}"),
-        TeiOut::Doubled(tei) => write!(text, "doubled {tei}"),
-        TeiOut::Send(_) | TeiOut::Start(_) | TeiOut::Stop(_) => text.write_all(b"no outcome"),
+        TeiOut::Given(tei) => ("given ", Some(*tei)),
+        TeiOut::Got(tei) => ("got ", Some(*tei)),
+        TeiOut::Gone(tei) => ("gone ", Some(*tei)),
+        TeiOut::Failed => ("failed", None),
+        TeiOut::Free(tei) => ("free ", Some(*tei)),
+        TeiOut::InUse(tei) => ("in-use ", Some(*tei)),
+        TeiOut::Doubled(tei) => ("doubled ", Some(*tei)),
+        TeiOut::Send(_) | TeiOut::Start(_) | TeiOut::Stop(_) => ("no outcome", None),
+    }
+}
+
+/// Writes a refusal, where there is one.
+fn put_end(done: &Result<(), SideFault>, text: &mut Vec<u8>) -> io::Result<()> {
+    match done {
+        Ok(()) => Ok(()),
+        Err(fault) => put_refusal(fault, text),
     }
 }
 
 /// Writes a refusal, and the message that is handed back.
 fn put_refusal(fault: &SideFault, text: &mut Vec<u8>) -> io::Result<()> {
     text.write_all(b"refused ")?;
-    match fault.kind {
-        SideKind::NoLink => text.write_all(b"B1")?,
-        SideKind::Memory => text.write_all(b"B3")?,
-        SideKind::Link(LinkFault::NotEstablished) => text.write_all(b"L1")?,
-        SideKind::Link(LinkFault::QueueFull) => text.write_all(b"L2")?,
-        SideKind::Link(LinkFault::TooLong) => text.write_all(b"L3")?,
-        SideKind::Link(LinkFault::Releasing) => text.write_all(b"L4")?,
-        SideKind::Link(LinkFault::LayerThreeEstablishing) => text.write_all(b"L5")?,
-    }
+    text.write_all(name_of_kind(fault.kind).as_bytes())?;
     if let Some(message) = &fault.message {
         text.write_all(b" ")?;
         put_hex(message.as_slice(), text)?;
     }
     text.write_all(b";")
+}
+
+/// The short name of a refusal.
+fn name_of_kind(kind: SideKind) -> &'static str {
+    match kind {
+        SideKind::NoLink => "B1",
+        SideKind::Memory => "B3",
+        SideKind::Link(LinkFault::NotEstablished) => "L1",
+        SideKind::Link(LinkFault::QueueFull) => "L2",
+        SideKind::Link(LinkFault::TooLong) => "L3",
+        SideKind::Link(LinkFault::Releasing) => "L4",
+        SideKind::Link(LinkFault::LayerThreeEstablishing) => "L5",
+    }
 }

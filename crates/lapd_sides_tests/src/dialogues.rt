@@ -1,16 +1,23 @@
 //! Dialogues of a side with the line, layer 3 and its clock.
 
-use crate::calls::{AnySide, Call, config};
+use crate::calls::{AnySide, Call, config, tei};
 use crate::wants::wants;
-use lapd_sides::{Acts, NetSide, Tei, UserSide};
-use std::alloc::Global;
+use lapd_sides::{Acts, NetSide, UserSide};
+use std::alloc::{AllocError, Global};
 use std::test::Fail;
 
+/// The TEI that a user side has, or that a network side knows of.
+#[derive(Clone, Copy)]
+pub(crate) enum Held {
+    Nothing,
+    Tei64,
+}
+
 /// Which side it is, what TEI it has or knows of, and whether it serves SAPI 16.
-#[derive(Clone, Copy, Debug)]
-enum Made {
-    Net(Option<u8>, bool),
-    User(Option<u8>, bool),
+#[derive(Clone, Copy)]
+pub(crate) enum Made {
+    Net(Held, bool),
+    User(Held, bool),
 }
 
 /// A name, the side, and calls with what they give.
@@ -19,7 +26,7 @@ type Row = (&'static str, Made, &'static [(Call, &'static str)]);
 const NETWORK: &[Row] = &[
     (
         "a link goes, and the timer of the other runs on",
-        Made::Net(Some(64), true),
+        Made::Net(Held::Tei64, true),
         &[
             (Call::Take(0, "00817f"), "008173;0 64 established;"),
             (Call::Take(0, "40817f"), "408173;16 64 established;"),
@@ -31,7 +38,7 @@ const NETWORK: &[Row] = &[
     ),
     (
         "a TEI is given, and its links are there",
-        Made::Net(None, true),
+        Made::Net(Held::Nothing, true),
         &[
             (
                 Call::Take(0, "fcff030f123401ff"),
@@ -49,7 +56,7 @@ const NETWORK: &[Row] = &[
     ),
     (
         "what is for nobody is discarded",
-        Made::Net(Some(64), false),
+        Made::Net(Held::Tei64, false),
         &[
             (Call::Take(0, ""), ""),
             (Call::Take(0, "00"), ""),
@@ -67,7 +74,7 @@ const NETWORK: &[Row] = &[
     ),
     (
         "a TEI is free again, and its links go",
-        Made::Net(Some(64), true),
+        Made::Net(Held::Tei64, true),
         &[
             (Call::Establish(0, 0, 64), "02817f;"),
             (Call::Take(0, "40817f"), "408173;16 64 established;"),
@@ -94,7 +101,7 @@ const NETWORK: &[Row] = &[
     ),
     (
         "a TEI is in use, then doubled",
-        Made::Net(Some(64), false),
+        Made::Net(Held::Tei64, false),
         &[
             (Call::Check(0, 64), "feff030f00000481;"),
             (Call::Take(1, "fcff030f56780581"), ""),
@@ -112,7 +119,7 @@ const NETWORK: &[Row] = &[
     ),
     (
         "unit data to all terminals",
-        Made::Net(None, false),
+        Made::Net(Held::Nothing, false),
         &[
             (Call::Unit(0, 0, 127, "0a"), "02ff030a;"),
             (Call::Unit(0, 0, 127, ""), "02ff03;"),
@@ -124,7 +131,7 @@ const NETWORK: &[Row] = &[
     ),
     (
         "a receiver is busy",
-        Made::Net(Some(64), false),
+        Made::Net(Held::Tei64, false),
         &[
             (Call::Busy(0, 0, 65, true), "refused B1;"),
             (Call::Take(0, "00817f"), "008173;0 64 established;"),
@@ -140,7 +147,7 @@ const NETWORK: &[Row] = &[
 const USER: &[Row] = &[
     (
         "no TEI is assigned",
-        Made::User(None, false),
+        Made::User(Held::Nothing, false),
         &[
             (Call::Establish(0, 0, 127), "fcff030f619901ff;"),
             (Call::Tick(1_999), "none;"),
@@ -155,7 +162,7 @@ const USER: &[Row] = &[
     ),
     (
         "a TEI is got, and the establishment done",
-        Made::User(None, false),
+        Made::User(Held::Nothing, false),
         &[
             (Call::Establish(0, 0, 127), "fcff030f619901ff;"),
             (Call::Take(100, "feff030f769102c1"), ""),
@@ -169,7 +176,7 @@ const USER: &[Row] = &[
     ),
     (
         "without a TEI there is no link",
-        Made::User(None, false),
+        Made::User(Held::Nothing, false),
         &[
             (Call::Give(0, 0, 127, "0801"), "refused L1 0801;"),
             (Call::Give(0, 16, 64, "0801"), "refused L1 0801;"),
@@ -185,7 +192,7 @@ const USER: &[Row] = &[
     ),
     (
         "two establishments are kept, of each SAPI one",
-        Made::User(None, true),
+        Made::User(Held::Nothing, true),
         &[
             (Call::AskTei(0), "fcff030f619901ff;"),
             (Call::Establish(0, 16, 127), ""),
@@ -197,7 +204,7 @@ const USER: &[Row] = &[
     ),
     (
         "two establishments are kept in vain",
-        Made::User(None, true),
+        Made::User(Held::Nothing, true),
         &[
             (Call::Establish(0, 16, 127), "fcff030f619901ff;"),
             (Call::Establish(0, 0, 127), ""),
@@ -208,7 +215,7 @@ const USER: &[Row] = &[
     ),
     (
         "an establishment is forgotten",
-        Made::User(None, true),
+        Made::User(Held::Nothing, true),
         &[
             (Call::Establish(0, 0, 127), "fcff030f619901ff;"),
             (Call::Release(0, 16, 127), "refused B1;"),
@@ -221,7 +228,7 @@ const USER: &[Row] = &[
     ),
     (
         "unit data to all terminals",
-        Made::User(None, false),
+        Made::User(Held::Nothing, false),
         &[
             (Call::Take(0, "02ff030a"), "0 127 unit 0a;"),
             (Call::Take(0, "02ff130a"), "0 127 unit 0a;"),
@@ -237,7 +244,7 @@ const USER: &[Row] = &[
     ),
     (
         "a TEI is fixed, checked and removed",
-        Made::User(Some(64), true),
+        Made::User(Held::Tei64, true),
         &[
             (Call::Take(0, "02817f"), "028173;0 64 established;"),
             (Call::Establish(0, 16, 5), "40817f;"),
@@ -256,7 +263,7 @@ const USER: &[Row] = &[
     ),
     (
         "its TEI is assigned to another",
-        Made::User(Some(64), false),
+        Made::User(Held::Tei64, false),
         &[
             (Call::Release(0, 0, 0), "0 64 release-confirmed;"),
             (Call::Take(0, "feff030f12340281"), "gone 64;"),
@@ -265,37 +272,57 @@ const USER: &[Row] = &[
     ),
 ];
 
-/// A side as the row wants it.
-fn side_of(alloc: Global, made: Made) -> Result<AnySide, Fail> {
-    match made {
-        Made::Net(None, sapi16) => Ok(AnySide::Network(NetSide::new(alloc, config(sapi16), &[])?)),
-        Made::Net(Some(known), sapi16) => {
-            let known = Tei::new(known).ok_or("no TEI")?;
-            if known == Tei::group() {
-                return Err(Fail::new("the group TEI"));
-            }
-            Ok(AnySide::Network(NetSide::new(alloc, config(sapi16), &[known, known])?))
-        }
-        Made::User(None, sapi16) => Ok(AnySide::User(UserSide::new(alloc, config(sapi16), None)?)),
-        Made::User(Some(fixed), sapi16) => {
-            let fixed = Tei::new(fixed).ok_or("no TEI")?;
-            if fixed == Tei::group() {
-                return Err(Fail::new("the group TEI"));
-            }
-            Ok(AnySide::User(UserSide::new(alloc, config(sapi16), Some(fixed))?))
-        }
+/// A network side that knows of TEI 64, named twice, or of none.
+fn network_side(alloc: Global, known: Held, sapi16: bool) -> Result<NetSide, AllocError> {
+    match known {
+        Held::Tei64 => NetSide::new(alloc, config(sapi16), &[tei(64), tei(64)]),
+        Held::Nothing => NetSide::new(alloc, config(sapi16), &[]),
     }
+}
+
+/// A user side that has TEI 64, or none.
+fn user_side(alloc: Global, fixed: Held, sapi16: bool) -> Result<UserSide, AllocError> {
+    match fixed {
+        Held::Tei64 => UserSide::new(alloc, config(sapi16), Some(tei(64))),
+        Held::Nothing => UserSide::new(alloc, config(sapi16), None),
+    }
+}
+
+/// A side as the row wants it.
+pub(crate) fn side_of(alloc: Global, made: Made) -> Result<AnySide, AllocError> {
+    match made {
+        Made::Net(known, sapi16) => Ok(AnySide::Network(network_side(alloc, known, sapi16)?)),
+        Made::User(fixed, sapi16) => Ok(AnySide::User(user_side(alloc, fixed, sapi16)?)),
+    }
+}
+
+/// Goes over the calls of a row.
+fn talks(
+    alloc: Global,
+    name: &str,
+    side: &mut AnySide,
+    acts: &mut Acts,
+    calls: &[(Call, &'static str)],
+) -> Result<(), Fail> {
+    for (call, wanted) in calls {
+        let given = side.gives(alloc, *call, acts, wanted)?;
+        wants(given, name, wanted)?;
+    }
+    Ok(())
+}
+
+/// Goes over a row.
+fn goes(alloc: Global, row: &Row) -> Result<(), Fail> {
+    let (name, made, calls) = row;
+    let mut acts = Acts::new(alloc)?;
+    let mut side = side_of(alloc, *made)?;
+    talks(alloc, name, &mut side, &mut acts, calls)
 }
 
 /// Goes over the calls of each row.
 fn go_over(alloc: Global, rows: &[Row]) -> Result<(), Fail> {
-    for (name, made, calls) in rows {
-        let mut side = side_of(alloc, *made)?;
-        let mut acts = Acts::new(alloc)?;
-        for (call, wanted) in *calls {
-            let given = side.given(alloc, *call, &mut acts)?;
-            wants(given.as_slice() == wanted.as_bytes(), name, wanted)?;
-        }
+    for row in rows {
+        goes(alloc, row)?;
     }
     Ok(())
 }

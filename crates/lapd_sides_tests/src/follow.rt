@@ -1,55 +1,70 @@
 //! Two sides beside a pair of links: 10,000 drawn moves, and at each the side's frames, primitives and refusals are those of the
 //! pair's end.
 
+use crate::calls::tei;
 use crate::wants::wants;
 use arrayvec::ArrayVec;
-use lapd_link::{Link, Out};
-use lapd_pair::{Move, Pair, PairFault};
+use lapd_frame::MOST_OCTETS;
+use lapd_link::{Link, LinkFault, Out};
+use lapd_pair::{FrameOctets, Move, Outs, Pair, PairFault};
 use lapd_sides::{
     Acts, Config, Durations, LinkId, NetSide, Params, Primitive, Request, Sapi, Side, SideFault,
-    SideKind, Tei, UserSide, What,
+    SideKind, UserSide, What,
 };
 use rand_core::{Rng, SeedableRng};
 use rand_pcg::Pcg32;
-use std::alloc::Global;
+use std::alloc::{AllocError, Global};
 use std::test::Fail;
 
 /// How many moves are drawn.
 const MOVES: u32 = 10_000;
 
-/// A pair, the two sides that follow it, their clocks, and the moves that are drawn for them.
+/// The moves that are drawn: a random sequence, and how many messages were given.
 #[derive(Drop)]
-struct Following {
+struct Moves {
     alloc: Global,
-    pair: Pair,
+    random: Pcg32,
+    messages: u32,
+}
+
+/// The two sides, the clock of each, and what the last call gave.
+#[derive(Drop)]
+struct Sides {
+    alloc: Global,
     network: NetSide,
     network_clock: u64,
     user: UserSide,
     user_clock: u64,
     acts: Acts,
-    random: Pcg32,
-    messages: u32,
-    /// How many moves were made, refused by the links, and not made.
+}
+
+/// How many moves were made, refused by the links, and not made.
+#[derive(Drop)]
+struct Counts {
     made: u32,
     refused: u32,
     left_out: u32,
-}
-
-/// The TEI of the pair.
-fn tei() -> Tei {
-    Tei::new(64).unwrap_or(Tei::group())
 }
 
 /// The link of the pair.
 fn id() -> LinkId {
     LinkId {
         sapi: Sapi::Call,
-        tei: tei(),
+        tei: tei(64),
+    }
+}
+
+/// The parameters of all links.
+fn params() -> Result<Params, Fail> {
+    match Params::new(7, 3, 64) {
+        Some(params) => Ok(params),
+        None => Err(Fail::new("a number is out of range")),
     }
 }
 
 /// What both sides are made with: T200 runs a millisecond, and T203 an hour.
-fn config(params: Params) -> Result<Config, Fail> {
+fn config() -> Result<Config, Fail> {
+    let params = params()?;
     Ok(Config {
         sapi16: false,
         params0: params,
@@ -59,30 +74,7 @@ fn config(params: Params) -> Result<Config, Fail> {
     })
 }
 
-impl Following {
-    fn new(alloc: Global) -> Result<Following, Fail> {
-        let params = Params::new(7, 3, 64).ok_or("a number is out of range")?;
-        let config = config(params)?;
-        let tei = tei();
-        if tei == Tei::group() {
-            return Err(Fail::new("no TEI"));
-        }
-        Ok(Following {
-            alloc,
-            pair: Pair::new(alloc, params, params)?,
-            network: NetSide::new(alloc, config, &[tei])?,
-            network_clock: 0,
-            user: UserSide::new(alloc, config, Some(tei))?,
-            user_clock: 0,
-            acts: Acts::new(alloc)?,
-            random: Pcg32::seed_from_u64(921),
-            messages: 0,
-            made: 0,
-            refused: 0,
-            left_out: 0,
-        })
-    }
-
+impl Moves {
     /// A number below this one.
     fn below(&mut self, limit: u32) -> u32 {
         self.random.next_u32().checked_rem(limit).unwrap_or(0)
@@ -97,108 +89,151 @@ impl Following {
         }
     }
 
-    /// A move of one of the sides. A message has its own number as its octets.
-    fn draw(&mut self) -> Result<Move, Fail> {
+    /// A move of one of the sides.
+    fn draw(&mut self) -> Result<Move, AllocError> {
         let side = self.side();
-        Ok(match self.below(976) {
-            0..180 => self.message(side)?,
-            180..680 => Move::Deliver(side),
+        match self.below(976) {
+            0..180 => self.message(side),
+            955..965 => unit(self.alloc, side),
+            number => Ok(self.plain(side, number)),
+        }
+    }
+
+    /// A move without octets.
+    fn plain(&mut self, side: Side, number: u32) -> Move {
+        match number {
             680..740 => Move::Lose(side, self.below(4) as usize),
             740..920 => Move::Expire200(side),
             920..955 => Move::Busy(side, self.below(4) == 0),
-            955..965 => Move::Unit(side, [0xff; 3].to_vec(self.alloc)?),
             965..973 => Move::Establish(side),
-            _ => Move::Release(side),
-        })
+            973..976 => Move::Release(side),
+            _ => Move::Deliver(side),
+        }
     }
 
-    /// The next message, given by this side.
-    fn message(&mut self, side: Side) -> Result<Move, Fail> {
+    /// The next message, given by this side: its own number is its octets.
+    fn message(&mut self, side: Side) -> Result<Move, AllocError> {
         let octets = self.messages.to_be_bytes();
         self.messages = self.messages.wrapping_add(1);
         Ok(Move::Give(side, octets.to_vec(self.alloc)?))
     }
+}
 
-    /// Makes a drawn move with the pair, and then with the side whose it is. What the pair refuses by P1 to P3 the sides do
-    /// not get.
-    fn turn(&mut self) -> Result<bool, Fail> {
-        let deed = self.draw()?;
-        let side = deed.side();
-        let before = self.pair.line(side.other()).len();
-        let coming = self.first_frame(side);
-        match self.pair.apply(&deed) {
-            Ok(outs) => {
-                self.made = self.made.wrapping_add(1);
-                if matches!(deed, Move::Lose(..)) {
-                    return Ok(true);
-                }
-                let done = self.follow(&deed, coming.as_slice())?;
-                Ok(done.is_ok() && self.gives_as(side, before, outs.as_slice()))
-            }
-            Err(PairFault::Refused(fault)) => {
-                self.refused = self.refused.wrapping_add(1);
-                match self.follow(&deed, coming.as_slice())? {
-                    Ok(()) => Ok(false),
-                    Err(refusal) => Ok(refusal.kind == SideKind::Link(fault) && self.is_silent()),
-                }
-            }
-            Err(PairFault::Memory) => Ok(false),
-            Err(_) => {
-                self.left_out = self.left_out.wrapping_add(1);
-                Ok(true)
-            }
-        }
+/// Unit data of this side.
+fn unit(alloc: Global, side: Side) -> Result<Move, AllocError> {
+    Ok(Move::Unit(side, [0xff; 3].to_vec(alloc)?))
+}
+
+/// The request that a move is; none where it is no request.
+fn request_of(alloc: Global, deed: &Move) -> Result<Option<Request>, AllocError> {
+    match deed {
+        Move::Give(_, octets) => Ok(Some(Request::Give(id(), octets.as_slice().to_vec(alloc)?))),
+        Move::Unit(_, octets) => Ok(Some(Request::Unit(id(), octets.as_slice().to_vec(alloc)?))),
+        _ => Ok(plain_request(deed)),
     }
+}
 
-    /// The frame that comes to a side next.
-    fn first_frame(&self, to: Side) -> ArrayVec<u8, 264> {
-        let mut octets = ArrayVec::new();
-        if let Some(frame) = self.pair.line(to).first() {
-            let _ = octets.try_extend_from_slice(frame.as_slice());
-        }
-        octets
+/// The request that a move without octets is; none where it is no request.
+fn plain_request(deed: &Move) -> Option<Request> {
+    match deed {
+        Move::Establish(_) => Some(Request::Establish(id())),
+        Move::Release(_) => Some(Request::Release(id())),
+        Move::Busy(_, busy) => Some(Request::Busy(id(), *busy)),
+        _ => None,
     }
+}
 
-    /// The side does what the pair's end did.
-    fn follow(&mut self, deed: &Move, coming: &[u8]) -> Result<Result<(), SideFault>, Fail> {
-        Ok(match deed {
-            Move::Deliver(to) => self.take(*to, coming),
-            Move::Expire200(side) => self.expire(*side),
-            Move::Give(side, octets) => {
-                let message = octets.as_slice().to_vec(self.alloc)?;
-                self.request(*side, Request::Give(id(), message))
-            }
-            Move::Unit(side, octets) => {
-                let octets = octets.as_slice().to_vec(self.alloc)?;
-                self.request(*side, Request::Unit(id(), octets))
-            }
-            Move::Establish(side) => self.request(*side, Request::Establish(id())),
-            Move::Release(side) => self.request(*side, Request::Release(id())),
-            Move::Busy(side, busy) => self.request(*side, Request::Busy(id(), *busy)),
-            Move::Lose(..) | Move::Expire203(_) | Move::Restart(_) => Ok(()),
+/// Why something was refused.
+fn refusal(done: Result<(), SideFault>) -> Option<SideKind> {
+    match done {
+        Ok(()) => None,
+        Err(fault) => Some(fault.kind),
+    }
+}
+
+impl Sides {
+    /// Both sides, with the TEI and the link of the pair.
+    fn new(alloc: Global) -> Result<Sides, Fail> {
+        let config = config()?;
+        Ok(Sides {
+            alloc,
+            network: NetSide::new(alloc, config, &[tei(64)])?,
+            network_clock: 0,
+            user: UserSide::new(alloc, config, Some(tei(64)))?,
+            user_clock: 0,
+            acts: Acts::new(alloc)?,
         })
     }
 
-    fn take(&mut self, to: Side, coming: &[u8]) -> Result<(), SideFault> {
-        match to {
+    /// Whether a side does for a move what the pair's end did.
+    fn does_as(
+        &mut self,
+        pair: &Pair,
+        deed: &Move,
+        coming: &[u8],
+        before: usize,
+        outs: &[Out],
+    ) -> Result<bool, AllocError> {
+        if matches!(deed, Move::Lose(..)) {
+            return Ok(true);
+        }
+        let refused = self.follow(deed, coming)?;
+        Ok(refused.is_none() && self.gives_as(pair, deed.side(), before, outs))
+    }
+
+    /// Whether a side refuses a move as the pair's end did, and gives nothing.
+    fn refuses_as(
+        &mut self,
+        deed: &Move,
+        coming: &[u8],
+        fault: LinkFault,
+    ) -> Result<bool, AllocError> {
+        let refused = self.follow(deed, coming)?;
+        Ok(refused == Some(SideKind::Link(fault)) && self.is_silent())
+    }
+
+    /// A side does what the pair's end did: why it refuses.
+    fn follow(&mut self, deed: &Move, coming: &[u8]) -> Result<Option<SideKind>, AllocError> {
+        match deed {
+            Move::Deliver(to) => Ok(self.take(*to, coming)),
+            Move::Expire200(side) => Ok(self.expire(*side)),
+            _ => {
+                let request = request_of(self.alloc, deed)?;
+                Ok(self.ask(deed.side(), request))
+            }
+        }
+    }
+
+    /// Octets come to a side.
+    fn take(&mut self, to: Side, coming: &[u8]) -> Option<SideKind> {
+        refusal(match to {
             Side::Network => self
                 .network
                 .take(coming, self.network_clock, &mut self.acts),
             Side::User => self.user.take(coming, self.user_clock, &mut self.acts),
+        })
+    }
+
+    /// A side is asked for something, or for nothing.
+    fn ask(&mut self, side: Side, request: Option<Request>) -> Option<SideKind> {
+        match request {
+            Some(request) => self.request(side, request),
+            None => None,
         }
     }
 
-    fn request(&mut self, side: Side, request: Request) -> Result<(), SideFault> {
-        match side {
+    /// A side is asked for something.
+    fn request(&mut self, side: Side, request: Request) -> Option<SideKind> {
+        refusal(match side {
             Side::Network => self
                 .network
                 .request(request, self.network_clock, &mut self.acts),
             Side::User => self.user.request(request, self.user_clock, &mut self.acts),
-        }
+        })
     }
 
     /// The clock goes on by a millisecond, and T200 expires.
-    fn expire(&mut self, side: Side) -> Result<(), SideFault> {
+    fn expire(&mut self, side: Side) -> Option<SideKind> {
         let ticked = match side {
             Side::Network => {
                 self.network_clock = self.network_clock.wrapping_add(1);
@@ -209,14 +244,7 @@ impl Following {
                 self.user.tick(self.user_clock, &mut self.acts)
             }
         };
-        if ticked {
-            Ok(())
-        } else {
-            Err(SideFault {
-                kind: SideKind::Memory,
-                message: None,
-            })
-        }
+        if ticked { None } else { Some(SideKind::Memory) }
     }
 
     /// Whether the side gave nothing.
@@ -224,108 +252,193 @@ impl Following {
         self.acts.frames().is_empty() && self.acts.primitives().is_empty()
     }
 
-    /// Whether the side gave the frames that the pair's end put on the line behind as many as these, and what its outputs tell.
-    fn gives_as(&self, side: Side, before: usize, outs: &[Out]) -> bool {
-        let Some(sent) = self.pair.line(side.other()).get(before..) else {
-            return false;
-        };
-        let frames = self.acts.frames();
-        let same = sent.len() == frames.len()
-            && sent
-                .iter()
-                .zip(frames)
-                .all(|(one, other)| one.as_slice() == other.as_slice());
-        same && self.tells_as(side, outs)
-    }
-
-    /// Whether it told just what these outputs of the pair's end tell.
-    fn tells_as(&self, side: Side, outs: &[Out]) -> bool {
-        let mut rest = self.acts.primitives();
-        for out in outs {
-            if matches!(
-                out,
-                Out::Send(..) | Out::SendMessage(..) | Out::SendUnit | Out::Start(_) | Out::Stop(_)
-            ) {
-                continue;
-            }
-            let [first, behind @ ..] = rest else {
-                return false;
-            };
-            if !self.is_told(side, out, first) {
-                return false;
-            }
-            rest = behind;
-        }
-        rest.is_empty()
-    }
-
-    /// Whether this is what an output of the pair's end tells.
-    fn is_told(&self, side: Side, out: &Out, primitive: &Primitive) -> bool {
-        let Primitive::Of(named, what) = primitive else {
-            return false;
-        };
-        *named == id()
-            && match what {
-                What::Up(octets) => {
-                    let last = self.pair.received(side).last();
-                    *out == Out::Up
-                        && last.is_some_and(|m| m.octets.as_slice() == octets.as_slice())
-                }
-                What::UnitUp(octets) => {
-                    let last = self.pair.units(side).last();
-                    *out == Out::UnitUp && last.is_some_and(|u| u.as_slice() == octets.as_slice())
-                }
-                What::Established => *out == Out::Established,
-                What::Confirmed => *out == Out::Confirmed,
-                What::Released => *out == Out::Released,
-                What::ReleaseConfirm => *out == Out::ReleaseConfirm,
-                What::Acknowledged(n) => *out == Out::Acknowledged(*n),
-                What::Dropped(n) => *out == Out::Dropped(*n),
-                What::Report(letter) => *out == Out::Report(*letter),
-            }
-    }
-
-    /// Makes all moves, and looks at both sides after each.
-    fn run(&mut self) -> Result<(), Fail> {
-        for _ in 0..MOVES {
-            wants(self.turn()?, "a move", "the side gives otherwise")?;
-            wants(self.stands_as(), "a move", "the links differ")?;
-        }
-        wants(self.is_lively(), "all moves", "too little happened")
-    }
-
-    /// Whether enough happened.
-    fn is_lively(&self) -> bool {
-        self.made > 5_000
-            && self.refused > 100
-            && self.left_out > 1_000
-            && self.pair.received(Side::Network).len() > 250
-            && self.pair.received(Side::User).len() > 250
+    /// Whether the side gave the frames that the pair's end put on the line, and what its outputs tell.
+    fn gives_as(&self, pair: &Pair, side: Side, before: usize, outs: &[Out]) -> bool {
+        has_sent(pair.line(side.other()), before, self.acts.frames())
+            && tells_as(self.acts.primitives(), pair, side, outs)
     }
 
     /// Whether the links of both sides are where those of the pair are.
-    fn stands_as(&self) -> bool {
-        let network = self.network.table().link(id());
-        let user = self.user.table().link(id());
-        is_alike(network, self.pair.link(Side::Network))
-            && is_alike(user, self.pair.link(Side::User))
+    fn stand_as(&self, pair: &Pair) -> bool {
+        is_alike(self.network.table().link(id()), pair.link(Side::Network))
+            && is_alike(self.user.table().link(id()), pair.link(Side::User))
+    }
+}
+
+/// Whether these frames are on the line behind as many as `before`, and no others.
+fn has_sent(line: &[FrameOctets], before: usize, frames: &[ArrayVec<u8, MOST_OCTETS>]) -> bool {
+    match line.get(before..) {
+        Some(sent) => sent == frames,
+        None => false,
+    }
+}
+
+/// Whether an output of the pair's end tells nothing.
+fn tells_nothing(out: &Out) -> bool {
+    matches!(
+        out,
+        Out::Send(..) | Out::SendMessage(..) | Out::SendUnit | Out::Start(_) | Out::Stop(_)
+    )
+}
+
+/// Whether these primitives tell just what these outputs of the pair's end tell.
+fn tells_as(primitives: &[Primitive], pair: &Pair, side: Side, outs: &[Out]) -> bool {
+    let mut rest = primitives.iter();
+    for out in outs {
+        if !tells_nothing(out) && !is_told(pair, side, out, rest.next()) {
+            return false;
+        }
+    }
+    rest.next().is_none()
+}
+
+/// Whether this is what an output of the pair's end tells.
+fn is_told(pair: &Pair, side: Side, out: &Out, primitive: Option<&Primitive>) -> bool {
+    match primitive {
+        Some(Primitive::Of(named, what)) => {
+            *named == id() && *out == out_of(what) && has_come(pair, side, what)
+        }
+        _ => false,
+    }
+}
+
+/// The output of a link that tells this.
+fn out_of(what: &What) -> Out {
+    match what {
+        What::Up(_) => Out::Up,
+        What::UnitUp(_) => Out::UnitUp,
+        What::Established => Out::Established,
+        What::Confirmed => Out::Confirmed,
+        What::Released => Out::Released,
+        What::ReleaseConfirm => Out::ReleaseConfirm,
+        What::Acknowledged(n) => Out::Acknowledged(*n),
+        What::Dropped(n) => Out::Dropped(*n),
+        What::Report(letter) => Out::Report(*letter),
+    }
+}
+
+/// Whether the octets of a message or of unit data are those that came last to the pair's end.
+fn has_come(pair: &Pair, side: Side, what: &What) -> bool {
+    match what {
+        What::Up(octets) => last_message(pair, side) == Some(octets.as_slice()),
+        What::UnitUp(octets) => last_unit(pair, side) == Some(octets.as_slice()),
+        _ => true,
+    }
+}
+
+/// The message that came last to an end of the pair.
+fn last_message(pair: &Pair, side: Side) -> Option<&[u8]> {
+    match pair.received(side).last() {
+        Some(message) => Some(message.octets.as_slice()),
+        None => None,
+    }
+}
+
+/// The unit data that came last to an end of the pair.
+fn last_unit(pair: &Pair, side: Side) -> Option<&[u8]> {
+    match pair.units(side).last() {
+        Some(unit) => Some(unit.as_slice()),
+        None => None,
+    }
+}
+
+/// The frame that comes to a side next.
+fn first_frame(pair: &Pair, to: Side) -> ArrayVec<u8, MOST_OCTETS> {
+    let mut octets = ArrayVec::new();
+    if let Some(frame) = pair.line(to).first() {
+        let _ = octets.try_extend_from_slice(frame.as_slice());
+    }
+    octets
+}
+
+impl Counts {
+    /// Whether enough happened.
+    fn are_lively(&self, pair: &Pair) -> bool {
+        self.made > 5_000
+            && self.refused > 100
+            && self.left_out > 1_000
+            && pair.received(Side::Network).len() > 250
+            && pair.received(Side::User).len() > 250
+    }
+
+    /// Counts a move.
+    fn count(&mut self, applied: &Result<Outs, PairFault>) {
+        let count = match applied {
+            Ok(_) => &mut self.made,
+            Err(PairFault::Refused(_)) => &mut self.refused,
+            Err(_) => &mut self.left_out,
+        };
+        *count = count.wrapping_add(1);
     }
 }
 
 /// Whether a link of a side is where the pair's is.
 fn is_alike(link: Option<&Link>, wanted: &Link) -> bool {
-    let Some(link) = link else {
-        return false;
+    match link {
+        Some(link) => {
+            link.state() == wanted.state()
+                && link.rc() == wanted.rc()
+                && link.window() == wanted.window()
+                && link.queue().len() == wanted.queue().len()
+                && link.queue().sent() == wanted.queue().sent()
+        }
+        None => false,
+    }
+}
+
+/// Makes a move with the pair, and then with the side whose it is. What the pair refuses by P1 to P3 the sides do not get.
+fn is_followed(
+    pair: &mut Pair,
+    sides: &mut Sides,
+    counts: &mut Counts,
+    deed: &Move,
+) -> Result<bool, AllocError> {
+    let before = pair.line(deed.side().other()).len();
+    let coming = first_frame(pair, deed.side());
+    let applied = pair.apply(deed);
+    counts.count(&applied);
+    match applied {
+        Ok(outs) => sides.does_as(pair, deed, coming.as_slice(), before, outs.as_slice()),
+        Err(PairFault::Refused(fault)) => sides.refuses_as(deed, coming.as_slice(), fault),
+        Err(fault) => Ok(!fault.is_memory()),
+    }
+}
+
+/// Draws a move, and makes it.
+fn turn(
+    pair: &mut Pair,
+    sides: &mut Sides,
+    counts: &mut Counts,
+    moves: &mut Moves,
+) -> Result<bool, AllocError> {
+    let deed = moves.draw()?;
+    is_followed(pair, sides, counts, &deed)
+}
+
+/// Makes all moves, and looks at both sides after each.
+fn run(pair: &mut Pair, sides: &mut Sides, moves: &mut Moves) -> Result<(), Fail> {
+    let mut counts = Counts {
+        made: 0,
+        refused: 0,
+        left_out: 0,
     };
-    link.state() == wanted.state()
-        && link.rc() == wanted.rc()
-        && link.window() == wanted.window()
-        && link.queue().len() == wanted.queue().len()
-        && link.queue().sent() == wanted.queue().sent()
+    for _ in 0..MOVES {
+        let followed = turn(pair, sides, &mut counts, moves)?;
+        wants(followed, "a move", "the side gives otherwise")?;
+        wants(sides.stand_as(pair), "a move", "the links differ")?;
+    }
+    wants(counts.are_lively(pair), "all moves", "too little happened")
 }
 
 #[test]
 fn sides_follow_pair(rt: HostRuntime) -> Result<(), Fail> {
-    let mut following = Following::new(rt.alloc())?;
-    following.run()
+    let alloc = rt.alloc();
+    let mut moves = Moves {
+        alloc,
+        random: Pcg32::seed_from_u64(921),
+        messages: 0,
+    };
+    let mut pair = Pair::new(alloc, params()?, params()?)?;
+    let mut sides = Sides::new(alloc)?;
+    run(&mut pair, &mut sides, &mut moves)
 }

@@ -1,5 +1,6 @@
 //! The command `answer`: scripts, and what they call for.
 
+use crate::devices::keeps_whole_lines;
 use crate::scripts::{ANSWERS, SCRIPT, params, run};
 use crate::wants::wants;
 use lapd_commands::answer;
@@ -177,199 +178,297 @@ fn is_bad(alloc: Global, line: &str) -> Result<(), Fail> {
     wants(bad, line, "a bad line, which prints nothing")
 }
 
-// A name, lines, and what each calls for.
-type Play = (&'static str, &'static [(&'static str, &'static str)]);
+// A user side with a window of three frames, N200 = 3 and room for two messages: plays, an empty line between two. Each is
+// its name, lines, and, set in by four spaces, what each line calls for.
+const USER_PLAYS: &str = "\
+# two messages, an enquiry, and both are sent again
+establish
+    send 00817f
+    start T200
+frame 008173
+    confirmed
+    stop T200
+    start T203
+give 01
+    send 0081000001
+    stop T203
+    start T200
+give 02
+    send 0081020002
+t200
+    send 00810101
+    start T200
+state
+    state 8
+frame 00810900
+frame 00810101
+    stop T200
+    start T203
+    send 0081000001
+    stop T203
+    start T200
+    send 0081020002
 
-// A user side with a window of three frames, N200 = 3 and room for two messages.
-const USER_PLAYS: &[Play] = &[
-    (
-        "two messages, an enquiry, and both are sent again",
-        &[
-            ("establish", "send 00817f\nstart T200\n"),
-            ("frame 008173", "confirmed\nstop T200\nstart T203\n"),
-            ("give 01", "send 0081000001\nstop T203\nstart T200\n"),
-            ("give 02", "send 0081020002\n"),
-            ("t200", "send 00810101\nstart T200\n"),
-            ("state", "state 8\n"),
-            ("frame 00810900", ""),
-            (
-                "frame 00810101",
-                "stop T200\nstart T203\nsend 0081000001\nstop T203\nstart T200\nsend 0081020002\n",
-            ),
-        ],
-    ),
-    (
-        "N(R) is not valid",
-        &[
-            ("establish", "send 00817f\nstart T200\n"),
-            ("frame 008173", "confirmed\nstop T200\nstart T203\n"),
-            (
-                "frame 00810104",
-                "report J\nsend 00817f\nstop T203\nstart T200\n",
-            ),
-        ],
-    ),
-    (
-        "no answer to an enquiry",
-        &[
-            ("establish", "send 00817f\nstart T200\n"),
-            ("frame 008173", "confirmed\nstop T200\nstart T203\n"),
-            ("t203", "send 00810101\nstart T200\n"),
-            ("t200", "send 00810101\nstart T200\n"),
-            ("t200", "send 00810101\nstart T200\n"),
-            ("t200", "send 00810101\nstart T200\n"),
-            ("t200", "report I\nsend 00817f\nstart T200\n"),
-        ],
-    ),
-    (
-        "unit data passes in state 4",
-        &[
-            ("unit 0a", "send 0081030a\n"),
-            ("frame 02810305", "unit 05\n"),
-            ("unit", "send 008103\n"),
-            ("frame 028103", "unit\n"),
-            ("state", "state 4\n"),
-        ],
-    ),
-    (
-        "the release waits for the answer to the SABME",
-        &[
-            ("establish", "send 00817f\nstart T200\n"),
-            ("release", ""),
-            ("frame 008173", "send 008153\nstart T200\n"),
-            ("frame 008173", "stop T200\nrelease-confirmed\n"),
-        ],
-    ),
-    (
-        "no answer to the SABME",
-        &[
-            ("establish", "send 00817f\nstart T200\n"),
-            ("t200", "send 00817f\nstart T200\n"),
-            ("t200", "send 00817f\nstart T200\n"),
-            ("t200", "send 00817f\nstart T200\n"),
-            ("t200", "report G\nreleased\n"),
-            ("state", "state 4\n"),
-            ("t200", ""),
-        ],
-    ),
-    (
-        "the peer is busy, and a third message finds no room",
-        &[
-            ("establish", "send 00817f\nstart T200\n"),
-            ("frame 008173", "confirmed\nstop T200\nstart T203\n"),
-            ("frame 00810500", "stop T203\nstart T200\n"),
-            ("give 01", ""),
-            ("give", ""),
-            ("give 03", "refused L2 QueueFull\n"),
-            (
-                "frame 00810100",
-                "stop T200\nstart T203\nsend 0081000001\nstop T203\nstart T200\nsend 00810200\n",
-            ),
-        ],
-    ),
-    (
-        "a message of no octets comes",
-        &[
-            ("frame 02817f", "send 028173\nestablished\nstart T203\n"),
-            ("frame 02810000", "data\nstart T203\nsend 02810102\n"),
-            ("frame 02810200aB", "data ab\nstart T203\nsend 02810104\n"),
-        ],
-    ),
-];
+# N(R) is not valid
+establish
+    send 00817f
+    start T200
+frame 008173
+    confirmed
+    stop T200
+    start T203
+frame 00810104
+    report J
+    send 00817f
+    stop T203
+    start T200
+
+# no answer to an enquiry
+establish
+    send 00817f
+    start T200
+frame 008173
+    confirmed
+    stop T200
+    start T203
+t203
+    send 00810101
+    start T200
+t200
+    send 00810101
+    start T200
+t200
+    send 00810101
+    start T200
+t200
+    send 00810101
+    start T200
+t200
+    report I
+    send 00817f
+    start T200
+
+# unit data passes in state 4
+unit 0a
+    send 0081030a
+frame 02810305
+    unit 05
+unit
+    send 008103
+frame 028103
+    unit
+state
+    state 4
+
+# the release waits for the answer to the SABME
+establish
+    send 00817f
+    start T200
+release
+frame 008173
+    send 008153
+    start T200
+frame 008173
+    stop T200
+    release-confirmed
+
+# no answer to the SABME
+establish
+    send 00817f
+    start T200
+t200
+    send 00817f
+    start T200
+t200
+    send 00817f
+    start T200
+t200
+    send 00817f
+    start T200
+t200
+    report G
+    released
+state
+    state 4
+t200
+
+# the peer is busy, and a third message finds no room
+establish
+    send 00817f
+    start T200
+frame 008173
+    confirmed
+    stop T200
+    start T203
+frame 00810500
+    stop T203
+    start T200
+give 01
+give
+give 03
+    refused L2 QueueFull
+frame 00810100
+    stop T200
+    start T203
+    send 0081000001
+    stop T203
+    start T200
+    send 00810200
+
+# a message of no octets comes
+frame 02817f
+    send 028173
+    established
+    start T203
+frame 02810000
+    data
+    start T203
+    send 02810102
+frame 02810200aB
+    data ab
+    start T203
+    send 02810104";
 
 #[test]
 fn user_answers(rt: HostRuntime) -> Result<(), Fail> {
-    for play in USER_PLAYS {
-        plays_so(rt.alloc(), Side::User, Params::new(3, 3, 2).unwrap(), play)?;
-    }
-    Ok(())
+    let params = Params::new(3, 3, 2).unwrap();
+    plays_all(rt.alloc(), Side::User, params, USER_PLAYS)
 }
 
 // A network side with a window of one frame, N200 = 1 and room for 512 messages.
-const NETWORK_PLAYS: &[Play] = &[
-    (
-        "what state 4 refuses, and what state 5 does",
-        &[
-            ("give 01", "refused L1 NotEstablished\n"),
-            ("release", "release-confirmed\n"),
-            ("t203", ""),
-            ("busy on", ""),
-            ("establish", "send 02817f\nstart T200\n"),
-            ("give 01", "refused L5 LayerThreeEstablishing\n"),
-            ("release", ""),
-            ("give 01", "refused L4 Releasing\n"),
-            ("establish", "refused L4 Releasing\n"),
-            ("state", "state 5\n"),
-        ],
-    ),
-    (
-        "the second message goes out when the first is acknowledged",
-        &[
-            ("frame 00817f", "send 008173\nestablished\nstart T203\n"),
-            ("give 0a", "send 028100000a\nstop T203\nstart T200\n"),
-            ("give 0B0C", ""),
-            (
-                "frame 02810102",
-                "acknowledged 1\nstop T200\nstart T203\nsend 028102000b0c\nstop T203\nstart T200\n",
-            ),
-        ],
-    ),
-    (
-        "a message is dropped by the release",
-        &[
-            ("frame 00817f", "send 008173\nestablished\nstart T203\n"),
-            ("give 0a", "send 028100000a\nstop T203\nstart T200\n"),
-            ("release", "dropped 1\nsend 028153\nstart T200\n"),
-            ("establish", "refused L4 Releasing\n"),
-            ("state", "state 6\n"),
-            ("frame 028173", "stop T200\nrelease-confirmed\n"),
-        ],
-    ),
-    (
-        "this end is busy",
-        &[
-            ("frame 00817f", "send 008173\nestablished\nstart T203\n"),
-            ("busy on", "send 00810500\n"),
-            ("busy on", ""),
-            ("frame 00810001aa", "send 00810501\nstart T203\n"),
-            ("busy off", "send 00810100\n"),
-            ("busy off", ""),
-        ],
-    ),
-    (
-        "the SABME is sent again once",
-        &[
-            ("establish", "send 02817f\nstart T200\n"),
-            ("t200", "send 02817f\nstart T200\n"),
-            ("t200", "report G\nreleased\n"),
-        ],
-    ),
-];
+const NETWORK_PLAYS: &str = "\
+# what state 4 refuses, and what state 5 does
+give 01
+    refused L1 NotEstablished
+release
+    release-confirmed
+t203
+busy on
+establish
+    send 02817f
+    start T200
+give 01
+    refused L5 LayerThreeEstablishing
+release
+give 01
+    refused L4 Releasing
+establish
+    refused L4 Releasing
+state
+    state 5
+
+# the second message goes out when the first is acknowledged
+frame 00817f
+    send 008173
+    established
+    start T203
+give 0a
+    send 028100000a
+    stop T203
+    start T200
+give 0B0C
+frame 02810102
+    acknowledged 1
+    stop T200
+    start T203
+    send 028102000b0c
+    stop T203
+    start T200
+
+# a message is dropped by the release
+frame 00817f
+    send 008173
+    established
+    start T203
+give 0a
+    send 028100000a
+    stop T203
+    start T200
+release
+    dropped 1
+    send 028153
+    start T200
+establish
+    refused L4 Releasing
+state
+    state 6
+frame 028173
+    stop T200
+    release-confirmed
+
+# this end is busy
+frame 00817f
+    send 008173
+    established
+    start T203
+busy on
+    send 00810500
+busy on
+frame 00810001aa
+    send 00810501
+    start T203
+busy off
+    send 00810100
+busy off
+
+# the SABME is sent again once
+establish
+    send 02817f
+    start T200
+t200
+    send 02817f
+    start T200
+t200
+    report G
+    released";
 
 #[test]
 fn network_answers(rt: HostRuntime) -> Result<(), Fail> {
-    for play in NETWORK_PLAYS {
-        plays_so(
-            rt.alloc(),
-            Side::Network,
-            Params::new(1, 1, 512).unwrap(),
-            play,
-        )?;
+    let params = Params::new(1, 1, 512).unwrap();
+    plays_all(rt.alloc(), Side::Network, params, NETWORK_PLAYS)
+}
+
+fn plays_all(alloc: Global, side: Side, params: Params, plays: &str) -> Result<(), Fail> {
+    for play in plays.split("\n\n") {
+        plays_so(alloc, side, params, play)?;
     }
     Ok(())
 }
 
-fn plays_so(alloc: Global, side: Side, params: Params, play: &Play) -> Result<(), Fail> {
-    let (row, lines) = play;
+fn plays_so(alloc: Global, side: Side, params: Params, play: &str) -> Result<(), Fail> {
     let mut script = String::new(alloc);
     let mut want = String::new(alloc);
-    for (line, text) in *lines {
-        script.push_str(line)?;
-        script.push_str("\n")?;
-        want.push_str(text)?;
+    push_lines(play, &mut script, &mut want)?;
+    prints(alloc, side, params, play, script.as_str(), want.as_str())
+}
+
+// Parts a play into its script and what that calls for.
+fn push_lines(play: &str, script: &mut String, want: &mut String) -> Result<(), Fail> {
+    for line in play.lines() {
+        match line.strip_prefix("    ") {
+            Some(text) => push_line(want, text)?,
+            None => push_line(script, line)?,
+        }
     }
-    let text = printed(alloc, side, params, script.as_str())?;
-    wants(text.as_str() == want.as_str(), row, "its text")
+    Ok(())
+}
+
+fn push_line(text: &mut String, line: &str) -> Result<(), Fail> {
+    text.push_str(line)?;
+    Ok(text.push_str("\n")?)
+}
+
+// A script, all lines of which are good, calls for this.
+fn prints(
+    alloc: Global,
+    side: Side,
+    params: Params,
+    row: &str,
+    script: &str,
+    want: &str,
+) -> Result<(), Fail> {
+    let text = printed(alloc, side, params, script)?;
+    wants(text.as_str() == want, row, "its text")
 }
 
 // What a script, all lines of which are good, calls for.
@@ -388,14 +487,18 @@ fn octets(alloc: Global, count: usize) -> Result<String, Fail> {
 #[test]
 fn long_frames(rt: HostRuntime) -> Result<(), Fail> {
     let most = octets(rt.alloc(), 260)?;
-    let script = format!(in rt.alloc();
+    takes_long_frames(rt.alloc(), most.as_str())
+}
+
+fn takes_long_frames(alloc: Global, most: &str) -> Result<(), Fail> {
+    let script = format!(in alloc;
         "frame 00817f\nframe 00810000{most}\nframe 00810200{most}aa\nstate\n"
     )?;
-    let text = printed(rt.alloc(), Side::Network, params(), script.as_str())?;
-    let want = format!(in rt.alloc();
+    let want = format!(in alloc;
         "send 008173\nestablished\nstart T203\ndata {most}\nstart T203\nsend 00810102\nreport O\nsend 02817f\nstop T203\nstart T200\nstate 5\n"
     )?;
-    wants(text.as_str() == want.as_str(), "long frames", "their text")
+    let (script, want) = (script.as_str(), want.as_str());
+    prints(alloc, Side::Network, params(), "long frames", script, want)
 }
 
 // What leads a network side to each state, and what it and `state` call for.
@@ -437,11 +540,11 @@ fn refuses_long_requests(
     state: &str,
 ) -> Result<(), Fail> {
     let script = format!(in alloc; "{lead}give {most}aa\nunit {most}aa\nunit {most}\nstate\n")?;
-    let text = printed(alloc, Side::Network, params(), script.as_str())?;
     let want = format!(in alloc;
         "{told}refused L3 TooLong\nrefused L3 TooLong\nsend 028103{most}\n{state}\n"
     )?;
-    wants(text.as_str() == want.as_str(), state, "its text")
+    let (script, want) = (script.as_str(), want.as_str());
+    prints(alloc, Side::Network, params(), state, script, want)
 }
 
 // Where an allocation is refused, the lines before are answered, and nothing of that line.
@@ -450,25 +553,21 @@ fn requests_while_there_is_memory(rt: HostRuntime) -> Result<(), Fail> {
     let Ok(mut printed) = Vec::with_capacity(rt.alloc(), 256) else {
         return Ok(());
     };
-    let script = "establish\nframe 008173\ngive 0102\nunit 03\ngive 0405\nstate\n";
+    let mut script = REQUESTS;
     let ended = answer(
         rt.alloc(),
-        &mut script.as_bytes(),
+        &mut script,
         &mut printed,
         Side::User,
         Params::new(3, 3, 2).unwrap(),
     );
-    let whole =
-        "send 00817f\nstart T200\nconfirmed\nstop T200\nstart T203\nsend 008100000102\nstop T203\nstart T200\nsend 00810303\nsend 008102000405\nstate 7\n";
-    let text = printed.as_slice();
-    if ended == Ok(()) {
-        return wants(text == whole.as_bytes(), "all memory", "the text");
-    }
-    let at_a_line = [0, 23, 54, 93, 107, 125].contains(&text.len());
-    wants(ended == Err(ScriptFault::Memory), "no memory", "the fault")?;
-    wants(
-        at_a_line && whole.as_bytes().starts_with(text),
-        "no memory",
-        "the text",
-    )
+    let ends = [0, 23, 54, 93, 107, 125];
+    let holds = keeps_whole_lines(ended, printed.as_slice(), REQUESTED, &ends);
+    wants(holds, "memory", "the fault, or the text")
 }
+
+const REQUESTS: &[u8] = b"establish\nframe 008173\ngive 0102\nunit 03\ngive 0405\nstate\n";
+
+// What they call for.
+const REQUESTED: &[u8] =
+    b"send 00817f\nstart T200\nconfirmed\nstop T200\nstart T203\nsend 008100000102\nstop T203\nstart T200\nsend 00810303\nsend 008102000405\nstate 7\n";

@@ -122,8 +122,8 @@ impl Read for Waiting<'_> {
 fn answers<R: Read>(alloc: Global, script: &mut R, row: &str) -> Result<(), Fail> {
     let mut printed = Vec::new(alloc);
     let ended = run(alloc, script, &mut printed);
-    wants(ended == Ok(()), row, "its end")?;
-    wants(printed.as_slice() == ANSWERS, row, "its text")
+    let so = ended == Ok(()) && printed.as_slice() == ANSWERS;
+    wants(so, row, "its end, or its text")
 }
 
 #[test]
@@ -151,8 +151,8 @@ fn reader_fails(rt: HostRuntime) -> Result<(), Fail> {
     };
     let ended = run(rt.alloc(), &mut script, &mut printed);
     let text = printed.as_slice() == b"state 4\nsend 00811f\n".as_slice();
-    wants(ended == Err(ScriptFault::Device), "reader", "the fault")?;
-    wants(text, "reader", "the text before it")
+    let so = ended == Err(ScriptFault::Device) && text;
+    wants(so, "reader", "the fault, or the text before it")
 }
 
 #[test]
@@ -163,8 +163,8 @@ fn writer_takes_octets(rt: HostRuntime) -> Result<(), Fail> {
     };
     let mut script = SCRIPT;
     let ended = run(rt.alloc(), &mut script, &mut out);
-    wants(ended == Ok(()), "writer", "the end")?;
-    wants(out.taken.as_slice() == ANSWERS, "writer", "the text")
+    let so = ended == Ok(()) && out.taken.as_slice() == ANSWERS;
+    wants(so, "writer", "the end, or the text")
 }
 
 // The device fails in the middle of each line: what was answered before is there.
@@ -183,8 +183,8 @@ fn fails_with_room(alloc: Global, room: usize) -> Result<(), Fail> {
     };
     let mut script = SCRIPT;
     let ended = run(alloc, &mut script, &mut out);
-    wants(ended == Err(ScriptFault::Device), "writer", "the fault")?;
-    wants(is_front(&out, ANSWERS), "writer", "what it took")
+    let so = ended == Err(ScriptFault::Device) && is_front(&out, ANSWERS);
+    wants(so, "writer", "the fault, or what it took")
 }
 
 // The device took as much of the text as it has room for.
@@ -210,30 +210,29 @@ fn answers_before_more_is_read(rt: HostRuntime) -> Result<(), Fail> {
     };
     let mut out = BufWriter::new(rt.alloc(), Counted { count: &count })?;
     let ended = run(rt.alloc(), &mut script, &mut out);
-    wants(ended == Ok(()), "parts", "the end")?;
-    wants(count.get() == 40, "parts", "how many octets are printed")
+    let so = ended == Ok(()) && count.get() == 40;
+    wants(so, "parts", "the end, or how many octets are printed")
 }
 
 #[test]
 fn long_lines(rt: HostRuntime) -> Result<(), Fail> {
-    let mut script = Vec::new(rt.alloc());
-    script.extend_from_slice(b"frame 008303")?;
-    for _ in 0..20_000 {
-        script.push(b'a')?;
-    }
-    script.extend_from_slice(b"\nstate\n")?;
-    let mut printed = Vec::new(rt.alloc());
-    let ended = run(rt.alloc(), &mut script.as_slice(), &mut printed);
+    let digits = "a".repeat(rt.alloc(), 20_000)?;
+    let script = format!(in rt.alloc(); "frame 008303{digits}\nstate\n")?;
+    is_not_mine(rt.alloc(), script.as_bytes())
+}
+
+// A frame of another link, and then the state.
+fn is_not_mine(alloc: Global, octets: &[u8]) -> Result<(), Fail> {
+    let mut printed = Vec::new(alloc);
+    let mut script = octets;
+    let ended = run(alloc, &mut script, &mut printed);
     let text = printed.as_slice() == b"not-mine\nstate 4\n".as_slice();
-    wants(
-        ended == Ok(()) && text,
-        "a line of 20,000 octets",
-        "the text",
-    )
+    let so = ended == Ok(()) && text;
+    wants(so, "a line of 20,000 octets", "the text")
 }
 
 // With ample memory the script is done; where an allocation is refused, the lines before are there.
-fn keeps_whole_lines(
+pub(crate) fn keeps_whole_lines(
     ended: Result<(), ScriptFault>,
     text: &[u8],
     whole: &[u8],
@@ -275,8 +274,8 @@ fn decodes_until_the_reader_fails(rt: HostRuntime) -> Result<(), Fail> {
     };
     let ended = decode(rt.alloc(), &mut script, &mut printed);
     let text = printed.len() == 50 && TRACE.starts_with(printed.as_slice());
-    wants(ended == Err(ScriptFault::Device), "reader", "the fault")?;
-    wants(text, "reader", "the text before it")
+    let so = ended == Err(ScriptFault::Device) && text;
+    wants(so, "reader", "the fault, or the text before it")
 }
 
 #[test]
@@ -297,8 +296,8 @@ fn decodes_with_room(alloc: Global, room: usize) -> Result<(), Fail> {
         fails: false,
     };
     let ended = decode(alloc, &mut script, &mut out);
-    wants(ended == Err(ScriptFault::Device), "writer", "the fault")?;
-    wants(is_front(&out, TRACE), "writer", "what it took")
+    let so = ended == Err(ScriptFault::Device) && is_front(&out, TRACE);
+    wants(so, "writer", "the fault, or what it took")
 }
 
 #[test]

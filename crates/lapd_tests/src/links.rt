@@ -38,8 +38,8 @@ fn runs(link: &Link) -> bool {
 fn links_of_every_room(rt: HostRuntime) -> Result<(), Fail> {
     for room in [1, 2, 512, 1024] {
         let link = packet_link(rt.alloc(), Side::Network, room)?;
-        wants(is_made_so(&link, Side::Network, room), "a new link", "room")?;
-        wants(is_new(&link), "a new link", "not in state 4")?;
+        let made = is_made_so(&link, Side::Network, room) && is_new(&link);
+        wants(made, "a new link", "side, SAPI, TEI, room or state")?;
     }
     Ok(())
 }
@@ -63,13 +63,12 @@ fn hands_back(alloc: Global, link: &mut Link, fault: LinkFault) -> Result<bool, 
     }
 }
 
-#[test]
-fn a_link_that_is_led_on(rt: HostRuntime) -> Result<(), Fail> {
-    let mut link = packet_link(rt.alloc(), Side::User, 2)?;
-    let early = hands_back(rt.alloc(), &mut link, LinkFault::NotEstablished)?;
+/// A new link establishes and is released, and hands back a message that comes early.
+fn is_led_on(alloc: Global, link: &mut Link) -> Result<(), Fail> {
+    let early = hands_back(alloc, link, LinkFault::NotEstablished)?;
     wants(early, "state 4", "a message is not handed back")?;
-    wants(establishes(&mut link), "state 4", "no SABME")?;
-    let early = hands_back(rt.alloc(), &mut link, LinkFault::LayerThreeEstablishing)?;
+    wants(establishes(link), "state 4", "no SABME")?;
+    let early = hands_back(alloc, link, LinkFault::LayerThreeEstablishing)?;
     wants(early, "state 5", "a message is not handed back")?;
     wants(link.handle(Event::Release).is_ok(), "state 5", "refused")?;
     let again = link.handle(Event::Establish).err();
@@ -80,15 +79,20 @@ fn a_link_that_is_led_on(rt: HostRuntime) -> Result<(), Fail> {
     )
 }
 
-/// An established network link, by the peer's SABME.
-fn established(alloc: Global) -> Result<Link, Fail> {
-    let mut link = packet_link(alloc, Side::Network, 512)?;
+#[test]
+fn a_link_that_is_led_on(rt: HostRuntime) -> Result<(), Fail> {
+    let mut link = packet_link(rt.alloc(), Side::User, 2)?;
+    is_led_on(rt.alloc(), &mut link)
+}
+
+/// The peer's SABME comes.
+fn hears_sabme(link: &mut Link) -> Result<(), Fail> {
     let sabme = lapd_frame::read(b"\x40\xfd\x7f", Side::User).map_err(|_| "a SABME")?;
-    if !link.is_for(&sabme.address()) {
+    if link.side() != Side::Network || !link.is_for(&sabme.address()) {
         return Err(Fail::new("not for the link"));
     }
     let _ = link.handle(Event::Heard(&sabme)).map_err(|_| "refused")?;
-    Ok(link)
+    Ok(())
 }
 
 /// Whether the link takes a message.
@@ -102,16 +106,22 @@ fn holds(link: &Link, first: &[u8], second: &[u8]) -> bool {
     queue.get(0) == Some(first) && queue.get(1) == Some(second) && queue.sent() == queue.len()
 }
 
-#[test]
-fn messages_stand_in_the_queue(rt: HostRuntime) -> Result<(), Fail> {
-    let mut link = established(rt.alloc())?;
+/// Once the peer has established, two messages go out and stay in the queue.
+fn takes_two(alloc: Global, link: &mut Link) -> Result<(), Fail> {
+    hears_sabme(link)?;
     wants(link.state() == 7, "a SABME came", "not established")?;
     for message in [[8, 1], [8, 2]] {
-        let taken = takes(rt.alloc(), &mut link, &message)?;
+        let taken = takes(alloc, link, &message)?;
         wants(taken, "a message", "refused")?;
     }
-    wants(holds(&link, &[8, 1], &[8, 2]), "two messages", "not sent")?;
+    wants(holds(link, &[8, 1], &[8, 2]), "two messages", "not sent")?;
     wants(link.running(Timer::T200), "two messages", "no T200")
+}
+
+#[test]
+fn messages_stand_in_the_queue(rt: HostRuntime) -> Result<(), Fail> {
+    let mut link = packet_link(rt.alloc(), Side::Network, 512)?;
+    takes_two(rt.alloc(), &mut link)
 }
 
 /// k, N200 and room, and whether they are in range.

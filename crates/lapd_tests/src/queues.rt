@@ -137,22 +137,31 @@ fn passes(alloc: Global, queue: &mut IQueue, octets: &[u8]) -> Result<(), Fail> 
     acknowledges(queue, 1)
 }
 
+/// A thousand messages go through the queue.
+fn passes_all(alloc: Global, queue: &mut IQueue) -> Result<(), Fail> {
+    for number in 0..1000u32 {
+        passes(alloc, queue, &number.to_be_bytes())?;
+    }
+    wants(counts(queue, 0, 0), "all acknowledged", "not empty")
+}
+
 #[test]
 fn a_thousand_messages_go_through_three_places(rt: HostRuntime) -> Result<(), Fail> {
     let mut queue = IQueue::new(rt.alloc(), 3)?;
-    for number in 0..1000u32 {
-        passes(rt.alloc(), &mut queue, &number.to_be_bytes())?;
+    passes_all(rt.alloc(), &mut queue)
+}
+
+/// The queue takes 1,024 messages, and hands one more back.
+fn takes_most(alloc: Global, queue: &mut IQueue) -> Result<(), Fail> {
+    for _ in 0..1024 {
+        wants(puts(alloc, queue, &[])?, "1,024", "not taken")?;
     }
-    wants(counts(&queue, 0, 0), "all acknowledged", "not empty")
+    wants(hands_back(alloc, queue, &[])?, "one more", "taken")?;
+    wants(queue.discard() == 1024, "1,024", "not discarded")
 }
 
 #[test]
 fn the_largest_queue_takes_1024_messages(rt: HostRuntime) -> Result<(), Fail> {
-    let alloc = rt.alloc();
-    let mut queue = IQueue::new(alloc, 1024)?;
-    for _ in 0..1024 {
-        wants(puts(alloc, &mut queue, &[])?, "1,024", "not taken")?;
-    }
-    wants(hands_back(alloc, &mut queue, &[])?, "one more", "taken")?;
-    wants(queue.discard() == 1024, "1,024", "not discarded")
+    let mut queue = IQueue::new(rt.alloc(), 1024)?;
+    takes_most(rt.alloc(), &mut queue)
 }

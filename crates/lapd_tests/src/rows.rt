@@ -26,9 +26,9 @@ fn new_link(alloc: Global, side: Side, k: u8, n200: u8, room: u16) -> Result<Ans
     Ok(Answerer::new(alloc, side, params)?)
 }
 
-/// Does the lines of a script, `; ` between them, whatever they call for.
+/// Does the lines of a script, `; ` between them, or `-` for none, whatever they call for.
 fn lead(alloc: Global, link: &mut Answerer, script: &str) -> Result<(), Fail> {
-    if script.is_empty() {
+    if script == "-" {
         return Ok(());
     }
     for line in script.split("; ") {
@@ -40,17 +40,22 @@ fn lead(alloc: Global, link: &mut Answerer, script: &str) -> Result<(), Fail> {
 /// Does a line, and tells what it calls for: what is printed, with `; ` for each line's end but the last, or `-`.
 fn called_for(alloc: Global, link: &mut Answerer, line: &str) -> Result<String, Fail> {
     let line = written_out(alloc, line)?;
+    let text = printed_for(alloc, link, line.as_bytes())?;
+    joined(alloc, text.as_str())
+}
+
+/// Does a line, and tells what is printed.
+fn printed_for(alloc: Global, link: &mut Answerer, line: &[u8]) -> Result<String, Fail> {
     let mut printed = Vec::new(alloc);
-    match link.run(line.as_bytes(), &mut printed) {
-        Ok(()) => joined(alloc, printed),
-        Err(_) => Err(Fail::new("a bad line")),
+    if link.run(line, &mut printed).is_err() {
+        return Err(Fail::new("a bad line"));
     }
+    Ok(String::from_utf8(printed).map_err(|_| "text")?)
 }
 
 /// Printed lines with `; ` between them, or `-` for none.
-fn joined(alloc: Global, printed: Vec<u8>) -> Result<String, Fail> {
-    let text = String::from_utf8(printed).map_err(|_| "text")?;
-    match text.as_str().strip_suffix("\n") {
+fn joined(alloc: Global, text: &str) -> Result<String, Fail> {
+    match text.strip_suffix("\n") {
         Some(lines) => Ok(lines.replace(alloc, "\n", "; ")?),
         None => Ok("-".to_string(alloc)?),
     }
@@ -66,25 +71,36 @@ const RUNS: &[(&str, &str, usize)] = &[
 /// A row's text with each octet written out, and no `+` between parts.
 fn written_out(alloc: Global, text: &str) -> Result<String, Fail> {
     let mut whole = text.replace(alloc, "+", "")?;
-    for (short, octet, count) in RUNS {
-        let octets = octet.repeat(alloc, *count)?;
-        whole = whole.as_str().replace(alloc, *short, octets.as_str())?;
+    for run in RUNS {
+        whole = with_run(alloc, whole.as_str(), run)?;
     }
     Ok(whole)
+}
+
+/// A row's text with these octets written out.
+fn with_run(alloc: Global, text: &str, run: &(&str, &str, usize)) -> Result<String, Fail> {
+    let (short, octet, count) = *run;
+    let octets = octet.repeat(alloc, count)?;
+    Ok(text.replace(alloc, short, octets.as_str())?)
 }
 
 /// The state and all that is not 0, not false and not empty, as in `7 V(S)=1 T200 sent 01 unsent 02`.
 fn condition(alloc: Global, link: &Link) -> Result<String, Fail> {
     let mut text = String::new(alloc);
-    push_number(&mut text, "", link.state())?;
-    push_mark(&mut text, " L3I", link.layer3_initiated())?;
-    push_mark(&mut text, " RP", link.release_pending())?;
-    push_number(&mut text, " RC=", link.rc())?;
-    push_window(&mut text, &link.window())?;
-    push_mark(&mut text, " T200", link.running(Timer::T200))?;
-    push_mark(&mut text, " T203", link.running(Timer::T203))?;
-    push_queue(alloc, &mut text, link)?;
+    push_condition(alloc, &mut text, link)?;
     Ok(text)
+}
+
+/// The state, its marks, the window, the timers and the messages.
+fn push_condition(alloc: Global, text: &mut String, link: &Link) -> Result<(), Fail> {
+    push_number(text, "", link.state())?;
+    push_mark(text, " L3I", link.layer3_initiated())?;
+    push_mark(text, " RP", link.release_pending())?;
+    push_number(text, " RC=", link.rc())?;
+    push_window(text, &link.window())?;
+    push_mark(text, " T200", link.running(Timer::T200))?;
+    push_mark(text, " T203", link.running(Timer::T203))?;
+    push_queue(alloc, text, link)
 }
 
 /// V(S), V(A), V(R) and the marks.
@@ -105,10 +121,16 @@ fn push_queue(alloc: Global, text: &mut String, link: &Link) -> Result<(), Fail>
     for place in 0..queue.len() {
         push_mark(text, " sent", place == 0 && sent > 0)?;
         push_mark(text, " unsent", place == sent)?;
-        text.push_str(" ")?;
-        text.push_str(hex::encode(alloc, queue.at(place))?.as_str())?;
+        push_message(alloc, text, queue.at(place))?;
     }
     Ok(())
+}
+
+/// A message's octets in hexadecimal, behind a space.
+fn push_message(alloc: Global, text: &mut String, message: &[u8]) -> Result<(), Fail> {
+    let octets = hex::encode(alloc, message)?;
+    text.push_str(" ")?;
+    Ok(text.push_str(octets.as_str())?)
 }
 
 /// A word where the mark is set.
@@ -128,40 +150,58 @@ fn push_number(text: &mut String, word: &str, number: u8) -> Result<(), Fail> {
     Ok(())
 }
 
-/// A script, and the condition to which it leads.
-type Place = (&'static str, &'static str);
-
-/// A place, and rows that hold there.
-type Table = (Place, &'static [&'static str]);
-
-/// Checks the rows of each table.
-fn check_tables(alloc: Global, tables: &[Table]) -> Result<(), Fail> {
-    for (place, rows) in tables {
-        check_rows(alloc, *place, rows)?;
+/// Checks a table: a line `at script | condition` leads to a place, and the lines up to the next one are rows that hold
+/// there. What stands before the first place says what it is.
+fn check_table(alloc: Global, table: &str) -> Result<(), Fail> {
+    let mut parts = table.split("\nat ");
+    let _ = parts.next();
+    for part in parts {
+        let (place, rows) = part.split_once("\n").ok_or("a place has rows")?;
+        check_rows(alloc, place, rows)?;
     }
     Ok(())
 }
 
-/// Checks rows that hold at each of these places.
-fn check_places(alloc: Global, places: &[Place], rows: &[&str]) -> Result<(), Fail> {
-    for place in places {
-        check_rows(alloc, *place, rows)?;
+/// Checks rows that hold at each of these places, a line a place.
+fn check_places(alloc: Global, places: &str, rows: &str) -> Result<(), Fail> {
+    for place in places.lines() {
+        check_rows(alloc, place, rows)?;
     }
     Ok(())
 }
 
 /// Checks rows of the state table, each `name | event | outputs | condition`, with `-` for no outputs and `=` for the
 /// condition before. For each one a new network link, with a window of two frames, N200 of 2 and room for three
-/// messages, is led to the place.
-fn check_rows(alloc: Global, place: Place, rows: &[&str]) -> Result<(), Fail> {
+/// messages, is led to the place, `script | condition`. Empty lines and those that begin with `#` are no rows.
+fn check_rows(alloc: Global, place: &str, rows: &str) -> Result<(), Fail> {
     let mut wrong = String::new(alloc);
-    for row in rows {
-        let mut link = new_link(alloc, Side::Network, 2, 2, 3)?;
-        lead(alloc, &mut link, place.0)?;
-        is_in(alloc, &link, place.1)?;
-        check_row(alloc, &mut link, place.1, row, &mut wrong)?;
+    push_wrong(alloc, place, rows, &mut wrong)?;
+    wants(wrong.as_str().is_empty(), place, wrong.as_str())
+}
+
+/// Adds to `wrong` what is otherwise than the rows say.
+fn push_wrong(alloc: Global, place: &str, rows: &str, wrong: &mut String) -> Result<(), Fail> {
+    for row in rows.lines() {
+        if !row.is_empty() && !row.starts_with("#") {
+            let mut link = new_link(alloc, Side::Network, 2, 2, 3)?;
+            check_at(alloc, &mut link, place, row, wrong)?;
+        }
     }
-    wants(wrong.as_str().is_empty(), place.1, wrong.as_str())
+    Ok(())
+}
+
+/// Leads a new link to the place, and checks the row there.
+fn check_at(
+    alloc: Global,
+    link: &mut Answerer,
+    place: &str,
+    row: &str,
+    wrong: &mut String,
+) -> Result<(), Fail> {
+    let (script, condition) = place.split_once(" | ").ok_or("a place has a condition")?;
+    lead(alloc, link, script)?;
+    is_in(alloc, link, condition)?;
+    check_row(alloc, link, condition, row, wrong)
 }
 
 /// Adds to `wrong` what is otherwise than the row says.
@@ -175,11 +215,23 @@ fn check_row(
     let (name, rest) = row.split_once(" | ").ok_or("a row has a name")?;
     let (event, rest) = rest.split_once(" | ").ok_or("a row has an event")?;
     let (outs, after) = rest.split_once(" | ").ok_or("a row has outputs")?;
-    let given = called_for(alloc, link, event)?;
-    let reached = condition(alloc, link.link())?;
     let wanted = if after == "=" { before } else { after };
-    if !reads(alloc, given.as_str(), outs)? || !reads(alloc, reached.as_str(), wanted)? {
-        write!(wrong, "\n{name} | {event} | {given} | {reached}")?;
+    let given = called_for(alloc, link, event)?;
+    push_other(alloc, name, given.as_str(), outs, wrong)?;
+    let reached = condition(alloc, link.link())?;
+    push_other(alloc, name, reached.as_str(), wanted, wrong)
+}
+
+/// Adds to `wrong` a text that is not the one that the row of this name writes so.
+fn push_other(
+    alloc: Global,
+    name: &str,
+    text: &str,
+    row: &str,
+    wrong: &mut String,
+) -> Result<(), Fail> {
+    if !reads(alloc, text, row)? {
+        write!(wrong, "\n{name} | {text}")?;
     }
     Ok(())
 }
@@ -192,13 +244,17 @@ fn reads(alloc: Global, text: &str, row: &str) -> Result<bool, Fail> {
 /// Checks the condition of a link.
 fn is_in(alloc: Global, link: &Answerer, wanted: &str) -> Result<(), Fail> {
     let reached = condition(alloc, link.link())?;
-    let same = reads(alloc, reached.as_str(), wanted)?;
-    wants(same, wanted, reached.as_str())
+    is_text(alloc, wanted, reached.as_str(), wanted)
+}
+
+/// Checks a text, which this row writes so.
+fn is_text(alloc: Global, row: &str, text: &str, wanted: &str) -> Result<(), Fail> {
+    let same = reads(alloc, text, wanted)?;
+    wants(same, row, text)
 }
 
 /// Checks that a link gives for a line these outputs.
 fn gives(alloc: Global, link: &mut Answerer, line: &str, outs: &str) -> Result<(), Fail> {
     let given = called_for(alloc, link, line)?;
-    let same = reads(alloc, given.as_str(), outs)?;
-    wants(same, line, given.as_str())
+    is_text(alloc, line, given.as_str(), outs)
 }

@@ -1,8 +1,9 @@
 //! Which links a table has, as links are added and taken out.
 
 use crate::table::made::{Numbers, id_of, network_table, try_add};
+use crate::table::network::refusal;
 use crate::wants::wants;
-use lapd_table::{LinkTable, TableFault};
+use lapd_table::{LinkId, LinkTable, TableFault};
 use std::alloc::{AllocError, Global};
 use std::test::Fail;
 
@@ -77,7 +78,7 @@ fn fault_of(alloc: Global, table: &mut LinkTable, deed: Deed) -> Result<Option<T
             Some(_) => Ok(None),
             None => Ok(Some(TableFault::NoLink)),
         },
-        Deed::Hear(octets) => Ok(table.dispatch(octets).err()),
+        Deed::Hear(octets) => Ok(refusal(table, octets)),
     }
 }
 
@@ -88,11 +89,16 @@ fn fault_of(alloc: Global, table: &mut LinkTable, deed: Deed) -> Result<Option<T
 /// `AllocError` where memory for the ids was refused.
 pub(crate) fn has(table: &LinkTable, links: &[Numbers]) -> Result<bool, AllocError> {
     let ids = table.ids()?;
+    Ok(are_ids(ids.as_slice(), links))
+}
+
+/// Whether the ids are of these numbers.
+fn are_ids(ids: &[LinkId], links: &[Numbers]) -> bool {
     let mut same = ids.len() == links.len();
     for (id, (sapi, tei)) in ids.iter().zip(links) {
         same = same && id.sapi.value() == *sapi && id.tei.value() == *tei;
     }
-    Ok(same)
+    same
 }
 
 #[test]
@@ -124,13 +130,24 @@ const FAULTS: &[(TableFault, &str)] = &[
     ),
 ];
 
+/// Whether a fault is shown so.
+fn is_shown(alloc: Global, fault: TableFault, name: &str) -> Result<bool, AllocError> {
+    let text = format!(in alloc; "{fault}")?;
+    Ok(text.as_str() == name)
+}
+
+/// Whether an id is shown so.
+fn is_id_shown(alloc: Global, id: LinkId, name: &str) -> Result<bool, AllocError> {
+    let text = format!(in alloc; "{id}")?;
+    Ok(text.as_str() == name)
+}
+
 #[test]
 fn names_of_faults(rt: HostRuntime) -> Result<(), Fail> {
     for (fault, name) in FAULTS {
-        let text = format!(in rt.alloc(); "{fault}")?;
-        wants(text.as_str() == *name, name, "another text")?;
+        let shown = is_shown(rt.alloc(), *fault, name)?;
+        wants(shown, name, "another text")?;
     }
-    let id = id_of((16, 64))?;
-    let text = format!(in rt.alloc(); "{id}")?;
-    wants(text.as_str() == "SAPI 16 TEI 64", "an id", "another text")
+    let shown = is_id_shown(rt.alloc(), id_of((16, 64))?, "SAPI 16 TEI 64")?;
+    wants(shown, "an id", "another text")
 }

@@ -2,7 +2,9 @@
 
 ghost use Rattle.std.specs.Prelude.{◌≢◌, ◌<◌, IsTrue};
 
-use lapd_frame::{Sapi, Side, Tei};
+use crate::calls;
+use crate::wants::wants;
+use lapd_frame::{Sapi, Side};
 use lapd_link::{Link, Params};
 use lapd_table::{LinkId, LinkTable, TableFault};
 use std::alloc::Global;
@@ -12,12 +14,8 @@ use std::test::Fail;
 pub(crate) type Numbers = (u8, u8);
 
 /// The id of these numbers.
-pub(crate) fn id_of(numbers: Numbers) -> Result<LinkId, Fail> {
-    let (sapi, tei) = numbers;
-    Ok(LinkId {
-        sapi: Sapi::new(sapi).ok_or("a SAPI is not served")?,
-        tei: Tei::new(tei).ok_or("a TEI is above 127")?,
-    })
+pub(crate) fn id_of((sapi, tei): Numbers) -> Result<LinkId, Fail> {
+    calls::id_of(sapi, tei)
 }
 
 /// Whether a link can have this id: it is not for management, nor for the group.
@@ -47,13 +45,20 @@ pub(crate) fn try_add(
     }
 }
 
+/// Adds these links.
+fn add_all(alloc: Global, table: &mut LinkTable, links: &[Numbers]) -> Result<(), Fail> {
+    for numbers in links {
+        let fault = try_add(alloc, table, id_of(*numbers)?)?;
+        wants(fault.is_none(), "a link", "it is refused")?;
+    }
+    Ok(())
+}
+
 /// A table of the network's with these links.
 pub(crate) fn network_table(alloc: Global, links: &[Numbers]) -> Result<LinkTable, Fail> {
     let mut table = LinkTable::new(alloc, Side::Network);
-    for numbers in links {
-        if try_add(alloc, &mut table, id_of(*numbers)?)?.is_some() {
-            return Err(Fail::new("a link is refused"));
-        }
+    match add_all(alloc, &mut table, links) {
+        Ok(()) => Ok(table),
+        Err(fail) => Err(fail),
     }
-    Ok(table)
 }

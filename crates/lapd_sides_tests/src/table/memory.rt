@@ -54,16 +54,21 @@ fn keeps(
     }
 }
 
+/// Adds all links, and looks at which are there.
+fn are_kept(alloc: Global, table: &mut LinkTable) -> Result<(), Fail> {
+    for (number, numbers) in LINKS.iter().enumerate() {
+        let kept = keeps(alloc, table, *numbers, &LINKS[..number])?;
+        wants(kept, "a link", "not added, or the table has changed")?;
+    }
+    let all = match has(table, LINKS) {
+        Ok(all) => all,
+        Err(_) => has(table, LINKS)?,
+    };
+    wants(all, "all links", "others are there")
+}
+
 #[test]
 fn links_without_memory(rt: HostRuntime) -> Result<(), Fail> {
     let mut table = LinkTable::new(rt.alloc(), Side::Network);
-    for (number, numbers) in LINKS.iter().enumerate() {
-        let kept = keeps(rt.alloc(), &mut table, *numbers, &LINKS[..number])?;
-        wants(kept, "a link", "not added, or the table has changed")?;
-    }
-    let all = match has(&table, LINKS) {
-        Ok(all) => all,
-        Err(_) => has(&table, LINKS)?,
-    };
-    wants(all, "all links", "others are there")
+    are_kept(rt.alloc(), &mut table)
 }

@@ -2,8 +2,8 @@
 
 use crate::table::made::{id_of, network_table};
 use crate::wants::wants;
-use lapd_frame::{Control, FaultKind, MOST_OCTETS, Role, Side, write};
-use lapd_link::{Event, Letter, LinkFault, Out, Timer};
+use lapd_frame::{Control, FaultKind, Frame, MOST_OCTETS, Role, Side, write};
+use lapd_link::{Event, Letter, Link, LinkFault, Out, Outs, Refused, Timer};
 use lapd_table::{LinkId, LinkTable, TableFault};
 use std::alloc::Global;
 use std::test::Fail;
@@ -15,9 +15,14 @@ fn two_links(alloc: Global) -> Result<LinkTable, Fail> {
     network_table(alloc, &[(0, 64), (16, 64)])
 }
 
+/// Octets come.
+fn hear(table: &mut LinkTable, octets: &[u8]) -> Result<(LinkId, Outs), TableFault> {
+    table.dispatch(octets)
+}
+
 /// Whether octets are for this link, which does this for them.
 fn hears(table: &mut LinkTable, octets: &[u8], id: &LinkId, outs: &[Out]) -> bool {
-    match table.dispatch(octets) {
+    match hear(table, octets) {
         Ok((found, made)) => found == *id && made.as_slice() == outs,
         Err(_) => false,
     }
@@ -25,17 +30,25 @@ fn hears(table: &mut LinkTable, octets: &[u8], id: &LinkId, outs: &[Out]) -> boo
 
 /// Whether these octets go out for an output of this link.
 fn sends(table: &LinkTable, id: &LinkId, out: &Out, octets: &[u8]) -> bool {
-    let Some(link) = table.link(*id) else {
-        return false;
-    };
-    match link.frame(out, &[]) {
-        Some(frame) => {
-            let mut room = [0; MOST_OCTETS];
-            let len = write(&frame, Side::Network, &mut room);
-            &room[..len] == octets
-        }
+    match table.link(*id) {
+        Some(link) => puts_out(link, out, octets),
         None => false,
     }
+}
+
+/// Whether these octets go out for an output of a link.
+fn puts_out(link: &Link, out: &Out, octets: &[u8]) -> bool {
+    match link.frame(out, &[]) {
+        Some(frame) => is_spelled(&frame, octets),
+        None => false,
+    }
+}
+
+/// Whether a frame of the network side is these octets.
+fn is_spelled(frame: &Frame<'_>, octets: &[u8]) -> bool {
+    let mut room = [0; MOST_OCTETS];
+    let len = write(frame, Side::Network, &mut room);
+    room.get(..len) == Some(octets)
 }
 
 /// Whether a link is there, in this state.
@@ -73,14 +86,27 @@ fn one_of_two_links_is_released(rt: HostRuntime) -> Result<(), Fail> {
     releases_one(&mut table, &call, &packet)
 }
 
+/// Why octets are for no link.
+pub(crate) fn refusal(table: &mut LinkTable, octets: &[u8]) -> Option<TableFault> {
+    match hear(table, octets) {
+        Ok(_) => None,
+        Err(fault) => Some(fault),
+    }
+}
+
+/// A link is taken out, and DISC comes for it.
+fn takes_out(table: &mut LinkTable) -> Result<(), Fail> {
+    let packet = id_of((16, 64))?;
+    wants(table.remove(packet).is_some(), "taken out", "not there")?;
+    let fault = refusal(table, b"\x40\x81\x53");
+    wants(fault == Some(TableFault::NoLink), "DISC", "another fault")?;
+    wants(is_in(table, &id_of((0, 64))?, 4), "DISC", "not in state 4")
+}
+
 #[test]
 fn a_link_that_was_taken_out_hears_nothing(rt: HostRuntime) -> Result<(), Fail> {
     let mut table = two_links(rt.alloc())?;
-    let packet = id_of((16, 64))?;
-    wants(table.remove(packet).is_some(), "taken out", "not there")?;
-    let fault = table.dispatch(b"\x40\x81\x53").err();
-    wants(fault == Some(TableFault::NoLink), "DISC", "another fault")?;
-    wants(is_in(&table, &id_of((0, 64))?, 4), "DISC", "not in state 4")
+    takes_out(&mut table)
 }
 
 /// A name, octets, and why they are for no link of the table.
@@ -107,21 +133,26 @@ const REFUSED: &[Row] = &[
     ("management", b"\xfc\xff\x03", TableFault::NoLink),
 ];
 
-#[test]
-fn octets_for_no_link(rt: HostRuntime) -> Result<(), Fail> {
-    let mut table = two_links(rt.alloc())?;
+/// Octets that are for no link come, and both links rest.
+fn refuses(table: &mut LinkTable) -> Result<(), Fail> {
     for (name, octets, fault) in REFUSED {
-        let found = table.dispatch(octets).err();
+        let found = refusal(table, octets);
         wants(found == Some(*fault), name, "another fault")?;
     }
-    let idle = is_in(&table, &id_of((0, 64))?, 4) && is_in(&table, &id_of((16, 64))?, 4);
+    let idle = is_in(table, &id_of((0, 64))?, 4) && is_in(table, &id_of((16, 64))?, 4);
     wants(idle, "octets for no link", "a link is not in state 4")
 }
 
 #[test]
-fn a_fault_goes_to_its_link(rt: HostRuntime) -> Result<(), Fail> {
+fn octets_for_no_link(rt: HostRuntime) -> Result<(), Fail> {
     let mut table = two_links(rt.alloc())?;
+    refuses(&mut table)
+}
+
+#[test]
+fn a_fault_goes_to_its_link(rt: HostRuntime) -> Result<(), Fail> {
     let packet = id_of((16, 64))?;
+    let mut table = two_links(rt.alloc())?;
     // A reserved bit of an S frame.
     let octets = b"\x40\x81\x11\x00";
     let reported = hears(&mut table, octets, &packet, &[Out::Report(Letter::L)]);
@@ -150,12 +181,16 @@ fn hands_back(
     if table.link(*id).is_none() {
         return Ok(false);
     }
-    match table.give(*id, b"early".to_vec(alloc)?) {
+    let message = b"early".to_vec(alloc)?;
+    match table.give(*id, message) {
         Ok(_) => Ok(false),
-        Err(refused) => Ok(
-            refused.fault == fault && refused.message.as_slice() == b"early".as_slice(),
-        ),
+        Err(refused) => Ok(is_early(&refused, fault)),
     }
+}
+
+/// Whether the message comes back for this fault.
+fn is_early(refused: &Refused, fault: LinkFault) -> bool {
+    refused.fault == fault && refused.message.as_slice() == b"early".as_slice()
 }
 
 /// Whether a message is taken.

@@ -1,7 +1,6 @@
 //! The assigner of TEIs, a step a row (Q.921 5.3).
 
-ghost use Rattle.std.specs.Prelude.{◌≡◌, ◌<◌};
-
+use crate::calls::tei;
 use crate::wants::wants;
 use lapd_tei::{Assigner, AssignerEvent, Tei, TeiKind, TeiMessage, TeiOut, Timer};
 use std::test::Fail;
@@ -16,13 +15,6 @@ fn message(kind: TeiKind, ri: u16, ai: u8) -> TeiOut {
 
 fn sends(kind: TeiKind, ri: u16, ai: u8) -> Option<TeiOut> {
     Some(message(kind, ri, ai))
-}
-
-fn tei(number: u8) -> Tei
-    requires { number < 127 }
-    ensures { result ≡ number }
-{
-    Tei::new(number).unwrap()
 }
 
 /// Whether an event gives so many outputs, of which these are the first and the last.

@@ -1,7 +1,6 @@
 //! A terminal's TEI management, a step a row (Q.921 5.3).
 
-ghost use Rattle.std.specs.Prelude.{◌≡◌};
-
+use crate::calls::tei;
 use crate::wants::wants;
 use lapd_tei::{Tei, TeiKind, TeiMessage, TeiOut, Terminal, TerminalEvent, Timer};
 use std::test::Fail;
@@ -40,12 +39,6 @@ fn answer() -> Option<TeiOut> {
 
 /// The start of T202.
 const T202: Option<TeiOut> = Some(TeiOut::Start(Timer::T202));
-
-fn sixty_four() -> Tei
-    ensures { result ≡ 64 }
-{
-    Tei::new(64).unwrap()
-}
 
 /// A terminal without a TEI asks for one, and hears what is not for it.
 fn asks_in_vain(t: &mut Terminal) -> Result<(), Fail> {
@@ -87,7 +80,7 @@ fn a_tei_is_got_and_given_up() -> Result<(), Fail> {
     let mut terminal = Terminal::new(None);
     let t = &mut terminal;
     asks_in_vain(t)?;
-    let got = Some(TeiOut::Got(sixty_four()));
+    let got = Some(TeiOut::Got(tei(64)));
     wants(
         steps(t, heard(TeiKind::Assigned, 5, 64, 7), 4, 2, got),
         "assigned",
@@ -99,7 +92,7 @@ fn a_tei_is_got_and_given_up() -> Result<(), Fail> {
         "again",
         "a step",
     )?;
-    let gone = Some(TeiOut::Gone(sixty_four()));
+    let gone = Some(TeiOut::Gone(tei(64)));
     wants(
         steps(t, heard(TeiKind::Assigned, 9, 64, 7), 1, 1, gone),
         "to another",
@@ -109,7 +102,7 @@ fn a_tei_is_got_and_given_up() -> Result<(), Fail> {
 
 #[test]
 fn a_check_is_answered_and_a_removal_obeyed() -> Result<(), Fail> {
-    let mut terminal = Terminal::new(Some(sixty_four()));
+    let mut terminal = Terminal::new(Some(tei(64)));
     let t = &mut terminal;
     wants(shows(t, Some(64), 0, None), "a fixed TEI", "another TEI")?;
     wants(
@@ -132,7 +125,7 @@ fn a_check_is_answered_and_a_removal_obeyed() -> Result<(), Fail> {
         "65 removed",
         "obeyed",
     )?;
-    let gone = Some(TeiOut::Gone(sixty_four()));
+    let gone = Some(TeiOut::Gone(tei(64)));
     wants(
         steps(t, heard(TeiKind::Remove, 0, 127, 7), 1, 1, gone),
         "all removed",

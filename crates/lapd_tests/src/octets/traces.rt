@@ -129,12 +129,17 @@ const FAULTS_OF_THE_NETWORK: &[(&str, &str)] = &[
     ("00819700", "N>U F6 WrongSize 00819700"),
 ];
 
-/// The line of these octets is this text, and memory was taken for it once.
+/// The line of these octets in hexadecimal is this text.
 fn prints(alloc: Global, from: Side, octets: &str, text: &str) -> Result<(), Fail> {
     let octets = hex::decode(alloc, octets)?;
-    let printed = line(alloc, from, octets.as_slice())?;
-    wants(printed.as_str() == text, text, "other text")?;
-    wants(has_room(&printed, octets.len()), text, "other room")
+    prints_octets(alloc, from, octets.as_slice(), text)
+}
+
+/// The line of these octets is this text, and memory was taken for it once.
+fn prints_octets(alloc: Global, from: Side, octets: &[u8], text: &str) -> Result<(), Fail> {
+    let printed = line(alloc, from, octets)?;
+    let printed_so = printed.as_str() == text && has_room(&printed, octets.len());
+    wants(printed_so, text, "other text, or other room")
 }
 
 /// Whether the line of so many octets has the room that was taken at first.
@@ -161,15 +166,10 @@ fn every_control_field_and_fault(rt: HostRuntime) -> Result<(), Fail> {
 
 /// An I frame of the user with so many octets of information, `5a` each, prints these words and its octets.
 fn prints_long(alloc: Global, words: &str, octets: usize) -> Result<(), Fail> {
-    let mut frame = [0x00, 0x81, 0x02, 0x04].to_vec(alloc)?;
-    let mut text = String::from_str(alloc, words)?;
-    for _ in 0..octets {
-        frame.push(0x5a)?;
-        text.push_str("5a")?;
-    }
-    let printed = line(alloc, Side::User, frame.as_slice())?;
-    wants(printed.as_str() == text.as_str(), words, "other text")?;
-    wants(has_room(&printed, frame.len()), words, "other room")
+    let information = "5a".repeat(alloc, octets)?;
+    let frame = format!(in alloc; "00810204{information}")?;
+    let text = format!(in alloc; "{words}{information}")?;
+    prints(alloc, Side::User, frame.as_str(), text.as_str())
 }
 
 #[test]
@@ -188,16 +188,51 @@ fn keeps_the_last(alloc: Global, room: u16, pushed: u64) -> Result<(), Fail> {
         return Err(Fail::new("a history of 1 to 1,024 lines"));
     }
     let mut history = History::new(alloc, usize::from(room))?;
+    push_numbers(alloc, &mut history, pushed)?;
+    holds_numbers(
+        alloc,
+        &history,
+        pushed.saturating_sub(u64::from(room)),
+        pushed,
+    )
+}
+
+/// Pushes the lines 0 to `pushed` - 1.
+fn push_numbers(alloc: Global, history: &mut History, pushed: u64) -> Result<(), Fail> {
     for number in 0..pushed {
         history.push(format!(in alloc; "{number}")?);
     }
-    let mut number = pushed.saturating_sub(u64::from(room));
+    Ok(())
+}
+
+/// The history holds the lines `first` to `pushed` - 1, in order.
+fn holds_numbers(alloc: Global, history: &History, first: u64, pushed: u64) -> Result<(), Fail> {
+    let mut number = first;
     for line in history.lines() {
-        let wanted = format!(in alloc; "{number}")?;
-        wants(line == wanted.as_str(), line, "another line")?;
+        is_number(alloc, line, number)?;
         number = number.wrapping_add(1);
     }
     wants(number == pushed, "a history", "how many lines it keeps")
+}
+
+/// The line is this number.
+fn is_number(alloc: Global, line: &str, number: u64) -> Result<(), Fail> {
+    let wanted = format!(in alloc; "{number}")?;
+    wants(line == wanted.as_str(), line, "another line")
+}
+
+/// Whether the history holds `b` and then `c`, and no third line.
+fn holds_b_and_c(history: &History) -> bool {
+    let mut lines = history.lines();
+    lines.next() == Some("b") && lines.next() == Some("c") && lines.next().is_none()
+}
+
+/// Pushes `a`, `b` and `c`.
+fn push_three(alloc: Global, history: &mut History) -> Result<(), Fail> {
+    for text in ["a", "b", "c"] {
+        history.push(String::from_str(alloc, text)?);
+    }
+    Ok(())
 }
 
 #[test]
@@ -214,14 +249,15 @@ fn a_history_keeps_the_last_lines(rt: HostRuntime) -> Result<(), Fail> {
     ] {
         keeps_the_last(alloc, room, pushed)?;
     }
+    Ok(())
+}
+
+#[test]
+fn a_history_of_two_lines_drops_the_first(rt: HostRuntime) -> Result<(), Fail> {
+    let alloc = rt.alloc();
     let mut history = History::new(alloc, 2)?;
-    for text in ["a", "b", "c"] {
-        history.push(String::from_str(alloc, text)?);
-    }
-    let mut lines = history.lines();
-    wants(lines.next() == Some("b"), "of a, b and c", "the first")?;
-    wants(lines.next() == Some("c"), "of a, b and c", "the second")?;
-    wants(lines.next().is_none(), "of a, b and c", "no third")
+    push_three(alloc, &mut history)?;
+    wants(holds_b_and_c(&history), "of a, b and c", "not the last two")
 }
 
 // ---- Without memory.

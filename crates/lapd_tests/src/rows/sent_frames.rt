@@ -41,10 +41,8 @@ fn i_frame(number: Number) -> Control {
     }
 }
 
-#[test]
-fn outputs_are_frames(rt: HostRuntime) -> Result<(), Fail> {
-    let user = user_link(rt.alloc(), "establish; frame 008173; give 0102; give 0304")?;
-    let link = user.link();
+/// An RR, the second message and unit data are frames.
+fn sends_frames(link: &Link) -> Result<(), Fail> {
     let nr = Number::new(5).ok_or("seven bits")?;
     let ready = Out::Send(Role::Answer, Control::Rr { nr, pf: true });
     let is_sent = sends(link, ready, &[], b"\x02\x81\x01\x0b");
@@ -57,9 +55,13 @@ fn outputs_are_frames(rt: HostRuntime) -> Result<(), Fail> {
 }
 
 #[test]
-fn outputs_are_no_frames(rt: HostRuntime) -> Result<(), Fail> {
-    let user = user_link(rt.alloc(), "establish; frame 008173; give 0102")?;
-    let link = user.link();
+fn outputs_are_frames(rt: HostRuntime) -> Result<(), Fail> {
+    let user = user_link(rt.alloc(), "establish; frame 008173; give 0102; give 0304")?;
+    sends_frames(user.link())
+}
+
+/// A message that is not there, a UA as a command, 261 octets and an indication are none.
+fn sends_no_frames(link: &Link) -> Result<(), Fail> {
     let nr = Number::new(0).ok_or("seven bits")?;
     let third = Out::SendMessage(2, i_frame(nr));
     wants(
@@ -80,4 +82,10 @@ fn outputs_are_no_frames(rt: HostRuntime) -> Result<(), Fail> {
         "an indication",
         "sent",
     )
+}
+
+#[test]
+fn outputs_are_no_frames(rt: HostRuntime) -> Result<(), Fail> {
+    let user = user_link(rt.alloc(), "establish; frame 008173; give 0102")?;
+    sends_no_frames(user.link())
 }
