@@ -8,7 +8,7 @@ use std::alloc::AllocError;
 use thiserror::Error;
 
 /// Why the messages were not all passed.
-#[derive(Clone, Copy, Debug, PartialEq, Eq, Error)]
+#[derive(Clone, Copy, Debug, Error)]
 pub enum BenchFault {
     /// The words ask for nothing that is done.
     #[error("usage: lapd_bench [MESSAGES], lapd_bench pair MESSAGES, lapd_bench line FRAMES MOVES, lapd_bench table|side|tick LINKS TIMES, lapd_bench port FRAMES OCTETS, or lapd_bench due|terminal|check|request TIMES")]

@@ -1,5 +1,5 @@
 /// How many messages were given, received and acknowledged.
-#[derive(Clone, Copy, Debug, PartialEq, Eq)]
+#[derive(Clone, Copy)]
 pub struct Counts {
     pub given: u64,
     pub received: u64,
@@ -7,14 +7,14 @@ pub struct Counts {
 }
 
 /// How many octets were written to a port, and how many frames were read from them.
-#[derive(Clone, Copy, Debug, PartialEq, Eq)]
+#[derive(Clone, Copy)]
 pub struct Octets {
     pub written: usize,
     pub read: u32,
 }
 
 /// What was done.
-#[derive(Clone, Copy, Debug, PartialEq, Eq)]
+#[derive(Clone, Copy)]
 pub enum Done {
     /// Messages were passed.
     Messages(Counts),

@@ -30,6 +30,7 @@ use end::End;
 use lapd_frame::Side;
 use line::Line;
 use std::alloc::Global;
+use std::io;
 use std::process::ExitCode;
 use work::{Work, asked};
 
@@ -73,22 +74,30 @@ fn done(rt: &HostRuntime) -> Result<Done, BenchFault> {
 /// Prints what was done.
 fn show(rt: &HostRuntime, done: Done) -> ExitCode {
     let shown = match done {
-        Done::Messages(
-            Counts {
-                given,
-                received,
-                acknowledged,
-            },
-        ) => println!(rt; "{given} given, {received} received, {acknowledged} acknowledged"),
-        Done::Frames(Octets { written, read }) => {
-            println!(rt; "{written} octets written, {read} frames read")
-        }
+        Done::Messages(counts) => show_counts(rt, counts),
+        Done::Frames(octets) => show_octets(rt, octets),
         Done::Outputs(outputs) => println!(rt; "{outputs} outputs"),
     };
     match shown {
         Ok(()) => ExitCode::SUCCESS,
         Err(_) => ExitCode::FAILURE,
     }
+}
+
+/// Prints how many messages were given, received and acknowledged.
+fn show_counts(rt: &HostRuntime, counts: Counts) -> io::Result<()> {
+    let Counts {
+        given,
+        received,
+        acknowledged,
+    } = counts;
+    println!(rt; "{given} given, {received} received, {acknowledged} acknowledged")
+}
+
+/// Prints how many octets were written, and how many frames were read.
+fn show_octets(rt: &HostRuntime, octets: Octets) -> io::Result<()> {
+    let Octets { written, read } = octets;
+    println!(rt; "{written} octets written, {read} frames read")
 }
 
 /// The two ends of the link, and the two directions of the line between them.
@@ -103,16 +112,7 @@ struct Pair {
 /// Establishes the link, and passes so many messages over it from the user to the network.
 fn run(alloc: Global, messages: u32) -> Result<Counts, BenchFault> {
     let mut pair = Pair::new(alloc)?;
-    pair.establish()?;
-    for _ in 0..messages / WINDOW {
-        pair.pass(alloc, WINDOW)?;
-    }
-    pair.pass(alloc, messages % WINDOW)?;
-    Ok(Counts {
-        given: pair.user.given,
-        received: pair.network.received,
-        acknowledged: pair.user.acknowledged,
-    })
+    pair.run(alloc, messages)
 }
 
 impl Pair {
@@ -122,6 +122,20 @@ impl Pair {
             network: End::new(alloc, Side::Network)?,
             to_network: Line::new(Side::User),
             to_user: Line::new(Side::Network),
+        })
+    }
+
+    /// The link is established, and so many messages are passed a window at a time.
+    fn run(&mut self, alloc: Global, messages: u32) -> Result<Counts, BenchFault> {
+        self.establish()?;
+        for _ in 0..messages / WINDOW {
+            self.pass(alloc, WINDOW)?;
+        }
+        self.pass(alloc, messages % WINDOW)?;
+        Ok(Counts {
+            given: self.user.given,
+            received: self.network.received,
+            acknowledged: self.user.acknowledged,
         })
     }
 

@@ -8,33 +8,47 @@ use lapd_link::{Outs, Params};
 use lapd_pair::{Move, Pair};
 use std::alloc::Global;
 
-/// Two ends with the parameters of primary rate access, and the link established by the user.
-fn established(alloc: Global) -> Result<Pair, BenchFault> {
-    let mut pair = Pair::new(alloc, Params::primary(), Params::primary())?;
-    let _ = pair.apply(&Move::Establish(Side::User))?;
-    let _ = pair.apply(&Move::Deliver(Side::Network))?;
-    let _ = pair.apply(&Move::Deliver(Side::User))?;
-    Ok(pair)
-}
-
 /// Passes so many messages from the user to the network, a window at a time.
 ///
 /// # Errors
 ///
 /// `Memory`, and `Pair` where a move is refused.
 pub fn pass(alloc: Global, messages: u32) -> Result<Counts, BenchFault> {
-    let mut pair = established(alloc)?;
     let give = Move::Give(Side::User, [0; OCTETS].to_vec(alloc)?);
+    pass_each(alloc, &give, messages)
+}
+
+/// Passes a message so often over a pair with the parameters of primary rate access.
+fn pass_each(alloc: Global, give: &Move, messages: u32) -> Result<Counts, BenchFault> {
+    let mut pair = Pair::new(alloc, Params::primary(), Params::primary())?;
+    pass_over(&mut pair, give, messages)
+}
+
+/// Passes a message so often over this pair, whose link the user establishes.
+fn pass_over(pair: &mut Pair, give: &Move, messages: u32) -> Result<Counts, BenchFault> {
     let mut outs = Outs::new();
-    for _ in 0..messages / WINDOW {
-        pass_batch(&mut pair, &give, WINDOW, &mut outs)?;
-    }
-    pass_batch(&mut pair, &give, messages % WINDOW, &mut outs)?;
+    pass_all(pair, give, messages, &mut outs)?;
     Ok(Counts {
         given: pair.given(Side::User).len() as u64,
         received: pair.received(Side::Network).len() as u64,
         acknowledged: pair.acknowledged(Side::User),
     })
+}
+
+/// The user establishes the link, and a message is passed so often, a window at a time.
+fn pass_all(
+    pair: &mut Pair,
+    give: &Move,
+    messages: u32,
+    outs: &mut Outs,
+) -> Result<(), BenchFault> {
+    repeat(pair, &Move::Establish(Side::User), 1, outs)?;
+    repeat(pair, &Move::Deliver(Side::Network), 1, outs)?;
+    repeat(pair, &Move::Deliver(Side::User), 1, outs)?;
+    for _ in 0..messages / WINDOW {
+        pass_batch(pair, give, WINDOW, outs)?;
+    }
+    pass_batch(pair, give, messages % WINDOW, outs)
 }
 
 /// The user gives so many messages, each is delivered, and so is each acknowledgement.
@@ -63,19 +77,33 @@ fn repeat(pair: &mut Pair, deed: &Move, times: u32, outs: &mut Outs) -> Result<(
 ///
 /// `Memory`, and `Pair` where a move is refused.
 pub fn stand(alloc: Global, frames: u32, moves: u32) -> Result<Counts, BenchFault> {
-    let mut pair = Pair::new(alloc, Params::primary(), Params::primary())?;
     let unit = Move::Unit(Side::User, [0; OCTETS].to_vec(alloc)?);
+    stand_each(alloc, &unit, frames, moves)
+}
+
+/// So many frames stand on the line of a pair, and so many more move over it.
+fn stand_each(alloc: Global, unit: &Move, frames: u32, moves: u32) -> Result<Counts, BenchFault> {
+    let mut pair = Pair::new(alloc, Params::primary(), Params::primary())?;
+    stand_over(&mut pair, unit, frames, moves)
+}
+
+/// So many frames stand on the line of this pair, and so many more move over it.
+fn stand_over(pair: &mut Pair, unit: &Move, frames: u32, moves: u32) -> Result<Counts, BenchFault> {
     let mut outs = Outs::new();
-    for _ in 0..frames {
-        pair.apply_into(&unit, &mut outs)?;
-    }
-    for _ in 0..moves {
-        pair.apply_into(&unit, &mut outs)?;
-        pair.apply_into(&Move::Deliver(Side::Network), &mut outs)?;
-    }
+    repeat(pair, unit, frames, &mut outs)?;
+    move_on(pair, unit, moves, &mut outs)?;
     Ok(Counts {
         given: u64::from(frames).wrapping_add(u64::from(moves)),
         received: pair.units(Side::Network).len() as u64,
         acknowledged: 0,
     })
+}
+
+/// A frame is sent and the first one delivered, so many times.
+fn move_on(pair: &mut Pair, unit: &Move, moves: u32, outs: &mut Outs) -> Result<(), BenchFault> {
+    for _ in 0..moves {
+        pair.apply_into(unit, outs)?;
+        pair.apply_into(&Move::Deliver(Side::Network), outs)?;
+    }
+    Ok(())
 }

@@ -8,6 +8,9 @@ use crate::counts::Octets;
 use lapd_port::{FromRead, FromWrite, LEAST_OCTETS, MOST_OCTETS, Port, PortFault};
 use std::alloc::Global;
 
+/// A port that reads octets of memory, and writes to a vector.
+type Memory<'a> = Port<FromRead<&'a [u8]>, FromWrite<Vec<u8>>>;
+
 /// Writes so many frames of so many octets, 3 to 264, and reads back what was written.
 ///
 /// # Errors
@@ -29,6 +32,18 @@ fn pass_each(alloc: Global, frames: u32, frame: &[u8]) -> Result<Octets, BenchFa
     let text = Vec::with_capacity(alloc, frames as usize * (2 + frame.len()))?;
     let nothing: &[u8] = &[];
     let mut port = Port::new(FromRead::new(nothing), FromWrite::new(text));
+    pass_through(alloc, &mut port, frames, frame)
+}
+
+/// Writes a frame so often to this port, and reads back what was written.
+fn pass_through(
+    alloc: Global,
+    port: &mut Memory<'_>,
+    frames: u32,
+    frame: &[u8],
+) -> Result<Octets, BenchFault>
+    requires { IsFrameLength (length frame.now) }
+{
     for _ in 0..frames {
         port.write_frame(frame)?;
     }
@@ -42,6 +57,11 @@ fn pass_each(alloc: Global, frames: u32, frame: &[u8]) -> Result<Octets, BenchFa
 /// Reads so many frames, and tells how many were read.
 fn read_all(alloc: Global, text: &[u8], frames: u32) -> Result<u32, BenchFault> {
     let mut port = Port::new(FromRead::new(text), FromWrite::new(Vec::new(alloc)));
+    read_each(&mut port, frames)
+}
+
+/// Reads so many frames from this port, and tells how many were read.
+fn read_each(port: &mut Memory<'_>, frames: u32) -> Result<u32, BenchFault> {
     let mut frame = [0; MOST_OCTETS];
     for read in 0..frames {
         match port.read_frame(&mut frame) {

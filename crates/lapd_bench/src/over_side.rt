@@ -15,6 +15,15 @@ const MOMENT: u64 = 1;
 /// The octets of an I frame, in which N(S) is counted on.
 type Message = [u8; 4 + OCTETS];
 
+/// What is done over a side.
+#[derive(Clone, Copy)]
+enum Deed {
+    /// So many I frames are handed in.
+    Take(u32),
+    /// It is asked so many times what is due.
+    Tick(u32),
+}
+
 /// Hands in so many I frames, one after another to each of so many established links, and counts the messages that went
 /// up and the frames that answer.
 ///
@@ -22,8 +31,83 @@ type Message = [u8; 4 + OCTETS];
 ///
 /// `Memory`, and `CommandLine` for no links or more than 254.
 pub fn take(alloc: Global, links: u32, frames: u32) -> Result<Counts, BenchFault> {
+    with_messages(alloc, links, Deed::Take(frames))
+}
+
+/// Asks so many times what is due on a side of so many established links, where nothing is.
+///
+/// # Errors
+///
+/// As [`take`].
+pub fn tick(alloc: Global, links: u32, times: u32) -> Result<Counts, BenchFault> {
+    with_messages(alloc, links, Deed::Tick(times))
+}
+
+/// Does a deed over a side with so many links, and has room for the messages that are to come for them.
+fn with_messages(alloc: Global, links: u32, deed: Deed) -> Result<Counts, BenchFault> {
+    let mut messages = Vec::with_capacity(alloc, links as usize)?;
+    with_known(alloc, links, deed, &mut messages)
+}
+
+/// Does a deed over a side with so many links, whose TEIs are known from the first.
+fn with_known(
+    alloc: Global,
+    links: u32,
+    deed: Deed,
+    messages: &mut Vec<Message>,
+) -> Result<Counts, BenchFault> {
+    let known = known(alloc, links)?;
+    with_side(alloc, links, deed, messages, &known)
+}
+
+/// Does a deed over a side with so many links, of terminals with these TEIs.
+fn with_side(
+    alloc: Global,
+    links: u32,
+    deed: Deed,
+    messages: &mut Vec<Message>,
+    known: &[Tei],
+) -> Result<Counts, BenchFault>
+    requires { All (λ tei. tei < 127) known.now }
+{
+    let mut side = NetSide::new(alloc, config(links), known)?;
+    with_acts(alloc, &mut side, links, deed, messages)
+}
+
+/// Does a deed over this side, with outputs that are lent to it.
+fn with_acts(
+    alloc: Global,
+    side: &mut NetSide,
+    links: u32,
+    deed: Deed,
+    messages: &mut Vec<Message>,
+) -> Result<Counts, BenchFault> {
     let mut acts = Acts::new(alloc)?;
-    let (mut side, mut messages) = established(alloc, links, &mut acts)?;
+    establish_and_do(side, links, deed, messages, &mut acts)
+}
+
+/// Establishes the links of this side, and does a deed over it.
+fn establish_and_do(
+    side: &mut NetSide,
+    links: u32,
+    deed: Deed,
+    messages: &mut Vec<Message>,
+    acts: &mut Acts,
+) -> Result<Counts, BenchFault> {
+    establish(side, links, messages, acts)?;
+    match deed {
+        Deed::Take(frames) => take_each(side, frames, messages.as_mut_slice(), acts),
+        Deed::Tick(times) => Ok(tick_each(side, times, acts)),
+    }
+}
+
+/// Hands in so many I frames, one after another of these.
+fn take_each(
+    side: &mut NetSide,
+    frames: u32,
+    messages: &mut [Message],
+    acts: &mut Acts,
+) -> Result<Counts, BenchFault> {
     let mut up: u64 = 0;
     let mut answered: u64 = 0;
     let mut at: usize = 0;
@@ -35,9 +119,9 @@ pub fn take(alloc: Global, links: u32, frames: u32) -> Result<Counts, BenchFault
             return Err(BenchFault::CommandLine);
         };
         at = at.wrapping_add(1);
-        side.take(message, MOMENT, &mut acts)?;
+        side.take(message, MOMENT, acts)?;
         message[2] = message[2].wrapping_add(2);
-        up = up.wrapping_add(messages_up(&acts));
+        up = up.wrapping_add(messages_up(acts));
         answered = answered.wrapping_add(acts.frames().len() as u64);
     }
     Ok(Counts {
@@ -47,25 +131,19 @@ pub fn take(alloc: Global, links: u32, frames: u32) -> Result<Counts, BenchFault
     })
 }
 
-/// Asks so many times what is due on a side of so many established links, where nothing is.
-///
-/// # Errors
-///
-/// As [`take`].
-pub fn tick(alloc: Global, links: u32, times: u32) -> Result<Counts, BenchFault> {
-    let mut acts = Acts::new(alloc)?;
-    let (mut side, _messages) = established(alloc, links, &mut acts)?;
+/// Asks so many times what is due.
+fn tick_each(side: &mut NetSide, times: u32, acts: &mut Acts) -> Counts {
     let mut due: u64 = 0;
     for _ in 0..times {
-        if side.tick(MOMENT, &mut acts) {
+        if side.tick(MOMENT, acts) {
             due = due.wrapping_add(1);
         }
     }
-    Ok(Counts {
+    Counts {
         given: u64::from(times),
         received: due,
         acknowledged: 0,
-    })
+    }
 }
 
 /// How many messages go up.
@@ -79,28 +157,31 @@ fn messages_up(acts: &Acts) -> u64 {
     up
 }
 
-/// A network side with so many links that the user has established at moment 0, and for each the I frame that is to come.
-fn established(
-    alloc: Global,
+/// The user establishes so many links at moment 0, and for each the I frame that is to come is put behind the others.
+fn establish(
+    side: &mut NetSide,
     links: u32,
+    messages: &mut Vec<Message>,
     acts: &mut Acts,
-) -> Result<(NetSide, Vec<Message>), BenchFault> {
-    let known = known(alloc, links)?;
-    let mut side = NetSide::new(alloc, config(links), &known)?;
-    let mut messages = Vec::with_capacity(alloc, links as usize)?;
+) -> Result<(), BenchFault> {
     for number in 0..links {
         let (sapi, tei) = place_of(number)?;
         side.take(&[sapi, tei, 0x7f], 0, acts)?;
-        let mut message = [tei; 4 + OCTETS];
-        message[0] = sapi;
-        message[1] = tei;
-        message[2] = 0;
-        message[3] = 0;
-        if messages.push(message).is_err() {
+        if messages.push(message_for(sapi, tei)).is_err() {
             return Err(BenchFault::Memory);
         }
     }
-    Ok((side, messages))
+    Ok(())
+}
+
+/// The first I frame for the link with these two octets of address.
+fn message_for(sapi: u8, tei: u8) -> Message {
+    let mut message = [tei; 4 + OCTETS];
+    message[0] = sapi;
+    message[1] = tei;
+    message[2] = 0;
+    message[3] = 0;
+    message
 }
 
 /// The two octets of the address of a command of the user: TEIs 0 to 126 of service access point 0, then those of 16.

@@ -18,16 +18,46 @@ type Enquiry = [u8; 4];
 ///
 /// `Memory`, `CommandLine` for no links or more than 254, and `Table` where a frame is refused.
 pub fn answer(alloc: Global, links: u32, frames: u32) -> Result<Counts, BenchFault> {
-    let mut table = LinkTable::new(alloc, Side::Network);
     let mut enquiries: Vec<Enquiry> = Vec::with_capacity(alloc, links as usize)?;
+    let mut table = LinkTable::new(alloc, Side::Network);
+    add_and_answer(alloc, &mut table, &mut enquiries, links, frames)
+}
+
+/// Adds so many links to a table, and answers so many enquiries for them.
+fn add_and_answer(
+    alloc: Global,
+    table: &mut LinkTable,
+    enquiries: &mut Vec<Enquiry>,
+    links: u32,
+    frames: u32,
+) -> Result<Counts, BenchFault> {
     for number in 0..links {
-        let id = id_of(number)?;
-        let enquiry = [id.sapi.value() * 4, id.tei.value() * 2 + 1, 0x01, 0x01];
-        add_established(alloc, &mut table, id)?;
+        let enquiry = add_link(alloc, table, number)?;
         if enquiries.push(enquiry).is_err() {
             return Err(BenchFault::Memory);
         }
     }
+    Ok(Counts {
+        given: u64::from(frames),
+        received: answer_each(table, enquiries.as_slice(), frames)?,
+        acknowledged: 0,
+    })
+}
+
+/// Adds the link of this number, established, and gives the enquiry that is to come for it.
+fn add_link(alloc: Global, table: &mut LinkTable, number: u32) -> Result<Enquiry, BenchFault> {
+    let id = id_of(number)?;
+    let enquiry = [id.sapi.value() * 4, id.tei.value() * 2 + 1, 0x01, 0x01];
+    add_established(alloc, table, id)?;
+    Ok(enquiry)
+}
+
+/// Hands in so many enquiries, one after another of these. Tells how many frames answer.
+fn answer_each(
+    table: &mut LinkTable,
+    enquiries: &[Enquiry],
+    frames: u32,
+) -> Result<u64, BenchFault> {
     let mut outs = Outs::new();
     let mut octets = [0; MOST_OCTETS];
     let mut answered: u64 = 0;
@@ -40,14 +70,10 @@ pub fn answer(alloc: Global, links: u32, frames: u32) -> Result<Counts, BenchFau
             return Err(BenchFault::CommandLine);
         };
         at = at.wrapping_add(1);
-        let sent = reply(&mut table, enquiry, &mut outs, &mut octets)?;
+        let sent = reply(table, enquiry, &mut outs, &mut octets)?;
         answered = answered.wrapping_add(sent);
     }
-    Ok(Counts {
-        given: u64::from(frames),
-        received: answered,
-        acknowledged: 0,
-    })
+    Ok(answered)
 }
 
 /// Hands in a frame, and writes what its link answers. Tells how many frames these are.
@@ -61,9 +87,13 @@ fn reply(
     let mut sent: u64 = 0;
     for out in &*outs {
         if let Out::Send(role, control) = out {
-            let frame = Frame::new(id.address(*role), *control, &[]).map_err(BenchFault::NoFrame)?;
-            let _len = write(&frame, Side::Network, octets);
-            sent = sent.wrapping_add(1);
+            match Frame::new(id.address(*role), *control, &[]) {
+                Ok(frame) => {
+                    let _len = write(&frame, Side::Network, octets);
+                    sent = sent.wrapping_add(1);
+                }
+                Err(kind) => return Err(BenchFault::NoFrame(kind)),
+            }
         }
     }
     Ok(sent)
@@ -88,12 +118,19 @@ fn id_of(number: u32) -> Result<LinkId, BenchFault>
 fn add_established(alloc: Global, table: &mut LinkTable, id: LinkId) -> Result<(), BenchFault>
     requires { (id.sapi ≢ Sapi.Management) × (id.tei < 127) }
 {
-    let sabme = [id.sapi.value() * 4, id.tei.value() * 2 + 1, 0x7f];
     let link = Link::new(alloc, table.side(), id.sapi, id.tei, Params::primary())?;
     match table.add(link) {
-        Ok(()) => {}
-        Err((fault, _link)) => return Err(BenchFault::Table(fault)),
+        Ok(()) => establish(table, id),
+        Err((fault, _link)) => Err(BenchFault::Table(fault)),
     }
-    let _ = table.dispatch(&sabme)?;
+}
+
+/// The user establishes this link.
+fn establish(table: &mut LinkTable, id: LinkId) -> Result<(), BenchFault>
+    requires { (id.sapi ≢ Sapi.Management) × (id.tei < 127) }
+{
+    let mut outs = Outs::new();
+    let sabme = [id.sapi.value() * 4, id.tei.value() * 2 + 1, 0x7f];
+    let _id = table.dispatch_into(&sabme, &mut outs)?;
     Ok(())
 }

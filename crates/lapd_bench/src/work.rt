@@ -4,7 +4,7 @@ use std::env::Args;
 use std::{env, io};
 
 /// What is to be done.
-#[derive(Clone, Copy, Debug, PartialEq, Eq)]
+#[derive(Clone, Copy)]
 pub enum Work {
     /// So many messages go over two links.
     Links(u32),
@@ -36,43 +36,84 @@ pub enum Work {
 ///
 /// `CommandLine` where it asks for none of these, and `Memory`.
 pub fn asked(rt: &HostRuntime) -> Result<Work, BenchFault> {
-    let mut words = match env::args(rt) {
-        Ok(words) => words,
-        Err(error) if error.kind() == io::ErrorKind::OutOfMemory => return Err(BenchFault::Memory),
-        Err(_) => return Err(BenchFault::CommandLine),
-    };
-    let _program = words.next();
-    let Some(first) = words.next() else {
-        return Ok(Work::Links(MESSAGES));
-    };
-    let work = match first.as_str() {
-        "pair" => Work::Pair(next_number(&mut words)?),
-        "line" => Work::Line(next_number(&mut words)?, next_number(&mut words)?),
-        "table" => Work::Table(next_number(&mut words)?, next_number(&mut words)?),
-        "side" => Work::Side(next_number(&mut words)?, next_number(&mut words)?),
-        "tick" => Work::Tick(next_number(&mut words)?, next_number(&mut words)?),
-        "port" => Work::Port(next_number(&mut words)?, next_number(&mut words)?),
-        "due" => Work::Due(next_number(&mut words)?),
-        "terminal" => Work::Terminal(next_number(&mut words)?),
-        "check" => Work::Check(next_number(&mut words)?),
-        "request" => Work::Request(next_number(&mut words)?),
-        count => Work::Links(number(count)?),
-    };
-    match words.next() {
-        Some(_) => Err(BenchFault::CommandLine),
-        None => Ok(work),
+    match env::args(rt) {
+        Ok(mut words) => asked_by(&mut words),
+        Err(error) => Err(fault_of(&error)),
     }
 }
 
-/// The number that the next word writes.
-fn next_number(words: &mut Args) -> Result<u32, BenchFault> {
-    match words.next() {
-        Some(word) => number(word.as_str()),
-        None => Err(BenchFault::CommandLine),
+/// Why the words could not be read.
+fn fault_of(error: &io::Error) -> BenchFault {
+    match error.kind() {
+        io::ErrorKind::OutOfMemory => BenchFault::Memory,
+        _ => BenchFault::CommandLine,
     }
+}
+
+/// What these words ask for, of which the first is the program's name.
+fn asked_by(words: &mut Args) -> Result<Work, BenchFault> {
+    let _program = words.next();
+    match words.next() {
+        Some(first) => asked_with(first.as_str(), words),
+        None => Ok(Work::Links(MESSAGES)),
+    }
+}
+
+/// What this word asks for, with those behind it.
+fn asked_with(first: &str, words: &mut Args) -> Result<Work, BenchFault> {
+    let one = next_number(words)?;
+    let two = next_number(words)?;
+    if words.next().is_some() {
+        return Err(BenchFault::CommandLine);
+    }
+    match (one, two) {
+        (None, _) => Ok(Work::Links(number(first)?)),
+        (Some(times), None) => of_one(first, times),
+        (Some(count), Some(times)) => of_two(first, count, times),
+    }
+}
+
+/// What this word asks for with one number.
+fn of_one(word: &str, times: u32) -> Result<Work, BenchFault> {
+    match word {
+        "pair" => Ok(Work::Pair(times)),
+        "due" => Ok(Work::Due(times)),
+        "terminal" => Ok(Work::Terminal(times)),
+        "check" => Ok(Work::Check(times)),
+        "request" => Ok(Work::Request(times)),
+        _ => Err(BenchFault::CommandLine),
+    }
+}
+
+/// What this word asks for with two numbers.
+fn of_two(word: &str, count: u32, times: u32) -> Result<Work, BenchFault> {
+    match word {
+        "line" => Ok(Work::Line(count, times)),
+        "table" => Ok(Work::Table(count, times)),
+        "side" => Ok(Work::Side(count, times)),
+        "tick" => Ok(Work::Tick(count, times)),
+        "port" => Ok(Work::Port(count, times)),
+        _ => Err(BenchFault::CommandLine),
+    }
+}
+
+/// The number that the next word writes, where there is one.
+fn next_number(words: &mut Args) -> Result<Option<u32>, BenchFault> {
+    match words.next() {
+        Some(word) => some_number(word.as_str()),
+        None => Ok(None),
+    }
+}
+
+/// The number that a word writes, where a word may be left out.
+fn some_number(word: &str) -> Result<Option<u32>, BenchFault> {
+    Ok(Some(number(word)?))
 }
 
 /// The number that a word writes.
 fn number(word: &str) -> Result<u32, BenchFault> {
-    word.parse::<u32>().map_err(|_| BenchFault::CommandLine)
+    match word.parse::<u32>() {
+        Ok(number) => Ok(number),
+        Err(_) => Err(BenchFault::CommandLine),
+    }
 }

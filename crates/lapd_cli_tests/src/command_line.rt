@@ -1,7 +1,9 @@
 //! What the program's words choose, and the texts of the help.
 
 use crate::devices::{SOUND, port_of};
-use crate::dialogues::{BOTH_NET, BOTH_USER, Row, octets_of, play};
+use crate::dialogues::{BOTH_NET, BOTH_USER, MOST, Row, octets_of, play};
+use crate::wants::{are_same, is_said, wants};
+use clap::Error;
 use clap::error::ErrorKind;
 use lapd_bus::bus;
 use lapd_command_line::{Chosen, Unchosen, WordsFault, address, choose, help, words};
@@ -9,36 +11,67 @@ use lapd_commands::{answer, decode, pair};
 use lapd_frame::{Sapi, Side};
 use lapd_link::{Params, Recovery};
 use lapd_script::{PortFault, ScriptFault};
+use std::alloc::{AllocError, Global};
 use std::env::{Env, FillError};
 use std::test::Fail;
 
-fn wants(holds: bool, what: &'static str) -> Result<(), Fail> {
-    if holds { Ok(()) } else { Err(Fail::new(what)) }
+// How many frames a window has, how often a frame is sent again, and for how many messages there is room.
+type Numbers = (u8, u8, u16);
+
+const BASIC: Numbers = (1, 3, 512);
+
+// What words are to choose, with the recovery of the user and of the network.
+#[derive(Clone, Copy)]
+enum Wanted {
+    Answer(Side, Numbers, Recovery),
+    Pair(Numbers, Recovery, Recovery),
+    Loop(Numbers, Recovery, Recovery),
+    Bus(u8),
+    Net,
+    User,
+    Decode,
 }
 
-// Words that choose a link: its side, its window, N200 and its room.
-const LINKS: &[(&[&str], Side, (u8, u8, u16))] = &[
-    (&["lapd"], Side::Network, (1, 3, 512)),
-    (&["lapd", "answer"], Side::Network, (1, 3, 512)),
+const ENQUIRY: Recovery = Recovery::Enquiry;
+
+const LAST: Recovery = Recovery::LastMessage;
+
+// A name, words, and what they choose.
+const CHOICES: &[(&str, &[&str], Wanted)] = &[
     (
+        "no word",
+        &["lapd"],
+        Wanted::Answer(Side::Network, BASIC, ENQUIRY),
+    ),
+    (
+        "answer",
+        &["lapd", "answer"],
+        Wanted::Answer(Side::Network, BASIC, ENQUIRY),
+    ),
+    (
+        "answer as the network",
         &["lapd", "answer", "--side", "net"],
-        Side::Network,
-        (1, 3, 512),
+        Wanted::Answer(Side::Network, BASIC, ENQUIRY),
     ),
-    (&["lapd", "answer", "--side=user"], Side::User, (1, 3, 512)),
     (
+        "answer as the user",
+        &["lapd", "answer", "--side=user"],
+        Wanted::Answer(Side::User, BASIC, ENQUIRY),
+    ),
+    (
+        "answer as the user, with a window",
         &["lapd", "answer", "--side", "user", "--k", "3"],
-        Side::User,
-        (3, 3, 512),
+        Wanted::Answer(Side::User, (3, 3, 512), ENQUIRY),
     ),
     (
+        "answer with the greatest numbers",
         &[
             "lapd", "answer", "--k", "127", "--n200", "100", "--room", "1024",
         ],
-        Side::Network,
-        (127, 100, 1024),
+        Wanted::Answer(Side::Network, (127, 100, 1024), ENQUIRY),
     ),
     (
+        "answer with the least numbers",
         &[
             "lapd",
             "answer",
@@ -47,81 +80,42 @@ const LINKS: &[(&[&str], Side, (u8, u8, u16))] = &[
             "--k=1",
             "--side=user",
         ],
-        Side::User,
-        (1, 1, 1),
+        Wanted::Answer(Side::User, (1, 1, 1), ENQUIRY),
     ),
     (
+        "answer with N200",
         &["lapd", "answer", "--n200", "7"],
-        Side::Network,
-        (1, 7, 512),
+        Wanted::Answer(Side::Network, (1, 7, 512), ENQUIRY),
     ),
     (
+        "answer with room",
         &["lapd", "answer", "--room", "0002"],
-        Side::Network,
-        (1, 3, 2),
+        Wanted::Answer(Side::Network, (1, 3, 2), ENQUIRY),
     ),
-];
-
-// Whether the words choose this.
-fn chooses(rt: &HostRuntime, words: &[&str], wanted: Chosen) -> bool {
-    choose(rt.alloc(), words).is_ok_and(|chosen| chosen == wanted)
-}
-
-#[test]
-fn words_choose(rt: HostRuntime) -> Result<(), Fail> {
-    for (words, side, (k, n200, room)) in LINKS {
-        let params = Params::new(*k, *n200, *room).ok_or("the numbers are in range")?;
-        let side = *side;
-        wants(
-            chooses(&rt, words, Chosen::Answer { side, params }),
-            "another link is chosen",
-        )?;
-    }
-    wants(
-        chooses(&rt, &["lapd", "decode"], Chosen::Decode),
-        "decode is not chosen",
-    )
-}
-
-// Words that choose a bus, and how many terminals it has.
-const BUSES: &[(&[&str], u8)] = &[
-    (&["lapd", "bus"], 2),
-    (&["lapd", "bus", "--terminals", "1"], 1),
-    (&["lapd", "bus", "--terminals=0127"], 127),
-];
-
-#[test]
-fn a_bus_is_chosen(rt: HostRuntime) -> Result<(), Fail> {
-    for (words, terminals) in BUSES {
-        let terminals = *terminals;
-        wants(
-            chooses(&rt, words, Chosen::Bus { terminals }),
-            "another bus is chosen",
-        )?;
-    }
-    Ok(())
-}
-
-#[test]
-fn a_recovery_is_chosen(rt: HostRuntime) -> Result<(), Fail> {
-    let params = Params::basic(Sapi::Call).with_recovery(Recovery::LastMessage);
-    let side = Side::Network;
-    let words = ["lapd", "answer", "--recovery", "last"];
-    wants(
-        chooses(&rt, &words, Chosen::Answer { side, params }),
-        "another recovery is chosen",
-    )
-}
-
-// Words that choose two ends: the window, N200 and room of both, and the recovery of each.
-const PAIRS: &[(&[&str], (u8, u8, u16), Recovery, Recovery)] = &[
     (
+        "answer with a recovery",
+        &["lapd", "answer", "--recovery", "last"],
+        Wanted::Answer(Side::Network, BASIC, LAST),
+    ),
+    ("decode", &["lapd", "decode"], Wanted::Decode),
+    ("a bus", &["lapd", "bus"], Wanted::Bus(2)),
+    (
+        "a bus of one terminal",
+        &["lapd", "bus", "--terminals", "1"],
+        Wanted::Bus(1),
+    ),
+    (
+        "the greatest bus",
+        &["lapd", "bus", "--terminals=0127"],
+        Wanted::Bus(127),
+    ),
+    (
+        "two ends",
         &["lapd", "pair"],
-        (1, 3, 512),
-        Recovery::Enquiry,
-        Recovery::Enquiry,
+        Wanted::Pair(BASIC, ENQUIRY, ENQUIRY),
     ),
     (
+        "two ends with numbers, and a recovery of the user",
         &[
             "lapd",
             "pair",
@@ -134,74 +128,112 @@ const PAIRS: &[(&[&str], (u8, u8, u16), Recovery, Recovery)] = &[
             "--recovery-user",
             "last",
         ],
-        (7, 2, 9),
-        Recovery::LastMessage,
-        Recovery::Enquiry,
+        Wanted::Pair((7, 2, 9), LAST, ENQUIRY),
     ),
     (
+        "two ends with a recovery each",
         &[
             "lapd",
             "pair",
             "--recovery-net=last",
             "--recovery-user=enquiry",
         ],
-        (1, 3, 512),
-        Recovery::Enquiry,
-        Recovery::LastMessage,
+        Wanted::Pair(BASIC, ENQUIRY, LAST),
+    ),
+    (
+        "a loop",
+        &["lapd", "loop"],
+        Wanted::Loop(BASIC, ENQUIRY, ENQUIRY),
+    ),
+    (
+        "a loop with numbers, and a recovery of the network",
+        &[
+            "lapd",
+            "loop",
+            "--k=7",
+            "--n200=2",
+            "--room=9",
+            "--recovery-net=last",
+        ],
+        Wanted::Loop((7, 2, 9), ENQUIRY, LAST),
     ),
 ];
 
+// The parameters of these numbers, where they are in range.
+fn params(numbers: Numbers, recovery: Recovery) -> Option<Params> {
+    let params = Params::new(numbers.0, numbers.1, numbers.2)?;
+    Some(params.with_recovery(recovery))
+}
+
+// The choice that is wanted, where its numbers are in range.
+fn chosen(wanted: Wanted) -> Option<Chosen> {
+    match wanted {
+        Wanted::Answer(side, numbers, recovery) => Some(Chosen::Answer {
+            side,
+            params: params(numbers, recovery)?,
+        }),
+        Wanted::Pair(numbers, user, network) => Some(Chosen::Pair {
+            user: params(numbers, user)?,
+            network: params(numbers, network)?,
+        }),
+        Wanted::Loop(numbers, user, network) => Some(Chosen::Loop {
+            user: params(numbers, user)?,
+            network: params(numbers, network)?,
+        }),
+        Wanted::Bus(terminals) => Some(Chosen::Bus { terminals }),
+        Wanted::Net => Some(Chosen::Net),
+        Wanted::User => Some(Chosen::User),
+        Wanted::Decode => Some(Chosen::Decode),
+    }
+}
+
+// Whether the words choose this.
+fn chooses(alloc: Global, words: &[&str], wanted: Wanted) -> bool {
+    let wanted = chosen(wanted);
+    wanted.is_some() && choose(alloc, words).ok() == wanted
+}
+
 #[test]
-fn words_choose_two_ends(rt: HostRuntime) -> Result<(), Fail> {
-    for (words, (k, n200, room), user, network) in PAIRS {
-        let params = Params::new(*k, *n200, *room).ok_or("the numbers are in range")?;
-        let chosen = Chosen::Pair {
-            user: params.with_recovery(*user),
-            network: params.with_recovery(*network),
-        };
-        wants(chooses(&rt, words, chosen), "other ends are chosen")?;
+fn words_choose(rt: HostRuntime) -> Result<(), Fail> {
+    for (row, words, wanted) in CHOICES {
+        let chosen = chooses(rt.alloc(), words, *wanted);
+        wants(chosen, row, "another choice")?;
     }
     Ok(())
 }
 
-#[test]
-fn words_choose_a_loop(rt: HostRuntime) -> Result<(), Fail> {
-    let params = Params::basic(Sapi::Call);
-    let chosen = Chosen::Loop {
-        user: params,
-        network: params,
-    };
-    wants(chooses(&rt, &["lapd", "loop"], chosen), "no loop is chosen")?;
-    let params = Params::new(7, 2, 9).ok_or("the numbers are in range")?;
-    let words = [
-        "lapd",
-        "loop",
-        "--k=7",
-        "--n200=2",
-        "--room=9",
-        "--recovery-net=last",
-    ];
-    let chosen = Chosen::Loop {
-        user: params,
-        network: params.with_recovery(Recovery::LastMessage),
-    };
-    wants(chooses(&rt, &words, chosen), "another loop is chosen")
-}
+// Words that choose a side, over a connection at an address, which is taken as it stands.
+const SIDES: &[(&str, &[&str], Wanted, &str)] = &[
+    (
+        "the network side",
+        &["lapd", "net", "--listen", "127.0.0.1:7000"],
+        Wanted::Net,
+        "127.0.0.1:7000",
+    ),
+    (
+        "the user side",
+        &["lapd", "user", "--connect=no address"],
+        Wanted::User,
+        "no address",
+    ),
+];
 
 // Whether the side that the words choose has this address.
-fn is_at(rt: &HostRuntime, words: &[&str], wanted: &str) -> bool {
-    address(rt.alloc(), words).is_ok_and(|found| found == wanted)
+fn is_at(alloc: Global, words: &[&str], wanted: &str) -> bool {
+    match address(alloc, words) {
+        Ok(found) => found == wanted,
+        Err(_) => false,
+    }
 }
 
-// Words that choose a side, over a connection at an address, which is taken as it stands.
 #[test]
 fn words_choose_sides(rt: HostRuntime) -> Result<(), Fail> {
-    let words = ["lapd", "net", "--listen", "127.0.0.1:7000"];
-    let side = chooses(&rt, &words, Chosen::Net) && is_at(&rt, &words, "127.0.0.1:7000");
-    wants(side, "no network side is chosen, or another address")?;
-    let words = ["lapd", "user", "--connect=no address"];
-    let side = chooses(&rt, &words, Chosen::User) && is_at(&rt, &words, "no address");
-    wants(side, "no user side is chosen, or another address")
+    for (row, words, side, at) in SIDES {
+        let chosen = chooses(rt.alloc(), words, *side);
+        let found = chosen && is_at(rt.alloc(), words, at);
+        wants(found, row, "another choice, or another address")?;
+    }
+    Ok(())
 }
 
 // Words that the parser does not take.
@@ -250,21 +282,33 @@ const FAULTS: &[&[&str]] = &[
 ];
 
 // Whether the parser told a text that goes to standard error, and has this status.
-fn is_told(rt: &HostRuntime, words: &[&str], on_error: bool, status: i32) -> bool {
-    match choose(rt.alloc(), words) {
-        Err(Unchosen::Told(error)) => {
-            error.kind() != ErrorKind::OutOfMemory
-                && error.use_stderr() == on_error
-                && error.exit_code() == status
-        }
+fn is_told(alloc: Global, words: &[&str], on_error: bool, status: i32) -> bool {
+    let chosen = choose(alloc, words);
+    match &chosen {
+        Err(Unchosen::Told(error)) => is_text(error, on_error, status),
         _ => false,
     }
+}
+
+// The last of these words, which names a row.
+fn last<'a>(words: &'a [&'a str]) -> &'a str {
+    match words {
+        [.., word] => word,
+        [] => "",
+    }
+}
+
+// Whether this text goes to standard error, and has this status.
+fn is_text(error: &Error, on_error: bool, status: i32) -> bool {
+    let goes = error.use_stderr() == on_error && error.exit_code() == status;
+    goes && error.kind() != ErrorKind::OutOfMemory
 }
 
 #[test]
 fn parser_refuses(rt: HostRuntime) -> Result<(), Fail> {
     for words in FAULTS {
-        wants(is_told(&rt, words, true, 2), "words are not refused")?;
+        let refused = is_told(rt.alloc(), words, true, 2);
+        wants(refused, last(words), "words are not refused")?;
     }
     Ok(())
 }
@@ -287,7 +331,8 @@ const ASKED: &[&[&str]] = &[
 #[test]
 fn help_and_version_are_shown(rt: HostRuntime) -> Result<(), Fail> {
     for words in ASKED {
-        wants(is_told(&rt, words, false, 0), "a text is not shown")?;
+        let shown = is_told(rt.alloc(), words, false, 0);
+        wants(shown, last(words), "a text is not shown")?;
     }
     Ok(())
 }
@@ -365,17 +410,18 @@ const NUMBERS: &[(&[&str], &str)] = &[
 ];
 
 // Whether the words have a number that is out of its range, of which this is said.
-fn says(rt: &HostRuntime, words: &[&str], text: &str) -> Result<bool, Fail> {
-    match choose(rt.alloc(), words) {
-        Err(Unchosen::OutOfRange(fault)) => Ok(fault.to_string(rt.alloc())?.as_str() == text),
-        _ => Ok(false),
+fn says(alloc: Global, words: &[&str], text: &str) -> bool {
+    let chosen = choose(alloc, words);
+    match &chosen {
+        Err(Unchosen::OutOfRange(fault)) => is_said(alloc, fault, text),
+        _ => false,
     }
 }
 
 #[test]
 fn numbers_out_of_range(rt: HostRuntime) -> Result<(), Fail> {
     for (words, text) in NUMBERS {
-        wants(says(&rt, words, text)?, "another fault is told")?;
+        wants(says(rt.alloc(), words, text), text, "another text is told")?;
     }
     Ok(())
 }
@@ -407,17 +453,35 @@ impl Env for Words<'_> {
     }
 }
 
+// Whether the last of three words is this one.
+fn is_third(words: &[String], text: &[u8]) -> bool {
+    match words {
+        [_, _, word] => are_same(word.as_bytes(), text),
+        _ => false,
+    }
+}
+
+// Whether the last of three words is read as this one.
+fn reads_third(alloc: Global, env: &Words<'_>, text: &[u8]) -> bool {
+    match words(alloc, env) {
+        Ok(read) => is_third(read.as_slice(), text),
+        Err(_) => false,
+    }
+}
+
 #[test]
 fn words_are_text(rt: HostRuntime) -> Result<(), Fail> {
     let long = [b'1'; 1000];
     let env = Words {
         words: &[b"lapd", b"", &long],
     };
-    let read = words(rt.alloc(), &env)?;
-    match read.as_slice() {
-        [_, _, word] => wants(word.as_bytes() == long.as_slice(), "a long word is cut"),
-        _ => Err(Fail::new("not all words are read")),
-    }
+    let read = reads_third(rt.alloc(), &env, &long);
+    wants(read, "three words", "they are cut, or not all are read")
+}
+
+// Why words are not read.
+fn fault_of(alloc: Global, env: &Words<'_>) -> Option<WordsFault> {
+    words(alloc, env).err()
 }
 
 #[test]
@@ -425,88 +489,141 @@ fn words_that_are_no_text(rt: HostRuntime) -> Result<(), Fail> {
     let env = Words {
         words: &[b"lapd", b"answer", b"--k=\xff"],
     };
-    let Err(fault) = words(rt.alloc(), &env) else {
-        return Err(Fail::new("octets are taken for text"));
-    };
-    let text = fault.to_string(rt.alloc())?;
-    wants(fault == WordsFault::NotText(2), "another word is named")?;
+    let fault = fault_of(rt.alloc(), &env);
+    let row = "the third word is no text";
+    wants(fault == Some(WordsFault::NotText(2)), row, "another fault")?;
+    let text = "error: argument 2 is not valid UTF-8";
     wants(
-        text.as_str() == "error: argument 2 is not valid UTF-8",
-        "the text is another one",
+        is_said(rt.alloc(), &WordsFault::NotText(2), text),
+        row,
+        "another text",
     )
 }
 
-// The lines of an example that stand behind this mark.
-fn lines_behind(rt: &HostRuntime, example: &str, mark: &str) -> Result<Vec<u8>, Fail> {
-    let mut lines = Vec::new(rt.alloc());
-    for line in example.lines() {
-        if let Some(line) = line.strip_prefix(mark) {
-            lines.extend_from_slice(line.as_bytes())?;
-            lines.push(b'\n')?;
+// A command whose help has an example.
+#[derive(Clone, Copy)]
+enum Command {
+    Answer(Side),
+    Bus,
+    Decode,
+    Pair,
+}
+
+// What a script comes to under a command.
+fn run(
+    alloc: Global,
+    command: Command,
+    mut script: &[u8],
+    printed: &mut Vec<u8>,
+) -> Result<(), ScriptFault> {
+    let params = Params::basic(Sapi::Call);
+    match command {
+        Command::Answer(side) => answer(alloc, &mut script, printed, side, params),
+        Command::Bus => bus(alloc, &mut script, printed, 2),
+        Command::Decode => decode(alloc, &mut script, printed),
+        Command::Pair => pair(alloc, &mut script, printed, params, params),
+    }
+}
+
+// An example: a text, how the line begins that parts it in two, and whether the example stands behind that line.
+type Example = (&'static str, &'static str, bool);
+
+const NETWORK_ANSWERS: &str = "The network side, ";
+
+const NETWORK_BEGINS: &str = "The network side begins anew";
+
+// No line begins so: the example is all of its text.
+const NO_LINE: &str = "no line";
+
+// A name, a command, and its example. What `loop` prints is what `pair` prints.
+const EXAMPLES: &[(&str, Command, Example)] = &[
+    (
+        "the user answers",
+        Command::Answer(Side::User),
+        (help::ANSWER, NETWORK_ANSWERS, false),
+    ),
+    (
+        "the network answers",
+        Command::Answer(Side::Network),
+        (help::ANSWER, NETWORK_ANSWERS, true),
+    ),
+    (
+        "two ends",
+        Command::Pair,
+        (help::PAIR, NETWORK_BEGINS, false),
+    ),
+    (
+        "the network begins anew",
+        Command::Pair,
+        (help::PAIR, NETWORK_BEGINS, true),
+    ),
+    ("a loop", Command::Pair, (help::LOOP, NO_LINE, false)),
+    ("a bus", Command::Bus, (help::BUS, NO_LINE, false)),
+    (
+        "octets are decoded",
+        Command::Decode,
+        (help::DECODE, NO_LINE, false),
+    ),
+];
+
+// Puts a line at the end of others.
+fn put_line(lines: &mut Vec<u8>, line: &str) -> Result<(), AllocError> {
+    lines.extend_from_slice(line.as_bytes())?;
+    Ok(lines.push(b'\n')?)
+}
+
+// Puts the lines of an example that stand behind this mark at the end of others.
+fn put_lines(lines: &mut Vec<u8>, example: &Example, mark: &str) -> Result<(), AllocError> {
+    let (text, parted_by, behind) = *example;
+    let mut is_behind = false;
+    for line in text.lines() {
+        is_behind = is_behind || line.starts_with(parted_by);
+        if is_behind == behind {
+            if let Some(line) = line.strip_prefix(mark) {
+                put_line(lines, line)?;
+            }
         }
     }
+    Ok(())
+}
+
+// The lines of an example that stand behind this mark.
+fn lines_behind(alloc: Global, example: &Example, mark: &str) -> Result<Vec<u8>, AllocError> {
+    let mut lines = Vec::new(alloc);
+    put_lines(&mut lines, example, mark)?;
     Ok(lines)
 }
 
 // Whether what was printed is what the example prints.
-fn prints(rt: &HostRuntime, example: &str, printed: &[u8]) -> Result<(), Fail> {
-    let wanted = lines_behind(rt, example, "  > ")?;
-    wants(
-        !printed.is_empty() && printed == wanted.as_slice(),
-        "an example of the help prints something else",
-    )
+fn is_printed(alloc: Global, example: &Example, printed: &[u8]) -> bool {
+    match lines_behind(alloc, example, "  > ") {
+        Ok(wanted) => !printed.is_empty() && are_same(wanted.as_slice(), printed),
+        Err(_) => false,
+    }
 }
 
-fn example_of_answer(rt: &HostRuntime, side: Side, example: &str) -> Result<(), Fail> {
-    let script = lines_behind(rt, example, "  < ")?;
-    let params = Params::new(1, 3, 512).ok_or("the numbers are in range")?;
-    let mut printed = Vec::new(rt.alloc());
-    answer(
-        rt.alloc(),
-        &mut script.as_slice(),
-        &mut printed,
-        side,
-        params,
-    )?;
-    prints(rt, example, printed.as_slice())
+// Whether a script, run so, prints what the example prints.
+fn prints(alloc: Global, command: Command, script: &[u8], example: &Example) -> bool {
+    let mut printed = Vec::new(alloc);
+    let ended = run(alloc, command, script, &mut printed);
+    ended == Ok(()) && is_printed(alloc, example, printed.as_slice())
 }
 
-#[test]
-fn examples_of_answer(rt: HostRuntime) -> Result<(), Fail> {
-    let Some((user, network)) = help::ANSWER.split_once("The network side, ") else {
-        return Err(Fail::new("the help has no example of the network side"));
-    };
-    example_of_answer(&rt, Side::User, user)?;
-    example_of_answer(&rt, Side::Network, network)
-}
-
-fn example_of_pair(rt: &HostRuntime, example: &str) -> Result<(), Fail> {
-    let script = lines_behind(rt, example, "  < ")?;
-    let params = Params::new(1, 3, 512).ok_or("the numbers are in range")?;
-    let mut printed = Vec::new(rt.alloc());
-    pair(
-        rt.alloc(),
-        &mut script.as_slice(),
-        &mut printed,
-        params,
-        params,
-    )?;
-    prints(rt, example, printed.as_slice())
+// Whether the script of an example prints what the example prints.
+fn holds(alloc: Global, command: Command, example: &Example) -> bool {
+    match lines_behind(alloc, example, "  < ") {
+        Ok(script) => prints(alloc, command, script.as_slice(), example),
+        Err(_) => false,
+    }
 }
 
 #[test]
-fn examples_of_pair(rt: HostRuntime) -> Result<(), Fail> {
-    let Some((first, second)) = help::PAIR.split_once("The network side begins anew") else {
-        return Err(Fail::new("the help has no second example"));
-    };
-    example_of_pair(&rt, first)?;
-    example_of_pair(&rt, second)
-}
-
-// What `loop` prints is what `pair` prints.
-#[test]
-fn example_of_loop(rt: HostRuntime) -> Result<(), Fail> {
-    example_of_pair(&rt, help::LOOP)
+fn examples_of_the_help(rt: HostRuntime) -> Result<(), Fail> {
+    for (row, command, example) in EXAMPLES {
+        let holds = holds(rt.alloc(), *command, example);
+        wants(holds, row, "it ends otherwise, or prints something else")?;
+    }
+    Ok(())
 }
 
 // How a script ends, what is said of it, and the exit status.
@@ -523,54 +640,33 @@ const ENDS: &[(ScriptFault, &str, u8)] = &[
     (ScriptFault::Port(PortFault::Failed), "port S6 Failed", 3),
 ];
 
-// Whether this is said of it, with this status.
-fn is_said(rt: &HostRuntime, fault: ScriptFault, text: &str, status: u8) -> Result<bool, Fail> {
-    Ok(fault.to_string(rt.alloc())?.as_str() == text && fault.status() == status)
-}
-
 #[test]
 fn faults_are_said(rt: HostRuntime) -> Result<(), Fail> {
     for (fault, text, status) in ENDS {
-        wants(
-            is_said(&rt, *fault, text, *status)?,
-            "another text or status",
-        )?;
+        let said = is_said(rt.alloc(), fault, text) && fault.status() == *status;
+        wants(said, text, "another text or status")?;
     }
     Ok(())
 }
 
-// What an example prints, with what the other side of a worked dialogue sends.
-fn example_of_side(rt: &HostRuntime, row: &Row, example: &str) -> Result<(), Fail> {
-    let script = lines_behind(rt, example, "  < ")?;
-    let script = String::from_utf8(script).map_err(|_| "the help is text")?;
-    let coming = octets_of(row.coming)?;
-    let port = port_of(coming.as_slice(), SOUND);
-    let ended = play(rt.alloc(), row.who, script.as_str(), port, 2048);
-    wants(
-        ended.result == Ok(()),
-        "an example of the help does not end well",
-    )?;
-    prints(rt, example, ended.printed.text.as_slice())
+// A script as this side, with what the other side of a worked dialogue sends, prints what the example prints.
+fn side_prints(alloc: Global, row: &Row, script: &[u8], example: &Example) -> Result<(), Fail> {
+    let mut coming = [0; MOST];
+    let port = port_of(octets_of(row.coming, &mut coming)?, SOUND);
+    let ended = play(alloc, row.who, script, port, 2048);
+    let printed = is_printed(alloc, example, ended.printed.text.as_slice());
+    let what = "an example of the help ends otherwise, or prints something else";
+    wants(printed && ended.result == Ok(()), row.name, what)
+}
+
+// The script of a side's example prints what the example prints.
+fn side_holds(alloc: Global, row: &Row, example: &Example) -> Result<(), Fail> {
+    let script = lines_behind(alloc, example, "  < ")?;
+    side_prints(alloc, row, script.as_slice(), example)
 }
 
 #[test]
 fn examples_of_sides(rt: HostRuntime) -> Result<(), Fail> {
-    example_of_side(&rt, &BOTH_NET, help::NET)?;
-    example_of_side(&rt, &BOTH_USER, help::USER)
-}
-
-#[test]
-fn example_of_bus(rt: HostRuntime) -> Result<(), Fail> {
-    let script = lines_behind(&rt, help::BUS, "  < ")?;
-    let mut printed = Vec::new(rt.alloc());
-    bus(rt.alloc(), &mut script.as_slice(), &mut printed, 2)?;
-    prints(&rt, help::BUS, printed.as_slice())
-}
-
-#[test]
-fn examples_of_decode(rt: HostRuntime) -> Result<(), Fail> {
-    let script = lines_behind(&rt, help::DECODE, "  < ")?;
-    let mut printed = Vec::new(rt.alloc());
-    decode(rt.alloc(), &mut script.as_slice(), &mut printed)?;
-    prints(&rt, help::DECODE, printed.as_slice())
+    side_holds(rt.alloc(), &BOTH_NET, &(help::NET, NO_LINE, false))?;
+    side_holds(rt.alloc(), &BOTH_USER, &(help::USER, NO_LINE, false))
 }

@@ -1,23 +1,24 @@
 //! A connection of the process to itself.
 
-use crate::scripts::{MESSAGE, pair_of};
-use crate::wants::wants;
-use lapd_link::Params;
-use lapd_socket::{FromRead, FromWrite, Port, loop_over};
+use crate::scripts::{Ended, Ends, MESSAGE, ends_of, loop_of, pair_of};
+use crate::wants::{are_same, wants};
+use lapd_socket::{FromRead, FromWrite, Port};
 use std::alloc::Global;
 use std::net::{TcpListener, TcpStream};
 use std::test::Fail;
 
-/// What goes in at the near end comes out at the far end.
-fn crosses(alloc: Global, near: &TcpStream, far: &TcpStream) -> Result<(), Fail> {
-    let params = Params::new(1, 3, 512).ok_or("a number is out of range")?;
-    let wanted = pair_of(alloc, &MESSAGE)?;
+/// What `loop` comes to where what goes in at the near end comes out at the far end.
+fn ended_over(alloc: Global, near: &TcpStream, far: &TcpStream, ends: &Ends) -> Ended {
     let port = Port::new(FromRead::new(far), FromWrite::new(near));
-    let mut printed = Vec::new(alloc);
-    let mut script = MESSAGE.4.as_bytes();
-    let (ended, _port) = loop_over(alloc, &mut script, &mut printed, params, params, port);
-    let same = ended == Ok(()) && printed.as_slice() == wanted.printed.as_slice();
-    wants(same, MESSAGE.0, "it ends otherwise, or prints another text")
+    let (ended, _port) = loop_of(alloc, &MESSAGE, ends, port);
+    ended
+}
+
+/// Whether `loop` ends well, and prints what `pair` prints.
+fn crosses(alloc: Global, near: &TcpStream, far: &TcpStream, ends: &Ends) -> bool {
+    let wanted = pair_of(alloc, &MESSAGE, ends);
+    let ended = ended_over(alloc, near, far, ends);
+    ended.result == Ok(()) && are_same(ended.printed.as_slice(), wanted.printed.as_slice())
 }
 
 #[test]
@@ -25,5 +26,10 @@ fn a_message_crosses_a_connection(rt: HostRuntime) -> Result<(), Fail> {
     let listener = TcpListener::bind(&rt, "127.0.0.1:0")?;
     let near = TcpStream::connect(&rt, listener.local_addr()?)?;
     let (far, _) = listener.accept()?;
-    crosses(rt.alloc(), &near, &far)
+    let crosses = crosses(rt.alloc(), &near, &far, &ends_of(&MESSAGE)?);
+    wants(
+        crosses,
+        MESSAGE.0,
+        "it ends otherwise, or prints another text",
+    )
 }

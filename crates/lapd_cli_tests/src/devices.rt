@@ -10,7 +10,7 @@ use std::io::{ErrorKind, Write};
 pub(crate) type MemoryPort<'a> = Port<Giver<'a>, Taker>;
 
 /// How the devices of a port behave: how many octets a call moves at most, and which read fails and which write, from 1.
-#[derive(Clone, Copy, Debug)]
+#[derive(Clone, Copy)]
 pub(crate) struct Devices {
     pub(crate) most: usize,
     pub(crate) read_fails: Option<u64>,

@@ -1,22 +1,23 @@
 //! Dialogues of a side with what comes through its port: what it prints, and what it sends.
 
 use crate::devices::{Devices, MemoryPort, Paper, SOUND, port_of};
-use crate::wants::wants;
-use arrayvec::ArrayVec;
+use crate::port::devices::calls_of;
+use crate::wants::{are_same, wants};
 use lapd_script::ScriptFault;
-use lapd_socket::{net, user};
+use lapd_socket::{Port, Sink, Source, net, user};
 use std::alloc::Global;
+use std::io::Write;
 use std::test::Fail;
 
 /// Which command goes over a script.
-#[derive(Clone, Copy, Debug)]
+#[derive(Clone, Copy)]
 pub(crate) enum Who {
     Net,
     User,
 }
 
 /// A dialogue.
-#[derive(Clone, Copy, Debug)]
+#[derive(Clone, Copy)]
 pub(crate) struct Row {
     pub(crate) name: &'static str,
     pub(crate) who: Who,
@@ -44,10 +45,21 @@ impl Ended<'_> {
 
     /// How often it read and wrote.
     pub(crate) fn calls(&self) -> (u64, u64) {
-        (
-            self.port.source().trouble.calls,
-            self.port.sink().trouble.calls,
-        )
+        calls_of(&self.port)
+    }
+}
+
+/// Goes over a script as this side.
+pub(crate) fn go_over<W: Write, S: Source, K: Sink>(
+    alloc: Global,
+    who: Who,
+    mut script: &[u8],
+    printed: &mut W,
+    port: Port<S, K>,
+) -> (Result<(), ScriptFault>, Port<S, K>) {
+    match who {
+        Who::Net => net(alloc, &mut script, printed, port),
+        Who::User => user(alloc, &mut script, printed, port),
     }
 }
 
@@ -55,16 +67,12 @@ impl Ended<'_> {
 pub(crate) fn play<'a>(
     alloc: Global,
     who: Who,
-    script: &str,
+    script: &[u8],
     port: MemoryPort<'a>,
     room: usize,
 ) -> Ended<'a> {
     let mut printed = Paper::with_room(room);
-    let mut script = script.as_bytes();
-    let (result, port) = match who {
-        Who::Net => net(alloc, &mut script, &mut printed, port),
-        Who::User => user(alloc, &mut script, &mut printed, port),
-    };
+    let (result, port) = go_over(alloc, who, script, &mut printed, port);
     Ended {
         result,
         printed,
@@ -72,13 +80,17 @@ pub(crate) fn play<'a>(
     }
 }
 
-/// The octets that these digits write, 1,024 at most.
-pub(crate) fn octets_of(digits: &str) -> Result<ArrayVec<u8, 1024>, Fail> {
-    let mut octets = ArrayVec::from([0; 1024]);
-    octets.truncate(digits.len() / 2);
-    match hex::decode_to_slice(digits.as_bytes(), octets.as_mut_slice()) {
-        Ok(()) => Ok(octets),
-        Err(_) => Err(Fail::new(format_args!("these are no octets: {digits}"))),
+/// How many octets come or go at most.
+pub(crate) const MOST: usize = 1024;
+
+/// The octets that these digits write, which are put here.
+pub(crate) fn octets_of<'a>(digits: &str, octets: &'a mut [u8; MOST]) -> Result<&'a [u8], Fail> {
+    let Some(front) = octets.get_mut(..digits.len() / 2) else {
+        return Err(Fail::new("a row has too many octets"));
+    };
+    match hex::decode_to_slice(digits.as_bytes(), front) {
+        Ok(()) => Ok(front),
+        Err(_) => Err(Fail::new("a row has digits that are no octets")),
     }
 }
 
@@ -341,36 +353,50 @@ const ROWS: &[Row] = &[
 /// Whether it ended well, with what the row says.
 fn is_as_said(ended: &Ended<'_>, row: &Row, going: &[u8]) -> bool {
     ended.result == Ok(())
-        && ended.printed.text.as_slice() == row.printed.as_bytes()
-        && ended.sent() == going
+        && are_same(ended.printed.text.as_slice(), row.printed.as_bytes())
+        && are_same(ended.sent(), going)
 }
 
-/// How many octets go through a device at a time.
-const MOST: [usize; 3] = [512, 7, 1];
+/// Whether a row ends as is said with these octets, of which so many go through a device at a time.
+fn ends_as_said(alloc: Global, row: &Row, coming: &[u8], going: &[u8], most: usize) -> bool {
+    let port = port_of(coming, Devices { most, ..SOUND });
+    let ended = play(alloc, row.who, row.script.as_bytes(), port, 2048);
+    is_as_said(&ended, row, going)
+}
+
+/// A row ends as is said, however many octets go through a device at a time.
+fn plays_row(alloc: Global, row: &Row) -> Result<(), Fail> {
+    let (mut coming, mut going) = ([0; MOST], [0; MOST]);
+    let coming = octets_of(row.coming, &mut coming)?;
+    let going = octets_of(row.going, &mut going)?;
+    for most in [512, 7, 1] {
+        let as_said = ends_as_said(alloc, row, coming, going, most);
+        wants(as_said, row.name, "it ends otherwise")?;
+    }
+    Ok(())
+}
 
 #[test]
 fn dialogues_are_as_said(rt: HostRuntime) -> Result<(), Fail> {
     for row in ROWS {
-        let coming = octets_of(row.coming)?;
-        let going = octets_of(row.going)?;
-        for most in MOST {
-            let port = port_of(coming.as_slice(), Devices { most, ..SOUND });
-            let ended = play(rt.alloc(), row.who, row.script, port, 2048);
-            let as_said = is_as_said(&ended, row, going.as_slice());
-            wants(as_said, row.name, "it ends otherwise")?;
-        }
+        plays_row(rt.alloc(), row)?;
     }
     Ok(())
+}
+
+/// How often a row reads and writes.
+fn calls_in(alloc: Global, row: &Row) -> Result<(u64, u64), Fail> {
+    let mut coming = [0; MOST];
+    let port = port_of(octets_of(row.coming, &mut coming)?, SOUND);
+    Ok(play(alloc, row.who, row.script.as_bytes(), port, 2048).calls())
 }
 
 /// Each frame is written in one call of the device, and read in two.
 #[test]
 fn each_frame_is_one_write(rt: HostRuntime) -> Result<(), Fail> {
-    for (row, calls) in [(WORKED_NET, (5, 3)), (WORKED_USER, (8, 4))] {
-        let coming = octets_of(row.coming)?;
-        let port = port_of(coming.as_slice(), SOUND);
-        let ended = play(rt.alloc(), row.who, row.script, port, 2048);
-        wants(ended.calls() == calls, row.name, "another number of calls")?;
+    for (row, calls) in [(&WORKED_NET, (5, 3)), (&WORKED_USER, (8, 4))] {
+        let same = calls_in(rt.alloc(), row)? == calls;
+        wants(same, row.name, "another number of calls")?;
     }
     Ok(())
 }

@@ -1,11 +1,11 @@
 //! Scripts, of which `loop` prints what `pair` prints.
 
-use crate::wants::wants;
+use crate::wants::{are_same, wants};
 use crate::wire::{Trouble, Wire, WirePort};
 use lapd_commands::pair;
 use lapd_link::{Params, Recovery};
 use lapd_script::ScriptFault;
-use lapd_socket::{FromRead, FromWrite, Port, loop_over};
+use lapd_socket::{FromRead, FromWrite, Port, Sink, Source, loop_over};
 use std::alloc::Global;
 use std::test::Fail;
 
@@ -81,51 +81,69 @@ pub(crate) struct Ended {
     pub(crate) printed: Vec<u8>,
 }
 
+/// What the user and the network of a row are made with.
+pub(crate) type Ends = (Params, Params);
+
 /// What the ends of a row are made with.
-fn ends_of(row: &Row) -> Result<(Params, Params), Fail> {
+pub(crate) fn ends_of(row: &Row) -> Result<Ends, Fail> {
     let params = Params::new(row.1, 3, 512).ok_or("a number is out of range")?;
     Ok((params.with_recovery(row.2), params.with_recovery(row.3)))
 }
 
 /// What `pair` comes to.
-pub(crate) fn pair_of(alloc: Global, row: &Row) -> Result<Ended, Fail> {
-    let (user, network) = ends_of(row)?;
+pub(crate) fn pair_of(alloc: Global, row: &Row, ends: &Ends) -> Ended {
     let mut printed = Vec::new(alloc);
-    let result = pair(alloc, &mut row.4.as_bytes(), &mut printed, user, network);
-    Ok(Ended { result, printed })
+    let result = pair(alloc, &mut row.4.as_bytes(), &mut printed, ends.0, ends.1);
+    Ended { result, printed }
 }
 
-/// What `loop` comes to over a wire, and the port after it.
-pub(crate) fn loop_of<'a>(
+/// What `loop` comes to over a port, and the port after it.
+pub(crate) fn loop_of<S: Source, K: Sink>(
     alloc: Global,
     row: &Row,
-    port: WirePort<'a>,
-) -> Result<(Ended, WirePort<'a>), Fail> {
-    let (user, network) = ends_of(row)?;
+    ends: &Ends,
+    port: Port<S, K>,
+) -> (Ended, Port<S, K>) {
     let mut printed = Vec::new(alloc);
     let mut script = row.4.as_bytes();
-    let (result, port) = loop_over(alloc, &mut script, &mut printed, user, network, port);
-    Ok((Ended { result, printed }, port))
+    let (result, port) = loop_over(alloc, &mut script, &mut printed, ends.0, ends.1, port);
+    (Ended { result, printed }, port)
 }
 
 /// Whether both end alike and print the same.
-pub(crate) fn are_alike(one: &Ended, other: &Ended) -> bool {
-    one.result == other.result && one.printed.as_slice() == other.printed.as_slice()
+fn are_alike(one: &Ended, other: &Ended) -> bool {
+    one.result == other.result && are_same(one.printed.as_slice(), other.printed.as_slice())
 }
 
-/// How many octets the sink takes at a time.
-const CHUNKS: [usize; 3] = [1, 2, 512];
+/// Whether `loop` ends as is wanted where the sink takes so many octets at a time.
+fn loops_alike(alloc: Global, row: &Row, ends: &Ends, most: usize, wanted: &Ended) -> bool {
+    let wire = Wire::new();
+    let port = wire.port(most, Trouble::None, Trouble::None);
+    let (ended, _port) = loop_of(alloc, row, ends, port);
+    are_alike(&ended, wanted)
+}
+
+/// Whether `loop` ends as is wanted, however many octets the sink takes at a time.
+fn loops_so(alloc: Global, row: &Row, ends: &Ends, wanted: &Ended) -> bool {
+    for most in [1, 2, 512] {
+        if !loops_alike(alloc, row, ends, most, wanted) {
+            return false;
+        }
+    }
+    true
+}
+
+/// Whether `loop` ends as `pair` does.
+fn is_as_pair(alloc: Global, row: &Row, ends: &Ends) -> bool {
+    let wanted = pair_of(alloc, row, ends);
+    loops_so(alloc, row, ends, &wanted)
+}
 
 #[test]
 fn prints_what_pair_prints(rt: HostRuntime) -> Result<(), Fail> {
     for row in ROWS {
-        let wanted = pair_of(rt.alloc(), row)?;
-        for most in CHUNKS {
-            let wire = Wire::new();
-            let port = wire.port(most, Trouble::None, Trouble::None);
-            let (ended, _port) = loop_of(rt.alloc(), row, port)?;
-            wants(are_alike(&ended, &wanted), row.0, "it ends otherwise")?;
-        }
+        let alike = is_as_pair(rt.alloc(), row, &ends_of(row)?);
+        wants(alike, row.0, "it ends otherwise")?;
     }
     Ok(())
 }
@@ -137,17 +155,28 @@ const PRINTED: &str =
      user acknowledged 1\nuser: state 7, given 1, received 0, acknowledged 1, dropped 0\n\
      net: state 7, given 0, received 1, acknowledged 0, dropped 0\n";
 
-/// Its four frames go out in one write each, and are read octet by octet.
-#[test]
-fn a_message_crosses(rt: HostRuntime) -> Result<(), Fail> {
+/// Whether the worked script ends well, and prints its text.
+fn is_worked(ended: &Ended) -> bool {
+    ended.result == Ok(()) && are_same(ended.printed.as_slice(), PRINTED.as_bytes())
+}
+
+/// Whether the frames go out in one write each, and are read octet by octet.
+fn has_calls(port: &WirePort<'_>) -> bool {
+    port.sink().counts.calls == 4 && port.source().counts.calls == 24
+}
+
+/// Whether the worked script crosses a wire, with its four frames.
+fn crosses(alloc: Global, ends: &Ends) -> bool {
     let wire = Wire::new();
     let port = wire.port(512, Trouble::None, Trouble::None);
-    let (ended, port) = loop_of(rt.alloc(), &MESSAGE, port)?;
-    wants(ended.result == Ok(()), MESSAGE.0, "a fault")?;
-    let text = ended.printed.as_slice() == PRINTED.as_bytes();
-    wants(text, MESSAGE.0, "another text")?;
-    let calls = port.sink().counts.calls == 4 && port.source().counts.calls == 24;
-    wants(calls, MESSAGE.0, "another number of calls")
+    let (ended, port) = loop_of(alloc, &MESSAGE, ends, port);
+    is_worked(&ended) && has_calls(&port)
+}
+
+#[test]
+fn a_message_crosses(rt: HostRuntime) -> Result<(), Fail> {
+    let crosses = crosses(rt.alloc(), &ends_of(&MESSAGE)?);
+    wants(crosses, MESSAGE.0, "another text, or number of calls")
 }
 
 /// The text of its frames.
@@ -156,18 +185,24 @@ const TEXT: &[u8] = &[
     0x08, 0x01, 0x00, 0x04, 0x00, 0x81, 0x01, 0x02,
 ];
 
-/// These octets are written, and these are read.
+/// Whether these octets were read, all of them, and written.
+fn has_text(port: &Port<FromRead<&[u8]>, FromWrite<Vec<u8>>>) -> bool {
+    port.source().get_ref().is_empty() && are_same(port.sink().get_ref().as_slice(), TEXT)
+}
+
+/// Whether the worked script ends well over these octets.
+fn text_crosses(alloc: Global, ends: &Ends) -> bool {
+    let port = Port::new(FromRead::new(TEXT), FromWrite::new(Vec::new(alloc)));
+    let (ended, port) = loop_of(alloc, &MESSAGE, ends, port);
+    ended.result == Ok(()) && has_text(&port)
+}
+
 #[test]
 fn the_text_of_frames_crosses(rt: HostRuntime) -> Result<(), Fail> {
-    let alloc = rt.alloc();
-    let (user, network) = ends_of(&MESSAGE)?;
-    let port = Port::new(FromRead::new(TEXT), FromWrite::new(Vec::new(alloc)));
-    let mut printed = Vec::new(alloc);
-    let mut script = MESSAGE.4.as_bytes();
-    let (ended, port) = loop_over(alloc, &mut script, &mut printed, user, network, port);
-    ended?;
-    let read = port.source().get_ref().is_empty();
-    wants(read, MESSAGE.0, "octets are left")?;
-    let written = port.sink().get_ref().as_slice() == TEXT;
-    wants(written, MESSAGE.0, "other octets are written")
+    let crosses = text_crosses(rt.alloc(), &ends_of(&MESSAGE)?);
+    wants(
+        crosses,
+        MESSAGE.0,
+        "other octets are written, or some are left",
+    )
 }

@@ -1,44 +1,40 @@
 //! Both ends of a dialogue over a connection of the process to itself. What the user sends is there before, so that neither
 //! waits for the other.
 
-use crate::dialogues::{BOTH_NET, BOTH_USER, Row, Who, octets_of};
-use crate::wants::wants;
-use arrayvec::ArrayVec;
-use lapd_socket::{FromRead, FromWrite, Port, net, user};
+use crate::dialogues::{BOTH_NET, BOTH_USER, MOST, Row, go_over, octets_of};
+use crate::wants::{are_same, wants};
+use lapd_socket::{FromRead, FromWrite, Port};
 use std::alloc::Global;
 use std::io::{Read, Write};
 use std::net::{TcpListener, TcpStream};
 use std::test::Fail;
 
-/// Goes over the script of a row, over this connection.
-fn plays(alloc: Global, row: &Row, stream: &TcpStream) -> Result<(), Fail> {
+/// Whether a row ends well and prints its text, over this connection.
+fn plays(alloc: Global, row: &Row, stream: &TcpStream) -> bool {
     let port = Port::new(FromRead::new(stream), FromWrite::new(stream));
     let mut printed = Vec::new(alloc);
-    let mut script = row.script.as_bytes();
-    let (ended, _port) = match row.who {
-        Who::Net => net(alloc, &mut script, &mut printed, port),
-        Who::User => user(alloc, &mut script, &mut printed, port),
-    };
-    let said = ended == Ok(()) && printed.as_slice() == row.printed.as_bytes();
-    wants(said, row.name, "it ends otherwise, or prints another text")
+    let (ended, _port) = go_over(alloc, row.who, row.script.as_bytes(), &mut printed, port);
+    ended == Ok(()) && are_same(printed.as_slice(), row.printed.as_bytes())
 }
 
 /// Whether these octets come next.
-fn come(stream: &TcpStream, octets: &ArrayVec<u8, 1024>) -> Result<bool, Fail> {
-    let mut found = [0; 1024];
-    let mut behind = stream;
-    behind.read_exact(&mut found[..octets.len()])?;
-    Ok(&found[..octets.len()] == octets.as_slice())
+fn come(mut stream: &TcpStream, octets: &[u8]) -> bool {
+    let mut found = [0; MOST];
+    match found.get_mut(..octets.len()) {
+        Some(front) => stream.read_exact(front).is_ok() && &*front == octets,
+        None => false,
+    }
 }
 
 /// Both ends, one after the other.
-fn talk(alloc: Global, near: &TcpStream, far: &TcpStream) -> Result<(), Fail> {
-    let from_user = octets_of(BOTH_USER.going)?;
-    let mut ahead = far;
-    ahead.write_all(from_user.as_slice())?;
-    plays(alloc, &BOTH_NET, near)?;
-    plays(alloc, &BOTH_USER, far)?;
-    wants(come(near, &from_user)?, BOTH_USER.name, "other octets went")
+fn talk(alloc: Global, near: &TcpStream, mut far: &TcpStream) -> Result<(), Fail> {
+    let mut going = [0; MOST];
+    let from_user = octets_of(BOTH_USER.going, &mut going)?;
+    far.write_all(from_user)?;
+    let what = "it ends otherwise, or prints another text";
+    wants(plays(alloc, &BOTH_NET, near), BOTH_NET.name, what)?;
+    wants(plays(alloc, &BOTH_USER, far), BOTH_USER.name, what)?;
+    wants(come(near, from_user), BOTH_USER.name, "other octets went")
 }
 
 #[test]

@@ -2,7 +2,7 @@
 
 use crate::devices::{SOUND, port_of};
 use crate::dialogues::{Who, play};
-use crate::wants::wants;
+use crate::wants::{are_same, wants};
 use lapd_script::ScriptFault;
 use std::alloc::Global;
 use std::test::Fail;
@@ -81,39 +81,46 @@ const GOOD: &[(&str, &str)] = &[
     ("", ""),
 ];
 
-/// Whether a script whose second line this is ends at it, with nothing printed of it.
-fn is_bad(alloc: Global, who: Who, line: &str) -> Result<bool, Fail> {
-    let port = port_of(&[], SOUND);
-    let script = format!(in alloc; "tick 1\n{line}\nread\n")?;
-    let ended = play(alloc, who, script.as_str(), port, 2048);
-    let untouched = ended.calls() == (0, 0);
-    Ok(ended.result == Err(ScriptFault::BadLine(2)) && ended.printed.text.is_empty() && untouched)
+/// Whether a script ends at its second line, with nothing printed of it.
+fn ends_at_second(alloc: Global, who: Who, script: &[u8]) -> bool {
+    let ended = play(alloc, who, script, port_of(&[], SOUND), 2048);
+    ended.result == Err(ScriptFault::BadLine(2))
+        && ended.printed.text.is_empty()
+        && ended.calls() == (0, 0)
+}
+
+/// Whether a script whose second line this is ends at it.
+fn is_bad(alloc: Global, who: Who, line: &str) -> bool {
+    match format!(in alloc; "tick 1\n{line}\nread\n") {
+        Ok(script) => ends_at_second(alloc, who, script.as_bytes()),
+        Err(_) => false,
+    }
 }
 
 #[test]
 fn bad_lines(rt: HostRuntime) -> Result<(), Fail> {
     for line in BAD {
-        wants(is_bad(rt.alloc(), Who::Net, line)?, line, "of net")?;
-        wants(is_bad(rt.alloc(), Who::User, line)?, line, "of user")?;
+        let bad = is_bad(rt.alloc(), Who::Net, line) && is_bad(rt.alloc(), Who::User, line);
+        wants(bad, line, "it is taken for a line of net, or of user")?;
     }
-    wants(is_bad(rt.alloc(), Who::Net, "ask")?, "ask", "of net")?;
-    wants(
-        is_bad(rt.alloc(), Who::User, "check 64")?,
-        "check 64",
-        "of user",
-    )
+    let ask = is_bad(rt.alloc(), Who::Net, "ask");
+    wants(ask, "ask", "it is taken for a line of net")?;
+    let check = is_bad(rt.alloc(), Who::User, "check 64");
+    wants(check, "check 64", "it is taken for a line of user")
+}
+
+/// Whether a script of one line ends well, and prints this.
+fn is_good(alloc: Global, who: Who, line: &str, printed: &str) -> bool {
+    let ended = play(alloc, who, line.as_bytes(), port_of(&[], SOUND), 2048);
+    ended.result == Ok(()) && are_same(ended.printed.text.as_slice(), printed.as_bytes())
 }
 
 #[test]
 fn good_lines(rt: HostRuntime) -> Result<(), Fail> {
-    for who in [Who::Net, Who::User] {
-        for (line, printed) in GOOD {
-            let port = port_of(&[], SOUND);
-            let ended = play(rt.alloc(), who, line, port, 2048);
-            let good = ended.result == Ok(())
-                && ended.printed.text.as_slice() == printed.as_bytes();
-            wants(good, line, "it ends otherwise")?;
-        }
+    for (line, printed) in GOOD {
+        let net = is_good(rt.alloc(), Who::Net, line, printed);
+        let user = is_good(rt.alloc(), Who::User, line, printed);
+        wants(net && user, line, "it ends otherwise as net, or as user")?;
     }
     Ok(())
 }

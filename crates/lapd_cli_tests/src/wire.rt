@@ -14,7 +14,7 @@ pub(crate) struct Wire {
 }
 
 /// What befalls a device.
-#[derive(Clone, Copy, Debug, PartialEq, Eq)]
+#[derive(Clone, Copy)]
 pub(crate) enum Trouble {
     /// Nothing.
     None,
@@ -29,7 +29,7 @@ pub(crate) enum Trouble {
 }
 
 /// How often a device was called, how often it failed, and how many octets went through it.
-#[derive(Clone, Copy, Debug)]
+#[derive(Clone, Copy)]
 pub(crate) struct Counts {
     pub(crate) calls: u64,
     failures: u64,
@@ -50,7 +50,7 @@ impl Counts {
             (λ error. self.new.failures ≡ failures_after error self.old.failures) }
     {
         self.calls = self.calls.saturating_add(1);
-        if trouble == Trouble::Fails(self.calls) {
+        if matches!(trouble, Trouble::Fails(call) if call == self.calls) {
             self.failures = DeviceError::Failed.counted(self.failures);
             return Err(DeviceError::Failed);
         }
@@ -135,10 +135,10 @@ impl Far<'_> {
             return None;
         }
         let octet = self.wire.take()?;
-        if self.trouble == Trouble::Loses(number) {
+        if matches!(self.trouble, Trouble::Loses(lost) if lost == number) {
             return self.wire.take();
         }
-        if self.trouble == Trouble::Changes(number) {
+        if matches!(self.trouble, Trouble::Changes(changed) if changed == number) {
             return Some(octet ^ 1);
         }
         Some(octet)

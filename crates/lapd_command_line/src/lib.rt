@@ -73,22 +73,34 @@ pub fn choose<'a, S: AsStr>(alloc: Global, words: &'a [S]) -> Result<Chosen, Unc
             params: Params::basic(Sapi::Call),
         });
     }
+    let matches = parsed(alloc, words)?;
+    chosen_by(&matches)
+}
+
+// What the parser finds in the program's words.
+fn parsed<'a, S: AsStr>(alloc: Global, words: &'a [S]) -> Result<ArgMatches<'a>, Error> {
     let program: Command<'a> = program(alloc)?;
-    let matches = program.try_get_matches_from(words)?;
+    program.try_get_matches_from(words)
+}
+
+// What the words choose in which the parser found this.
+fn chosen_by<'a>(matches: &ArgMatches<'a>) -> Result<Chosen, Unchosen<'a>> {
     // A word for a subcommand is required, and the parser takes those of `program` alone.
     match matches.subcommand() {
-        Some(("answer", given)) => answer_chosen(given),
-        Some(("bus", given)) => bus_chosen(given),
-        Some(("pair", given)) => {
-            let (user, network) = ends_given(given)?;
-            Ok(Chosen::Pair { user, network })
-        }
-        Some(("loop", given)) => {
-            let (user, network) = ends_given(given)?;
-            Ok(Chosen::Loop { user, network })
-        }
-        Some(("net", _)) => Ok(Chosen::Net),
-        Some(("user", _)) => Ok(Chosen::User),
+        Some((name, given)) => command_chosen(name, given),
+        None => Ok(Chosen::Decode),
+    }
+}
+
+// What the command of this name chooses, with its options.
+fn command_chosen<'a>(name: &str, given: &ArgMatches<'a>) -> Result<Chosen, Unchosen<'a>> {
+    match name {
+        "answer" => answer_chosen(given),
+        "bus" => bus_chosen(given),
+        "pair" => pair_chosen(given),
+        "loop" => loop_chosen(given),
+        "net" => Ok(Chosen::Net),
+        "user" => Ok(Chosen::User),
         _ => Ok(Chosen::Decode),
     }
 }
@@ -99,12 +111,16 @@ pub fn choose<'a, S: AsStr>(alloc: Global, words: &'a [S]) -> Result<Chosen, Unc
 ///
 /// As [`choose`].
 pub fn address<'a, S: AsStr>(alloc: Global, words: &'a [S]) -> Result<&'a str, Unchosen<'a>> {
-    let program: Command<'a> = program(alloc)?;
-    let matches = program.try_get_matches_from(words)?;
+    let matches = parsed(alloc, words)?;
+    Ok(address_in(&matches))
+}
+
+// The address in the words in which the parser found this.
+fn address_in<'a>(matches: &ArgMatches<'a>) -> &'a str {
     match matches.subcommand() {
-        Some(("net", given)) => Ok(address_given(given, "listen")),
-        Some(("user", given)) => Ok(address_given(given, "connect")),
-        _ => Ok(""),
+        Some(("net", given)) => address_given(given, "listen"),
+        Some(("user", given)) => address_given(given, "connect"),
+        _ => "",
     }
 }
 
@@ -117,6 +133,18 @@ fn answer_chosen<'a>(given: &ArgMatches<'a>) -> Result<Chosen, Unchosen<'a>> {
         }),
         Err(fault) => Err(Unchosen::OutOfRange(fault)),
     }
+}
+
+// What the options of `pair` choose.
+fn pair_chosen<'a>(given: &ArgMatches<'a>) -> Result<Chosen, Unchosen<'a>> {
+    let (user, network) = ends_given(given)?;
+    Ok(Chosen::Pair { user, network })
+}
+
+// What the options of `loop` choose.
+fn loop_chosen<'a>(given: &ArgMatches<'a>) -> Result<Chosen, Unchosen<'a>> {
+    let (user, network) = ends_given(given)?;
+    Ok(Chosen::Loop { user, network })
 }
 
 // What the user side and the network side of `pair` or `loop` are made with.
@@ -197,116 +225,156 @@ fn out_of_range<'a>(k: &'a str, n200: &'a str, room: &'a str) -> OutOfRange<'a>
 pub const VERSION: &str = "0.1.0";
 
 fn program<'a>(alloc: Global) -> Result<Command<'a>, Error> {
-    let program = Command::new(alloc, "lapd")
-        .bin_name("lapd")?
-        .version(VERSION)
-        .about(help::ABOUT)
+    Ok(with_commands(alloc, named_program(alloc)?)?)
+}
+
+// The program, with no commands yet.
+fn named_program<'a>(alloc: Global) -> Result<Command<'a>, Error> {
+    let program = described(alloc, "lapd", help::ABOUT, help::PROGRAM).bin_name("lapd")?;
+    Ok(with_usage(program.version(VERSION)))
+}
+
+// The program, which wants a command.
+fn with_usage<'a>(program: Command<'a>) -> Command<'a> {
+    program
         .override_usage("lapd [COMMAND]")
-        .after_help(help::PROGRAM)
         .subcommand_required(true)
         .disable_help_subcommand(true)
-        .subcommand(answer_command(alloc)?)?
-        .subcommand(bus_command(alloc)?)?
-        .subcommand(pair_command(alloc)?)?
-        .subcommand(loop_command(alloc)?)?
-        .subcommand(net_command(alloc)?)?
-        .subcommand(user_command(alloc)?)?
-        .subcommand(decode_command(alloc))?;
-    Ok(program)
+}
+
+// The program, with all of its commands.
+fn with_commands<'a>(alloc: Global, program: Command<'a>) -> Result<Command<'a>, AllocError> {
+    let program = with_command(program, answer_command(alloc))?;
+    let program = with_command(program, bus_command(alloc))?;
+    let program = with_command(program, pair_command(alloc))?;
+    let program = with_command(program, loop_command(alloc))?;
+    let program = with_command(program, net_command(alloc))?;
+    let program = with_command(program, user_command(alloc))?;
+    with_command(program, Ok(decode_command(alloc)))
+}
+
+// The program, with one more command.
+fn with_command<'a>(
+    program: Command<'a>,
+    command: Result<Command<'a>, AllocError>,
+) -> Result<Command<'a>, AllocError> {
+    match command {
+        Ok(command) => program.subcommand(command),
+        Err(error) => Err(error),
+    }
+}
+
+// A command of this name, with what it does and the text that ends its help.
+fn described<'a>(
+    alloc: Global,
+    name: &'static str,
+    about: &'static str,
+    after_help: &'static str,
+) -> Command<'a> {
+    Command::new(alloc, name)
+        .about(about)
+        .after_help(after_help)
+}
+
+// The command, with one more argument.
+fn with_arg<'a>(command: Command<'a>, arg: Arg<'a>) -> Result<Command<'a>, AllocError> {
+    command.arg(arg)
 }
 
 fn answer_command<'a>(alloc: Global) -> Result<Command<'a>, AllocError> {
-    Command::new(alloc, "answer")
-        .about(help::ANSWER_ABOUT)
-        .after_help(help::ANSWER)
-        .arg(side_option(alloc))?
-        .arg(K.arg(alloc))?
-        .arg(N200.arg(alloc))?
-        .arg(ROOM.arg(alloc))?
-        .arg(recovery_option(alloc, "recovery", help::RECOVERY))
+    let command = described(alloc, "answer", help::ANSWER_ABOUT, help::ANSWER);
+    let command = with_arg(command, side_option(alloc))?;
+    let command = with_numbers(alloc, command)?;
+    with_arg(command, recovery_option(alloc, "recovery", help::RECOVERY))
 }
 
 fn pair_command<'a>(alloc: Global) -> Result<Command<'a>, AllocError> {
-    let command = Command::new(alloc, "pair")
-        .about(help::PAIR_ABOUT)
-        .after_help(help::PAIR);
-    with_ends(alloc, command)
+    with_ends(
+        alloc,
+        described(alloc, "pair", help::PAIR_ABOUT, help::PAIR),
+    )
 }
 
 fn loop_command<'a>(alloc: Global) -> Result<Command<'a>, AllocError> {
-    let command = Command::new(alloc, "loop")
-        .about(help::LOOP_ABOUT)
-        .after_help(help::LOOP);
-    with_ends(alloc, command)
+    with_ends(
+        alloc,
+        described(alloc, "loop", help::LOOP_ABOUT, help::LOOP),
+    )
 }
 
 // The options of two ends.
 fn with_ends<'a>(alloc: Global, command: Command<'a>) -> Result<Command<'a>, AllocError> {
-    command
-        .arg(K.arg(alloc))?
-        .arg(N200.arg(alloc))?
-        .arg(ROOM.arg(alloc))?
-        .arg(recovery_option(alloc, "recovery-user", help::RECOVERY_USER))?
-        .arg(recovery_option(alloc, "recovery-net", help::RECOVERY_NET))
+    let command = with_numbers(alloc, command)?;
+    let user = recovery_option(alloc, "recovery-user", help::RECOVERY_USER);
+    let command = with_arg(command, user)?;
+    let network = recovery_option(alloc, "recovery-net", help::RECOVERY_NET);
+    with_arg(command, network)
+}
+
+// The options that take the numbers of a link's parameters.
+fn with_numbers<'a>(alloc: Global, command: Command<'a>) -> Result<Command<'a>, AllocError> {
+    let command = with_arg(command, K.arg(alloc))?;
+    let command = with_arg(command, N200.arg(alloc))?;
+    with_arg(command, ROOM.arg(alloc))
 }
 
 fn bus_command<'a>(alloc: Global) -> Result<Command<'a>, AllocError> {
-    Command::new(alloc, "bus")
-        .about(help::BUS_ABOUT)
-        .after_help(help::BUS)
-        .arg(TERMINALS.arg(alloc))
+    let command = described(alloc, "bus", help::BUS_ABOUT, help::BUS);
+    with_arg(command, TERMINALS.arg(alloc))
 }
 
 fn decode_command<'a>(alloc: Global) -> Command<'a> {
-    Command::new(alloc, "decode")
-        .about(help::DECODE_ABOUT)
-        .after_help(help::DECODE)
+    described(alloc, "decode", help::DECODE_ABOUT, help::DECODE)
 }
 
 fn net_command<'a>(alloc: Global) -> Result<Command<'a>, AllocError> {
-    Command::new(alloc, "net")
-        .about(help::NET_ABOUT)
-        .after_help(help::NET)
-        .arg(address_option(alloc, "listen", help::LISTEN))
+    let command = described(alloc, "net", help::NET_ABOUT, help::NET);
+    with_arg(command, address_option(alloc, "listen", help::LISTEN))
 }
 
 fn user_command<'a>(alloc: Global) -> Result<Command<'a>, AllocError> {
-    Command::new(alloc, "user")
-        .about(help::USER_ABOUT)
-        .after_help(help::USER)
-        .arg(address_option(alloc, "connect", help::CONNECT))
+    let command = described(alloc, "user", help::USER_ABOUT, help::USER);
+    with_arg(command, address_option(alloc, "connect", help::CONNECT))
+}
+
+// An option of this name that takes a value, with what stands for the value in the help, and what it is for.
+fn value_option<'a>(
+    alloc: Global,
+    name: &'static str,
+    value_name: &'static str,
+    help: &'static str,
+) -> Arg<'a> {
+    named_option(alloc, name, value_name)
+        .help(help)
+        .action(ArgAction::Set)
+}
+
+// An option of this name, with what stands for its value in the help.
+fn named_option<'a>(alloc: Global, name: &'static str, value_name: &'static str) -> Arg<'a> {
+    Arg::new(alloc, name).long(name).value_name(value_name)
 }
 
 // An address, which has to be given. It is handed to the system as it stands.
 fn address_option<'a>(alloc: Global, name: &'static str, help: &'static str) -> Arg<'a> {
-    Arg::new(alloc, name)
-        .long(name)
-        .value_name("ADDRESS")
-        .help(help)
-        .action(ArgAction::Set)
-        .required(true)
+    value_option(alloc, name, "ADDRESS", help).required(true)
+}
+
+// An option that takes one of these words, and this one where it is not given.
+fn word_option<'a>(option: Arg<'a>, words: &'a [&'a str], default: &'a str) -> Arg<'a> {
+    option.value_parser(words).default_value(default)
 }
 
 static SIDES: [&str; 2] = ["net", "user"];
 
 fn side_option<'a>(alloc: Global) -> Arg<'a> {
-    Arg::new(alloc, "side")
-        .long("side")
-        .value_name("SIDE")
-        .help("The side of the link that answers")
-        .action(ArgAction::Set)
-        .value_parser(SIDES.as_slice())
-        .default_value("net")
+    let option = value_option(alloc, "side", "SIDE", "The side of the link that answers");
+    word_option(option, SIDES.as_slice(), "net")
 }
 
 static RECOVERIES: [&str; 2] = ["enquiry", "last"];
 
+// The recovery that the option of this name takes.
 fn recovery_option<'a>(alloc: Global, name: &'static str, help: &'static str) -> Arg<'a> {
-    Arg::new(alloc, name)
-        .long(name)
-        .value_name("RECOVERY")
-        .help(help)
-        .action(ArgAction::Set)
-        .value_parser(RECOVERIES.as_slice())
-        .default_value("enquiry")
+    let option = value_option(alloc, name, "RECOVERY", help);
+    word_option(option, RECOVERIES.as_slice(), "enquiry")
 }

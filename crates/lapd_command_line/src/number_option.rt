@@ -3,7 +3,8 @@
 ghost use Rattle.std.specs.Prelude.{◌≡◌, ◌↔◌, IsTrue};
 ghost use Rattle.lapd_command_line.specs.CommandLine.{IsNumberTo};
 
-use clap::{Arg, ArgAction, ArgMatches};
+use crate::value_option;
+use clap::{Arg, ArgMatches};
 use lapd_commands::number_of;
 use std::alloc::Global;
 use thiserror::Error;
@@ -63,11 +64,7 @@ impl NumberOption {
     /// The option as the parser knows it. It takes any text, so that the fault of a number can be told in words of its
     /// own, but for one that looks like another option.
     pub fn arg<'a>(self, alloc: Global) -> Arg<'a> {
-        Arg::new(alloc, self.name)
-            .long(self.name)
-            .value_name(self.value_name)
-            .help(self.help)
-            .action(ArgAction::Set)
+        value_option(alloc, self.name, self.value_name, self.help)
             .allow_negative_numbers(true)
             .default_value(self.default)
     }

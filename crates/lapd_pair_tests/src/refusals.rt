@@ -59,7 +59,7 @@ const PLACES: &[Place] = &[
     ),
     (
         "a SABME is on its way",
-        &[(USER, Deed::Establish, Comes::Sends(&["00817f"]))],
+        &[(USER, Deed::Establish, Comes::Sends("00817f"))],
         &[
             (
                 NETWORK,
@@ -87,8 +87,8 @@ const PLACES: &[Place] = &[
     (
         "a command with P=1 behind another frame",
         &[
-            (USER, Deed::Unit(&[5]), Comes::Sends(&["00810305"])),
-            (USER, Deed::Establish, Comes::Sends(&["00817f"])),
+            (USER, Deed::Unit(&[5]), Comes::Sends("00810305")),
+            (USER, Deed::Establish, Comes::Sends("00817f")),
         ],
         &[(
             USER,
@@ -99,9 +99,9 @@ const PLACES: &[Place] = &[
     (
         "the answer is on its way",
         &[
-            (USER, Deed::Establish, Comes::Sends(&["00817f"])),
-            (NETWORK, Deed::Unit(&[]), Comes::Sends(&["028103"])),
-            (NETWORK, Deed::Deliver, Comes::Sends(&["008173"])),
+            (USER, Deed::Establish, Comes::Sends("00817f")),
+            (NETWORK, Deed::Unit(&[]), Comes::Sends("028103")),
+            (NETWORK, Deed::Deliver, Comes::Sends("008173")),
         ],
         &[
             (
@@ -119,9 +119,9 @@ const PLACES: &[Place] = &[
     (
         "both establish: each waits for its own frame on its way to the user",
         &[
-            (USER, Deed::Establish, Comes::Sends(&["00817f"])),
-            (NETWORK, Deed::Establish, Comes::Sends(&["02817f"])),
-            (NETWORK, Deed::Deliver, Comes::Sends(&["008173"])),
+            (USER, Deed::Establish, Comes::Sends("00817f")),
+            (NETWORK, Deed::Establish, Comes::Sends("02817f")),
+            (NETWORK, Deed::Deliver, Comes::Sends("008173")),
         ],
         &[
             (
@@ -139,8 +139,8 @@ const PLACES: &[Place] = &[
     (
         "a release waits for the answer to the SABME",
         &[
-            (USER, Deed::Establish, Comes::Sends(&["00817f"])),
-            (USER, Deed::Release, Comes::Sends(&[])),
+            (USER, Deed::Establish, Comes::Sends("00817f")),
+            (USER, Deed::Release, Comes::Sends("")),
         ],
         &[
             (
@@ -158,11 +158,11 @@ const PLACES: &[Place] = &[
     (
         "no room for a third message",
         &[
-            (USER, Deed::Establish, Comes::Sends(&["00817f"])),
-            (NETWORK, Deed::Deliver, Comes::Sends(&["008173"])),
-            (USER, Deed::Deliver, Comes::Sends(&[])),
-            (USER, Deed::Give(&[1]), Comes::Sends(&["0081000001"])),
-            (USER, Deed::Give(&[2]), Comes::Sends(&[])),
+            (USER, Deed::Establish, Comes::Sends("00817f")),
+            (NETWORK, Deed::Deliver, Comes::Sends("008173")),
+            (USER, Deed::Deliver, Comes::Sends("")),
+            (USER, Deed::Give(&[1]), Comes::Sends("0081000001")),
+            (USER, Deed::Give(&[2]), Comes::Sends("")),
         ],
         &[
             (

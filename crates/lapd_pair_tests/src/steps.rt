@@ -27,10 +27,10 @@ pub(crate) enum Deed {
 /// What a deed comes to.
 #[derive(Clone, Copy)]
 pub(crate) enum Comes {
-    /// These frames are put on the line, in hexadecimal.
-    Sends(&'static [&'static str]),
-    /// These are its outputs, as they are printed for a person.
-    Tells(&'static [&'static str]),
+    /// These frames are put on the line, in hexadecimal, with a space between two.
+    Sends(&'static str),
+    /// These are its outputs, as they are printed for a person, with `; ` between two.
+    Tells(&'static str),
     /// It is refused, and all that the pair shows is as before.
     Refused(PairFault),
 }
@@ -79,7 +79,7 @@ fn makes_step(alloc: Global, pair: &mut Pair, row: &str, step: &Step) -> Result<
 }
 
 /// Whether a move puts just these frames on the line.
-fn sends(alloc: Global, pair: &mut Pair, deed: &Move, octets: &[&str]) -> Result<bool, Fail> {
+fn sends(alloc: Global, pair: &mut Pair, deed: &Move, octets: &str) -> Result<bool, Fail> {
     let to = deed.side().other();
     let before = pair.line(to).len();
     if pair.apply(deed).is_err() {
@@ -89,41 +89,63 @@ fn sends(alloc: Global, pair: &mut Pair, deed: &Move, octets: &[&str]) -> Result
 }
 
 /// Whether these are the frames.
-fn are(alloc: Global, sent: &[ArrayVec<u8, 264>], octets: &[&str]) -> Result<bool, Fail> {
-    for (frame, digits) in sent.iter().zip(octets) {
-        if !is_frame(alloc, frame.as_slice(), digits)? {
-            return Ok(false);
-        }
-    }
-    Ok(sent.len() == octets.len())
+fn are(alloc: Global, sent: &[ArrayVec<u8, 264>], octets: &str) -> Result<bool, Fail> {
+    let mut text = String::new(alloc);
+    push_frames(alloc, sent, &mut text)?;
+    Ok(text.as_str() == octets)
 }
 
-/// Whether these are the octets, in hexadecimal.
-fn is_frame(alloc: Global, octets: &[u8], digits: &str) -> Result<bool, Fail> {
-    Ok(hex::encode(alloc, octets)?.as_str() == digits)
+/// Adds frames in hexadecimal.
+fn push_frames(
+    alloc: Global,
+    sent: &[ArrayVec<u8, 264>],
+    text: &mut String,
+) -> Result<(), AllocError> {
+    for frame in sent {
+        push_octets(alloc, frame.as_slice(), text)?;
+    }
+    Ok(())
+}
+
+/// Adds octets in hexadecimal, behind a space where they are not the first.
+pub(crate) fn push_octets(
+    alloc: Global,
+    octets: &[u8],
+    text: &mut String,
+) -> Result<(), AllocError> {
+    let digits = hex::encode(alloc, octets)?;
+    push_behind(text, " ", digits.as_str())
+}
+
+/// Adds a part, behind this mark where it is not the first.
+fn push_behind(text: &mut String, mark: &str, part: &str) -> Result<(), AllocError> {
+    if !text.is_empty() {
+        text.push_str(mark)?;
+    }
+    text.push_str(part)
 }
 
 /// Whether a move gives just these outputs.
-fn tells(alloc: Global, pair: &mut Pair, deed: &Move, texts: &[&str]) -> Result<bool, Fail> {
+fn tells(alloc: Global, pair: &mut Pair, deed: &Move, wanted: &str) -> Result<bool, Fail> {
     match pair.apply(deed) {
-        Ok(outs) => are_printed(alloc, outs.as_slice(), texts),
+        Ok(outs) => are_printed(alloc, outs.as_slice(), wanted),
         Err(_) => Ok(false),
     }
 }
 
 /// Whether these outputs are printed so.
-fn are_printed(alloc: Global, outs: &[Out], texts: &[&str]) -> Result<bool, Fail> {
-    for (out, text) in outs.iter().zip(texts) {
-        if !is_printed(alloc, out, text)? {
-            return Ok(false);
-        }
-    }
-    Ok(outs.len() == texts.len())
+fn are_printed(alloc: Global, outs: &[Out], wanted: &str) -> Result<bool, Fail> {
+    let mut text = String::new(alloc);
+    push_outputs(alloc, outs, &mut text)?;
+    Ok(text.as_str() == wanted)
 }
 
-/// Whether this output is printed so.
-fn is_printed(alloc: Global, out: &Out, text: &str) -> Result<bool, Fail> {
-    Ok(out.to_string(alloc)?.as_str() == text)
+/// Adds outputs as they are printed for a person.
+fn push_outputs(alloc: Global, outs: &[Out], text: &mut String) -> Result<(), AllocError> {
+    for out in outs {
+        push_behind(text, "; ", out.to_string(alloc)?.as_str())?;
+    }
+    Ok(())
 }
 
 /// Whether a move is refused by this fault, and all that the pair shows is as before.

@@ -1,7 +1,7 @@
 //! Worked moves of a pair: what each comes to, and what is known at the end.
 
 use crate::made::pair_with;
-use crate::steps::{Comes, Deed, Step, makes};
+use crate::steps::{Comes, Deed, Step, makes, push_octets};
 use crate::wants::wants;
 use lapd_frame::Side;
 use lapd_link::Recovery;
@@ -33,8 +33,8 @@ struct Known {
     peer_busy: bool,
     /// What became of each message that it was given.
     fates: &'static [Fate],
-    /// The messages that it received, each in its first establishment.
-    received: &'static [&'static [u8]],
+    /// The messages that it received, each in its first establishment, in hexadecimal.
+    received: &'static str,
     /// How many messages it had received when each establishment began.
     begun: &'static [u64],
 }
@@ -62,13 +62,13 @@ const ESTABLISHED: Known = Known {
     state: 7,
     peer_busy: false,
     fates: &[],
-    received: &[],
+    received: "",
     begun: &[0],
 };
 
 /// A side that received one message.
 const RECEIVED: Known = Known {
-    received: &[&[8, 1]],
+    received: "0801",
     ..ESTABLISHED
 };
 
@@ -93,51 +93,45 @@ const RELEASED: Known = Known {
     state: 4,
     peer_busy: false,
     fates: &[],
-    received: &[],
+    received: "",
     begun: &[],
 };
 
 /// What a network that has a message on its way tells for the user's second SABME.
-const RE_ESTABLISHED: &[&str] = &[
-    "send Answer Ua { f: true }",
-    "report F",
-    "dropped 1",
-    "established",
-    "stop T200",
-    "start T203",
-];
+const RE_ESTABLISHED: &str =
+    "send Answer Ua { f: true }; report F; dropped 1; established; stop T200; start T203";
 
 /// What a user tells whose SABME was never answered.
-const GIVEN_UP: &[&str] = &["report G", "released"];
+const GIVEN_UP: &str = "report G; released";
 
 /// What a user tells for the answer that acknowledges both messages, which ends the recovery.
-const RECOVERED: &[&str] = &["acknowledged 2", "stop T200", "start T203"];
+const RECOVERED: &str = "acknowledged 2; stop T200; start T203";
 
 /// The user establishes the link, and the network answers.
 const ESTABLISH: &[Step] = &[
-    (USER, Deed::Establish, Comes::Sends(&["00817f"])),
-    (NETWORK, Deed::Deliver, Comes::Sends(&["008173"])),
-    (USER, Deed::Deliver, Comes::Sends(&[])),
+    (USER, Deed::Establish, Comes::Sends("00817f")),
+    (NETWORK, Deed::Deliver, Comes::Sends("008173")),
+    (USER, Deed::Deliver, Comes::Sends("")),
 ];
 
 /// The network is busy behind an establishment, so that nothing is sent to it.
 const BUSY: &[Step] = &[
-    (USER, Deed::Establish, Comes::Sends(&["00817f"])),
-    (NETWORK, Deed::Deliver, Comes::Sends(&["008173"])),
-    (USER, Deed::Deliver, Comes::Sends(&[])),
-    (NETWORK, Deed::Busy(true), Comes::Sends(&["00810500"])),
-    (USER, Deed::Deliver, Comes::Sends(&[])),
-    (USER, Deed::Give(&[8, 1]), Comes::Sends(&[])),
-    (USER, Deed::Expire200, Comes::Sends(&["00810101"])),
-    (NETWORK, Deed::Deliver, Comes::Sends(&["00810501"])),
-    (USER, Deed::Deliver, Comes::Sends(&[])),
+    (USER, Deed::Establish, Comes::Sends("00817f")),
+    (NETWORK, Deed::Deliver, Comes::Sends("008173")),
+    (USER, Deed::Deliver, Comes::Sends("")),
+    (NETWORK, Deed::Busy(true), Comes::Sends("00810500")),
+    (USER, Deed::Deliver, Comes::Sends("")),
+    (USER, Deed::Give(&[8, 1]), Comes::Sends("")),
+    (USER, Deed::Expire200, Comes::Sends("00810101")),
+    (NETWORK, Deed::Deliver, Comes::Sends("00810501")),
+    (USER, Deed::Deliver, Comes::Sends("")),
 ];
 
 /// It no longer is.
 const NO_LONGER_BUSY: &[Step] = &[
-    (NETWORK, Deed::Busy(false), Comes::Sends(&["00810100"])),
-    (USER, Deed::Deliver, Comes::Sends(&["008100000801"])),
-    (NETWORK, Deed::Deliver, Comes::Sends(&["00810102"])),
+    (NETWORK, Deed::Busy(false), Comes::Sends("00810100")),
+    (USER, Deed::Deliver, Comes::Sends("008100000801")),
+    (NETWORK, Deed::Deliver, Comes::Sends("00810102")),
 ];
 
 const ROWS: &[Worked] = &[
@@ -147,12 +141,12 @@ const ROWS: &[Worked] = &[
         recovery: Recovery::Enquiry,
         before: &[],
         steps: &[
-            (USER, Deed::Establish, Comes::Sends(&["00817f"])),
-            (NETWORK, Deed::Deliver, Comes::Sends(&["008173"])),
-            (USER, Deed::Deliver, Comes::Sends(&[])),
-            (USER, Deed::Give(&[8, 1]), Comes::Sends(&["008100000801"])),
-            (NETWORK, Deed::Deliver, Comes::Sends(&["00810102"])),
-            (USER, Deed::Deliver, Comes::Sends(&[])),
+            (USER, Deed::Establish, Comes::Sends("00817f")),
+            (NETWORK, Deed::Deliver, Comes::Sends("008173")),
+            (USER, Deed::Deliver, Comes::Sends("")),
+            (USER, Deed::Give(&[8, 1]), Comes::Sends("008100000801")),
+            (NETWORK, Deed::Deliver, Comes::Sends("00810102")),
+            (USER, Deed::Deliver, Comes::Sends("")),
         ],
         user: Known {
             fates: &[ACKNOWLEDGED],
@@ -166,27 +160,27 @@ const ROWS: &[Worked] = &[
         recovery: Recovery::Enquiry,
         before: ESTABLISH,
         steps: &[
-            (USER, Deed::Give(&[1]), Comes::Sends(&["0081000001"])),
-            (USER, Deed::Give(&[2]), Comes::Sends(&["0081020002"])),
-            (USER, Deed::Give(&[3]), Comes::Sends(&["0081040003"])),
-            (NETWORK, Deed::Lose(0), Comes::Sends(&[])),
-            (NETWORK, Deed::Deliver, Comes::Sends(&["00810900"])),
-            (NETWORK, Deed::Deliver, Comes::Sends(&[])),
+            (USER, Deed::Give(&[1]), Comes::Sends("0081000001")),
+            (USER, Deed::Give(&[2]), Comes::Sends("0081020002")),
+            (USER, Deed::Give(&[3]), Comes::Sends("0081040003")),
+            (NETWORK, Deed::Lose(0), Comes::Sends("")),
+            (NETWORK, Deed::Deliver, Comes::Sends("00810900")),
+            (NETWORK, Deed::Deliver, Comes::Sends("")),
             (
                 USER,
                 Deed::Deliver,
-                Comes::Sends(&["0081000001", "0081020002", "0081040003"]),
+                Comes::Sends("0081000001 0081020002 0081040003"),
             ),
-            (NETWORK, Deed::Deliver, Comes::Sends(&["00810102"])),
-            (NETWORK, Deed::Deliver, Comes::Sends(&["00810104"])),
-            (NETWORK, Deed::Deliver, Comes::Sends(&["00810106"])),
+            (NETWORK, Deed::Deliver, Comes::Sends("00810102")),
+            (NETWORK, Deed::Deliver, Comes::Sends("00810104")),
+            (NETWORK, Deed::Deliver, Comes::Sends("00810106")),
         ],
         user: Known {
             fates: &[WAITING, WAITING, WAITING],
             ..ESTABLISHED
         },
         network: Known {
-            received: &[&[1], &[2], &[3]],
+            received: "01 02 03",
             ..ESTABLISHED
         },
     },
@@ -196,21 +190,21 @@ const ROWS: &[Worked] = &[
         recovery: Recovery::Enquiry,
         before: ESTABLISH,
         steps: &[
-            (USER, Deed::Give(&[8, 1]), Comes::Sends(&["008100000801"])),
-            (NETWORK, Deed::Lose(0), Comes::Sends(&[])),
-            (USER, Deed::Expire200, Comes::Sends(&["00810101"])),
+            (USER, Deed::Give(&[8, 1]), Comes::Sends("008100000801")),
+            (NETWORK, Deed::Lose(0), Comes::Sends("")),
+            (USER, Deed::Expire200, Comes::Sends("00810101")),
             (
                 USER,
                 Deed::Expire200,
                 Comes::Refused(PairFault::NotYet(NETWORK, 0)),
             ),
-            (NETWORK, Deed::Deliver, Comes::Sends(&["00810101"])),
+            (NETWORK, Deed::Deliver, Comes::Sends("00810101")),
             (
                 USER,
                 Deed::Expire200,
                 Comes::Refused(PairFault::NotYet(USER, 0)),
             ),
-            (USER, Deed::Deliver, Comes::Sends(&["008100000801"])),
+            (USER, Deed::Deliver, Comes::Sends("008100000801")),
         ],
         user: ONE_WAITS,
         network: ESTABLISHED,
@@ -257,17 +251,17 @@ const ROWS: &[Worked] = &[
         recovery: Recovery::Enquiry,
         before: &[],
         steps: &[
-            (USER, Deed::Establish, Comes::Sends(&["00817f"])),
-            (NETWORK, Deed::Establish, Comes::Sends(&["02817f"])),
-            (NETWORK, Deed::Deliver, Comes::Sends(&["008173"])),
-            (USER, Deed::Deliver, Comes::Sends(&["028173"])),
-            (USER, Deed::Lose(0), Comes::Sends(&[])),
-            (NETWORK, Deed::Deliver, Comes::Sends(&[])),
-            (NETWORK, Deed::Give(&[0xaa]), Comes::Sends(&["02810000aa"])),
-            (USER, Deed::Deliver, Comes::Sends(&[])),
-            (USER, Deed::Expire200, Comes::Sends(&["00817f"])),
+            (USER, Deed::Establish, Comes::Sends("00817f")),
+            (NETWORK, Deed::Establish, Comes::Sends("02817f")),
+            (NETWORK, Deed::Deliver, Comes::Sends("008173")),
+            (USER, Deed::Deliver, Comes::Sends("028173")),
+            (USER, Deed::Lose(0), Comes::Sends("")),
+            (NETWORK, Deed::Deliver, Comes::Sends("")),
+            (NETWORK, Deed::Give(&[0xaa]), Comes::Sends("02810000aa")),
+            (USER, Deed::Deliver, Comes::Sends("")),
+            (USER, Deed::Expire200, Comes::Sends("00817f")),
             (NETWORK, Deed::Deliver, Comes::Tells(RE_ESTABLISHED)),
-            (USER, Deed::Deliver, Comes::Sends(&[])),
+            (USER, Deed::Deliver, Comes::Sends("")),
         ],
         user: ESTABLISHED,
         network: Known {
@@ -282,14 +276,14 @@ const ROWS: &[Worked] = &[
         recovery: Recovery::Enquiry,
         before: &[],
         steps: &[
-            (USER, Deed::Establish, Comes::Sends(&["00817f"])),
-            (NETWORK, Deed::Lose(0), Comes::Sends(&[])),
-            (USER, Deed::Expire200, Comes::Sends(&["00817f"])),
-            (NETWORK, Deed::Lose(0), Comes::Sends(&[])),
-            (USER, Deed::Expire200, Comes::Sends(&["00817f"])),
-            (NETWORK, Deed::Lose(0), Comes::Sends(&[])),
-            (USER, Deed::Expire200, Comes::Sends(&["00817f"])),
-            (NETWORK, Deed::Lose(0), Comes::Sends(&[])),
+            (USER, Deed::Establish, Comes::Sends("00817f")),
+            (NETWORK, Deed::Lose(0), Comes::Sends("")),
+            (USER, Deed::Expire200, Comes::Sends("00817f")),
+            (NETWORK, Deed::Lose(0), Comes::Sends("")),
+            (USER, Deed::Expire200, Comes::Sends("00817f")),
+            (NETWORK, Deed::Lose(0), Comes::Sends("")),
+            (USER, Deed::Expire200, Comes::Sends("00817f")),
+            (NETWORK, Deed::Lose(0), Comes::Sends("")),
             (USER, Deed::Expire200, Comes::Tells(GIVEN_UP)),
             (USER, Deed::Expire200, Comes::Refused(PairFault::NotRunning)),
         ],
@@ -302,29 +296,29 @@ const ROWS: &[Worked] = &[
         recovery: Recovery::LastMessage,
         before: ESTABLISH,
         steps: &[
-            (USER, Deed::Give(&[1]), Comes::Sends(&["0081000001"])),
-            (USER, Deed::Give(&[2]), Comes::Sends(&["0081020002"])),
-            (NETWORK, Deed::Deliver, Comes::Sends(&["00810102"])),
-            (NETWORK, Deed::Deliver, Comes::Sends(&["00810104"])),
-            (USER, Deed::Lose(0), Comes::Sends(&[])),
-            (USER, Deed::Lose(0), Comes::Sends(&[])),
-            (USER, Deed::Expire200, Comes::Sends(&["0081020102"])),
+            (USER, Deed::Give(&[1]), Comes::Sends("0081000001")),
+            (USER, Deed::Give(&[2]), Comes::Sends("0081020002")),
+            (NETWORK, Deed::Deliver, Comes::Sends("00810102")),
+            (NETWORK, Deed::Deliver, Comes::Sends("00810104")),
+            (USER, Deed::Lose(0), Comes::Sends("")),
+            (USER, Deed::Lose(0), Comes::Sends("")),
+            (USER, Deed::Expire200, Comes::Sends("0081020102")),
             (
                 USER,
                 Deed::Expire200,
                 Comes::Refused(PairFault::NotYet(NETWORK, 0)),
             ),
-            (NETWORK, Deed::Deliver, Comes::Sends(&["00810905"])),
+            (NETWORK, Deed::Deliver, Comes::Sends("00810905")),
             (USER, Deed::Deliver, Comes::Tells(RECOVERED)),
-            (USER, Deed::Give(&[3]), Comes::Sends(&["0081040003"])),
-            (NETWORK, Deed::Deliver, Comes::Sends(&["00810106"])),
+            (USER, Deed::Give(&[3]), Comes::Sends("0081040003")),
+            (NETWORK, Deed::Deliver, Comes::Sends("00810106")),
         ],
         user: Known {
             fates: &[ACKNOWLEDGED, ACKNOWLEDGED, WAITING],
             ..ESTABLISHED
         },
         network: Known {
-            received: &[&[1], &[2], &[3]],
+            received: "01 02 03",
             ..ESTABLISHED
         },
     },
@@ -334,26 +328,22 @@ const ROWS: &[Worked] = &[
         recovery: Recovery::LastMessage,
         before: ESTABLISH,
         steps: &[
-            (USER, Deed::Give(&[1]), Comes::Sends(&["0081000001"])),
-            (USER, Deed::Give(&[2]), Comes::Sends(&["0081020002"])),
-            (NETWORK, Deed::Lose(1), Comes::Sends(&[])),
-            (NETWORK, Deed::Lose(0), Comes::Sends(&[])),
-            (USER, Deed::Expire200, Comes::Sends(&["0081020102"])),
-            (NETWORK, Deed::Deliver, Comes::Sends(&["00810901"])),
-            (
-                USER,
-                Deed::Deliver,
-                Comes::Sends(&["0081000001", "0081020002"]),
-            ),
-            (NETWORK, Deed::Deliver, Comes::Sends(&["00810102"])),
-            (NETWORK, Deed::Deliver, Comes::Sends(&["00810104"])),
+            (USER, Deed::Give(&[1]), Comes::Sends("0081000001")),
+            (USER, Deed::Give(&[2]), Comes::Sends("0081020002")),
+            (NETWORK, Deed::Lose(1), Comes::Sends("")),
+            (NETWORK, Deed::Lose(0), Comes::Sends("")),
+            (USER, Deed::Expire200, Comes::Sends("0081020102")),
+            (NETWORK, Deed::Deliver, Comes::Sends("00810901")),
+            (USER, Deed::Deliver, Comes::Sends("0081000001 0081020002")),
+            (NETWORK, Deed::Deliver, Comes::Sends("00810102")),
+            (NETWORK, Deed::Deliver, Comes::Sends("00810104")),
         ],
         user: Known {
             fates: &[WAITING, WAITING],
             ..ESTABLISHED
         },
         network: Known {
-            received: &[&[1], &[2]],
+            received: "01 02",
             ..ESTABLISHED
         },
     },
@@ -375,7 +365,14 @@ fn moves_so(alloc: Global, pair: &mut Pair, row: &Worked) -> Result<(), Fail> {
     wants(is_so(pair, USER, &row.user), row.name, "the user")?;
     wants(is_so(pair, NETWORK, &row.network), row.name, "the network")?;
     let left = waiting(&row.user).wrapping_add(waiting(&row.network));
-    wants(pair.left() == left, row.name, "how many messages are left")
+    wants(pair.left() == left, row.name, "how many messages are left")?;
+    received_so(alloc, pair.received(USER), row.name, row.user.received)?;
+    received_so(
+        alloc,
+        pair.received(NETWORK),
+        row.name,
+        row.network.received,
+    )
 }
 
 /// Whether this is known of a side.
@@ -387,7 +384,7 @@ fn is_so(pair: &Pair, side: Side, known: &Known) -> bool {
         && pair.acknowledged(side) == count(known.fates, Ending::Acked)
         && pair.dropped(side) == count(known.fates, Ending::Dropped)
         && pair.begun(side) == known.begun
-        && has_received(pair.received(side), known.received)
+        && are_of_the_first(pair.received(side))
 }
 
 /// How many messages of a side are neither acknowledged nor dropped.
@@ -400,10 +397,16 @@ fn count(fates: &[Fate], end: Ending) -> u64 {
     fates.iter().filter(|fate| fate.end == end).count() as u64
 }
 
-/// Whether these messages were received, each in the first establishment.
-fn has_received(received: &[Received], messages: &[&[u8]]) -> bool {
-    received.len() == messages.len()
-        && received.iter().zip(messages).all(|(message, octets)| message.octets.as_slice()
-            == *octets
-            && message.establishment == 1)
+/// Whether each message was received in the first establishment.
+fn are_of_the_first(received: &[Received]) -> bool {
+    received.iter().all(|message| message.establishment == 1)
+}
+
+/// These messages were received.
+fn received_so(alloc: Global, received: &[Received], row: &str, wanted: &str) -> Result<(), Fail> {
+    let mut text = String::new(alloc);
+    for message in received {
+        push_octets(alloc, message.octets.as_slice(), &mut text)?;
+    }
+    wants(text.as_str() == wanted, row, "other messages are received")
 }

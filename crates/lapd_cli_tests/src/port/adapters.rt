@@ -1,7 +1,7 @@
 //! Readers and writers of std as devices, and how faults are shown.
 
 use crate::port::calls::{reads, writes};
-use crate::wants::wants;
+use crate::wants::{is_said, wants};
 use lapd_port::{DeviceError, FromRead, FromWrite, Port, PortFault, Sink, Source};
 use std::alloc::Global;
 use std::io::{self, ErrorKind, Read, Write};
@@ -17,7 +17,7 @@ const UA: &[u8] = &[0x00, 0x81, 0x73];
 const LONG: &[u8] = &[0xaa; 264];
 
 /// A reader and writer that fails in this way.
-#[derive(Debug, Drop)]
+#[derive(Drop)]
 struct Failing(ErrorKind);
 
 impl Read for Failing {
@@ -36,52 +36,70 @@ impl Write for Failing {
     }
 }
 
-/// Whether reads and writes of a device that fails in this way give this error, and count so many failures in two calls.
-fn fails_so(kind: ErrorKind, error: DeviceError, failures: u64) -> bool {
+/// Whether two reads of a device that fails in this way give this error, and count so many failures.
+fn reads_fail(kind: ErrorKind, error: DeviceError, failures: u64) -> bool {
     let mut source = FromRead::new(Failing(kind));
-    let mut sink = FromWrite::new(Failing(kind));
-    source.read(&mut [0; 4]) == Err(error)
-        && source.read(&mut [0; 4]) == Err(error)
-        && source.failures() == failures
-        && sink.write(&[0; 4]) == Err(error)
-        && sink.write(&[0; 4]) == Err(error)
-        && sink.failures() == failures
+    let first = source.read(&mut [0; 4]) == Err(error);
+    let second = source.read(&mut [0; 4]) == Err(error);
+    first && second && source.failures() == failures
 }
+
+/// Whether two writes of it do so.
+fn writes_fail(kind: ErrorKind, error: DeviceError, failures: u64) -> bool {
+    let mut sink = FromWrite::new(Failing(kind));
+    let first = sink.write(&[0; 4]) == Err(error);
+    let second = sink.write(&[0; 4]) == Err(error);
+    first && second && sink.failures() == failures
+}
+
+/// A name, how a device fails, how that is told, and how many failures two calls count.
+const ERRORS: &[(&str, ErrorKind, DeviceError, u64)] = &[
+    (
+        "interrupted",
+        ErrorKind::Interrupted,
+        DeviceError::Interrupted,
+        0,
+    ),
+    ("would block", ErrorKind::WouldBlock, DeviceError::Failed, 2),
+    (
+        "a broken pipe",
+        ErrorKind::BrokenPipe,
+        DeviceError::Failed,
+        2,
+    ),
+];
 
 #[test]
 fn errors_of_std_are_told() -> Result<(), Fail> {
-    for (name, kind, error, failures) in [
-        (
-            "interrupted",
-            ErrorKind::Interrupted,
-            DeviceError::Interrupted,
-            0,
-        ),
-        ("would block", ErrorKind::WouldBlock, DeviceError::Failed, 2),
-        (
-            "a broken pipe",
-            ErrorKind::BrokenPipe,
-            DeviceError::Failed,
-            2,
-        ),
-    ] {
-        wants(fails_so(kind, error, failures), name, "told otherwise")?;
+    for (name, kind, error, failures) in ERRORS {
+        let read = reads_fail(*kind, *error, *failures);
+        let written = writes_fail(*kind, *error, *failures);
+        wants(read && written, name, "told otherwise")?;
     }
     Ok(())
+}
+
+/// Whether two frames are written.
+fn writes_two<R: Source, W: Sink>(port: &mut Port<R, W>) -> bool {
+    writes(port, SABME, Ok(())) && writes(port, LONG, Ok(()))
+}
+
+/// Whether they are read, and then the end.
+fn reads_two<R: Source, W: Sink>(port: &mut Port<R, W>) -> bool {
+    reads(port, Ok(SABME)) && reads(port, Ok(LONG)) && reads(port, Err(PortFault::End))
+}
+
+/// Whether two frames are all of this text.
+fn is_text_of_two(alloc: Global, text: &[u8]) -> bool {
+    let mut back = Port::new(FromRead::new(text), FromWrite::new(Vec::new(alloc)));
+    reads_two(&mut back) && back.source().get_ref().is_empty()
 }
 
 /// Writes two frames into memory and reads them back.
 fn reads_back(alloc: Global) -> bool {
     let mut port = Port::new(FromRead::new(NOTHING), FromWrite::new(Vec::new(alloc)));
-    if !writes(&mut port, SABME, Ok(())) || !writes(&mut port, LONG, Ok(())) {
-        return false;
-    }
-    let text = port.sink().get_ref().as_slice();
-    let mut back = Port::new(FromRead::new(text), FromWrite::new(Vec::new(alloc)));
-    reads(&mut back, Ok(SABME))
-        && reads(&mut back, Ok(LONG))
-        && reads(&mut back, Err(PortFault::End))
-        && back.source().get_ref().is_empty()
+    let written = writes_two(&mut port);
+    written && is_text_of_two(alloc, port.sink().get_ref().as_slice())
 }
 
 #[test]
@@ -89,16 +107,20 @@ fn what_was_written_is_read(rt: HostRuntime) -> Result<(), Fail> {
     wants(reads_back(rt.alloc()), "memory", "another frame")
 }
 
-/// Whether frames cross a connection in both directions.
+/// Whether frames cross in both directions.
+fn cross<R: Source, W: Sink>(near: &mut Port<R, W>, far: &mut Port<R, W>) -> bool {
+    writes_two(near)
+        && reads(far, Ok(SABME))
+        && writes(far, UA, Ok(()))
+        && reads(far, Ok(LONG))
+        && reads(near, Ok(UA))
+}
+
+/// Whether frames cross a connection.
 fn crosses(near: &TcpStream, far: &TcpStream) -> bool {
     let mut near = Port::new(FromRead::new(near), FromWrite::new(near));
     let mut far = Port::new(FromRead::new(far), FromWrite::new(far));
-    writes(&mut near, SABME, Ok(()))
-        && writes(&mut near, LONG, Ok(()))
-        && reads(&mut far, Ok(SABME))
-        && writes(&mut far, UA, Ok(()))
-        && reads(&mut far, Ok(LONG))
-        && reads(&mut near, Ok(UA))
+    cross(&mut near, &mut far)
 }
 
 #[test]
@@ -122,14 +144,10 @@ const NAMES: &[(PortFault, &str)] = &[
     (PortFault::Failed, "S6 Failed"),
 ];
 
-fn is_named(alloc: Global, fault: PortFault, name: &str) -> Result<bool, Fail> {
-    Ok(format!(in alloc; "{fault}")?.as_str() == name)
-}
-
 #[test]
 fn faults_are_shown(rt: HostRuntime) -> Result<(), Fail> {
     for (fault, name) in NAMES {
-        wants(is_named(rt.alloc(), *fault, name)?, name, "shown otherwise")?;
+        wants(is_said(rt.alloc(), fault, name), name, "shown otherwise")?;
     }
     Ok(())
 }

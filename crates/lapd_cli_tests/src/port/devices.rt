@@ -4,10 +4,10 @@ ghost use Rattle.std.specs.Prelude.{◌≡◌, MatchResult};
 ghost use Rattle.lapd_port.specs.Device.{failures_after};
 
 use arrayvec::ArrayVec;
-use lapd_port::{DeviceError, Sink, Source};
+use lapd_port::{DeviceError, Port, Sink, Source};
 
 /// What befalls the calls of a device.
-#[derive(Clone, Copy, Debug)]
+#[derive(Clone, Copy)]
 pub(crate) struct Trouble {
     /// How many of the first calls are interrupted.
     pub(crate) interrupted: u64,
@@ -46,7 +46,7 @@ impl Trouble {
 }
 
 /// A source that gives these octets, at most so many a call.
-#[derive(Debug, Drop)]
+#[derive(Drop)]
 pub(crate) struct Giver<'a> {
     pub(crate) left: &'a [u8],
     pub(crate) most: usize,
@@ -74,7 +74,7 @@ impl<'a> Source for Giver<'a> {
 }
 
 /// A sink that takes at most so many octets a call, and has room for 1,024.
-#[derive(Debug, Drop)]
+#[derive(Drop)]
 pub(crate) struct Taker {
     pub(crate) taken: ArrayVec<u8, 1024>,
     pub(crate) most: usize,
@@ -129,4 +129,9 @@ pub(crate) fn no_sink() -> Taker {
 /// A source that no test looks at.
 pub(crate) fn no_source() -> Giver<'static> {
     source_of(&[], 0, NO_TROUBLE)
+}
+
+/// How often a port called its source and its sink.
+pub(crate) fn calls_of(port: &Port<Giver<'_>, Taker>) -> (u64, u64) {
+    (port.source().trouble.calls, port.sink().trouble.calls)
 }

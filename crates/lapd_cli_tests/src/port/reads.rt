@@ -1,106 +1,114 @@
 //! Frames that are read.
 
-use crate::port::calls::{reads, writes};
-use crate::port::devices::{Giver, NO_TROUBLE, Taker, Trouble, no_sink, source_of};
+use crate::port::calls::{has_failed, reads};
+use crate::port::devices::{Giver, NO_TROUBLE, Taker, Trouble, calls_of, no_sink, source_of};
 use crate::wants::wants;
 use lapd_port::{Port, PortFault, Source};
 use std::test::Fail;
 
-/// Whether the port answers S6 from now on and calls its source no more.
-fn has_failed(port: &mut Port<Giver<'_>, Taker>) -> bool {
-    let calls = port.source().trouble.calls;
-    reads(port, Err(PortFault::Failed))
-        && writes(port, &[0x00, 0x81, 0x7f], Err(PortFault::Failed))
-        && port.source().trouble.calls == calls
-        && port.sink().trouble.calls == 0
-}
+const SABME: &[u8] = &[0x00, 0x81, 0x7f];
 
-/// A name, the input, and what the calls answer in turn.
-type Row = (
-    &'static str,
-    &'static [u8],
-    &'static [Result<&'static [u8], PortFault>],
-);
+const RR: &[u8] = &[0x02, 0x81, 0x01, 0x01];
 
-const ROWS: &[Row] = &[
-    ("nothing", &[], &[Err(PortFault::End), Err(PortFault::End)]),
-    (
-        "a length of 2",
-        &[0x00, 0x02],
-        &[Err(PortFault::BadLength), Err(PortFault::Failed)],
-    ),
-    (
-        "a length of 0",
-        &[0x00, 0x00, 0x00, 0x03, 0x00, 0x81, 0x7f],
-        &[Err(PortFault::BadLength), Err(PortFault::Failed)],
-    ),
-    (
-        "a length of 265",
-        &[0x01, 0x09, 0x00],
-        &[Err(PortFault::BadLength), Err(PortFault::Failed)],
-    ),
-    (
-        "a length of 264, and one octet",
-        &[0x01, 0x08, 0x00],
-        &[Err(PortFault::Cut), Err(PortFault::Failed)],
-    ),
-    (
-        "a length that is low octet first",
-        &[0x03, 0x00, 0x00, 0x81, 0x7f],
-        &[Err(PortFault::BadLength), Err(PortFault::Failed)],
-    ),
-    (
-        "one frame",
-        &[0x00, 0x03, 0x00, 0x81, 0x7f],
-        &[
-            Ok(&[0x00, 0x81, 0x7f]),
-            Err(PortFault::End),
-            Err(PortFault::End),
-        ],
-    ),
-    (
-        "a frame that is cut",
-        &[0x00, 0x04, 0x00, 0x81, 0x7f],
-        &[
-            Err(PortFault::Cut),
-            Err(PortFault::Failed),
-            Err(PortFault::Failed),
-        ],
-    ),
-    (
-        "half a length",
-        &[0xff],
-        &[Err(PortFault::Cut), Err(PortFault::Failed)],
-    ),
-    (
-        "two frames, and a length alone",
-        &[
-            0x00, 0x03, 0x00, 0x81, 0x7f, 0x00, 0x04, 0x02, 0x81, 0x01, 0x01, 0x00, 0x03,
-        ],
-        &[
-            Ok(&[0x00, 0x81, 0x7f]),
-            Ok(&[0x02, 0x81, 0x01, 0x01]),
-            Err(PortFault::Cut),
-            Err(PortFault::Failed),
-        ],
-    ),
-];
-
-fn row_holds(row: &Row, most: usize) -> bool {
-    let mut port = Port::new(source_of(row.1, most, NO_TROUBLE), no_sink());
-    for wanted in row.2 {
-        if !reads(&mut port, *wanted) {
+/// Whether the next calls of a port read these frames, one after the other.
+fn reads_all(port: &mut Port<Giver<'_>, Taker>, frames: &[&[u8]]) -> bool {
+    for frame in frames {
+        if !reads(port, Ok(*frame)) {
             return false;
         }
     }
     true
 }
 
+/// Whether the port goes on as it does after this fault: it answers S1 again, or S6, and then it calls its source no more, and
+/// has called no sink.
+fn goes_on(port: &mut Port<Giver<'_>, Taker>, fault: PortFault) -> bool {
+    let (calls, _) = calls_of(port);
+    if fault == PortFault::End {
+        reads(port, Err(PortFault::End))
+    } else {
+        has_failed(port, (calls, 0))
+    }
+}
+
+/// Whether the port reads these frames, then answers this fault, and goes on so.
+fn ends_by(port: &mut Port<Giver<'_>, Taker>, frames: &[&[u8]], fault: PortFault) -> bool {
+    let read = reads_all(port, frames);
+    let ends = reads(port, Err(fault));
+    read && ends && goes_on(port, fault)
+}
+
+/// Whether a port over this source does so, where so many reads of it fail.
+fn ends_over(source: Giver<'_>, frames: &[&[u8]], fault: PortFault, failures: u64) -> bool {
+    let mut port = Port::new(source, no_sink());
+    let ends = ends_by(&mut port, frames, fault);
+    ends && port.source().failures() == failures
+}
+
+/// A name, the input, the frames that are read, and what is answered behind them.
+type Row = (
+    &'static str,
+    &'static [u8],
+    &'static [&'static [u8]],
+    PortFault,
+);
+
+const ROWS: &[Row] = &[
+    ("nothing", &[], &[], PortFault::End),
+    ("a length of 2", &[0x00, 0x02], &[], PortFault::BadLength),
+    (
+        "a length of 0",
+        &[0x00, 0x00, 0x00, 0x03, 0x00, 0x81, 0x7f],
+        &[],
+        PortFault::BadLength,
+    ),
+    (
+        "a length of 265",
+        &[0x01, 0x09, 0x00],
+        &[],
+        PortFault::BadLength,
+    ),
+    (
+        "a length of 264, and one octet",
+        &[0x01, 0x08, 0x00],
+        &[],
+        PortFault::Cut,
+    ),
+    (
+        "a length that is low octet first",
+        &[0x03, 0x00, 0x00, 0x81, 0x7f],
+        &[],
+        PortFault::BadLength,
+    ),
+    (
+        "one frame",
+        &[0x00, 0x03, 0x00, 0x81, 0x7f],
+        &[SABME],
+        PortFault::End,
+    ),
+    (
+        "a frame that is cut",
+        &[0x00, 0x04, 0x00, 0x81, 0x7f],
+        &[],
+        PortFault::Cut,
+    ),
+    ("half a length", &[0xff], &[], PortFault::Cut),
+    (
+        "two frames, and a length alone",
+        &[
+            0x00, 0x03, 0x00, 0x81, 0x7f, 0x00, 0x04, 0x02, 0x81, 0x01, 0x01, 0x00, 0x03,
+        ],
+        &[SABME, RR],
+        PortFault::Cut,
+    ),
+];
+
 #[test]
 fn inputs_are_read() -> Result<(), Fail> {
-    for row in ROWS {
+    for (name, input, frames, fault) in ROWS {
         for most in [1, 2, 3, 512] {
-            wants(row_holds(row, most), row.0, "another answer")?;
+            let source = source_of(input, most, NO_TROUBLE);
+            wants(ends_over(source, frames, *fault, 0), name, "another answer")?;
         }
     }
     Ok(())
@@ -111,50 +119,50 @@ const TWO: &[u8] = &[
     0x00, 0x03, 0x00, 0x81, 0x7f, 0x00, 0x04, 0x02, 0x81, 0x01, 0x01,
 ];
 
-/// Whether the port reads the frames of `TWO` that end within the first octets, so many of them, and then answers the fault.
-fn reads_front(port: &mut Port<Giver<'_>, Taker>, octets: usize, fault: PortFault) -> bool {
-    (octets < 5 || reads(port, Ok(&[0x00, 0x81, 0x7f])))
-        && (octets < 11 || reads(port, Ok(&[0x02, 0x81, 0x01, 0x01])))
-        && reads(port, Err(fault))
+/// The frames of `TWO` that end within so many octets.
+fn frames_within(octets: usize) -> &'static [&'static [u8]] {
+    if octets < 5 {
+        return &[];
+    }
+    if octets < 11 {
+        return &[SABME];
+    }
+    &[SABME, RR]
+}
+
+/// What is answered where the input ends behind so many octets of `TWO`.
+fn fault_behind(octets: usize) -> PortFault {
+    if matches!(octets, 0 | 5 | 11) {
+        PortFault::End
+    } else {
+        PortFault::Cut
+    }
 }
 
 #[test]
 fn the_input_ends_after_each_octet() -> Result<(), Fail> {
     for end in 0..=TWO.len() {
-        let mut port = Port::new(source_of(&TWO[..end], 2, NO_TROUBLE), no_sink());
-        let between = end == 0 || end == 5 || end == 11;
-        let fault = if between {
-            PortFault::End
-        } else {
-            PortFault::Cut
-        };
-        wants(
-            reads_front(&mut port, end, fault),
-            "an end",
-            "another answer",
-        )?;
-        wants(between || has_failed(&mut port), "an end", "not S6")?;
+        let source = source_of(&TWO[..end], 2, NO_TROUBLE);
+        let ends = ends_over(source, frames_within(end), fault_behind(end), 0);
+        wants(ends, "an end", "another answer")?;
     }
     Ok(())
 }
 
+/// Whether the port answers S4, and then S6, where the read behind so many octets fails. One octet comes a call.
+fn fails_behind(octets: usize) -> bool {
+    let trouble = Trouble {
+        fails_at: Some((octets as u64).saturating_add(1)),
+        ..NO_TROUBLE
+    };
+    let source = source_of(TWO, 1, trouble);
+    ends_over(source, frames_within(octets), PortFault::Device, 1)
+}
+
 #[test]
 fn each_read_fails() -> Result<(), Fail> {
-    // One octet a call: call n reads octet n.
-    for call in 1..=11 {
-        let trouble = Trouble {
-            fails_at: Some(call as u64),
-            ..NO_TROUBLE
-        };
-        let mut port = Port::new(source_of(TWO, 1, trouble), no_sink());
-        let before = call - 1;
-        wants(
-            reads_front(&mut port, before, PortFault::Device),
-            "a read",
-            "not S4",
-        )?;
-        wants(port.source().failures() == 1, "a read", "not one failure")?;
-        wants(has_failed(&mut port), "a read", "not S6")?;
+    for octets in 0..TWO.len() {
+        wants(fails_behind(octets), "a read", "not S4, one failure and S6")?;
     }
     Ok(())
 }
@@ -168,33 +176,45 @@ const TURNS: &[(&str, u64, bool, u64)] = &[
     ("each turn is interrupted", 10_000, false, 4_096),
 ];
 
+/// Whether the port reads the frame, or answers that its turns are at an end.
+fn reads_or_gives_up(port: &mut Port<Giver<'_>, Taker>, is_read: bool) -> bool {
+    if is_read {
+        reads(port, Ok(SABME))
+    } else {
+        ends_by(port, &[], PortFault::TooManyTurns)
+    }
+}
+
+/// Whether a port over this source does so, in so many turns.
+fn has_turns(source: Giver<'_>, is_read: bool, turns: u64) -> bool {
+    let mut port = Port::new(source, no_sink());
+    let holds = reads_or_gives_up(&mut port, is_read);
+    holds && port.source().trouble.calls == turns && port.source().failures() == 0
+}
+
+/// Whether a row of `TURNS` holds.
 fn turns_hold(interrupted: u64, is_read: bool, turns: u64) -> bool {
     let trouble = Trouble {
         interrupted,
         ..NO_TROUBLE
     };
-    let mut port = Port::new(
-        source_of(&[0x00, 0x03, 0x00, 0x81, 0x7f], 1, trouble),
-        no_sink(),
-    );
-    let holds = if is_read {
-        reads(&mut port, Ok(&[0x00, 0x81, 0x7f]))
-    } else {
-        reads(&mut port, Err(PortFault::TooManyTurns)) && has_failed(&mut port)
-    };
-    holds && port.source().trouble.calls == turns && port.source().failures() == 0
+    let source = source_of(&[0x00, 0x03, 0x00, 0x81, 0x7f], 1, trouble);
+    has_turns(source, is_read, turns)
 }
 
 #[test]
 fn reads_are_interrupted() -> Result<(), Fail> {
     for (name, interrupted, is_read, turns) in TURNS {
-        wants(
-            turns_hold(*interrupted, *is_read, *turns),
-            name,
-            "another answer, or other turns",
-        )?;
+        let holds = turns_hold(*interrupted, *is_read, *turns);
+        wants(holds, name, "another answer, or other turns")?;
     }
     Ok(())
+}
+
+/// Whether the frame behind the length is read, an octet a turn.
+fn comes_whole(text: &[u8; 266]) -> bool {
+    let mut port = Port::new(source_of(text, 1, NO_TROUBLE), no_sink());
+    reads(&mut port, Ok(&text[2..])) && port.source().trouble.calls == 266
 }
 
 #[test]
@@ -202,15 +222,6 @@ fn the_longest_frame_comes_an_octet_a_turn() -> Result<(), Fail> {
     let mut text = [0xaa; 266];
     text[0] = 0x01;
     text[1] = 0x08;
-    let mut port = Port::new(source_of(&text, 1, NO_TROUBLE), no_sink());
-    wants(
-        reads(&mut port, Ok(&text[2..])),
-        "264 octets",
-        "another frame",
-    )?;
-    wants(
-        port.source().trouble.calls == 266,
-        "264 octets",
-        "not 266 turns",
-    )
+    let whole = comes_whole(&text);
+    wants(whole, "264 octets", "another frame, or not 266 turns")
 }
