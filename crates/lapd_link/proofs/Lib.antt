@@ -1,5 +1,1 @@
-pub mod BetweenSteps
-pub mod Guards
-pub mod Outstanding
-pub mod Rows
-pub mod Tails
+pub use Rattle.lapd_machine.proofs.BetweenSteps

@@ -3,6 +3,8 @@ pub use Rattle.lapd_frame.specs.Control
 pub use Rattle.lapd_frame.specs.Fault
 pub use Rattle.lapd_frame.specs.Frame
 pub use Rattle.lapd_frame.specs.Reading
+pub use Rattle.lapd_machine.specs.StandsFor
+pub use Rattle.lapd_machine.specs.Tail
 pub use Rattle.lapd_mod128.specs.Counting
 pub use Rattle.lapd_queue.specs.Waiting
 pub use Rattle.lapd_states.specs.Close
@@ -18,7 +20,4 @@ pub use Rattle.lapd_states.specs.Table
 pub use Rattle.lapd_supervision.specs.StateVariables
 pub use Rattle.lapd_timers.specs.Timer
 pub mod Link
-pub mod Sent
 pub mod SentFrame
-pub mod StandsFor
-pub mod Tail

@@ -15,7 +15,7 @@ use Rattle.lapd_states.specs.End.{End, StepState, begin}
 use Rattle.lapd_states.specs.Input.{Input}
 use Rattle.lapd_states.specs.Table.{step}
 use Rattle.lapd_link.specs.declared.link.Link.{Link}
-use Rattle.lapd_link.specs.StandsFor.{StandsFor}
+use Rattle.lapd_machine.specs.StandsFor.{StandsFor}
 
 -- A link stands for an end between two steps, whatever was given before what its queue holds.
 abbrev pub LinkStandsFor : Link → End → Type 0

@@ -1,17 +1,13 @@
 ghost use Rattle.std.specs.Prelude.{◌≡◌, ◌<◌, ◌≢◌, [], IfOk, IfErr, OnOk, OnErr};
-ghost use Rattle.lapd_link.specs.Sent.{IsBetweenSteps};
+ghost use Rattle.lapd_machine.specs.Sent.{IsBetweenSteps};
 
-use crate::machine::Machine;
-use arrayvec::ArrayVec;
 use lapd_frame::{Address, Sapi, Side, Tei};
+use lapd_machine::{Machine, Outs};
 use lapd_queue::IQueue;
-use lapd_states::{Event, LinkFault, Out, Params, Refused};
+use lapd_states::{Event, LinkFault, Params, Refused};
 use lapd_supervision::Window;
 use lapd_timers::Timer;
 use std::alloc::{AllocError, Global};
-
-/// What one step gives, in order. A step gives at most 136 outputs.
-pub type Outs = ArrayVec<Out, 136>;
 
 /// One end of a data link (Q.921 clause 5, Annex B).
 ///
@@ -204,7 +200,7 @@ impl Link {
     ghost use Rattle.lapd_states.specs.End.{End, runs};
     ghost use Rattle.lapd_states.specs.State.{state_number};
     ghost use Rattle.lapd_link.specs.Link.{LinkStandsFor, setup_of};
-    ghost use Rattle.lapd_link.specs.Tail.{IsTail};
+    ghost use Rattle.lapd_machine.specs.Tail.{IsTail};
 
     /// The number of its state, 4 to 8.
     pub fn state(&self) -> u8

@@ -1,9 +1,16 @@
-//! Tests of two ends on a lossy line: scripts of the command `pair`, moves of a `Pair` with the octets that they put on
-//! the line, refusals, memory that is refused, and 10,000 drawn moves for each recovery at each side.
+//! Tests of the commands `answer`, `decode` and `pair` as functions, and of two ends on a lossy line: scripts and what they
+//! print, readers and writers that fail, moves of a `Pair` with the octets that they put on the line, refusals, memory that
+//! is refused, and 10,000 drawn moves for each recovery at each side.
 //!
 //! They stand apart from the other tests so that the check of either is short. `wants` fails a test with the row's name.
 #![tactic(auto)]
 
+#[cfg(test)]
+mod answers;
+#[cfg(test)]
+mod decodes;
+#[cfg(test)]
+mod devices;
 #[cfg(test)]
 mod losses;
 #[cfg(test)]
@@ -18,6 +25,8 @@ mod readers;
 mod refusals;
 #[cfg(test)]
 mod schedule;
+#[cfg(test)]
+mod scripts;
 #[cfg(test)]
 mod steps;
 #[cfg(test)]

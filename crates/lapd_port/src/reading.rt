@@ -1,6 +1,6 @@
 //! How a port reads a frame from its source.
 
-ghost use Rattle.std.specs.Prelude.{◌≡◌, ◌≢◌, ℕ, ◌+◌, ◌≤◌, ◌<◌, ◌⊎◌, Err, length, take, drop, IfOk, IfErr};
+ghost use Rattle.std.specs.Prelude.{◌≡◌, ◌≢◌, ◌↔◌, IsTrue, ℕ, ◌+◌, ◌≤◌, ◌<◌, ◌⊎◌, Err, length, take, drop, IfOk, IfErr};
 ghost use Rattle.std.specs.Io.KnownBytes.{Consumes, IsAtEnd};
 ghost use Rattle.lapd_port.specs.Device.{Turns};
 ghost use Rattle.lapd_port.specs.Port.{CountsAsDevice, MakesTurns, ReadsNext};
@@ -31,7 +31,7 @@ pub(crate) fn read_next<R: Source>(
         _ => return Err(PortFault::Cut),
     }
     let count = length_of(length);
-    if !(LEAST_OCTETS..=MOST_OCTETS).contains(&count) {
+    if !is_frame_length(count) {
         return Err(PortFault::BadLength);
     }
     if fill(source, &mut frame[..count], &mut turns)? < count {
@@ -46,6 +46,13 @@ fn length_of(octets: [u8; LENGTH_OCTETS]) -> usize
 {
     let [high, low] = octets;
     usize::from(u16::from_be_bytes([high, low]))
+}
+
+// Whether a frame may have so many octets.
+fn is_frame_length(count: usize) -> bool
+    ensures { IsTrue result ↔ IsFrameLength count }
+{
+    (LEAST_OCTETS..=MOST_OCTETS).contains(&count)
 }
 
 // Reads until the octets are full or the input ends, and tells how many were read.
@@ -64,7 +71,7 @@ fn fill<R: Source>(source: &mut R, octets: &mut [u8], turns: &mut u16) -> Result
 {
     let mut filled = 0;
     while filled < octets.len() {
-        if *turns == MOST_TURNS {
+        if are_all(*turns) {
             return Err(PortFault::TooManyTurns);
         }
         *turns += 1;
@@ -76,4 +83,11 @@ fn fill<R: Source>(source: &mut R, octets: &mut [u8], turns: &mut u16) -> Result
         }
     }
     Ok(filled)
+}
+
+// Whether these are all the turns that a call makes.
+fn are_all(turns: u16) -> bool
+    ensures { IsTrue result ↔ (turns ≡ 4096) }
+{
+    turns == MOST_TURNS
 }

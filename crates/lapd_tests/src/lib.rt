@@ -1,5 +1,5 @@
-//! Tests of the crates below, as tables: octets, scripts, rows of the state table, counters and queues, and what they call
-//! for. Those of two ends stand in `lapd_pair_tests`.
+//! Tests of the crates below, as tables: octets, rows of the state table, counters and queues, and what they call for. Those
+//! of the commands and of two ends stand in `lapd_pair_tests`.
 //!
 //! They stand apart so that each crate is proved once. What a contract says is not tested again. A row shows that the
 //! definitions say what is meant, that a call can succeed, and what a value prints. `wants` fails a test with the row's
@@ -7,13 +7,7 @@
 #![tactic(auto)]
 
 #[cfg(test)]
-mod answers;
-#[cfg(test)]
 mod counters;
-#[cfg(test)]
-mod decodes;
-#[cfg(test)]
-mod devices;
 #[cfg(test)]
 mod links;
 #[cfg(test)]
@@ -24,8 +18,6 @@ mod queues;
 mod reports;
 #[cfg(test)]
 mod rows;
-#[cfg(test)]
-mod scripts;
 #[cfg(test)]
 mod wants;
 #[cfg(test)]

@@ -1,7 +1,7 @@
 use Rattle.std.proofs.Common.{refl, sym, ◌∙◌}
 use Rattle.lapd_states.specs.End.{begin}
 use Rattle.lapd_states.specs.Input.{Give}
-use Rattle.lapd_link.proofs.BetweenSteps.{end_of, shows_end, settles, stays_between, step_done, step_refused, not_full, is_full, queued_and_closed}
+use Rattle.lapd_machine.proofs.BetweenSteps.{end_of, shows_end, settles, stays_between, step_done, step_refused, not_full, is_full, queued_and_closed}
 use Rattle.lapd_link.proofs.link.Link.give_into.Goals as goal
 
 pub invariant_of-self : goal.invariant_of-self

@@ -1,9 +1,8 @@
 use Rattle.std.proofs.Common.{◌≡◌, ◌<◌, map, get_or, length, sym, ap, ◌∙◌, arith}
-use Rattle.std.proofs.lemmas.Grind.{common_steps}
 use Rattle.std.proofs.Math.ListN.{get_or-map}
 use Rattle.std.proofs.lemmas.List.{length-map}
 use Rattle.lapd_pair.specs.Moves.{move_of}
-use Rattle.lapd_pair.proofs.Runs.{one_done, one_skipped, stopped}
+use Rattle.lapd_pair.proofs.Runs.{one_done, one_skipped, stopped, all_done}
 use Rattle.lapd_pair.proofs.SafePairs.{pair_is_safe}
 use Rattle.lapd_pair.proofs.pair.Pair.run.Goals as goal
 use Rattle.lapd_pair.proofs.pair.Pair.run.Goals.{in-Ok, in-Err+else-is_memory}
@@ -30,7 +29,10 @@ loop-at-preserved c =
     ]
 
 pub returns-clause-ok : goal.returns-clause-ok
-returns-clause-ok c = grind (arith, common_steps)
+returns-clause-ok c = λ w s.
+    let moves = map move_of c.args.moves.now in
+    let end : c.loop-at.at ≡ length moves = rw (length-map c.args.moves.now move_of) (omega (arith, c.loop-at-test.false, c.loop-at.far-at)) in
+    all_done c.args.self.now c.loop-at.self moves c.loop-at.at c.loop-at.refused end c.loop-at.invariant w s
 
 pub returns-clause-safe : goal.returns-clause-safe
 returns-clause-safe c = pair_is_safe _

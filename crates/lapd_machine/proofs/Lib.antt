@@ -1,0 +1,5 @@
+pub mod BetweenSteps
+pub mod Guards
+pub mod Outstanding
+pub mod Rows
+pub mod Tails
