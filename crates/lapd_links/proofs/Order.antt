@@ -1,5 +1,5 @@
 -- The order of expiries, and the first of several.
-use Rattle.std.proofs.Common.{◌≡◌, ℕ, ◌+◌, ◌<◌, ◌≤◌, List, Option, Some, None, inl, inr, refl, sym, ap, subst, ◌∙◌, arith, ◌⊎◌}
+use Rattle.std.proofs.Common.{◌≡◌, ℕ, ◌+◌, ◌<◌, ◌≤◌, List, Option, Some, None, inl, inr, sym, ap, subst, ◌∙◌, arith, ◌⊎◌}
 use Rattle.std.proofs.lemmas.Bool.{cases_lt}
 use Rattle.std.specs.Prelude.{slice_get}
 use Rattle.lapd_timers.specs.Due.{Timers, place}
@@ -34,14 +34,6 @@ link_chained (Some x) (Some y) (Some z) h k = chained (sapi_value x.sapi) (sapi_
 
 no_later_chained : (a b c : Expiry) → IsNoLater a b → IsNoLater b c → IsNoLater a c
 no_later_chained a b c h k = chained a.deadline b.deadline c.deadline _ _ _ (chained (place a.timer) (place b.timer) (place c.timer) _ _ _ (link_chained a.of b.of c.of)) h k
-
-link_itself : (x : Option LinkId) → IsNoLaterLink x x
-link_itself None = tt
-link_itself (Some x) = inr (refl, omega arith)
-
--- the same timer of the same link, with the same deadline
-same_expiry : (a b : Expiry) → a.deadline ≡ b.deadline → a.timer ≡ b.timer → a.of ≡ b.of → IsNoLater a b
-same_expiry a b deadline timer of = inr (deadline, inr (ap place timer, subst (λ (x : Option LinkId). IsNoLaterLink a.of x) of (link_itself a.of)))
 
 pub earlier_deadline : (a b : Expiry) → IsNoLater a b → a.deadline ≤ b.deadline
 earlier_deadline a b (inl less) = omega arith

@@ -16,9 +16,6 @@ tail_waiting given first next q t = sym (length-drop first given) ∙ ap length 
 pub tail_place : (given : List (List ℕ)) (first next : ℕ) (q : Waiting) → IsTail given first next q → next - first ≡ q.sent
 tail_place given first next q t = omega (arith, t.next_is)
 
-pub tail_unsent : (given : List (List ℕ)) (first next : ℕ) (q : Waiting) → IsTail given first next q → q.sent ≤ length q.messages → length given - next ≡ length q.messages - q.sent
-tail_unsent given first next q t h = omega (arith, t.next_is, t.within, tail_waiting given first next q t)
-
 pub tail_emptied : (given : List (List ℕ)) (first next : ℕ) (q : Waiting) → IsTail given first next q → IsTail given (length given) (length given) (emptied q)
 unfolding emptied
 tail_emptied given first next q t = record { messages = drop-length given; within = omega arith; next_is = omega arith }

@@ -5,24 +5,21 @@ use Rattle.std.specs.declared.alloc.Global.{Global}
 use Rattle.arrayvec.specs.ArrayVec.{ArrayVec}
 use Rattle.lapd_frame.specs.declared.Side.{Side}
 use Rattle.lapd_frame.specs.Frame.{Fields, n201}
-use Rattle.lapd_link.specs.declared.link.Link.{Link}
-use Rattle.lapd_link.specs.Link.{LinkStandsFor, IsForLink}
+use Rattle.lapd_link.specs.Link.{LinkStandsFor}
 use Rattle.lapd_mod128.specs.Counting.{Tagged}
-use Rattle.lapd_states.specs.declared.event.Event.{Event}
-use Rattle.lapd_states.specs.declared.event.Event.TheVariants as event
 use Rattle.lapd_states.specs.declared.event.LinkFault.{LinkFault}
 use Rattle.lapd_states.specs.declared.event.LinkFault.TheVariants.{TooLong}
 use Rattle.lapd_states.specs.declared.out.Out.{Out}
 use Rattle.lapd_states.specs.Close.{close}
 use Rattle.lapd_states.specs.End.{End, begin}
 use Rattle.lapd_states.specs.Input as input
-use Rattle.lapd_states.specs.Input.{Input, input_of}
+use Rattle.lapd_states.specs.Input.{Input}
 use Rattle.lapd_states.specs.Refusal.{refused}
 use Rattle.lapd_states.specs.Table.{unless, row, step}
 use Rattle.lapd_world.specs.Kept.{IsKept}
 use Rattle.lapd_world.specs.Line.{Flight}
 use Rattle.lapd_world.specs.Move as world
-use Rattle.lapd_world.specs.Move.{View, Acted, Refusal, Refused, stepped, hears, takes}
+use Rattle.lapd_world.specs.Move.{View, Refused, stepped, hears, takes}
 use Rattle.lapd_pair.specs.declared.line.Line.{Line}
 use Rattle.lapd_pair.specs.declared.pair_fault.PairFault.{PairFault}
 use Rattle.lapd_pair.specs.declared.station.Station.{Station}
@@ -59,17 +56,6 @@ unfolding hears step
 hears_goes frame v = refl
 
 -- ---- Requests.
-
-pub asked_for_link : (link : Link) (e : Event) (octets : List ℕ) → IsAsked (input_of e) octets → IsForLink link e
-asked_for_link link (event.Heard frame) octets h = absurd h
-asked_for_link link (event.Fault kind) octets h = absurd h
-asked_for_link link event.T200 octets h = tt
-asked_for_link link event.T203 octets h = tt
-asked_for_link link event.Establish octets h = tt
-asked_for_link link event.Release octets h = tt
-asked_for_link link event.BusyOn octets h = tt
-asked_for_link link event.BusyOff octets h = tt
-asked_for_link link (event.Unit len) octets h = tt
 
 pub asked_is_handed : (i : Input) (octets : List ℕ) → IsAsked i octets → IsHanded i octets None
 asked_is_handed (input.Heard control role) octets h = absurd h

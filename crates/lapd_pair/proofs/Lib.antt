@@ -3,7 +3,6 @@ pub mod Fates
 pub mod Lines
 pub mod Pairs
 pub mod Restarted
-pub mod Room
 pub mod Runs
 pub mod SafePairs
 pub mod Steps

@@ -20,9 +20,6 @@ pub record AreDone (before : Pair) (moves : List Move) (at refused : ℕ) (now :
   pub counted : (w : World) → PairStandsFor before w → refused + refusals (drop at moves) (run Tagged (take at moves) w) ≡ refusals moves w
   pub few : refused ≤ at
 
-pub none_done : (p : Pair) (moves : List Move) → AreDone p moves 0 0 p
-none_done p moves = record { stands = λ w s. s; counted = λ w s. omega arith; few = omega arith }
-
 -- the next move leads to the world after it
 next : (moves : List Move) (at : ℕ) (m : Move) (w : World) → take (at + 1) moves ≡ take at moves ++ m ∷ [] → run Tagged (take (at + 1) moves) w ≡ world_after (run Tagged (take at moves) w) (happens Tagged m (run Tagged (take at moves) w))
 next moves at m w split = ap (λ (ms : List Move). run Tagged ms w) split ∙ run_more (take at moves) m w

@@ -17,7 +17,7 @@ use Rattle.lapd_states.specs.Counts.{leaving, ups, unit_ups}
 use Rattle.lapd_states.specs.End.{End}
 use Rattle.lapd_states.specs.Spoken.{AreShort}
 use Rattle.lapd_world.specs.Histories as world
-use Rattle.lapd_world.specs.Histories.{Occasion, Story, tell, told, with_sending, with_receipt, with_unit, with_acked, with_dropped}
+use Rattle.lapd_world.specs.Histories.{Occasion, Story, tell, told, with_sending, with_receipt, with_acked, with_dropped}
 use Rattle.lapd_world.specs.Kept.{AreSettled, AreInOrder}
 use Rattle.lapd_world.specs.Line.{Flight}
 use Rattle.lapd_world.proofs.Telling.{message_is_short, unit_is_proper, in_order_then, settled_then, begun_then}
@@ -45,9 +45,6 @@ FrameOf flight = option_map fields_of flight
 message_is : (side : Side) (setup : Setup) (control : Control) (found : Option (List ℕ)) (message : List ℕ) (place : ℕ) → setup ≡ setup_for side → found ≡ Some message → content_fault Command control (length message) ≡ None
     → message_frame setup control found ≡ FrameOf (Some (record { role = Command; control = control; info = message; place = place }))
 message_is side setup control found message place same is proper = rw is (frame_is side setup Command control message same proper)
-
-at_same : (messages : List (List ℕ)) (first passed n : ℕ) (found : Option (List ℕ)) → passed ≡ first → found ≡ Some (get_or messages (first + n) []) → found ≡ Some (get_or messages (passed + n) [])
-at_same messages first passed n found same is = rw same is
 
 -- the frame that a link makes of an output is the one that is told
 pub sent_is_told : (side : Side) (e : End) (o : Occasion) (passed : ℕ) (out : Out) (rest : List Out) (setup : Setup) → setup ≡ setup_for side → AreInOrder e passed (out ∷ rest) → o.given ≡ e.given → AreShort e.given → length o.octets ≤ n201
@@ -138,13 +135,6 @@ written_receipt side e o out rest s line copy t after octets is held does h =
     let same : octets.items ≡ o.octets = copied_octets o.octets _ copy octets held h.copied in
     rw (is, ← same) (does e.given t.history o.establishment o.place h.begun h.history)
 
-pub written_unit : (side : Side) (e : End) (o : Occasion) (out : Out) (rest : List Out) (s : Station) (line : Line) (copy : Option (Vec ℕ Global)) (t : Story) (after : History) (octets : Vec ℕ Global)
-    → out ≡ UnitUp → copy ≡ Some octets → ((messages : List (List ℕ)) (h : world.History) → IsHistory s.history messages h → IsHistory after messages (with_unit octets.items h))
-    → IsTelling side e o (out ∷ rest) s line copy t → IsHistory after e.given (history_told o out t.history)
-written_unit side e o out rest s line copy t after octets is held does h =
-    let same : octets.items ≡ o.octets = copied_octets o.octets _ copy octets held h.copied in
-    rw (is, ← same) (does e.given t.history h.history)
-
 -- ---- All outputs are told.
 
 -- with `rest` still to be told, what was shown before the first output is shown as far as the others were told
@@ -154,10 +144,6 @@ pub record AreToldUpTo (all : List Out) (octets : List ℕ) (before : Station) (
   pub link : now.link ≡ before.link
   pub line_room : HasRoomFor (length rest) line_now
   pub history_room : IfSome copy_now (λ _. HasRoom data_room now.history)
-
-pub none_told : (all : List Out) (octets : List ℕ) (before : Station) (line : Line) (copy : Option (Vec ℕ Global)) → HasRoomFor (length all) line → IfSome copy (λ _. HasRoom data_room before.history)
-    → AreToldUpTo all octets before line copy all before line copy
-none_told all octets before line copy line_room history_room = record { shows = λ side e o t same h. (t, h, refl); link = refl; line_room = line_room; history_room = history_room }
 
 -- one more is told
 then_told : (side : Side) (e : End) (o : Occasion) (out : Out) (rest : List Out) (s after : Station) (line line_after : Line) (copy copy_after : Option (Vec ℕ Global)) (t : Story)

@@ -16,7 +16,3 @@ pub encode_lower-done : (text left : List ℕ) → length left ≡ 0 → text ++
 unfolding encode_with
 encode_lower-done text [] h = append-nil text
 encode_lower-done text (o ∷ left) h = absurd (omega arith)
-
--- the text of three parts
-pub encode_lower-three : (a b c : List ℕ) → encode_lower (a ++ b ++ c) ≡ encode_lower a ++ encode_lower b ++ encode_lower c
-encode_lower-three a b c = encode_with-append lower_digits (a ++ b) c ∙ ap (λ t. t ++ encode_lower c) (encode_with-append lower_digits a b)

@@ -288,11 +288,6 @@ consumes_some : (rest part : List ℕ) (new : Option (List ℕ)) → Consumes (S
 consumes_some rest part None h = absurd h
 consumes_some rest part (Some ys) h = (ys, refl, h)
 
--- nothing is read yet
-pub Came-first : {C S : Type 0} (stands_for : C → S → Type 0) (step : Step S) (s : S) (initial : Option (List ℕ)) (command : C) (a : Option (List ℕ)) → stands_for command s → Came stands_for step s initial initial command [] 0 a a
-Came-first stands_for step s None command a h = tt
-Came-first stands_for step s (Some octets) command a h = (octets, s, refl, h, Walked-none step s (lines_of octets) 0 a a (Keeps-refl a))
-
 -- the output is handed out
 pub Came-kept : {C S : Type 0} (stands_for : C → S → Type 0) (step : Step S) (s : S) (initial now : Option (List ℕ)) (command : C) (cut : List ℕ) (n : ℕ) (a b c : Option (List ℕ)) → Came stands_for step s initial now command cut n a b → Keeps b c → Came stands_for step s initial now command cut n a c
 Came-kept stands_for step s None now command cut n a b c p k = tt

@@ -1,5 +1,5 @@
 -- Frames that cross one after another.
-use Rattle.std.proofs.Common.{◌≡◌, ℕ, zero, suc, List, [], ◌∷◌, ◌++◌, ◌+◌, ◌<◌, Option, Result, Ok, Err, OnOk, append-nil, append_assoc, ap, sym, subst, ◌∙◌, refl, length, take, drop, map, get_or}
+use Rattle.std.proofs.Common.{◌≡◌, ℕ, zero, suc, List, [], ◌∷◌, ◌++◌, ◌+◌, ◌<◌, Option, Result, Ok, Err, OnOk, append_assoc, ap, sym, subst, ◌∙◌, refl, length, take, drop, map, get_or}
 use Rattle.std.proofs.lemmas.List.{map-append, take_more}
 use Rattle.std.proofs.KnownBytes.{Appends-nil, Appends-trans, Consumes-nil, Consumes-trans}
 use Rattle.std.specs.Io.KnownBytes.{Appends, Consumes}
@@ -22,13 +22,6 @@ pub both_crossed : (rest mid left written more grown : Option (List ℕ)) (first
 both_crossed rest mid left written more grown first second one other =
     let text = sym (socket_text-both first second) in
     (subst (Consumes rest left) text (Consumes-trans rest mid left _ _ one.0 other.0), subst (Appends written grown) text (Appends-trans written more grown _ _ one.1 other.1))
-
--- one frame
-pub one_crossed : (rest left written grown : Option (List ℕ)) (frame : List ℕ) → Consumes rest left (frame_text frame) → Appends written grown (frame_text frame)
-    → HaveCrossed rest left written grown (frame ∷ [])
-one_crossed rest left written grown frame taken put =
-    let text = sym (append-nil (frame_text frame)) in
-    (subst (Consumes rest left) text taken, subst (Appends written grown) text put)
 
 -- one frame more of some
 pub more_crossed : {F : Type 0} (octets : F → List ℕ) (frames : List F) (at : ℕ) (frame : F) (item : List ℕ) (rest mid left written more grown : Option (List ℕ))

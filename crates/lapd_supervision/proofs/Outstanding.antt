@@ -1,10 +1,10 @@
 -- How many I frames are outstanding, from V(A) to V(S), after each action; in both readings.
-use Rattle.std.proofs.Common.{◌≡◌, ℕ, ◌+◌, ◌%◌, ◌<◌, ◌≤◌, Bool, true, false, refl, arith}
+use Rattle.std.proofs.Common.{◌≡◌, ℕ, ◌+◌, ◌%◌, ◌<◌, ◌≤◌, Bool, true, refl, arith}
 use Rattle.std.proofs.lemmas.Bool.Decides.{nat_tests}
 use Rattle.std.proofs.lemmas.Grind.{common_steps}
 use Rattle.lapd_mod128.specs.Counting.{Reading, Whole, Tagged, after, reaches}
-use Rattle.lapd_mod128.proofs.Steps.{reaches_tells, reaches_holds, tags_are_reached, reaches_between, steps_to_between, steps_add_up, no_steps, one_more_step, first_lies_within, last_lies_within, within_one_more}
-use Rattle.lapd_supervision.specs.StateVariables.{StateVariables, initial_variables, without_exceptions, with_zero_counters, without_ack_pending, after_i_frame, is_valid_nr, with_va, acknowledged_count, acknowledges_all, with_vs, outstanding, may_send, after_sending, with_own_busy, with_peer_busy}
+use Rattle.lapd_mod128.proofs.Steps.{reaches_tells, reaches_holds, tags_are_reached, reaches_between, steps_to_between, steps_add_up, no_steps, one_more_step}
+use Rattle.lapd_supervision.specs.StateVariables.{StateVariables, without_ack_pending, after_i_frame, is_valid_nr, with_va, acknowledged_count, acknowledges_all, with_vs, outstanding, may_send, after_sending, with_peer_busy}
 
 -- ---- N(R)
 
@@ -27,23 +27,10 @@ pub outstanding_after_all : (r : Reading) (nr : ℕ) (m : StateVariables) → ac
 unfolding with_va
 outstanding_after_all r nr m all = let same = same_as_vs nr m all in rw same (no_steps r m.vs)
 
-pub acknowledged_count_of_all : (r : Reading) (nr : ℕ) (m : StateVariables) → acknowledges_all nr m ≡ true → acknowledged_count r nr m ≡ outstanding r m
-unfolding acknowledged_count
-acknowledged_count_of_all r nr m all = let same = same_as_vs nr m all in rw same refl
-
 -- back to N(R), nothing is outstanding
 pub outstanding_with_vs : (r : Reading) (nr : ℕ) (m : StateVariables) → outstanding r (with_vs nr (with_va nr m)) ≡ 0
 unfolding with_vs with_va
 outstanding_with_vs r nr m = no_steps r nr
-
--- V(A) and V(S) are themselves valid
-pub va_is_valid : (r : Reading) (m : StateVariables) → reaches r m.va m.vs ≡ true → is_valid_nr r m.va m ≡ true
-unfolding is_valid_nr
-va_is_valid r m counted = first_lies_within r m.va m.vs counted
-
-pub vs_is_valid : (r : Reading) (m : StateVariables) → reaches r m.va m.vs ≡ true → is_valid_nr r m.vs m ≡ true
-unfolding is_valid_nr
-vs_is_valid r m counted = last_lies_within r m.va m.vs counted
 
 -- ---- I frames go out
 
@@ -51,10 +38,6 @@ vs_is_valid r m counted = last_lies_within r m.va m.vs counted
 pub may_send_leaves_room : (r : Reading) (k : ℕ) (m : StateVariables) → may_send r k m ≡ true → outstanding r m < k
 unfolding may_send
 may_send_leaves_room r k m opened = grind (arith, nat_tests, common_steps)
-
-pub may_send_only_to_a_free_peer : (r : Reading) (k : ℕ) (m : StateVariables) → may_send r k m ≡ true → m.peer_busy ≡ false
-unfolding may_send
-may_send_only_to_a_free_peer r k m opened = grind (arith, nat_tests, common_steps)
 
 -- each one sent is outstanding
 pub outstanding_after_sending : (r : Reading) (m : StateVariables) → reaches r m.va m.vs ≡ true → outstanding r m < 127 → outstanding r (after_sending r m) ≡ outstanding r m + 1
@@ -66,24 +49,7 @@ pub at_most_k_after_sending : (r : Reading) (k : ℕ) (m : StateVariables) → r
 at_most_k_after_sending r k m counted small allowed = let room = may_send_leaves_room r k m allowed in
     omega (arith, outstanding_after_sending r m counted (omega arith))
 
--- what was valid stays so
-pub is_valid_nr_after_sending : (r : Reading) (nr : ℕ) (m : StateVariables) → is_valid_nr r nr m ≡ true → outstanding r m < 127 → is_valid_nr r nr (after_sending r m) ≡ true
-unfolding is_valid_nr after_sending
-is_valid_nr_after_sending r nr m valid room = within_one_more r m.va nr m.vs valid room
-
 -- ---- The other actions
-
-pub outstanding_initially : (r : Reading) → outstanding r initial_variables ≡ 0
-unfolding initial_variables
-outstanding_initially r = no_steps r 0
-
-pub outstanding_with_zero_counters : (r : Reading) (m : StateVariables) → outstanding r (with_zero_counters m) ≡ 0
-unfolding with_zero_counters
-outstanding_with_zero_counters r m = no_steps r 0
-
-pub outstanding_without_exceptions : (r : Reading) (m : StateVariables) → outstanding r (without_exceptions m) ≡ outstanding r m
-unfolding without_exceptions
-outstanding_without_exceptions r m = refl
 
 pub outstanding_without_ack_pending : (r : Reading) (m : StateVariables) → outstanding r (without_ack_pending m) ≡ outstanding r m
 unfolding without_ack_pending
@@ -92,10 +58,6 @@ outstanding_without_ack_pending r m = refl
 pub outstanding_after_i_frame : (q r : Reading) (ns : ℕ) (p : Bool) (m : StateVariables) → outstanding q (after_i_frame r ns p m) ≡ outstanding q m
 unfolding after_i_frame
 outstanding_after_i_frame q r ns p m = refl
-
-pub outstanding_with_own_busy : (r : Reading) (busy : Bool) (m : StateVariables) → outstanding r (with_own_busy busy m) ≡ outstanding r m
-unfolding with_own_busy
-outstanding_with_own_busy r busy m = refl
 
 pub outstanding_with_peer_busy : (r : Reading) (busy : Bool) (m : StateVariables) → outstanding r (with_peer_busy busy m) ≡ outstanding r m
 unfolding with_peer_busy
@@ -106,14 +68,6 @@ outstanding_with_peer_busy r busy m = refl
 reaches_itself : (r : Reading) (n : ℕ) → reaches r n n ≡ true
 reaches_itself Whole n = reaches_holds n n (omega arith)
 reaches_itself Tagged n = tags_are_reached n n
-
-pub reaches_initially : (r : Reading) → reaches r initial_variables.va initial_variables.vs ≡ true
-unfolding initial_variables
-reaches_initially r = reaches_itself r 0
-
-pub reaches_with_zero_counters : (r : Reading) (m : StateVariables) → reaches r (with_zero_counters m).va (with_zero_counters m).vs ≡ true
-unfolding with_zero_counters
-reaches_with_zero_counters r m = reaches_itself r 0
 
 pub reaches_with_va : (r : Reading) (nr : ℕ) (m : StateVariables) → is_valid_nr r nr m ≡ true → reaches r (with_va nr m).va (with_va nr m).vs ≡ true
 unfolding is_valid_nr with_va

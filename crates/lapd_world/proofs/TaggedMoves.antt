@@ -1,5 +1,5 @@
 -- A move on tags does what it does on whole numbers, where these lie near each other; and so does a run of moves.
-use Rattle.std.proofs.Common.{◌≡◌, ◌↔◌, ℕ, zero, suc, ◌+◌, ◌≤◌, nat_lt, if◌then◌else◌, Bool, true, false, List, [], ◌∷◌, map, length, Option, Some, None, Result, Ok, Err, refl, sym, ap, subst, ◌∙◌}
+use Rattle.std.proofs.Common.{◌≡◌, ◌↔◌, ℕ, zero, suc, ◌+◌, ◌≤◌, nat_lt, if◌then◌else◌, Bool, true, false, List, [], ◌∷◌, map, length, Option, Some, None, Result, Ok, Err, refl, ap, ◌∙◌}
 use Rattle.std.specs.List.{position, position_or_len, remove}
 use Rattle.std.proofs.lemmas.List.{map-append, length-map}
 use Rattle.lapd_timers.specs.declared.timer.Timer.TheVariants.{T200, T203}
@@ -30,7 +30,7 @@ use Rattle.lapd_world.specs.Move.{Deed, Give, Establish, Release, Deliver, Lose,
 use Rattle.lapd_world.specs.Safe.{AreSafe}
 use Rattle.lapd_world.specs.Tagged.{tag_flight, tag_station, tag_world, tag_outcome, IsFirstNear, IsNearDeed, IsNearMove, AreNearMoves, IsFirstWithin, AreFirstWithin}
 use Rattle.lapd_world.specs.World.{World, view_of, Happened, in_world, happens, world_after, run, outcomes, left, new_world}
-use Rattle.lapd_world.proofs.Keeping.{run_kept, new_world_kept}
+use Rattle.lapd_world.proofs.Keeping.{run_kept}
 
 -- ---- The line.
 
@@ -243,12 +243,6 @@ near_by_invariant Inv keeps (move ∷ moves) w inv =
     let now = keeps w inv move in
     (now.0, near_by_invariant Inv keeps moves (world_after w (happens Whole move w)) now.1)
 
--- so too where the first frames lie within their bounds
-pub near_within_bounds : (Inv : World → Type 0) → ((w : World) → Inv w → AreFirstWithin w) → ((move : Move) (w : World) → Inv w → Inv (world_after w (happens Whole move w)))
-    → (moves : List Move) (w : World) → IsKeptWorld Whole w → Inv w → AreNearMoves moves w
-near_within_bounds Inv within keeps moves w kept inv = near_by_invariant (λ v. IsKeptWorld Whole v × Inv v)
-    (λ v both move. (move_near move v both.0 (within v both.1), (run_kept Whole (move ∷ []) v both.0, keeps move v both.1))) moves w (kept, inv)
-
 -- ---- What a reader of the histories sees.
 
 pub safe_on_tags : (w : World) → AreSafe (tag_world w) ↔ AreSafe w
@@ -262,21 +256,6 @@ new_world_on_tags user network = rw (initial_variables_on_tags) refl
 
 -- ---- From a new world on.
 
-pub new_run_on_tags : (user network : Parameters) → user.k ≤ 127 → network.k ≤ 127 → (moves : List Move) → AreNearMoves moves (new_world user network)
-    → run Tagged moves (new_world user network) ≡ tag_world (run Whole moves (new_world user network))
-new_run_on_tags user network user_small network_small moves near =
-    ap (λ w. run Tagged moves w) (sym (new_world_on_tags user network)) ∙ run_on_tags moves (new_world user network) (new_world_kept Whole user network user_small network_small) near
-
 invariant_after : (Inv : World → Type 0) → ((move : Move) (w : World) → Inv w → Inv (world_after w (happens Whole move w))) → (moves : List Move) (w : World) → Inv w → Inv (run Whole moves w)
 invariant_after Inv keeps [] w inv = inv
 invariant_after Inv keeps (move ∷ moves) w inv = invariant_after Inv keeps moves (world_after w (happens Whole move w)) (keeps move w inv)
-
--- Each run on tags is safe where a predicate holds of the new world on whole numbers that each move keeps, and under which the
--- world is safe and the first frames lie within their bounds.
-pub safe_runs_on_tags : (Inv : World → Type 0) → ((w : World) → Inv w → AreFirstWithin w) → ((w : World) → Inv w → AreSafe w)
-    → ((move : Move) (w : World) → Inv w → Inv (world_after w (happens Whole move w)))
-    → (user network : Parameters) → user.k ≤ 127 → network.k ≤ 127 → Inv (new_world user network) → (moves : List Move) → AreSafe (run Tagged moves (new_world user network))
-safe_runs_on_tags Inv within safe keeps user network user_small network_small inv moves =
-    let start = new_world user network in
-    let same = new_run_on_tags user network user_small network_small moves (near_within_bounds Inv within keeps moves start (new_world_kept Whole user network user_small network_small) inv) in
-    subst AreSafe (sym same) (safe (run Whole moves start) (invariant_after Inv keeps moves start inv))
