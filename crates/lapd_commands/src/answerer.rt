@@ -6,6 +6,7 @@ ghost use Rattle.lapd_commands.specs.Answer.{answer_step, new_session};
 ghost use Rattle.lapd_script.specs.Script.{EndsAs, LineEndsAs, lines_of};
 
 use crate::outputs::{put_outs, put_refusal};
+use crate::words::is;
 use lapd_frame::{Frame, FrameFault, Sapi, Side, Tei};
 use lapd_link::{Event, Link, Outs, Params};
 use lapd_script::{Command, LineFault, ScriptFault, Words, put_line, put_number, walk};
@@ -108,23 +109,23 @@ impl Answerer {
         ensures { (s : Session) → IsAnswerer self.old s
             → LineEndsAs IsAnswerer (answer_word s word.now behind.entry) result self.new (W.contents out.old) (W.contents out.new) }
     {
-        if word == b"frame".as_slice() {
+        if is(word, b"frame") {
             self.hear(behind, out)
-        } else if word == b"t200".as_slice() {
+        } else if is(word, b"t200") {
             self.alone(behind, Event::T200, out)
-        } else if word == b"t203".as_slice() {
+        } else if is(word, b"t203") {
             self.alone(behind, Event::T203, out)
-        } else if word == b"establish".as_slice() {
+        } else if is(word, b"establish") {
             self.alone(behind, Event::Establish, out)
-        } else if word == b"release".as_slice() {
+        } else if is(word, b"release") {
             self.alone(behind, Event::Release, out)
-        } else if word == b"give".as_slice() {
+        } else if is(word, b"give") {
             self.give(behind, out)
-        } else if word == b"unit".as_slice() {
+        } else if is(word, b"unit") {
             self.unit(behind, out)
-        } else if word == b"busy".as_slice() {
+        } else if is(word, b"busy") {
             self.busy(behind, out)
-        } else if word == b"state".as_slice() {
+        } else if is(word, b"state") {
             self.put_state(behind, out)
         } else {
             Err(LineFault::Bad)

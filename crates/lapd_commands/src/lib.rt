@@ -13,6 +13,7 @@ mod mover;
 mod moves;
 mod numbers;
 mod outputs;
+mod words;
 
 pub use answerer::{Answerer, answer};
 pub use decoder::decode;

@@ -2,6 +2,7 @@
 
 ghost use Rattle.std.specs.Prelude.{◌≡◌, ◌∷◌, ◌++◌, IfSome, IsOkUnless, OnOk};
 ghost use Rattle.std.specs.Io.KnownBytes.{Appends};
+ghost use Rattle.lapd_commands.specs.Playing.{IsMover};
 ghost use Rattle.lapd_commands.specs.Pair.{PairEndsAs, figures_line, not_admitted, side_line, side_name as name_of, unit_of as unit_data_of};
 ghost use Rattle.lapd_frame.specs.Frame.{spelling};
 ghost use Rattle.lapd_pair.specs.Moves.{move_of};
@@ -10,7 +11,7 @@ ghost use Rattle.lapd_commands.specs.Outputs.{primitive_line};
 ghost use Rattle.lapd_script.specs.Script.{lines_of};
 ghost use Rattle.lapd_trace.specs.Trace.{trace_line};
 ghost use Rattle.lapd_world.specs.Move.{NotYet};
-ghost use Rattle.lapd_world.specs.World.{new_world};
+ghost use Rattle.lapd_world.specs.World.{World, new_world};
 
 use crate::moves::read_move;
 use crate::outputs::{put_primitive, put_refusal};
@@ -45,11 +46,22 @@ pub fn pair<R: Read, W: Write>(
     ensures { IfSome (R.remaining script.old) (λ octets. PairEndsAs (new_world user network) result
         (lines_of octets) (W.contents out.old) (W.contents out.new)) }
 {
-    let mut mover = match Mover::new(alloc, user, network) {
-        Ok(mover) => mover,
-        Err(_) => return Err(ScriptFault::Memory),
-    };
-    match walk(alloc, &mut mover, script, out) {
+    match Mover::new(alloc, user, network) {
+        Ok(mut mover) => walk_to_close(&mut mover, script, out),
+        Err(_) => Err(ScriptFault::Memory),
+    }
+}
+
+/// Goes over the script, and prints where both sides are in the end.
+fn walk_to_close<R: Read, W: Write>(
+    mover: &mut Mover,
+    script: &mut R,
+    out: &mut W,
+) -> Result<(), ScriptFault>
+    ensures { (w : World) → IsMover mover.old w → IfSome (R.remaining script.old) (λ octets. PairEndsAs w result
+        (lines_of octets) (W.contents out.old) (W.contents out.new)) }
+{
+    match walk(mover.alloc, mover, script, out) {
         Ok(()) => mover.close(out),
         Err(fault) => Err(fault),
     }
@@ -57,9 +69,7 @@ pub fn pair<R: Read, W: Write>(
 
 impl Mover {
     ghost use Rattle.std.specs.Prelude.{IfOk};
-    ghost use Rattle.lapd_commands.specs.Playing.{IsMover};
     ghost use Rattle.lapd_pair.specs.Runs.{PairStandsFor};
-    ghost use Rattle.lapd_world.specs.World.{World};
 
     /// Two ends in state 4, with nothing on the line.
     ///
@@ -83,8 +93,6 @@ impl Mover {
 
 impl Command for Mover {
     ghost use Rattle.lapd_commands.specs.Pair.{pair_step};
-    ghost use Rattle.lapd_commands.specs.Playing.{IsMover};
-    ghost use Rattle.lapd_world.specs.World.{World};
 
     ghost State = { World };
 
@@ -101,9 +109,8 @@ impl Command for Mover {
 impl Mover {
     ghost use Rattle.std.specs.Prelude.{IfOk, Some};
     ghost use Rattle.lapd_commands.specs.Pair.{closing_line, closing_lines, figures_of, move_made, octets_for, told_line, told_lines};
-    ghost use Rattle.lapd_commands.specs.Playing.{IsMover};
     ghost use Rattle.lapd_script.specs.Script.{LineEndsAs};
-    ghost use Rattle.lapd_world.specs.World.{World, view_of};
+    ghost use Rattle.lapd_world.specs.World.{view_of};
 
     /// Makes a move, and prints what it comes to.
     fn make<W: Write>(&mut self, deed: &Move, out: &mut W) -> Result<(), LineFault>
@@ -218,7 +225,7 @@ impl Mover {
 }
 
 /// What is printed of a side at the end: its state, and numbers of messages.
-#[derive(Clone, Copy, Debug)]
+#[derive(Clone, Copy)]
 struct Figures {
     state: u8,
     given: usize,

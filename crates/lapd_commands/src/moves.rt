@@ -5,6 +5,7 @@ ghost use Rattle.lapd_commands.specs.Moves.{bare_move, busy_move, move_named, mo
 ghost use Rattle.lapd_pair.specs.Moves.{move_of};
 ghost use Rattle.lapd_script.specs.Line.{Reads};
 
+use crate::words::is;
 use lapd_frame::Side;
 use lapd_pair::Move;
 use lapd_script::{LineFault, Words};
@@ -46,25 +47,25 @@ fn side_of(name: &[u8]) -> Option<Side>
 fn move_by(alloc: Global, word: &[u8], side: Side, behind: Words<'_>) -> Result<Move, LineFault>
     ensures { Reads move_of result (move_named word.now side behind.entry) }
 {
-    if word == b"give".as_slice() {
+    if is(word, b"give") {
         Ok(Move::Give(side, behind.octets(alloc)?))
-    } else if word == b"establish".as_slice() {
+    } else if is(word, b"establish") {
         alone(behind, Move::Establish(side))
-    } else if word == b"release".as_slice() {
+    } else if is(word, b"release") {
         alone(behind, Move::Release(side))
-    } else if word == b"deliver".as_slice() {
+    } else if is(word, b"deliver") {
         alone(behind, Move::Deliver(side))
-    } else if word == b"lose".as_slice() {
+    } else if is(word, b"lose") {
         Ok(Move::Lose(side, behind.number()? as usize))
-    } else if word == b"expire200".as_slice() {
+    } else if is(word, b"expire200") {
         alone(behind, Move::Expire200(side))
-    } else if word == b"expire203".as_slice() {
+    } else if is(word, b"expire203") {
         alone(behind, Move::Expire203(side))
-    } else if word == b"busy".as_slice() {
+    } else if is(word, b"busy") {
         busy(behind, side)
-    } else if word == b"unit".as_slice() {
+    } else if is(word, b"unit") {
         Ok(Move::Unit(side, behind.octets(alloc)?))
-    } else if word == b"restart".as_slice() {
+    } else if is(word, b"restart") {
         alone(behind, Move::Restart(side))
     } else {
         Err(LineFault::Bad)

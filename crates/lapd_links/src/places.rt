@@ -51,8 +51,8 @@ impl Places {
     {
         let tei = usize::from(id.tei.value());
         match id.sapi {
-            Sapi::Call if tei < self.call.len() => self.call[tei] = TimerSet::new(durations),
-            Sapi::Packet if tei < self.packet.len() => self.packet[tei] = TimerSet::new(durations),
+            Sapi::Call if tei < self.call.len() => rest(&mut self.call[tei], durations),
+            Sapi::Packet if tei < self.packet.len() => rest(&mut self.packet[tei], durations),
             _ => {}
         }
     }
@@ -116,6 +116,13 @@ impl Places {
         let packet = first_in(Sapi::Packet, &self.packet);
         sooner(call, packet)
     }
+}
+
+/// No timer of a link runs, and they take this long.
+fn rest(timers: &mut TimerSet, durations: Durations)
+    ensures { timers.new ≡ at_rest durations }
+{
+    *timers = TimerSet::new(durations);
 }
 
 /// Stops all timers.

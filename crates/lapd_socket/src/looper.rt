@@ -57,7 +57,7 @@ pub fn loop_over<R: Read, W: Write, S: Source, K: Sink>(
 }
 
 /// How many frames stand on the line in each direction.
-#[derive(Clone, Copy, Debug)]
+#[derive(Clone, Copy)]
 struct OnLine {
     to_user: usize,
     to_network: usize,

@@ -14,7 +14,7 @@ use std::alloc::Global;
 const MOST_MS: u64 = 3_600_000;
 
 /// What a line of a side's script asks for.
-#[derive(Debug, Drop)]
+#[derive(Drop)]
 pub(crate) enum SideLine {
     /// One frame is read from the port, and heard.
     Read,
