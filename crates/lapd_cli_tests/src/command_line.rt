@@ -220,8 +220,9 @@ const SIDES: &[(&str, &[&str], Wanted, &str)] = &[
 
 // Whether the side that the words choose has this address.
 fn is_at(alloc: Global, words: &[&str], wanted: &str) -> bool {
-    match address(alloc, words) {
-        Ok(found) => found == wanted,
+    let found = address(alloc, words);
+    match &found {
+        Ok(at) => *at == wanted,
         Err(_) => false,
     }
 }
@@ -506,10 +507,22 @@ enum Command {
     Answer(Side),
     Bus,
     Decode,
+    Loop,
     Pair,
 }
 
-// What a script comes to under a command.
+// The text that ends its help. The texts are long, so they are named here alone.
+fn help_of(command: Command) -> &'static str {
+    match command {
+        Command::Answer(_) => help::ANSWER,
+        Command::Bus => help::BUS,
+        Command::Decode => help::DECODE,
+        Command::Loop => help::LOOP,
+        Command::Pair => help::PAIR,
+    }
+}
+
+// What a script comes to under a command. What `loop` prints is what `pair` prints.
 fn run(
     alloc: Global,
     command: Command,
@@ -521,7 +534,7 @@ fn run(
         Command::Answer(side) => answer(alloc, &mut script, printed, side, params),
         Command::Bus => bus(alloc, &mut script, printed, 2),
         Command::Decode => decode(alloc, &mut script, printed),
-        Command::Pair => pair(alloc, &mut script, printed, params, params),
+        Command::Loop | Command::Pair => pair(alloc, &mut script, printed, params, params),
     }
 }
 
@@ -535,35 +548,30 @@ const NETWORK_BEGINS: &str = "The network side begins anew";
 // No line begins so: the example is all of its text.
 const NO_LINE: &str = "no line";
 
-// A name, a command, and its example. What `loop` prints is what `pair` prints.
-const EXAMPLES: &[(&str, Command, Example)] = &[
+// A name, a command, and its example: how the line begins that parts its help in two, and whether the example stands behind.
+const EXAMPLES: &[(&str, Command, &str, bool)] = &[
     (
         "the user answers",
         Command::Answer(Side::User),
-        (help::ANSWER, NETWORK_ANSWERS, false),
+        NETWORK_ANSWERS,
+        false,
     ),
     (
         "the network answers",
         Command::Answer(Side::Network),
-        (help::ANSWER, NETWORK_ANSWERS, true),
+        NETWORK_ANSWERS,
+        true,
     ),
-    (
-        "two ends",
-        Command::Pair,
-        (help::PAIR, NETWORK_BEGINS, false),
-    ),
+    ("two ends", Command::Pair, NETWORK_BEGINS, false),
     (
         "the network begins anew",
         Command::Pair,
-        (help::PAIR, NETWORK_BEGINS, true),
+        NETWORK_BEGINS,
+        true,
     ),
-    ("a loop", Command::Pair, (help::LOOP, NO_LINE, false)),
-    ("a bus", Command::Bus, (help::BUS, NO_LINE, false)),
-    (
-        "octets are decoded",
-        Command::Decode,
-        (help::DECODE, NO_LINE, false),
-    ),
+    ("a loop", Command::Loop, NO_LINE, false),
+    ("a bus", Command::Bus, NO_LINE, false),
+    ("octets are decoded", Command::Decode, NO_LINE, false),
 ];
 
 // Puts a line at the end of others.
@@ -619,8 +627,9 @@ fn holds(alloc: Global, command: Command, example: &Example) -> bool {
 
 #[test]
 fn examples_of_the_help(rt: HostRuntime) -> Result<(), Fail> {
-    for (row, command, example) in EXAMPLES {
-        let holds = holds(rt.alloc(), *command, example);
+    for (row, command, parted_by, behind) in EXAMPLES {
+        let example = (help_of(*command), *parted_by, *behind);
+        let holds = holds(rt.alloc(), *command, &example);
         wants(holds, row, "it ends otherwise, or prints something else")?;
     }
     Ok(())
@@ -640,10 +649,15 @@ const ENDS: &[(ScriptFault, &str, u8)] = &[
     (ScriptFault::Port(PortFault::Failed), "port S6 Failed", 3),
 ];
 
+// Whether this is said of a fault, with this exit status.
+fn is_end(alloc: Global, fault: &ScriptFault, text: &str, status: u8) -> bool {
+    fault.status() == status && is_said(alloc, fault, text)
+}
+
 #[test]
 fn faults_are_said(rt: HostRuntime) -> Result<(), Fail> {
     for (fault, text, status) in ENDS {
-        let said = is_said(rt.alloc(), fault, text) && fault.status() == *status;
+        let said = is_end(rt.alloc(), fault, text, *status);
         wants(said, text, "another text or status")?;
     }
     Ok(())

@@ -4,8 +4,17 @@ use crate::scripts::{Ended, Ends, MESSAGE, ends_of, loop_of, pair_of};
 use crate::wants::{are_same, wants};
 use lapd_socket::{FromRead, FromWrite, Port};
 use std::alloc::Global;
+use std::io;
 use std::net::{TcpListener, TcpStream};
 use std::test::Fail;
+
+/// Both ends of a new connection of the process to itself.
+pub(crate) fn to_itself(rt: &HostRuntime) -> io::Result<(TcpStream, TcpStream)> {
+    let listener = TcpListener::bind(rt, "127.0.0.1:0")?;
+    let near = TcpStream::connect(rt, listener.local_addr()?)?;
+    let (far, _) = listener.accept()?;
+    Ok((near, far))
+}
 
 /// What `loop` comes to where what goes in at the near end comes out at the far end.
 fn ended_over(alloc: Global, near: &TcpStream, far: &TcpStream, ends: &Ends) -> Ended {
@@ -21,15 +30,16 @@ fn crosses(alloc: Global, near: &TcpStream, far: &TcpStream, ends: &Ends) -> boo
     ended.result == Ok(()) && are_same(ended.printed.as_slice(), wanted.printed.as_slice())
 }
 
+/// A message crosses from the near end to the far end.
+fn message_crosses(alloc: Global, near: &TcpStream, far: &TcpStream) -> Result<(), Fail> {
+    let ends = ends_of(&MESSAGE)?;
+    let crosses = crosses(alloc, near, far, &ends);
+    let what = "it ends otherwise, or prints another text";
+    wants(crosses, MESSAGE.0, what)
+}
+
 #[test]
 fn a_message_crosses_a_connection(rt: HostRuntime) -> Result<(), Fail> {
-    let listener = TcpListener::bind(&rt, "127.0.0.1:0")?;
-    let near = TcpStream::connect(&rt, listener.local_addr()?)?;
-    let (far, _) = listener.accept()?;
-    let crosses = crosses(rt.alloc(), &near, &far, &ends_of(&MESSAGE)?);
-    wants(
-        crosses,
-        MESSAGE.0,
-        "it ends otherwise, or prints another text",
-    )
+    let (near, far) = to_itself(&rt)?;
+    message_crosses(rt.alloc(), &near, &far)
 }

@@ -1,12 +1,13 @@
 //! Both ends of a dialogue over a connection of the process to itself. What the user sends is there before, so that neither
 //! waits for the other.
 
+use crate::connections::to_itself;
 use crate::dialogues::{BOTH_NET, BOTH_USER, MOST, Row, go_over, octets_of};
 use crate::wants::{are_same, wants};
 use lapd_socket::{FromRead, FromWrite, Port};
 use std::alloc::Global;
 use std::io::{Read, Write};
-use std::net::{TcpListener, TcpStream};
+use std::net::TcpStream;
 use std::test::Fail;
 
 /// Whether a row ends well and prints its text, over this connection.
@@ -27,20 +28,22 @@ fn come(mut stream: &TcpStream, octets: &[u8]) -> bool {
 }
 
 /// Both ends, one after the other.
-fn talk(alloc: Global, near: &TcpStream, mut far: &TcpStream) -> Result<(), Fail> {
+fn talk(
+    alloc: Global,
+    (user, mut far): (&Row, &TcpStream),
+    (network, near): (&Row, &TcpStream),
+) -> Result<(), Fail> {
     let mut going = [0; MOST];
-    let from_user = octets_of(BOTH_USER.going, &mut going)?;
+    let from_user = octets_of(user.going, &mut going)?;
     far.write_all(from_user)?;
     let what = "it ends otherwise, or prints another text";
-    wants(plays(alloc, &BOTH_NET, near), BOTH_NET.name, what)?;
-    wants(plays(alloc, &BOTH_USER, far), BOTH_USER.name, what)?;
-    wants(come(near, from_user), BOTH_USER.name, "other octets went")
+    wants(plays(alloc, network, near), network.name, what)?;
+    wants(plays(alloc, user, far), user.name, what)?;
+    wants(come(near, from_user), user.name, "other octets went")
 }
 
 #[test]
 fn both_ends_over_a_connection(rt: HostRuntime) -> Result<(), Fail> {
-    let listener = TcpListener::bind(&rt, "127.0.0.1:0")?;
-    let far = TcpStream::connect(&rt, listener.local_addr()?)?;
-    let (near, _) = listener.accept()?;
-    talk(rt.alloc(), &near, &far)
+    let (far, near) = to_itself(&rt)?;
+    talk(rt.alloc(), (&BOTH_USER, &far), (&BOTH_NET, &near))
 }

@@ -12,7 +12,8 @@ pub(crate) fn wants(holds: bool, row: &str, what: &str) -> Result<(), Fail> {
 
 /// Whether this is said of it.
 pub(crate) fn is_said<T: ToString>(alloc: Global, told: &T, text: &str) -> bool {
-    match told.to_string(alloc) {
+    let said = told.to_string(alloc);
+    match &said {
         Ok(said) => said.as_str() == text,
         Err(_) => false,
     }

@@ -1,7 +1,7 @@
 //! The command `answer`: scripts, and what they call for.
 
 use crate::devices::keeps_whole_lines;
-use crate::scripts::{ANSWERS, SCRIPT, params, run};
+use crate::scripts::{ANSWERS, SCRIPT, params, push_lines, run};
 use crate::wants::wants;
 use lapd_commands::answer;
 use lapd_frame::Side;
@@ -442,22 +442,6 @@ fn plays_so(alloc: Global, side: Side, params: Params, play: &str) -> Result<(),
     prints(alloc, side, params, play, script.as_str(), want.as_str())
 }
 
-// Parts a play into its script and what that calls for.
-fn push_lines(play: &str, script: &mut String, want: &mut String) -> Result<(), Fail> {
-    for line in play.lines() {
-        match line.strip_prefix("    ") {
-            Some(text) => push_line(want, text)?,
-            None => push_line(script, line)?,
-        }
-    }
-    Ok(())
-}
-
-fn push_line(text: &mut String, line: &str) -> Result<(), Fail> {
-    text.push_str(line)?;
-    Ok(text.push_str("\n")?)
-}
-
 // A script, all lines of which are good, calls for this.
 fn prints(
     alloc: Global,
@@ -467,84 +451,120 @@ fn prints(
     script: &str,
     want: &str,
 ) -> Result<(), Fail> {
-    let text = printed(alloc, side, params, script)?;
-    wants(text.as_str() == want, row, "its text")
-}
-
-// What a script, all lines of which are good, calls for.
-fn printed(alloc: Global, side: Side, params: Params, script: &str) -> Result<String, Fail> {
     let mut printed = Vec::new(alloc);
-    answer(alloc, &mut script.as_bytes(), &mut printed, side, params)?;
-    Ok(String::from_utf8(printed).map_err(|_| "text")?)
+    let ended = answer(alloc, &mut script.as_bytes(), &mut printed, side, params);
+    let so = ended == DONE && printed.as_slice() == want.as_bytes();
+    wants(so, row, "its end, or its text")
 }
 
-// This many octets AA, in hexadecimal.
-fn octets(alloc: Global, count: usize) -> Result<String, Fail> {
-    Ok("aa".repeat(alloc, count)?)
+// Plays in which `MOST` stands for 260 octets AA, in hexadecimal.
+fn plays_long(alloc: Global, plays: &str) -> Result<(), Fail> {
+    let most = "aa".repeat(alloc, 260)?;
+    let plays = plays.replace(alloc, "MOST", most.as_str())?;
+    plays_all(alloc, Side::Network, params(), plays.as_str())
 }
+
+const LONG_FRAMES: &str = "\
+# long frames
+frame 00817f
+    send 008173
+    established
+    start T203
+frame 00810000MOST
+    data MOST
+    start T203
+    send 00810102
+frame 00810200MOSTaa
+    report O
+    send 02817f
+    stop T203
+    start T200
+state
+    state 5";
 
 // 260 octets of information pass, and one more is reported.
 #[test]
 fn long_frames(rt: HostRuntime) -> Result<(), Fail> {
-    let most = octets(rt.alloc(), 260)?;
-    takes_long_frames(rt.alloc(), most.as_str())
+    plays_long(rt.alloc(), LONG_FRAMES)
 }
 
-fn takes_long_frames(alloc: Global, most: &str) -> Result<(), Fail> {
-    let script = format!(in alloc;
-        "frame 00817f\nframe 00810000{most}\nframe 00810200{most}aa\nstate\n"
-    )?;
-    let want = format!(in alloc;
-        "send 008173\nestablished\nstart T203\ndata {most}\nstart T203\nsend 00810102\nreport O\nsend 02817f\nstop T203\nstart T200\nstate 5\n"
-    )?;
-    let (script, want) = (script.as_str(), want.as_str());
-    prints(alloc, Side::Network, params(), "long frames", script, want)
-}
+// What leads a network side to each state, and what it refuses there.
+const LONG_REQUESTS: &str = "\
+# state 4
+give MOSTaa
+    refused L3 TooLong
+unit MOSTaa
+    refused L3 TooLong
+unit MOST
+    send 028103MOST
+state
+    state 4
 
-// What leads a network side to each state, and what it and `state` call for.
-const TO_STATES: &[(&str, &str, &str)] = &[
-    ("", "", "state 4"),
-    ("establish\n", "send 02817f\nstart T200\n", "state 5"),
-    (
-        "establish\nrelease\nframe 028173\n",
-        "send 02817f\nstart T200\nsend 028153\nstart T200\n",
-        "state 6",
-    ),
-    (
-        "frame 00817f\n",
-        "send 008173\nestablished\nstart T203\n",
-        "state 7",
-    ),
-    (
-        "frame 00817f\nt203\n",
-        "send 008173\nestablished\nstart T203\nsend 02810101\nstart T200\n",
-        "state 8",
-    ),
-];
+# state 5
+establish
+    send 02817f
+    start T200
+give MOSTaa
+    refused L3 TooLong
+unit MOSTaa
+    refused L3 TooLong
+unit MOST
+    send 028103MOST
+state
+    state 5
+
+# state 6
+establish
+    send 02817f
+    start T200
+release
+frame 028173
+    send 028153
+    start T200
+give MOSTaa
+    refused L3 TooLong
+unit MOSTaa
+    refused L3 TooLong
+unit MOST
+    send 028103MOST
+state
+    state 6
+
+# state 7
+frame 00817f
+    send 008173
+    established
+    start T203
+give MOSTaa
+    refused L3 TooLong
+unit MOSTaa
+    refused L3 TooLong
+unit MOST
+    send 028103MOST
+state
+    state 7
+
+# state 8
+frame 00817f
+    send 008173
+    established
+    start T203
+t203
+    send 02810101
+    start T200
+give MOSTaa
+    refused L3 TooLong
+unit MOSTaa
+    refused L3 TooLong
+unit MOST
+    send 028103MOST
+state
+    state 8";
 
 // 261 octets are refused in every state, and 260 of unit data go out.
 #[test]
 fn long_requests(rt: HostRuntime) -> Result<(), Fail> {
-    let most = octets(rt.alloc(), 260)?;
-    for (lead, told, state) in TO_STATES {
-        refuses_long_requests(rt.alloc(), most.as_str(), lead, told, state)?;
-    }
-    Ok(())
-}
-
-fn refuses_long_requests(
-    alloc: Global,
-    most: &str,
-    lead: &str,
-    told: &str,
-    state: &str,
-) -> Result<(), Fail> {
-    let script = format!(in alloc; "{lead}give {most}aa\nunit {most}aa\nunit {most}\nstate\n")?;
-    let want = format!(in alloc;
-        "{told}refused L3 TooLong\nrefused L3 TooLong\nsend 028103{most}\n{state}\n"
-    )?;
-    let (script, want) = (script.as_str(), want.as_str());
-    prints(alloc, Side::Network, params(), state, script, want)
+    plays_long(rt.alloc(), LONG_REQUESTS)
 }
 
 // Where an allocation is refused, the lines before are answered, and nothing of that line.

@@ -1,7 +1,7 @@
 //! Three hundred messages over a line that loses every tenth frame.
 
 use crate::made::new_pair;
-use crate::wants::wants;
+use crate::wants::{all_hold, wants};
 use lapd_frame::Side;
 use lapd_link::Out;
 use lapd_pair::{Move, Pair, Received};
@@ -18,6 +18,8 @@ struct Numbered {
     to_network: Vec<u64>,
     /// Whether an error was reported.
     reported: bool,
+    /// Whether each frame has its number.
+    numbered: bool,
 }
 
 impl Numbered {
@@ -28,14 +30,14 @@ impl Numbered {
             to_user: Vec::new(alloc),
             to_network: Vec::new(alloc),
             reported: false,
+            numbered: true,
         })
     }
 
     /// The user side establishes the link.
-    fn establish(&mut self) -> Result<(), Fail> {
-        let _ = self.makes(&Move::Establish(Side::User))?;
-        let _ = self.turn()? && self.turn()?;
-        Ok(())
+    fn establish(&mut self) {
+        let _ = self.makes(&Move::Establish(Side::User));
+        let _ = self.turn() && self.turn();
     }
 
     /// The user side gives three hundred messages.
@@ -49,34 +51,40 @@ impl Numbered {
     /// The user side gives the message of this number.
     fn give(&mut self, alloc: Global, number: u32) -> Result<(), Fail> {
         let message = octets_of(number).to_vec(alloc)?;
-        let given = self.makes(&Move::Give(Side::User, message))?;
+        let given = self.makes(&Move::Give(Side::User, message));
         wants(given, "every tenth", "a message is refused")
     }
 
-    /// Makes one move after another, until none is possible.
-    fn turn_to_the_end(&mut self) -> Result<(), Fail> {
+    /// Makes one move after another, until none is possible, and tells whether there is such an end.
+    fn turn_to_the_end(&mut self) -> bool {
         for _ in 0..100_000u32 {
-            if !self.turn()? {
-                return Ok(());
+            if !self.turn() {
+                return true;
             }
         }
-        Err(Fail::new("every tenth: no end"))
+        false
     }
 
     /// Makes a move, and numbers the frames that it puts on the line.
-    fn makes(&mut self, deed: &Move) -> Result<bool, Fail> {
+    fn makes(&mut self, deed: &Move) -> bool {
         let to = deed.side().other();
         let before = self.pair.line(to).len();
         let Ok(outs) = self.pair.apply(deed) else {
-            return Ok(false);
+            return false;
         };
         self.reported = self.reported || outs.iter().any(|out| matches!(out, Out::Report(_)));
         for _ in before..self.pair.line(to).len() {
-            let number = self.next;
-            self.numbers(to).push(number)?;
-            self.next = number.wrapping_add(1);
+            self.number_one(to);
         }
-        Ok(true)
+        true
+    }
+
+    /// Numbers a frame on its way to this side.
+    fn number_one(&mut self, to: Side) {
+        let number = self.next;
+        let pushed = self.numbers(to).push(number);
+        self.numbered = self.numbered && pushed.is_ok();
+        self.next = number.wrapping_add(1);
     }
 
     /// The numbers of the frames on their way to this side.
@@ -88,10 +96,10 @@ impl Numbered {
     }
 
     /// Delivers the first frame on its way to this side, or loses it, where there is one.
-    fn passes(&mut self, to: Side) -> Result<bool, Fail> {
+    fn passes(&mut self, to: Side) -> bool {
         let numbers = self.numbers(to);
         if numbers.is_empty() {
-            return Ok(false);
+            return false;
         }
         if numbers.remove(0) % 10 == 0 {
             self.makes(&Move::Lose(to, 0))
@@ -101,13 +109,11 @@ impl Numbered {
     }
 
     /// The first of these that is possible: a frame to the network, one to the user, T200 of the user, of the network.
-    fn turn(&mut self) -> Result<bool, Fail> {
-        Ok(
-            self.passes(Side::Network)?
-                || self.passes(Side::User)?
-                || self.makes(&Move::Expire200(Side::User))?
-                || self.makes(&Move::Expire200(Side::Network))?,
-        )
+    fn turn(&mut self) -> bool {
+        self.passes(Side::Network)
+            || self.passes(Side::User)
+            || self.makes(&Move::Expire200(Side::User))
+            || self.makes(&Move::Expire200(Side::Network))
     }
 }
 
@@ -142,13 +148,17 @@ fn all_acknowledged(pair: &Pair) -> bool {
 
 /// Plays all of it. (What is lent is not let go at each of its ends, which makes this short to prove.)
 fn play(alloc: Global, numbered: &mut Numbered) -> Result<(), Fail> {
-    numbered.establish()?;
+    numbered.establish();
     numbered.give_all(alloc)?;
-    numbered.turn_to_the_end()?;
+    let ends = numbered.turn_to_the_end();
     let row = "every tenth";
-    wants(all_received(&numbered.pair), row, "received in order")?;
-    wants(all_acknowledged(&numbered.pair), row, "acknowledged")?;
-    wants(!numbered.reported, row, "an error is reported")
+    all_hold(&[
+        (numbered.numbered, row, "no memory for a number"),
+        (ends, row, "no end"),
+        (all_received(&numbered.pair), row, "received in order"),
+        (all_acknowledged(&numbered.pair), row, "acknowledged"),
+        (!numbered.reported, row, "an error is reported"),
+    ])
 }
 
 #[test]

@@ -1,6 +1,6 @@
 //! Pairs that are made and led on.
 
-use lapd_link::{Params, Recovery};
+use lapd_link::Params;
 use lapd_pair::{Move, Pair};
 use std::alloc::Global;
 use std::test::Fail;
@@ -12,13 +12,8 @@ pub(crate) fn params(k: u8, room: u16) -> Result<Params, Fail> {
 
 /// Two new ends with a window of `k` frames and room for 512 messages.
 pub(crate) fn new_pair(alloc: Global, k: u8) -> Result<Pair, Fail> {
-    pair_with(alloc, k, Recovery::Enquiry)
-}
-
-/// The same, where the user recovers so.
-pub(crate) fn pair_with(alloc: Global, k: u8, user: Recovery) -> Result<Pair, Fail> {
     let params = params(k, 512)?;
-    Ok(Pair::new(alloc, params.with_recovery(user), params)?)
+    Ok(Pair::new(alloc, params, params)?)
 }
 
 /// Makes a move, and tells whether it was admitted.

@@ -4,7 +4,7 @@
 
 use crate::made::params;
 use crate::readers::digest;
-use crate::steps::{Deed, move_of};
+use crate::steps::move_of;
 use crate::wants::wants;
 use lapd_frame::Side;
 use lapd_link::{Outs, Params, Recovery};
@@ -12,34 +12,21 @@ use lapd_pair::{Move, Pair, PairFault};
 use std::alloc::{AllocError, Global};
 use std::test::Fail;
 
-const USER: Side = Side::User;
-
-const NETWORK: Side = Side::Network;
-
-/// A name, the window of both ends, how the user recovers, deeds of sides, how many of them are refused, and how many
-/// messages the network has received then.
-type Row = (
-    &'static str,
-    u8,
-    Recovery,
-    &'static [(Side, Deed)],
-    usize,
-    usize,
-);
+/// A name, the window of both ends, how the user recovers, moves, how many of them are refused, and how many messages the
+/// network has received then.
+type Row = (&'static str, u8, Recovery, &'static str, usize, usize);
 
 const ROWS: &[Row] = &[
     (
         "a message",
         1,
         Recovery::Enquiry,
-        &[
-            (USER, Deed::Establish),
-            (NETWORK, Deed::Deliver),
-            (USER, Deed::Deliver),
-            (USER, Deed::Give(&[8, 1])),
-            (NETWORK, Deed::Deliver),
-            (USER, Deed::Deliver),
-        ],
+        "user establish
+net deliver
+user deliver
+user give 0801
+net deliver
+user deliver",
         0,
         1,
     ),
@@ -47,21 +34,19 @@ const ROWS: &[Row] = &[
         "both establish, and both start anew",
         1,
         Recovery::Enquiry,
-        &[
-            (USER, Deed::Establish),
-            (NETWORK, Deed::Establish),
-            (NETWORK, Deed::Deliver),
-            (USER, Deed::Deliver),
-            (USER, Deed::Lose(0)),
-            (NETWORK, Deed::Deliver),
-            (NETWORK, Deed::Give(&[0xaa])),
-            (USER, Deed::Deliver),
-            (USER, Deed::Expire200),
-            (NETWORK, Deed::Deliver),
-            (USER, Deed::Deliver),
-            (USER, Deed::Restart),
-            (NETWORK, Deed::Restart),
-        ],
+        "user establish
+net establish
+net deliver
+user deliver
+user lose 0
+net deliver
+net give aa
+user deliver
+user expire200
+net deliver
+user deliver
+user restart
+net restart",
         0,
         0,
     ),
@@ -69,14 +54,12 @@ const ROWS: &[Row] = &[
         "the network starts anew",
         1,
         Recovery::Enquiry,
-        &[
-            (USER, Deed::Establish),
-            (NETWORK, Deed::Restart),
-            (NETWORK, Deed::Deliver),
-            (USER, Deed::Expire200),
-            (NETWORK, Deed::Deliver),
-            (USER, Deed::Deliver),
-        ],
+        "user establish
+net restart
+net deliver
+user expire200
+net deliver
+user deliver",
         1,
         0,
     ),
@@ -84,23 +67,21 @@ const ROWS: &[Row] = &[
         "the last message comes again",
         3,
         Recovery::LastMessage,
-        &[
-            (USER, Deed::Establish),
-            (NETWORK, Deed::Deliver),
-            (USER, Deed::Deliver),
-            (USER, Deed::Give(&[1])),
-            (USER, Deed::Give(&[2])),
-            (NETWORK, Deed::Deliver),
-            (NETWORK, Deed::Deliver),
-            (USER, Deed::Lose(0)),
-            (USER, Deed::Lose(0)),
-            (USER, Deed::Expire200),
-            (USER, Deed::Expire200),
-            (NETWORK, Deed::Deliver),
-            (USER, Deed::Deliver),
-            (USER, Deed::Give(&[3])),
-            (NETWORK, Deed::Deliver),
-        ],
+        "user establish
+net deliver
+user deliver
+user give 01
+user give 02
+net deliver
+net deliver
+user lose 0
+user lose 0
+user expire200
+user expire200
+net deliver
+user deliver
+user give 03
+net deliver",
         1,
         3,
     ),
@@ -116,67 +97,54 @@ struct Refusals {
 
 /// Two pairs that are led alike. One allocation of a run is refused at most, so that one of the two meets no refusal.
 #[derive(Drop)]
-struct Twins {
+struct Twins<'a> {
     alloc: Global,
-    one: Pair,
-    other: Pair,
-    met: Refusals,
+    one: &'a mut Pair,
+    other: &'a mut Pair,
+    met: &'a mut Refusals,
 }
 
-impl Twins {
-    fn new(alloc: Global, k: u8, user: Recovery) -> Result<Twins, Fail> {
-        let params = params(k, 512)?;
-        let user = params.with_recovery(user);
-        let mut met = Refusals::default();
-        Ok(Twins {
-            alloc,
-            one: new_pair(alloc, user, params, &mut met)?,
-            other: new_pair(alloc, user, params, &mut met)?,
-            met,
-        })
-    }
-
-    /// A move, at the second try where the first finds no memory.
-    fn made(&mut self, side: Side, deed: Deed) -> Result<Move, AllocError> {
-        match move_of(self.alloc, side, deed) {
-            Ok(deed) => Ok(deed),
-            Err(_) => {
+impl Twins<'_> {
+    /// The move that a line names, at the second try where the first finds no memory.
+    fn made(&mut self, line: &str) -> Option<Move> {
+        match move_of(self.alloc, line) {
+            Some(deed) => Some(deed),
+            None => {
                 self.met.messages = self.met.messages.saturating_add(1);
-                move_of(self.alloc, side, deed)
+                move_of(self.alloc, line)
             }
         }
     }
 
     /// What a move comes to of both, and shows after it: `None` where that is not the same.
     fn apply(&mut self, deed: &Move) -> Option<Result<Outs, PairFault>> {
-        let one = outcome(&mut self.one, deed, &mut self.met);
-        let other = outcome(&mut self.other, deed, &mut self.met);
-        let same = one == other && digest(&self.one) == digest(&self.other);
+        let one = outcome(self.one, deed, self.met);
+        let other = outcome(self.other, deed, self.met);
+        let same = one == other && digest(self.one) == digest(self.other);
         same.then_some(one)
     }
 
-    /// Makes a deed with both, and tells whether it is refused.
-    fn is_refused(&mut self, row: &str, side: Side, deed: Deed) -> Result<bool, Fail> {
-        let deed = self.made(side, deed)?;
+    /// Makes a move with both, and tells whether it is refused.
+    fn is_refused(&mut self, row: &str, line: &str) -> Result<bool, Fail> {
+        let deed = self.made(line).ok_or("no move")?;
         match self.apply(&deed) {
             Some(outcome) => Ok(outcome.is_err()),
             None => Err(Fail::new(format_args!("{row}: a move comes to something else"))),
         }
     }
 
-    /// Leads both through a row, and tells where memory was refused.
-    fn keep(&mut self, row: &Row) -> Result<Refusals, Fail> {
-        let (name, _, _, deeds, refused, received) = *row;
+    /// Leads both through a row.
+    fn keep(&mut self, row: &Row) -> Result<(), Fail> {
+        let (name, _, _, lines, refused, received) = *row;
         let mut faults = 0usize;
-        for (side, deed) in deeds {
-            if self.is_refused(name, *side, *deed)? {
+        for line in lines.lines() {
+            if self.is_refused(name, line)? {
                 faults = faults.saturating_add(1);
             }
         }
         wants(faults == refused, name, "how many are refused")?;
-        let all = self.one.received(NETWORK).len() == received;
-        wants(all, name, "another number of messages is received")?;
-        Ok(self.met)
+        let all = self.one.received(Side::Network).len() == received;
+        wants(all, name, "another number of messages is received")
     }
 }
 
@@ -215,20 +183,43 @@ fn is_without_memory(outcome: &Result<Outs, PairFault>) -> bool {
     matches!(outcome, Err(PairFault::Memory))
 }
 
-/// Leads two pairs through a row, and tells where memory was refused.
-fn keeps(alloc: Global, row: &Row) -> Result<Refusals, Fail> {
+/// Leads two pairs through a row, and notes where memory was refused.
+fn keeps(alloc: Global, row: &Row, met: &mut Refusals) -> Result<(), Fail> {
     let (_, k, user, _, _, _) = *row;
-    let mut twins = Twins::new(alloc, k, user)?;
+    let network = params(k, 512)?;
+    let user = network.with_recovery(user);
+    let mut one = new_pair(alloc, user, network, met)?;
+    keeps_beside(alloc, row, &mut one, met)
+}
+
+/// Leads a second pair beside this one.
+fn keeps_beside(alloc: Global, row: &Row, one: &mut Pair, met: &mut Refusals) -> Result<(), Fail> {
+    let (_, k, user, _, _, _) = *row;
+    let network = params(k, 512)?;
+    let mut other = new_pair(alloc, network.with_recovery(user), network, met)?;
+    let mut twins = Twins {
+        alloc,
+        one,
+        other: &mut other,
+        met,
+    };
     twins.keep(row)
 }
 
 #[test]
 fn moves_without_memory(rt: HostRuntime) -> Result<(), Fail> {
     for row in ROWS {
-        let met = keeps(rt.alloc(), row)?;
-        if met != Refusals::default() {
-            println!(rt; "refused in {}: {met:?}", row.0)?;
-        }
+        keeps_and_tells(&rt, row)?;
+    }
+    Ok(())
+}
+
+/// Leads two pairs through a row, and prints where memory was refused.
+fn keeps_and_tells(rt: &HostRuntime, row: &Row) -> Result<(), Fail> {
+    let mut met = Refusals::default();
+    keeps(rt.alloc(), row, &mut met)?;
+    if met != Refusals::default() {
+        println!(rt; "refused in {}: {met:?}", row.0)?;
     }
     Ok(())
 }

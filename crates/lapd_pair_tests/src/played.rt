@@ -1,6 +1,8 @@
 //! The command `pair`: scripts, and what they call for.
 
+use crate::devices::keeps_whole_lines;
 use crate::made::params;
+use crate::scripts::push_lines;
 use crate::wants::wants;
 use lapd_commands::pair;
 use lapd_link::{Params, Recovery};
@@ -296,32 +298,11 @@ fn plays_so(alloc: Global, play: &str, params: Params) -> Result<(), Fail> {
     prints(alloc, play, params, script.as_str(), text.as_str())
 }
 
-/// Parts a play into its script and what is printed for it.
-fn push_lines(play: &str, script: &mut String, text: &mut String) -> Result<(), Fail> {
-    for line in play.lines() {
-        match line.strip_prefix("    ") {
-            Some(printed) => push_line(text, printed)?,
-            None => push_line(script, line)?,
-        }
-    }
-    Ok(())
-}
-
-fn push_line(text: &mut String, line: &str) -> Result<(), Fail> {
-    text.push_str(line)?;
-    Ok(text.push_str("\n")?)
-}
-
 fn prints(alloc: Global, play: &str, params: Params, script: &str, text: &str) -> Result<(), Fail> {
-    let printed = printed_for(alloc, script, params)?;
-    wants(printed.as_slice() == text.as_bytes(), play, "its text")
-}
-
-/// What `pair` prints for a script.
-fn printed_for(alloc: Global, script: &str, params: Params) -> Result<Vec<u8>, Fail> {
     let mut printed = Vec::new(alloc);
-    pair(alloc, &mut script.as_bytes(), &mut printed, params, params)?;
-    Ok(printed)
+    let ended = pair(alloc, &mut script.as_bytes(), &mut printed, params, params);
+    let so = ended == Ok(()) && printed.as_slice() == text.as_bytes();
+    wants(so, play, "its end, or its text")
 }
 
 /// Lines that are none of the command's.
@@ -374,7 +355,7 @@ fn bad_lines(rt: HostRuntime) -> Result<(), Fail> {
 }
 
 fn is_bad(alloc: Global, line: &str) -> Result<(), Fail> {
-    let params = params(1, 1)?;
+    let params = Params::new(1, 3, 1).unwrap();
     let mut printed = Vec::new(alloc);
     let ended = pair(alloc, &mut line.as_bytes(), &mut printed, params, params);
     let bad = ended == Err(ScriptFault::BadLine(1)) && printed.is_empty();
@@ -384,15 +365,21 @@ fn is_bad(alloc: Global, line: &str) -> Result<(), Fail> {
 /// After a bad line the two lines at the end are left out, and a place may have zeros in front.
 #[test]
 fn a_bad_line_ends_it(rt: HostRuntime) -> Result<(), Fail> {
-    let params = params(1, 1)?;
-    let mut printed = Vec::new(rt.alloc());
-    let script = "# a note\nlose net 00018446744073709551615\n\nlose net one\nestablish user\n";
-    let mut script = script.as_bytes();
-    let ended = pair(rt.alloc(), &mut script, &mut printed, params, params);
+    ends_at_a_bad_line(rt.alloc())
+}
+
+fn ends_at_a_bad_line(alloc: Global) -> Result<(), Fail> {
+    let params = Params::new(1, 3, 1).unwrap();
+    let mut printed = Vec::new(alloc);
+    let mut script = LINES_TO_A_BAD_LINE;
+    let ended = pair(alloc, &mut script, &mut printed, params, params);
     let text = printed.as_slice() == b"refused P1 NothingThere\n".as_slice();
     let so = text && ended == Err(ScriptFault::BadLine(4));
     wants(so, "line 4", "its end, or the text before it")
 }
+
+const LINES_TO_A_BAD_LINE: &[u8] =
+    b"# a note\nlose net 00018446744073709551615\n\nlose net one\nestablish user\n";
 
 /// Where an allocation is refused, the lines before are answered, and nothing of that line.
 #[test]
@@ -400,29 +387,16 @@ fn plays_while_there_is_memory(rt: HostRuntime) -> Result<(), Fail> {
     let Ok(mut printed) = Vec::with_capacity(rt.alloc(), 512) else {
         return Ok(());
     };
-    let params = params(1, 512)?;
-    let script = "establish user\ndeliver net\ndeliver user\ngive user 0801\ndeliver net\n";
-    let whole =
-        "U>N SAPI 0 TEI 64 C SABME P=1\nN>U SAPI 0 TEI 64 R UA F=1\nnet established\nuser confirmed\n\
-                 U>N SAPI 0 TEI 64 C I N(S)=0 N(R)=0 P=0 info=0801\nnet data 0801\nN>U SAPI 0 TEI 64 R RR N(R)=1 F=0\n\
-                 user: state 7, given 1, received 0, acknowledged 0, dropped 0\n\
-                 net: state 7, given 0, received 1, acknowledged 0, dropped 0\n";
-    let ended = pair(
-        rt.alloc(),
-        &mut script.as_bytes(),
-        &mut printed,
-        params,
-        params,
-    );
-    let text = printed.as_slice();
-    if ended == Ok(()) {
-        return wants(text == whole.as_bytes(), "all memory", "the text");
-    }
-    let at_a_line = [0, 30, 73, 88, 138].contains(&text.len());
-    wants(ended == Err(ScriptFault::Memory), "no memory", "the fault")?;
-    wants(
-        at_a_line && whole.as_bytes().starts_with(text),
-        "no memory",
-        "the text",
-    )
+    let params = Params::new(1, 3, 512).unwrap();
+    let mut script = MESSAGE;
+    let ended = pair(rt.alloc(), &mut script, &mut printed, params, params);
+    let ends = [0, 30, 73, 88, 138];
+    let holds = keeps_whole_lines(ended, printed.as_slice(), MESSAGE_PLAYED, &ends);
+    wants(holds, "memory", "the fault, or the text")
 }
+
+const MESSAGE: &[u8] = b"establish user\ndeliver net\ndeliver user\ngive user 0801\ndeliver net\n";
+
+/// What they call for, and the two lines at the end.
+const MESSAGE_PLAYED: &[u8] =
+    b"U>N SAPI 0 TEI 64 C SABME P=1\nN>U SAPI 0 TEI 64 R UA F=1\nnet established\nuser confirmed\nU>N SAPI 0 TEI 64 C I N(S)=0 N(R)=0 P=0 info=0801\nnet data 0801\nN>U SAPI 0 TEI 64 R RR N(R)=1 F=0\nuser: state 7, given 1, received 0, acknowledged 0, dropped 0\nnet: state 7, given 0, received 1, acknowledged 0, dropped 0\n";

@@ -2,217 +2,89 @@
 
 use crate::made::{moves, new_pair, params};
 use crate::readers::digest;
-use crate::steps::{Comes, Deed, Step, makes, move_of};
-use crate::wants::wants;
-use lapd_frame::Side;
-use lapd_link::LinkFault;
-use lapd_pair::{Move, Pair, PairFault};
+use crate::steps::{go_through, move_of};
+use crate::wants::all_hold;
+use lapd_pair::{Move, Pair};
 use std::alloc::Global;
 use std::test::Fail;
 
-const USER: Side = Side::User;
+/// Steps that lead to a place, and what is refused there. In the order of the tests: what is not there, a timer that does
+/// not run, what T200 waits for, and the link's refusals.
+const PLACES: &str = "\
+new
+user deliver: refused P1 NothingThere
+net deliver: refused P1 NothingThere
+user lose 0: refused P1 NothingThere
+net expire200: refused P2 NotRunning
+net expire203: refused P2 NotRunning
+user give 01: refused L1 NotEstablished
+user give 07 times 261: refused L3 TooLong
+user unit 07 times 261: refused L3 TooLong
 
-const NETWORK: Side = Side::Network;
+a SABME is on its way
+user establish: 00817f
+net lose 1: refused P1 NothingThere
+net lose 18446744073709551615: refused P1 NothingThere
+user expire200: refused P3 NotYet network 0
+user expire203: refused P2 NotRunning
+user give 01: refused L5 LayerThreeEstablishing
 
-/// A name, the steps that lead to a place, and what is refused there.
-type Place = (&'static str, &'static [Step], &'static [Step]);
+a command with P=1 behind another frame
+user unit 05: 00810305
+user establish: 00817f
+user expire200: refused P3 NotYet network 1
 
-/// In the order of the tests: what is not there, a timer that does not run, what T200 waits for, and the link's refusals.
-const PLACES: &[Place] = &[
-    (
-        "new",
-        &[],
-        &[
-            (USER, Deed::Deliver, Comes::Refused(PairFault::NothingThere)),
-            (
-                NETWORK,
-                Deed::Deliver,
-                Comes::Refused(PairFault::NothingThere),
-            ),
-            (USER, Deed::Lose(0), Comes::Refused(PairFault::NothingThere)),
-            (
-                NETWORK,
-                Deed::Expire200,
-                Comes::Refused(PairFault::NotRunning),
-            ),
-            (
-                NETWORK,
-                Deed::Expire203,
-                Comes::Refused(PairFault::NotRunning),
-            ),
-            (
-                USER,
-                Deed::Give(&[1]),
-                Comes::Refused(PairFault::Refused(LinkFault::NotEstablished)),
-            ),
-            (
-                USER,
-                Deed::Give(&[7; 261]),
-                Comes::Refused(PairFault::Refused(LinkFault::TooLong)),
-            ),
-            (
-                USER,
-                Deed::Unit(&[7; 261]),
-                Comes::Refused(PairFault::Refused(LinkFault::TooLong)),
-            ),
-        ],
-    ),
-    (
-        "a SABME is on its way",
-        &[(USER, Deed::Establish, Comes::Sends("00817f"))],
-        &[
-            (
-                NETWORK,
-                Deed::Lose(1),
-                Comes::Refused(PairFault::NothingThere),
-            ),
-            (
-                NETWORK,
-                Deed::Lose(usize::MAX),
-                Comes::Refused(PairFault::NothingThere),
-            ),
-            (
-                USER,
-                Deed::Expire200,
-                Comes::Refused(PairFault::NotYet(NETWORK, 0)),
-            ),
-            (USER, Deed::Expire203, Comes::Refused(PairFault::NotRunning)),
-            (
-                USER,
-                Deed::Give(&[1]),
-                Comes::Refused(PairFault::Refused(LinkFault::LayerThreeEstablishing)),
-            ),
-        ],
-    ),
-    (
-        "a command with P=1 behind another frame",
-        &[
-            (USER, Deed::Unit(&[5]), Comes::Sends("00810305")),
-            (USER, Deed::Establish, Comes::Sends("00817f")),
-        ],
-        &[(
-            USER,
-            Deed::Expire200,
-            Comes::Refused(PairFault::NotYet(NETWORK, 1)),
-        )],
-    ),
-    (
-        "the answer is on its way",
-        &[
-            (USER, Deed::Establish, Comes::Sends("00817f")),
-            (NETWORK, Deed::Unit(&[]), Comes::Sends("028103")),
-            (NETWORK, Deed::Deliver, Comes::Sends("008173")),
-        ],
-        &[
-            (
-                USER,
-                Deed::Expire200,
-                Comes::Refused(PairFault::NotYet(USER, 1)),
-            ),
-            (
-                NETWORK,
-                Deed::Deliver,
-                Comes::Refused(PairFault::NothingThere),
-            ),
-        ],
-    ),
-    (
-        "both establish: each waits for its own frame on its way to the user",
-        &[
-            (USER, Deed::Establish, Comes::Sends("00817f")),
-            (NETWORK, Deed::Establish, Comes::Sends("02817f")),
-            (NETWORK, Deed::Deliver, Comes::Sends("008173")),
-        ],
-        &[
-            (
-                USER,
-                Deed::Expire200,
-                Comes::Refused(PairFault::NotYet(USER, 1)),
-            ),
-            (
-                NETWORK,
-                Deed::Expire200,
-                Comes::Refused(PairFault::NotYet(USER, 0)),
-            ),
-        ],
-    ),
-    (
-        "a release waits for the answer to the SABME",
-        &[
-            (USER, Deed::Establish, Comes::Sends("00817f")),
-            (USER, Deed::Release, Comes::Sends("")),
-        ],
-        &[
-            (
-                USER,
-                Deed::Give(&[1]),
-                Comes::Refused(PairFault::Refused(LinkFault::Releasing)),
-            ),
-            (
-                USER,
-                Deed::Establish,
-                Comes::Refused(PairFault::Refused(LinkFault::Releasing)),
-            ),
-        ],
-    ),
-    (
-        "no room for a third message",
-        &[
-            (USER, Deed::Establish, Comes::Sends("00817f")),
-            (NETWORK, Deed::Deliver, Comes::Sends("008173")),
-            (USER, Deed::Deliver, Comes::Sends("")),
-            (USER, Deed::Give(&[1]), Comes::Sends("0081000001")),
-            (USER, Deed::Give(&[2]), Comes::Sends("")),
-        ],
-        &[
-            (
-                USER,
-                Deed::Give(&[3]),
-                Comes::Refused(PairFault::Refused(LinkFault::QueueFull)),
-            ),
-            (
-                USER,
-                Deed::Give(&[3; 261]),
-                Comes::Refused(PairFault::Refused(LinkFault::TooLong)),
-            ),
-        ],
-    ),
-];
+the answer is on its way
+user establish: 00817f
+net unit: 028103
+net deliver: 008173
+user expire200: refused P3 NotYet user 1
+net deliver: refused P1 NothingThere
 
-/// Checks a place.
-fn refuses_there(alloc: Global, place: &Place) -> Result<(), Fail> {
-    let (name, steps, refusals) = *place;
-    let params = params(1, 2)?;
-    let mut pair = Pair::new(alloc, params, params)?;
-    makes(alloc, &mut pair, name, steps)?;
-    makes(alloc, &mut pair, name, refusals)
-}
+both establish: each waits for its own frame on its way to the user
+user establish: 00817f
+net establish: 02817f
+net deliver: 008173
+user expire200: refused P3 NotYet user 1
+net expire200: refused P3 NotYet user 0
+
+a release waits for the answer to the SABME
+user establish: 00817f
+user release: nothing
+user give 01: refused L4 Releasing
+user establish: refused L4 Releasing
+
+no room for a third message
+user establish: 00817f
+net deliver: 008173
+user deliver: nothing
+user give 01: 0081000001
+user give 02: nothing
+user give 03: refused L2 QueueFull
+user give 03 times 261: refused L3 TooLong";
 
 #[test]
 fn refused_moves_change_nothing(rt: HostRuntime) -> Result<(), Fail> {
-    for place in PLACES {
-        refuses_there(rt.alloc(), place)?;
-    }
-    Ok(())
+    let params = params(1, 2)?;
+    go_through(rt.alloc(), params, params, PLACES)
 }
 
-/// Deeds of which the second, fifth and sixth are refused.
-const SOME_DEEDS: &[(Side, Deed)] = &[
-    (USER, Deed::Establish),
-    (USER, Deed::Expire200),
-    (NETWORK, Deed::Deliver),
-    (USER, Deed::Deliver),
-    (USER, Deed::Deliver),
-    (NETWORK, Deed::Lose(0)),
-    (USER, Deed::Give(&[8, 1])),
-    (NETWORK, Deed::Deliver),
-];
+/// Moves of which the second, fifth and sixth are refused.
+const SOME_MOVES: &str = "\
+user establish
+user expire200
+net deliver
+user deliver
+user deliver
+net lose 0
+user give 0801
+net deliver";
 
-/// The moves of these deeds.
-fn moves_of(alloc: Global, deeds: &[(Side, Deed)]) -> Result<Vec<Move>, Fail> {
+/// The moves of these lines.
+fn moves_of(alloc: Global, lines: &str) -> Result<Vec<Move>, Fail> {
     let mut all = Vec::new(alloc);
-    for (side, deed) in deeds {
-        all.push(move_of(alloc, *side, *deed)?)?;
+    for line in lines.lines() {
+        all.push(move_of(alloc, line).ok_or("no move")?)?;
     }
     Ok(all)
 }
@@ -229,19 +101,34 @@ fn refused_one_by_one(pair: &mut Pair, all: &[Move]) -> u64 {
 /// Checks that a run of one pair comes to what the moves come to one by one with the other, and that one of no moves
 /// changes nothing.
 fn run_alike(at_once: &mut Pair, in_turn: &mut Pair, all: &[Move]) -> Result<(), Fail> {
-    wants(at_once.run(all) == Ok(3), "a run", "how many are refused")?;
-    let refused = refused_one_by_one(in_turn, all);
-    wants(refused == 3, "one by one", "how many are refused")?;
+    let run_counts = at_once.run(all) == Ok(3);
+    let turns_count = refused_one_by_one(in_turn, all) == 3;
     let same = digest(at_once) == digest(in_turn);
-    wants(same, "a run", "it comes to something else")?;
-    wants(at_once.run(&[]) == Ok(0), "no moves", "refused")?;
-    wants(digest(at_once) == digest(in_turn), "no moves", "changed")
+    let none_refused = at_once.run(&[]) == Ok(0);
+    let unchanged = digest(at_once) == digest(in_turn);
+    all_hold(&[
+        (run_counts, "a run", "how many are refused"),
+        (turns_count, "one by one", "how many are refused"),
+        (same, "a run", "it comes to something else"),
+        (none_refused, "no moves", "refused"),
+        (unchanged, "no moves", "changed"),
+    ])
+}
+
+/// Runs a new pair beside this one.
+fn run_beside(alloc: Global, at_once: &mut Pair, all: &[Move]) -> Result<(), Fail> {
+    let mut in_turn = new_pair(alloc, 7)?;
+    run_alike(at_once, &mut in_turn, all)
+}
+
+/// Runs two new pairs.
+fn run_two(alloc: Global, all: &[Move]) -> Result<(), Fail> {
+    let mut at_once = new_pair(alloc, 7)?;
+    run_beside(alloc, &mut at_once, all)
 }
 
 #[test]
 fn a_run_counts_what_is_refused(rt: HostRuntime) -> Result<(), Fail> {
-    let all = moves_of(rt.alloc(), SOME_DEEDS)?;
-    let mut at_once = new_pair(rt.alloc(), 7)?;
-    let mut in_turn = new_pair(rt.alloc(), 7)?;
-    run_alike(&mut at_once, &mut in_turn, all.as_slice())
+    let all = moves_of(rt.alloc(), SOME_MOVES)?;
+    run_two(rt.alloc(), all.as_slice())
 }

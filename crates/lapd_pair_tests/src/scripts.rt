@@ -30,6 +30,22 @@ pub(crate) const SCRIPT: &[u8] = b"frame 00817f\nframe 008153\nframe 008153\n";
 pub(crate) const ANSWERS: &[u8] =
     b"send 008173\nestablished\nstart T203\nsend 008173\nreleased\nstop T203\nsend 00811f\n";
 
+/// Parts a play into its script and what that calls for, which is set in by four spaces.
+pub(crate) fn push_lines(play: &str, script: &mut String, want: &mut String) -> Result<(), Fail> {
+    for line in play.lines() {
+        match line.strip_prefix("    ") {
+            Some(text) => push_line(want, text)?,
+            None => push_line(script, line)?,
+        }
+    }
+    Ok(())
+}
+
+fn push_line(text: &mut String, line: &str) -> Result<(), Fail> {
+    text.push_str(line)?;
+    Ok(text.push_str("\n")?)
+}
+
 // Faults, their texts and the exit statuses.
 const FAULTS: &[(ScriptFault, &str, u8)] = &[
     (ScriptFault::BadLine(7), "line 7: bad command", 1),

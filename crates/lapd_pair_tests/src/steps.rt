@@ -1,155 +1,194 @@
-//! Steps of a pair: what a side does, and what it comes to.
+//! Steps of a pair in text, as `user give 0801: 008100000801`: what a side does, or what happens to it, and what it comes to.
+//!
+//! A step comes to the frames that it puts on the line, in hexadecimal, or to `nothing`; behind `tells`, to its outputs as
+//! they are printed for a person, with `; ` between two; or to `refused` and the fault, where all that the pair shows is as
+//! before. `user shows` comes to what is known of a side.
 
 use crate::readers::digest;
+use crate::shown::push_shown;
 use crate::wants::wants;
 use arrayvec::ArrayVec;
 use lapd_frame::Side;
-use lapd_link::Out;
+use lapd_link::{Out, Params};
 use lapd_pair::{Move, Pair, PairFault};
 use std::alloc::{AllocError, Global};
 use std::test::Fail;
 
-/// What a side does, or what happens to it.
-#[derive(Clone, Copy)]
-pub(crate) enum Deed {
-    Establish,
-    Release,
-    Deliver,
-    Lose(usize),
-    Expire200,
-    Expire203,
-    Busy(bool),
-    Give(&'static [u8]),
-    Unit(&'static [u8]),
-    Restart,
+/// Goes through rows, an empty line between two. Each has a pair of its own, its name in the first line, and then its steps.
+pub(crate) fn go_through(
+    alloc: Global,
+    user: Params,
+    network: Params,
+    rows: &str,
+) -> Result<(), Fail> {
+    for row in rows.split("\n\n") {
+        go_through_row(alloc, user, network, row)?;
+    }
+    Ok(())
 }
 
-/// What a deed comes to.
-#[derive(Clone, Copy)]
-pub(crate) enum Comes {
-    /// These frames are put on the line, in hexadecimal, with a space between two.
-    Sends(&'static str),
-    /// These are its outputs, as they are printed for a person, with `; ` between two.
-    Tells(&'static str),
-    /// It is refused, and all that the pair shows is as before.
-    Refused(PairFault),
-}
-
-/// A deed of a side, and what it comes to.
-pub(crate) type Step = (Side, Deed, Comes);
-
-/// The move of a deed.
-pub(crate) fn move_of(alloc: Global, side: Side, deed: Deed) -> Result<Move, AllocError> {
-    Ok(match deed {
-        Deed::Establish => Move::Establish(side),
-        Deed::Release => Move::Release(side),
-        Deed::Deliver => Move::Deliver(side),
-        Deed::Lose(place) => Move::Lose(side, place),
-        Deed::Expire200 => Move::Expire200(side),
-        Deed::Expire203 => Move::Expire203(side),
-        Deed::Busy(on) => Move::Busy(side, on),
-        Deed::Give(message) => Move::Give(side, message.to_vec(alloc)?),
-        Deed::Unit(octets) => Move::Unit(side, octets.to_vec(alloc)?),
-        Deed::Restart => Move::Restart(side),
-    })
+fn go_through_row(alloc: Global, user: Params, network: Params, row: &str) -> Result<(), Fail> {
+    let mut pair = Pair::new(alloc, user, network)?;
+    let (name, steps) = row.split_once("\n").unwrap_or((row, ""));
+    makes(alloc, &mut pair, name, steps)
 }
 
 /// Makes the steps, and looks at what each comes to.
-pub(crate) fn makes(alloc: Global, pair: &mut Pair, row: &str, steps: &[Step]) -> Result<(), Fail> {
-    for step in steps {
+fn makes(alloc: Global, pair: &mut Pair, row: &str, steps: &str) -> Result<(), Fail> {
+    for step in steps.lines() {
         makes_step(alloc, pair, row, step)?;
     }
     Ok(())
 }
 
-fn makes_step(alloc: Global, pair: &mut Pair, row: &str, step: &Step) -> Result<(), Fail> {
-    let (side, deed, comes) = *step;
-    let deed = move_of(alloc, side, deed)?;
-    match comes {
-        Comes::Sends(octets) => {
-            let sent = sends(alloc, pair, &deed, octets)?;
-            wants(sent, row, "other octets on the line")
+fn makes_step(alloc: Global, pair: &mut Pair, row: &str, step: &str) -> Result<(), Fail> {
+    let mut text = String::new(alloc);
+    let (words, wanted) = step.split_once(": ").unwrap_or((step, ""));
+    push_step(alloc, pair, words, wanted.starts_with("tells "), &mut text)?;
+    wants(text.as_str() == wanted, row, step)
+}
+
+/// Adds what these words come to.
+fn push_step(
+    alloc: Global,
+    pair: &mut Pair,
+    words: &str,
+    tells: bool,
+    text: &mut String,
+) -> Result<(), Fail> {
+    match words {
+        "user shows" => Ok(push_shown(alloc, pair, Side::User, text)?),
+        "net shows" => Ok(push_shown(alloc, pair, Side::Network, text)?),
+        _ => {
+            let deed = move_of(alloc, words).ok_or("no move")?;
+            push_move(alloc, pair, &deed, tells, text)
         }
-        Comes::Tells(texts) => {
-            let told = tells(alloc, pair, &deed, texts)?;
-            wants(told, row, "something else is told")
-        }
-        Comes::Refused(fault) => wants(refuses(pair, &deed, fault), row, "not refused so"),
     }
 }
 
-/// Whether a move puts just these frames on the line.
-fn sends(alloc: Global, pair: &mut Pair, deed: &Move, octets: &str) -> Result<bool, Fail> {
+/// Makes a move, and adds what it comes to.
+fn push_move(
+    alloc: Global,
+    pair: &mut Pair,
+    deed: &Move,
+    tells: bool,
+    text: &mut String,
+) -> Result<(), Fail> {
+    let shown = digest(pair);
     let to = deed.side().other();
     let before = pair.line(to).len();
-    if pair.apply(deed).is_err() {
-        return Ok(false);
+    match pair.apply(deed) {
+        Ok(outs) if tells => Ok(push_outputs(alloc, outs.as_slice(), text)?),
+        Ok(_) => Ok(push_frames(alloc, pair.line(to).get(before..).unwrap_or(&[]), text)?),
+        Err(fault) => Ok(push_fault(alloc, fault, digest(pair) == shown, text)?),
     }
-    are(alloc, pair.line(to).get(before..).unwrap_or(&[]), octets)
 }
 
-/// Whether these are the frames.
-fn are(alloc: Global, sent: &[ArrayVec<u8, 264>], octets: &str) -> Result<bool, Fail> {
-    let mut text = String::new(alloc);
-    push_frames(alloc, sent, &mut text)?;
-    Ok(text.as_str() == octets)
+/// Adds the fault of a move that was refused, and whether all that the pair shows is as before.
+fn push_fault(
+    alloc: Global,
+    fault: PairFault,
+    as_before: bool,
+    text: &mut String,
+) -> Result<(), AllocError> {
+    text.push_str(if as_before {
+        "refused "
+    } else {
+        "changed, and refused "
+    })?;
+    text.push_str(fault.to_string(alloc)?.as_str())
 }
 
-/// Adds frames in hexadecimal.
+/// Adds frames in hexadecimal, or that there is none.
 fn push_frames(
     alloc: Global,
     sent: &[ArrayVec<u8, 264>],
     text: &mut String,
 ) -> Result<(), AllocError> {
+    if sent.is_empty() {
+        text.push_str("nothing")?;
+    }
     for frame in sent {
-        push_octets(alloc, frame.as_slice(), text)?;
+        push_octets(alloc, frame.as_slice(), " ", text)?;
     }
     Ok(())
 }
 
-/// Adds octets in hexadecimal, behind a space where they are not the first.
+/// Adds octets in hexadecimal, behind this mark where they are not the first.
 pub(crate) fn push_octets(
     alloc: Global,
     octets: &[u8],
+    mark: &str,
     text: &mut String,
 ) -> Result<(), AllocError> {
     let digits = hex::encode(alloc, octets)?;
-    push_behind(text, " ", digits.as_str())
+    push_behind(text, mark, digits.as_str())
 }
 
 /// Adds a part, behind this mark where it is not the first.
-fn push_behind(text: &mut String, mark: &str, part: &str) -> Result<(), AllocError> {
+pub(crate) fn push_behind(text: &mut String, mark: &str, part: &str) -> Result<(), AllocError> {
     if !text.is_empty() {
         text.push_str(mark)?;
     }
     text.push_str(part)
 }
 
-/// Whether a move gives just these outputs.
-fn tells(alloc: Global, pair: &mut Pair, deed: &Move, wanted: &str) -> Result<bool, Fail> {
-    match pair.apply(deed) {
-        Ok(outs) => are_printed(alloc, outs.as_slice(), wanted),
-        Err(_) => Ok(false),
-    }
-}
-
-/// Whether these outputs are printed so.
-fn are_printed(alloc: Global, outs: &[Out], wanted: &str) -> Result<bool, Fail> {
-    let mut text = String::new(alloc);
-    push_outputs(alloc, outs, &mut text)?;
-    Ok(text.as_str() == wanted)
-}
-
 /// Adds outputs as they are printed for a person.
 fn push_outputs(alloc: Global, outs: &[Out], text: &mut String) -> Result<(), AllocError> {
+    let mut mark = "tells ";
     for out in outs {
-        push_behind(text, "; ", out.to_string(alloc)?.as_str())?;
+        text.push_str(mark)?;
+        text.push_str(out.to_string(alloc)?.as_str())?;
+        mark = "; ";
     }
     Ok(())
 }
 
-/// Whether a move is refused by this fault, and all that the pair shows is as before.
-fn refuses(pair: &mut Pair, deed: &Move, fault: PairFault) -> bool {
-    let before = digest(pair);
-    pair.apply(deed).err() == Some(fault) && digest(pair) == before
+/// The move that these words name: a side, what it does, and what that wants behind it. `None` where there is no memory for
+/// its octets, too.
+pub(crate) fn move_of(alloc: Global, words: &str) -> Option<Move> {
+    let (name, deed) = words.split_once(" ").unwrap_or((words, ""));
+    let (word, behind) = deed.split_once(" ").unwrap_or((deed, ""));
+    let side = side_of(name)?;
+    match word {
+        "establish" => Some(Move::Establish(side)),
+        "release" => Some(Move::Release(side)),
+        "deliver" => Some(Move::Deliver(side)),
+        "lose" => Some(Move::Lose(side, number_of(behind)?)),
+        "expire200" => Some(Move::Expire200(side)),
+        "expire203" => Some(Move::Expire203(side)),
+        "busy" => Some(Move::Busy(side, behind == "on")),
+        "give" => Some(Move::Give(side, octets_of(alloc, behind)?)),
+        "unit" => Some(Move::Unit(side, octets_of(alloc, behind)?)),
+        "restart" => Some(Move::Restart(side)),
+        _ => None,
+    }
+}
+
+/// The side of this name.
+fn side_of(name: &str) -> Option<Side> {
+    match name {
+        "user" => Some(Side::User),
+        "net" => Some(Side::Network),
+        _ => None,
+    }
+}
+
+/// The number that a word writes.
+fn number_of(word: &str) -> Option<usize> {
+    word.parse::<usize>().ok()
+}
+
+/// The octets that are written in hexadecimal, or as `07 times 261`.
+fn octets_of(alloc: Global, text: &str) -> Option<Vec<u8>> {
+    match text.split_once(" times ") {
+        Some((digits, times)) => repeated(alloc, digits, number_of(times)?),
+        None => hex::decode(alloc, text.as_bytes()).ok(),
+    }
+}
+
+/// So many times the octets that are written in hexadecimal.
+fn repeated(alloc: Global, digits: &str, times: usize) -> Option<Vec<u8>> {
+    let digits = digits.repeat(alloc, times).ok()?;
+    hex::decode(alloc, digits.as_bytes()).ok()
 }

@@ -8,3 +8,11 @@ pub(crate) fn wants(holds: bool, row: &str, what: &str) -> Result<(), Fail> {
         Err(Fail::new(format_args!("{row}: {what}")))
     }
 }
+
+/// Fails the test at the first of these that does not hold.
+pub(crate) fn all_hold(checks: &[(bool, &str, &str)]) -> Result<(), Fail> {
+    for (holds, row, what) in checks {
+        wants(*holds, row, what)?;
+    }
+    Ok(())
+}

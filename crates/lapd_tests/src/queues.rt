@@ -1,39 +1,50 @@
 //! The I queue (Q.921 5.5, 5.6).
 
-use crate::wants::wants;
+use crate::wants::all_hold;
 use lapd_queue::IQueue;
 use std::alloc::Global;
 use std::test::Fail;
 
 /// Puts a message of these octets at the end, and tells whether it was taken.
-fn puts(alloc: Global, queue: &mut IQueue, octets: &[u8]) -> Result<bool, Fail> {
-    Ok(queue.put(octets.to_vec(alloc)?).is_ok())
+fn puts(alloc: Global, queue: &mut IQueue, octets: &[u8]) -> bool {
+    match octets.to_vec(alloc) {
+        Ok(message) => queue.put(message).is_ok(),
+        Err(_) => false,
+    }
 }
 
 /// Whether a message of these octets is handed back.
-fn hands_back(alloc: Global, queue: &mut IQueue, octets: &[u8]) -> Result<bool, Fail> {
-    match queue.put(octets.to_vec(alloc)?) {
-        Ok(()) => Ok(false),
-        Err(back) => Ok(back.as_slice() == octets),
+fn hands_back(alloc: Global, queue: &mut IQueue, octets: &[u8]) -> bool {
+    match octets.to_vec(alloc) {
+        Ok(message) => gives_back(queue, message, octets),
+        Err(_) => false,
     }
 }
 
-/// Marks the first unsent message as sent.
-fn sends(queue: &mut IQueue) -> Result<(), Fail> {
+/// Whether a message is handed back with these octets.
+fn gives_back(queue: &mut IQueue, message: Vec<u8>, octets: &[u8]) -> bool {
+    match queue.put(message) {
+        Ok(()) => false,
+        Err(back) => back.as_slice() == octets,
+    }
+}
+
+/// Marks the first unsent message as sent, where there is one.
+fn sends(queue: &mut IQueue) -> bool {
     if queue.unsent() == 0 {
-        return Err(Fail::new("no message is unsent"));
+        return false;
     }
     queue.sent_one();
-    Ok(())
+    true
 }
 
-/// Removes the first `n` messages, which were sent.
-fn acknowledges(queue: &mut IQueue, n: u16) -> Result<(), Fail> {
+/// Removes the first `n` messages, where as many are sent.
+fn acknowledges(queue: &mut IQueue, n: u16) -> bool {
     if n > queue.sent() {
-        return Err(Fail::new("not as many messages are sent"));
+        return false;
     }
     queue.acknowledge(n);
-    Ok(())
+    true
 }
 
 /// Whether so many messages wait, of which so many are sent.
@@ -51,19 +62,21 @@ fn holds(queue: &IQueue, place: u16, octets: &[u8]) -> bool {
 
 /// Two messages fill a queue with room for two, and go out of it.
 fn fills_two_places(alloc: Global, queue: &mut IQueue) -> Result<(), Fail> {
-    wants(queue.room() == 2, "a new queue", "its room")?;
-    wants(counts(queue, 0, 0), "a new queue", "not empty")?;
-    wants(puts(alloc, queue, b"a")?, "a", "not taken")?;
-    wants(puts(alloc, queue, b"b")?, "b", "not taken")?;
-    wants(hands_back(alloc, queue, b"c")?, "c", "not handed back")?;
-    wants(counts(queue, 2, 0), "a, b", "how many wait")?;
-    sends(queue)?;
-    acknowledges(queue, 1)?;
-    wants(counts(queue, 1, 0), "b", "how many wait")?;
-    wants(holds(queue, 0, b"b"), "b", "not the first")?;
-    wants(queue.get(1).is_none(), "b", "not the last")?;
-    wants(queue.discard() == 1, "b", "not discarded")?;
-    wants(counts(queue, 0, 0), "discarded", "not empty")
+    all_hold(&[
+        (queue.room() == 2, "a new queue", "its room"),
+        (counts(queue, 0, 0), "a new queue", "not empty"),
+        (puts(alloc, queue, b"a"), "a", "not taken"),
+        (puts(alloc, queue, b"b"), "b", "not taken"),
+        (hands_back(alloc, queue, b"c"), "c", "not handed back"),
+        (counts(queue, 2, 0), "a, b", "how many wait"),
+        (sends(queue), "a, b", "none is unsent"),
+        (acknowledges(queue, 1), "a", "not sent"),
+        (counts(queue, 1, 0), "b", "how many wait"),
+        (holds(queue, 0, b"b"), "b", "not the first"),
+        (queue.get(1).is_none(), "b", "not the last"),
+        (queue.discard() == 1, "b", "not discarded"),
+        (counts(queue, 0, 0), "discarded", "not empty"),
+    ])
 }
 
 #[test]
@@ -72,22 +85,26 @@ fn the_third_of_two_is_handed_back(rt: HostRuntime) -> Result<(), Fail> {
     fills_two_places(rt.alloc(), &mut queue)
 }
 
-/// Three messages are sent, and then all are unsent again.
+/// Three messages are taken, and two of them sent.
+fn sends_two_of_three(alloc: Global, queue: &mut IQueue) -> Result<(), Fail> {
+    all_hold(&[
+        (puts_each(alloc, queue, &[1, 2, 3]), "1, 2, 3", "not taken"),
+        (sends(queue), "1 sent", "none is unsent"),
+        (counts(queue, 3, 1), "1 sent", "how many wait"),
+        (sends(queue), "2 sent", "none is unsent"),
+    ])
+}
+
+/// Three messages are taken and two sent, and then all are unsent again.
 fn goes_back(alloc: Global, queue: &mut IQueue) -> Result<(), Fail> {
-    for octet in 1..4u8 {
-        let taken = puts(alloc, queue, &[octet])?;
-        wants(taken, "1, 2, 3", "not taken")?;
-    }
-    sends(queue)?;
-    wants(counts(queue, 3, 1), "1 sent", "how many wait")?;
-    sends(queue)?;
+    sends_two_of_three(alloc, queue)?;
     queue.go_back();
-    wants(counts(queue, 3, 0), "gone back", "how many wait")?;
-    for octet in 1..4u8 {
-        let place = u16::from(octet).wrapping_sub(1);
-        wants(holds(queue, place, &[octet]), "gone back", "another order")?;
-    }
-    Ok(())
+    all_hold(&[
+        (counts(queue, 3, 0), "gone back", "how many wait"),
+        (holds(queue, 0, &[1]), "gone back", "another order"),
+        (holds(queue, 1, &[2]), "gone back", "another order"),
+        (holds(queue, 2, &[3]), "gone back", "another order"),
+    ])
 }
 
 #[test]
@@ -96,29 +113,32 @@ fn messages_are_sent_again_from_the_front(rt: HostRuntime) -> Result<(), Fail> {
     goes_back(rt.alloc(), &mut queue)
 }
 
-/// Puts each of these octets at the end, as a message of its own.
-fn puts_each(alloc: Global, queue: &mut IQueue, octets: &[u8]) -> Result<(), Fail> {
+/// Puts each of these octets at the end, as a message of its own, and tells whether all were taken.
+fn puts_each(alloc: Global, queue: &mut IQueue, octets: &[u8]) -> bool {
     for octet in octets {
-        let taken = puts(alloc, queue, &[*octet])?;
-        wants(taken, "a message", "not taken")?;
+        if !puts(alloc, queue, &[*octet]) {
+            return false;
+        }
     }
-    Ok(())
+    true
 }
 
 /// Two messages go out of a queue with room for three, and two more come.
 fn goes_round(alloc: Global, queue: &mut IQueue) -> Result<(), Fail> {
-    puts_each(alloc, queue, b"abc")?;
-    sends(queue)?;
-    sends(queue)?;
-    acknowledges(queue, 2)?;
-    puts_each(alloc, queue, b"de")?;
-    wants(counts(queue, 3, 0), "c, d, e", "how many wait")?;
-    wants(holds(queue, 0, b"c"), "c, d, e", "the first")?;
-    wants(holds(queue, 1, b"d"), "c, d, e", "the second")?;
-    wants(holds(queue, 2, b"e"), "c, d, e", "the third")?;
-    wants(hands_back(alloc, queue, b"f")?, "f", "not handed back")?;
-    wants(holds(queue, 0, b"c"), "f", "the first is another")?;
-    wants(holds(queue, 2, b"e"), "f", "the last is another")
+    all_hold(&[
+        (puts_each(alloc, queue, b"abc"), "a, b, c", "not taken"),
+        (sends(queue), "a", "none is unsent"),
+        (sends(queue), "b", "none is unsent"),
+        (acknowledges(queue, 2), "a, b", "not sent"),
+        (puts_each(alloc, queue, b"de"), "d, e", "not taken"),
+        (counts(queue, 3, 0), "c, d, e", "how many wait"),
+        (holds(queue, 0, b"c"), "c, d, e", "the first"),
+        (holds(queue, 1, b"d"), "c, d, e", "the second"),
+        (holds(queue, 2, b"e"), "c, d, e", "the third"),
+        (hands_back(alloc, queue, b"f"), "f", "not handed back"),
+        (holds(queue, 0, b"c"), "f", "the first is another"),
+        (holds(queue, 2, b"e"), "f", "the last is another"),
+    ])
 }
 
 #[test]
@@ -129,12 +149,14 @@ fn the_fourth_and_fifth_take_the_places_of_the_first(rt: HostRuntime) -> Result<
 
 /// One message goes through the queue.
 fn passes(alloc: Global, queue: &mut IQueue, octets: &[u8]) -> Result<(), Fail> {
-    wants(puts(alloc, queue, octets)?, "a message", "not taken")?;
-    wants(holds(queue, 0, octets), "a message", "not the first")?;
-    wants(counts(queue, 1, 0), "a message", "how many wait")?;
-    sends(queue)?;
-    wants(counts(queue, 1, 1), "a message sent", "how many wait")?;
-    acknowledges(queue, 1)
+    all_hold(&[
+        (puts(alloc, queue, octets), "a message", "not taken"),
+        (holds(queue, 0, octets), "a message", "not the first"),
+        (counts(queue, 1, 0), "a message", "how many wait"),
+        (sends(queue), "a message", "not unsent"),
+        (counts(queue, 1, 1), "a message sent", "how many wait"),
+        (acknowledges(queue, 1), "a message sent", "not sent"),
+    ])
 }
 
 /// A thousand messages go through the queue.
@@ -142,7 +164,7 @@ fn passes_all(alloc: Global, queue: &mut IQueue) -> Result<(), Fail> {
     for number in 0..1000u32 {
         passes(alloc, queue, &number.to_be_bytes())?;
     }
-    wants(counts(queue, 0, 0), "all acknowledged", "not empty")
+    all_hold(&[(counts(queue, 0, 0), "all acknowledged", "not empty")])
 }
 
 #[test]
@@ -153,11 +175,21 @@ fn a_thousand_messages_go_through_three_places(rt: HostRuntime) -> Result<(), Fa
 
 /// The queue takes 1,024 messages, and hands one more back.
 fn takes_most(alloc: Global, queue: &mut IQueue) -> Result<(), Fail> {
+    all_hold(&[
+        (puts_each_empty(alloc, queue), "1,024", "not taken"),
+        (hands_back(alloc, queue, &[]), "one more", "taken"),
+        (queue.discard() == 1024, "1,024", "not discarded"),
+    ])
+}
+
+/// Puts 1,024 messages without octets at the end, and tells whether all were taken.
+fn puts_each_empty(alloc: Global, queue: &mut IQueue) -> bool {
     for _ in 0..1024 {
-        wants(puts(alloc, queue, &[])?, "1,024", "not taken")?;
+        if !puts(alloc, queue, &[]) {
+            return false;
+        }
     }
-    wants(hands_back(alloc, queue, &[])?, "one more", "taken")?;
-    wants(queue.discard() == 1024, "1,024", "not discarded")
+    true
 }
 
 #[test]

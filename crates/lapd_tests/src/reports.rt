@@ -11,59 +11,66 @@ fn number(value: u8) -> Result<Number, Fail> {
     Ok(Number::new(value).ok_or("seven bits")?)
 }
 
-/// The frame reject with this information says this.
-fn rejects(row: &str, info: [u8; 5], frmr: &FrmrInfo) -> Result<(), Fail> {
-    wants(
-        FrmrInfo::read(&info) == *frmr,
-        row,
-        "something else is read",
-    )
+/// The numbers 0, 1, 2 and 127.
+fn numbers() -> Result<[Number; 4], Fail> {
+    Ok([number(0)?, number(1)?, number(2)?, number(127)?])
+}
+
+/// Each row is a name, the information of a frame reject, and what it says.
+fn all_reject(rows: &[(&str, [u8; 5], FrmrInfo)]) -> Result<(), Fail> {
+    for (row, info, frmr) in rows {
+        wants(FrmrInfo::read(info) == *frmr, row, "something else is read")?;
+    }
+    Ok(())
 }
 
 #[test]
 fn information_of_a_frame_reject() -> Result<(), Fail> {
-    rejects(
-        "a SABME with an undefined control field",
-        [0x7f, 0x00, 0x02, 0x04, 0x01],
-        &FrmrInfo {
-            rejected_field: [0x7f, 0x00],
-            vs: number(1)?,
-            vr: number(2)?,
-            cr: false,
-            w: true,
-            x: false,
-            y: false,
-            z: false,
-        },
-    )?;
-    rejects(
-        "a response with an N(R) that is not valid",
-        [0x01, 0x14, 0xfe, 0x01, 0x08],
-        &FrmrInfo {
-            rejected_field: [0x01, 0x14],
-            vs: number(127)?,
-            vr: number(0)?,
-            cr: true,
-            w: false,
-            x: false,
-            y: false,
-            z: true,
-        },
-    )?;
-    rejects(
-        "other bits are not looked at",
-        [0x00, 0x02, 0x01, 0xfe, 0xf6],
-        &FrmrInfo {
-            rejected_field: [0x00, 0x02],
-            vs: number(0)?,
-            vr: number(127)?,
-            cr: false,
-            w: false,
-            x: true,
-            y: true,
-            z: false,
-        },
-    )
+    let [zero, one, two, last] = numbers()?;
+    all_reject(&[
+        (
+            "a SABME with an undefined control field",
+            [0x7f, 0x00, 0x02, 0x04, 0x01],
+            FrmrInfo {
+                rejected_field: [0x7f, 0x00],
+                vs: one,
+                vr: two,
+                cr: false,
+                w: true,
+                x: false,
+                y: false,
+                z: false,
+            },
+        ),
+        (
+            "a response with an N(R) that is not valid",
+            [0x01, 0x14, 0xfe, 0x01, 0x08],
+            FrmrInfo {
+                rejected_field: [0x01, 0x14],
+                vs: last,
+                vr: zero,
+                cr: true,
+                w: false,
+                x: false,
+                y: false,
+                z: true,
+            },
+        ),
+        (
+            "other bits are not looked at",
+            [0x00, 0x02, 0x01, 0xfe, 0xf6],
+            FrmrInfo {
+                rejected_field: [0x00, 0x02],
+                vs: zero,
+                vr: last,
+                cr: false,
+                w: false,
+                x: true,
+                y: true,
+                z: false,
+            },
+        ),
+    ])
 }
 
 /// The value prints as this text.

@@ -93,25 +93,35 @@ fn condition(alloc: Global, link: &Link) -> Result<String, Fail> {
 
 /// The state, its marks, the window, the timers and the messages.
 fn push_condition(alloc: Global, text: &mut String, link: &Link) -> Result<(), Fail> {
-    push_number(text, "", link.state())?;
-    push_mark(text, " L3I", link.layer3_initiated())?;
-    push_mark(text, " RP", link.release_pending())?;
-    push_number(text, " RC=", link.rc())?;
+    let (layer3, release) = (link.layer3_initiated(), link.release_pending());
+    push_numbers(text, &[("", link.state())])?;
+    push_marks(text, &[(" L3I", layer3), (" RP", release)])?;
+    push_numbers(text, &[(" RC=", link.rc())])?;
     push_window(text, &link.window())?;
-    push_mark(text, " T200", link.running(Timer::T200))?;
-    push_mark(text, " T203", link.running(Timer::T203))?;
+    let (t200, t203) = (link.running(Timer::T200), link.running(Timer::T203));
+    push_marks(text, &[(" T200", t200), (" T203", t203)])?;
     push_queue(alloc, text, link)
 }
 
 /// V(S), V(A), V(R) and the marks.
 fn push_window(text: &mut String, window: &Window) -> Result<(), Fail> {
-    push_number(text, " V(S)=", window.vs().value())?;
-    push_number(text, " V(A)=", window.va().value())?;
-    push_number(text, " V(R)=", window.vr().value())?;
-    push_mark(text, " peer-busy", window.peer_busy())?;
-    push_mark(text, " own-busy", window.own_busy())?;
-    push_mark(text, " rejecting", window.rejecting())?;
-    push_mark(text, " ack-pending", window.ack_pending())
+    push_numbers(
+        text,
+        &[
+            (" V(S)=", window.vs().value()),
+            (" V(A)=", window.va().value()),
+            (" V(R)=", window.vr().value()),
+        ],
+    )?;
+    push_marks(
+        text,
+        &[
+            (" peer-busy", window.peer_busy()),
+            (" own-busy", window.own_busy()),
+            (" rejecting", window.rejecting()),
+            (" ack-pending", window.ack_pending()),
+        ],
+    )
 }
 
 /// The messages, those sent first.
@@ -141,11 +151,20 @@ fn push_mark(text: &mut String, word: &str, set: bool) -> Result<(), Fail> {
     Ok(())
 }
 
-/// A word and a number other than 0.
-fn push_number(text: &mut String, word: &str, number: u8) -> Result<(), Fail> {
-    if number != 0 {
-        text.push_str(word)?;
-        write!(text, "{number}")?;
+/// Each word whose mark is set.
+fn push_marks(text: &mut String, marks: &[(&str, bool)]) -> Result<(), Fail> {
+    for (word, set) in marks {
+        push_mark(text, word, *set)?;
+    }
+    Ok(())
+}
+
+/// Each word with its number, where that is not 0.
+fn push_numbers(text: &mut String, numbers: &[(&str, u8)]) -> Result<(), Fail> {
+    for (word, number) in numbers {
+        if *number != 0 {
+            write!(text, "{word}{number}")?;
+        }
     }
     Ok(())
 }
@@ -216,10 +235,22 @@ fn check_row(
     let (event, rest) = rest.split_once(" | ").ok_or("a row has an event")?;
     let (outs, after) = rest.split_once(" | ").ok_or("a row has outputs")?;
     let wanted = if after == "=" { before } else { after };
-    let given = called_for(alloc, link, event)?;
-    push_other(alloc, name, given.as_str(), outs, wrong)?;
+    check_given(alloc, link, name, event, outs, wrong)?;
     let reached = condition(alloc, link.link())?;
     push_other(alloc, name, reached.as_str(), wanted, wrong)
+}
+
+/// Does the event of the row of this name, and adds to `wrong` what it calls for where the row says otherwise.
+fn check_given(
+    alloc: Global,
+    link: &mut Answerer,
+    name: &str,
+    event: &str,
+    outs: &str,
+    wrong: &mut String,
+) -> Result<(), Fail> {
+    let given = called_for(alloc, link, event)?;
+    push_other(alloc, name, given.as_str(), outs, wrong)
 }
 
 /// Adds to `wrong` a text that is not the one that the row of this name writes so.

@@ -8,3 +8,11 @@ pub(crate) fn wants(holds: bool, row: &str, what: &str) -> Result<(), Fail> {
         Err(Fail::new(format_args!("{row}: {what}")))
     }
 }
+
+/// Fails the test at the first of these rows that does not hold, each with what is then wrong with it.
+pub(crate) fn all_hold(rows: &[(bool, &str, &str)]) -> Result<(), Fail> {
+    for (holds, row, what) in rows {
+        wants(*holds, row, what)?;
+    }
+    Ok(())
+}

@@ -1,8 +1,9 @@
 ghost use Rattle.std.specs.Prelude.{◌≡◌, ◌++◌, IfOk, OnOk};
+ghost use Rattle.std.specs.Fmt.{decimal};
 ghost use Rattle.std.specs.String.{string_bytes};
 ghost use Rattle.lapd_trace.specs.Trace.{trace_line, frame_text, direction_text, role_text, poll_text, address_text, control_text, octets_text};
 
-use lapd_frame::{Address, Control, Frame, Role, Side};
+use lapd_frame::{Address, Control, Frame, Number, Role, Side};
 use std::alloc::{AllocError, Global};
 
 /// The greatest length of a line, in octets of text, beside two digits for each octet of the frame. An I frame with
@@ -63,17 +64,32 @@ fn push_control(text: &mut String, role: Role, control: Control) -> Result<(), A
 {
     match control {
         Control::I { ns, nr, p } => write!(text, "I N(S)={ns} N(R)={nr}{}", poll_name(role, p)),
-        Control::Rr { nr, pf } => write!(text, "RR N(R)={nr}{}", poll_name(role, pf)),
-        Control::Rnr { nr, pf } => write!(text, "RNR N(R)={nr}{}", poll_name(role, pf)),
-        Control::Rej { nr, pf } => write!(text, "REJ N(R)={nr}{}", poll_name(role, pf)),
-        Control::Sabme { p } => write!(text, "SABME{}", poll_name(role, p)),
-        Control::Dm { f } => write!(text, "DM{}", poll_name(role, f)),
-        Control::Ui { p } => write!(text, "UI{}", poll_name(role, p)),
-        Control::Disc { p } => write!(text, "DISC{}", poll_name(role, p)),
-        Control::Ua { f } => write!(text, "UA{}", poll_name(role, f)),
-        Control::Frmr { f } => write!(text, "FRMR{}", poll_name(role, f)),
-        Control::Xid { pf } => write!(text, "XID{}", poll_name(role, pf)),
+        Control::Rr { nr, pf } => push_numbered(text, "RR N(R)=", nr, poll_name(role, pf)),
+        Control::Rnr { nr, pf } => push_numbered(text, "RNR N(R)=", nr, poll_name(role, pf)),
+        Control::Rej { nr, pf } => push_numbered(text, "REJ N(R)=", nr, poll_name(role, pf)),
+        Control::Sabme { p } => push_unnumbered(text, "SABME", poll_name(role, p)),
+        Control::Dm { f } => push_unnumbered(text, "DM", poll_name(role, f)),
+        Control::Ui { p } => push_unnumbered(text, "UI", poll_name(role, p)),
+        Control::Disc { p } => push_unnumbered(text, "DISC", poll_name(role, p)),
+        Control::Ua { f } => push_unnumbered(text, "UA", poll_name(role, f)),
+        Control::Frmr { f } => push_unnumbered(text, "FRMR", poll_name(role, f)),
+        Control::Xid { pf } => push_unnumbered(text, "XID", poll_name(role, pf)),
     }
+}
+
+/// Appends the name of a supervisory frame, its N(R) and its P/F bit.
+fn push_numbered(text: &mut String, name: &str, nr: Number, poll: &str) -> Result<(), AllocError>
+    ensures { OnOk result (string_bytes text.new ≡ string_bytes text.old ++ (name.now ++ (decimal nr ++ poll.now))) }
+{
+    write!(text, "{name}{nr}{poll}")
+}
+
+/// Appends the name of an unnumbered frame and its P/F bit.
+fn push_unnumbered(text: &mut String, name: &str, poll: &str) -> Result<(), AllocError>
+    ensures { OnOk result (string_bytes text.new ≡ string_bytes text.old ++ (name.now ++ poll.now)) }
+{
+    text.push_str(name)?;
+    text.push_str(poll)
 }
 
 /// Appends these words and octets in lower case hexadecimal, or nothing where there are no octets.

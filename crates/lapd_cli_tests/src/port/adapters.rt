@@ -1,11 +1,12 @@
 //! Readers and writers of std as devices, and how faults are shown.
 
+use crate::connections::to_itself;
 use crate::port::calls::{reads, writes};
 use crate::wants::{is_said, wants};
 use lapd_port::{DeviceError, FromRead, FromWrite, Port, PortFault, Sink, Source};
 use std::alloc::Global;
 use std::io::{self, ErrorKind, Read, Write};
-use std::net::{TcpListener, TcpStream};
+use std::net::TcpStream;
 use std::test::Fail;
 
 const NOTHING: &[u8] = &[];
@@ -69,12 +70,18 @@ const ERRORS: &[(&str, ErrorKind, DeviceError, u64)] = &[
     ),
 ];
 
+/// Whether both do so.
+fn calls_fail(kind: ErrorKind, error: DeviceError, failures: u64) -> bool {
+    let read = reads_fail(kind, error, failures);
+    let written = writes_fail(kind, error, failures);
+    read && written
+}
+
 #[test]
 fn errors_of_std_are_told() -> Result<(), Fail> {
     for (name, kind, error, failures) in ERRORS {
-        let read = reads_fail(*kind, *error, *failures);
-        let written = writes_fail(*kind, *error, *failures);
-        wants(read && written, name, "told otherwise")?;
+        let told = calls_fail(*kind, *error, *failures);
+        wants(told, name, "told otherwise")?;
     }
     Ok(())
 }
@@ -125,9 +132,7 @@ fn crosses(near: &TcpStream, far: &TcpStream) -> bool {
 
 #[test]
 fn frames_cross_a_connection(rt: HostRuntime) -> Result<(), Fail> {
-    let listener = TcpListener::bind(&rt, "127.0.0.1:0")?;
-    let near = TcpStream::connect(&rt, listener.local_addr()?)?;
-    let (far, _) = listener.accept()?;
+    let (near, far) = to_itself(&rt)?;
     wants(
         crosses(&near, &far),
         "a connection of the process to itself",

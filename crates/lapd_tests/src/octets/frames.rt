@@ -104,14 +104,25 @@ fn is_made(address: Address, control: Control, info: &[u8]) -> bool {
     }
 }
 
+/// Both ways, for a frame with a control field of one octet, which is also made of its parts.
+fn unnumbered(
+    row: &str,
+    octets: &[u8],
+    from: Side,
+    role: Role,
+    control: Control,
+) -> Result<(), Fail> {
+    let field = control;
+    reads_and_writes(row, octets, 3, from, role, field)?;
+    let info = octets.get(3..).ok_or("octets of a frame")?;
+    wants(is_made(address(role)?, control, info), row, "is not made")
+}
+
 #[test]
 fn unnumbered_frames_both_ways(rt: HostRuntime) -> Result<(), Fail> {
     for (row, octets, from, role, control) in UNNUMBERED {
         let octets = hex::decode(rt.alloc(), octets)?;
-        let field = control;
-        reads_and_writes(row, octets.as_slice(), 3, from, role, field)?;
-        let info = octets.get(3..).ok_or("octets of a frame")?;
-        wants(is_made(address(role)?, control, info), row, "is not made")?;
+        unnumbered(row, octets.as_slice(), from, role, control)?;
     }
     Ok(())
 }
@@ -281,34 +292,44 @@ fn is_bounded(alloc: Global, head: &str, role: Role, control: Control) -> Result
     reads_and_writes(head, octets.as_slice(), info_at, User, role, control)
 }
 
-const WITH_ANY_INFORMATION: [(&str, Role, Control); 3] = [
-    ("008113", Command, Ui { p: true }),
-    ("0081af", Command, Xid { pf: false }),
-    ("0281bf", Answer, Xid { pf: true }),
-];
+/// Each row is a head of the user, behind which N201 octets are a frame, and one more is F7.
+fn all_bounded(alloc: Global, rows: &[(&str, Role, Control)]) -> Result<(), Fail> {
+    for (head, role, control) in rows {
+        is_bounded(alloc, head, *role, *control)?;
+    }
+    Ok(())
+}
 
-/// The faults that are looked for before the length.
-const BEFORE_THE_LENGTH: [(&str, Role, Control, FaultKind); 3] = [
-    ("028113", Answer, Ui { p: true }, Undefined),
-    ("00817f", Command, Sabme { p: true }, InfoNotPermitted),
-    ("028197", Answer, Frmr { f: true }, WrongSize),
-];
+/// Each row is a head of the user, and a fault that is looked for before the length.
+fn all_refused(alloc: Global, rows: &[(&str, Role, Control, FaultKind)]) -> Result<(), Fail> {
+    for (head, role, control, kind) in rows {
+        is_refused(alloc, head, *role, *control, *kind)?;
+    }
+    Ok(())
+}
 
 #[test]
 fn information_of_261_octets(rt: HostRuntime) -> Result<(), Fail> {
-    let alloc = rt.alloc();
     wants(N201 == 260 && MOST_OCTETS == 264, "N201", "its value")?;
-    for (head, role, control) in WITH_ANY_INFORMATION {
-        is_bounded(alloc, head, role, control)?;
-    }
-    for (head, role, control, kind) in BEFORE_THE_LENGTH {
-        is_refused(alloc, head, role, control, kind)?;
-    }
-    let nr = number(0)?;
-    let (ns, p) = (number(1)?, false);
-    is_bounded(alloc, "00810200", Command, I { ns, nr, p })?;
-    let rr = Rr { nr, pf: false };
-    is_refused(alloc, "00810100", Command, rr, WrongSize)
+    let (nr, ns, p) = (number(0)?, number(1)?, false);
+    all_bounded(
+        rt.alloc(),
+        &[
+            ("008113", Command, Ui { p: true }),
+            ("0081af", Command, Xid { pf: false }),
+            ("0281bf", Answer, Xid { pf: true }),
+            ("00810200", Command, I { ns, nr, p }),
+        ],
+    )?;
+    all_refused(
+        rt.alloc(),
+        &[
+            ("028113", Answer, Ui { p: true }, Undefined),
+            ("00817f", Command, Sabme { p: true }, InfoNotPermitted),
+            ("028197", Answer, Frmr { f: true }, WrongSize),
+            ("00810100", Command, Rr { nr, pf: false }, WrongSize),
+        ],
+    )
 }
 
 #[test]

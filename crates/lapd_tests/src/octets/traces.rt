@@ -7,127 +7,106 @@ use std::test::Fail;
 
 // ---- Lines.
 
-/// Frames of the user: each control field of each role with each value of the P/F bit.
-const FROM_USER: &[(&str, &str)] = &[
-    ("00810204", "U>N SAPI 0 TEI 64 C I N(S)=1 N(R)=2 P=0"),
-    ("0081feff", "U>N SAPI 0 TEI 64 C I N(S)=127 N(R)=127 P=1"),
-    ("00810100", "U>N SAPI 0 TEI 64 C RR N(R)=0 P=0"),
-    ("00810101", "U>N SAPI 0 TEI 64 C RR N(R)=0 P=1"),
-    ("02810114", "U>N SAPI 0 TEI 64 R RR N(R)=10 F=0"),
-    ("02810101", "U>N SAPI 0 TEI 64 R RR N(R)=0 F=1"),
-    ("00810502", "U>N SAPI 0 TEI 64 C RNR N(R)=1 P=0"),
-    ("00810503", "U>N SAPI 0 TEI 64 C RNR N(R)=1 P=1"),
-    ("028105c8", "U>N SAPI 0 TEI 64 R RNR N(R)=100 F=0"),
-    ("028105c9", "U>N SAPI 0 TEI 64 R RNR N(R)=100 F=1"),
-    ("00810912", "U>N SAPI 0 TEI 64 C REJ N(R)=9 P=0"),
-    ("00810913", "U>N SAPI 0 TEI 64 C REJ N(R)=9 P=1"),
-    ("028109c6", "U>N SAPI 0 TEI 64 R REJ N(R)=99 F=0"),
-    ("028109c7", "U>N SAPI 0 TEI 64 R REJ N(R)=99 F=1"),
-    ("00816f", "U>N SAPI 0 TEI 64 C SABME P=0"),
-    ("00817f", "U>N SAPI 0 TEI 64 C SABME P=1"),
-    ("02810f", "U>N SAPI 0 TEI 64 R DM F=0"),
-    ("02811f", "U>N SAPI 0 TEI 64 R DM F=1"),
-    ("008103", "U>N SAPI 0 TEI 64 C UI P=0"),
-    ("008113", "U>N SAPI 0 TEI 64 C UI P=1"),
-    ("008143", "U>N SAPI 0 TEI 64 C DISC P=0"),
-    ("008153", "U>N SAPI 0 TEI 64 C DISC P=1"),
-    ("028163", "U>N SAPI 0 TEI 64 R UA F=0"),
-    ("028173", "U>N SAPI 0 TEI 64 R UA F=1"),
-    (
-        "0281877f00020401",
-        "U>N SAPI 0 TEI 64 R FRMR F=0 info=7f00020401",
-    ),
-    (
-        "0281977f00020401",
-        "U>N SAPI 0 TEI 64 R FRMR F=1 info=7f00020401",
-    ),
-    ("0081affe", "U>N SAPI 0 TEI 64 C XID P=0 info=fe"),
-    ("0081bf", "U>N SAPI 0 TEI 64 C XID P=1"),
-    ("0281af", "U>N SAPI 0 TEI 64 R XID F=0"),
-    ("0281bf", "U>N SAPI 0 TEI 64 R XID F=1"),
-    (
-        "401302040802",
-        "U>N SAPI 16 TEI 9 C I N(S)=1 N(R)=2 P=0 info=0802",
-    ),
-    ("42010101", "U>N SAPI 16 TEI 0 R RR N(R)=0 F=1"),
-    (
-        "fcff030f1234ff81",
-        "U>N SAPI 63 TEI 127 C UI P=0 info=0f1234ff81",
-    ),
-];
+/// Frames of the user, and their lines: each control field of each role with each value of the P/F bit.
+const FROM_USER: &str = "\
+00810204 | U>N SAPI 0 TEI 64 C I N(S)=1 N(R)=2 P=0
+0081feff | U>N SAPI 0 TEI 64 C I N(S)=127 N(R)=127 P=1
+00810100 | U>N SAPI 0 TEI 64 C RR N(R)=0 P=0
+00810101 | U>N SAPI 0 TEI 64 C RR N(R)=0 P=1
+02810114 | U>N SAPI 0 TEI 64 R RR N(R)=10 F=0
+02810101 | U>N SAPI 0 TEI 64 R RR N(R)=0 F=1
+00810502 | U>N SAPI 0 TEI 64 C RNR N(R)=1 P=0
+00810503 | U>N SAPI 0 TEI 64 C RNR N(R)=1 P=1
+028105c8 | U>N SAPI 0 TEI 64 R RNR N(R)=100 F=0
+028105c9 | U>N SAPI 0 TEI 64 R RNR N(R)=100 F=1
+00810912 | U>N SAPI 0 TEI 64 C REJ N(R)=9 P=0
+00810913 | U>N SAPI 0 TEI 64 C REJ N(R)=9 P=1
+028109c6 | U>N SAPI 0 TEI 64 R REJ N(R)=99 F=0
+028109c7 | U>N SAPI 0 TEI 64 R REJ N(R)=99 F=1
+00816f | U>N SAPI 0 TEI 64 C SABME P=0
+00817f | U>N SAPI 0 TEI 64 C SABME P=1
+02810f | U>N SAPI 0 TEI 64 R DM F=0
+02811f | U>N SAPI 0 TEI 64 R DM F=1
+008103 | U>N SAPI 0 TEI 64 C UI P=0
+008113 | U>N SAPI 0 TEI 64 C UI P=1
+008143 | U>N SAPI 0 TEI 64 C DISC P=0
+008153 | U>N SAPI 0 TEI 64 C DISC P=1
+028163 | U>N SAPI 0 TEI 64 R UA F=0
+028173 | U>N SAPI 0 TEI 64 R UA F=1
+0281877f00020401 | U>N SAPI 0 TEI 64 R FRMR F=0 info=7f00020401
+0281977f00020401 | U>N SAPI 0 TEI 64 R FRMR F=1 info=7f00020401
+0081affe | U>N SAPI 0 TEI 64 C XID P=0 info=fe
+0081bf | U>N SAPI 0 TEI 64 C XID P=1
+0281af | U>N SAPI 0 TEI 64 R XID F=0
+0281bf | U>N SAPI 0 TEI 64 R XID F=1
+401302040802 | U>N SAPI 16 TEI 9 C I N(S)=1 N(R)=2 P=0 info=0802
+42010101 | U>N SAPI 16 TEI 0 R RR N(R)=0 F=1
+fcff030f1234ff81 | U>N SAPI 63 TEI 127 C UI P=0 info=0f1234ff81
+";
 
 /// The same of the network.
-const FROM_NETWORK: &[(&str, &str)] = &[
-    ("02810204", "N>U SAPI 0 TEI 64 C I N(S)=1 N(R)=2 P=0"),
-    ("0281feff", "N>U SAPI 0 TEI 64 C I N(S)=127 N(R)=127 P=1"),
-    ("02810100", "N>U SAPI 0 TEI 64 C RR N(R)=0 P=0"),
-    ("02810101", "N>U SAPI 0 TEI 64 C RR N(R)=0 P=1"),
-    ("00810114", "N>U SAPI 0 TEI 64 R RR N(R)=10 F=0"),
-    ("00810101", "N>U SAPI 0 TEI 64 R RR N(R)=0 F=1"),
-    ("02810502", "N>U SAPI 0 TEI 64 C RNR N(R)=1 P=0"),
-    ("02810503", "N>U SAPI 0 TEI 64 C RNR N(R)=1 P=1"),
-    ("008105c8", "N>U SAPI 0 TEI 64 R RNR N(R)=100 F=0"),
-    ("008105c9", "N>U SAPI 0 TEI 64 R RNR N(R)=100 F=1"),
-    ("02810912", "N>U SAPI 0 TEI 64 C REJ N(R)=9 P=0"),
-    ("02810913", "N>U SAPI 0 TEI 64 C REJ N(R)=9 P=1"),
-    ("008109c6", "N>U SAPI 0 TEI 64 R REJ N(R)=99 F=0"),
-    ("008109c7", "N>U SAPI 0 TEI 64 R REJ N(R)=99 F=1"),
-    ("02816f", "N>U SAPI 0 TEI 64 C SABME P=0"),
-    ("02817f", "N>U SAPI 0 TEI 64 C SABME P=1"),
-    ("00810f", "N>U SAPI 0 TEI 64 R DM F=0"),
-    ("00811f", "N>U SAPI 0 TEI 64 R DM F=1"),
-    ("028103", "N>U SAPI 0 TEI 64 C UI P=0"),
-    ("028113", "N>U SAPI 0 TEI 64 C UI P=1"),
-    ("028143", "N>U SAPI 0 TEI 64 C DISC P=0"),
-    ("028153", "N>U SAPI 0 TEI 64 C DISC P=1"),
-    ("008163", "N>U SAPI 0 TEI 64 R UA F=0"),
-    ("008173", "N>U SAPI 0 TEI 64 R UA F=1"),
-    (
-        "0081877f00020401",
-        "N>U SAPI 0 TEI 64 R FRMR F=0 info=7f00020401",
-    ),
-    (
-        "0081977f00020401",
-        "N>U SAPI 0 TEI 64 R FRMR F=1 info=7f00020401",
-    ),
-    ("0281affe", "N>U SAPI 0 TEI 64 C XID P=0 info=fe"),
-    ("0281bf", "N>U SAPI 0 TEI 64 C XID P=1"),
-    ("0081af", "N>U SAPI 0 TEI 64 R XID F=0"),
-    ("0081bf", "N>U SAPI 0 TEI 64 R XID F=1"),
-    ("42c713", "N>U SAPI 16 TEI 99 C UI P=1"),
-    ("40010909", "N>U SAPI 16 TEI 0 R REJ N(R)=4 F=1"),
-    (
-        "feff030f12340281",
-        "N>U SAPI 63 TEI 127 C UI P=0 info=0f12340281",
-    ),
-];
+const FROM_NETWORK: &str = "\
+02810204 | N>U SAPI 0 TEI 64 C I N(S)=1 N(R)=2 P=0
+0281feff | N>U SAPI 0 TEI 64 C I N(S)=127 N(R)=127 P=1
+02810100 | N>U SAPI 0 TEI 64 C RR N(R)=0 P=0
+02810101 | N>U SAPI 0 TEI 64 C RR N(R)=0 P=1
+00810114 | N>U SAPI 0 TEI 64 R RR N(R)=10 F=0
+00810101 | N>U SAPI 0 TEI 64 R RR N(R)=0 F=1
+02810502 | N>U SAPI 0 TEI 64 C RNR N(R)=1 P=0
+02810503 | N>U SAPI 0 TEI 64 C RNR N(R)=1 P=1
+008105c8 | N>U SAPI 0 TEI 64 R RNR N(R)=100 F=0
+008105c9 | N>U SAPI 0 TEI 64 R RNR N(R)=100 F=1
+02810912 | N>U SAPI 0 TEI 64 C REJ N(R)=9 P=0
+02810913 | N>U SAPI 0 TEI 64 C REJ N(R)=9 P=1
+008109c6 | N>U SAPI 0 TEI 64 R REJ N(R)=99 F=0
+008109c7 | N>U SAPI 0 TEI 64 R REJ N(R)=99 F=1
+02816f | N>U SAPI 0 TEI 64 C SABME P=0
+02817f | N>U SAPI 0 TEI 64 C SABME P=1
+00810f | N>U SAPI 0 TEI 64 R DM F=0
+00811f | N>U SAPI 0 TEI 64 R DM F=1
+028103 | N>U SAPI 0 TEI 64 C UI P=0
+028113 | N>U SAPI 0 TEI 64 C UI P=1
+028143 | N>U SAPI 0 TEI 64 C DISC P=0
+028153 | N>U SAPI 0 TEI 64 C DISC P=1
+008163 | N>U SAPI 0 TEI 64 R UA F=0
+008173 | N>U SAPI 0 TEI 64 R UA F=1
+0081877f00020401 | N>U SAPI 0 TEI 64 R FRMR F=0 info=7f00020401
+0081977f00020401 | N>U SAPI 0 TEI 64 R FRMR F=1 info=7f00020401
+0281affe | N>U SAPI 0 TEI 64 C XID P=0 info=fe
+0281bf | N>U SAPI 0 TEI 64 C XID P=1
+0081af | N>U SAPI 0 TEI 64 R XID F=0
+0081bf | N>U SAPI 0 TEI 64 R XID F=1
+42c713 | N>U SAPI 16 TEI 99 C UI P=1
+40010909 | N>U SAPI 16 TEI 0 R REJ N(R)=4 F=1
+feff030f12340281 | N>U SAPI 63 TEI 127 C UI P=0 info=0f12340281
+";
 
 /// Octets of the user that are no frame.
-const FAULTS: &[(&str, &str)] = &[
-    ("", "U>N F1 TooShort"),
-    ("00", "U>N F1 TooShort 00"),
-    ("0081", "U>N F1 TooShort 0081"),
-    ("048100", "U>N F1 TooShort 048100"),
-    ("008101", "U>N F1 TooShort 008101"),
-    ("058100", "U>N F2 BadAddress 058100"),
-    ("00807f", "U>N F2 BadAddress 00807f"),
-    ("04817f", "U>N F3 SapiNotServed 04817f"),
-    ("00810b", "U>N F4 Undefined 00810b"),
-    ("00811100", "U>N F4 Undefined 00811100"),
-    ("008163", "U>N F4 Undefined 008163"),
-    ("02817f", "U>N F4 Undefined 02817f"),
-    ("00816f01", "U>N F5 InfoNotPermitted 00816f01"),
-    ("028173abcdef", "U>N F5 InfoNotPermitted 028173abcdef"),
-    ("0081010100", "U>N F6 WrongSize 0081010100"),
-    ("028197", "U>N F6 WrongSize 028197"),
-    ("0281977f000204", "U>N F6 WrongSize 0281977f000204"),
-];
+const FAULTS: &str = "\
+00 | U>N F1 TooShort 00
+ | U>N F1 TooShort
+0081 | U>N F1 TooShort 0081
+048100 | U>N F1 TooShort 048100
+008101 | U>N F1 TooShort 008101
+058100 | U>N F2 BadAddress 058100
+00807f | U>N F2 BadAddress 00807f
+04817f | U>N F3 SapiNotServed 04817f
+00810b | U>N F4 Undefined 00810b
+00811100 | U>N F4 Undefined 00811100
+008163 | U>N F4 Undefined 008163
+02817f | U>N F4 Undefined 02817f
+00816f01 | U>N F5 InfoNotPermitted 00816f01
+028173abcdef | U>N F5 InfoNotPermitted 028173abcdef
+0081010100 | U>N F6 WrongSize 0081010100
+028197 | U>N F6 WrongSize 028197
+0281977f000204 | U>N F6 WrongSize 0281977f000204
+";
 
 /// Octets of the network that are no frame.
-const FAULTS_OF_THE_NETWORK: &[(&str, &str)] = &[
-    ("40c900c9", "N>U F4 Undefined 40c900c9"),
-    ("00819700", "N>U F6 WrongSize 00819700"),
-];
+const FAULTS_OF_THE_NETWORK: &str = "\
+40c900c9 | N>U F4 Undefined 40c900c9
+00819700 | N>U F6 WrongSize 00819700
+";
 
 /// The line of these octets in hexadecimal is this text.
 fn prints(alloc: Global, from: Side, octets: &str, text: &str) -> Result<(), Fail> {
@@ -147,9 +126,10 @@ fn has_room(line: &String, octets: usize) -> bool {
     line.capacity() == octets.wrapping_mul(2).wrapping_add(43)
 }
 
-/// Each row is octets of this side in hexadecimal, and their line.
-fn all_print(alloc: Global, from: Side, rows: &[(&str, &str)]) -> Result<(), Fail> {
-    for (octets, text) in rows {
+/// Each line is octets of this side in hexadecimal, ` | ` and what is printed for them.
+fn all_print(alloc: Global, from: Side, rows: &str) -> Result<(), Fail> {
+    for row in rows.lines() {
+        let (octets, text) = row.split_once(" | ").ok_or("a row has a text")?;
         prints(alloc, from, octets, text)?;
     }
     Ok(())
