@@ -107,7 +107,7 @@ goes_expired c T201 s back m = m
 goes_expired c T202 s back m = m
 goes_expired c T203 s back m = m
 
-ensured : (runs200 runs203 : Bool) (o : Occasion) (t : Story) → told o ((if runs200 then [] else out_where runs203 (Stop T203)) ++ (if runs200 then [] else Start T200 ∷ [])) t ≡ t
+pub ensured : (runs200 runs203 : Bool) (o : Occasion) (t : Story) → told o ((if runs200 then [] else out_where runs203 (Stop T203)) ++ (if runs200 then [] else Start T200 ∷ [])) t ≡ t
 ensured true runs203 o t = refl
 ensured false true o t = refl
 ensured false false o t = refl

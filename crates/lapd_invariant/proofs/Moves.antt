@@ -23,7 +23,7 @@ keeps_lose at v peer small h = by_test (λ (r : Result Acted Refusal). Holds (le
 
 -- ---- Moves.
 
-after_by_user : (w : World) (r : Result Acted Refusal) → world_after w (in_world side.User w r) ≡ with_view side.User (left_by (view_of side.User w) r) w
+pub after_by_user : (w : World) (r : Result Acted Refusal) → world_after w (in_world side.User w r) ≡ with_view side.User (left_by (view_of side.User w) r) w
 after_by_user w (Ok acted) = refl
 after_by_user w (Err refusal) = refl
 

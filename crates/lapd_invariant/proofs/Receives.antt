@@ -24,14 +24,14 @@ abbrev pub in_hand : Context → ℕ → Bool → Message
 in_hand c ns p = record { number = ns; polled = p; place = c.place; octets = c.octets }
 
 -- what is left after it, by the case
-abbrev left : StepState → StateVariables → Bool → Option Control → StepState
+abbrev pub left : StepState → StateVariables → Bool → Option Control → StepState
 left s w accepted answer = record { end = record (s.end) { window = w }; outs = s.outs ++ out_where accepted Up ++ response_of answer }
 
-as_received : (ns : ℕ) (p : Bool) (s : StepState) (w : StateVariables) (accepted : Bool) (answer : Option Control) → Receives Whole ns p s.end.window w accepted answer → i_frame_ns Whole ns p s ≡ left s w accepted answer
+pub as_received : (ns : ℕ) (p : Bool) (s : StepState) (w : StateVariables) (accepted : Bool) (answer : Option Control) → Receives Whole ns p s.end.window w accepted answer → i_frame_ns Whole ns p s ≡ left s w accepted answer
 unfolding i_frame_ns
 as_received ns p s w accepted answer r = rw (r.variables, r.taken, r.answered) refl
 
-told_both : (c : Context) (s : StepState) (w : StateVariables) (accepted : Bool) (answer : Option Control)
+pub told_both : (c : Context) (s : StepState) (w : StateVariables) (accepted : Bool) (answer : Option Control)
     → story c (left s w accepted answer) ≡ told (occasion c s) (response_of answer) (told (occasion c s) (out_where accepted Up) (story c s))
 unfolding story_after
 told_both c s w accepted answer = told_append _ (s.outs ++ out_where accepted Up) (response_of answer) _ ∙ ap (λ t. told (occasion c s) (response_of answer) t) (told_append _ s.outs (out_where accepted Up) _)

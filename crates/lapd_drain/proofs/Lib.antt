@@ -1,0 +1,16 @@
+pub mod Timers
+pub mod Resting
+pub mod Flow
+pub mod Receives
+pub mod Speaks
+pub mod Facts
+pub mod Tells
+pub mod Draws
+pub mod DrawRows
+pub mod DrawCloses
+pub mod Drains
+pub mod DrainsByT200
+pub mod Settles
+pub mod Reached
+pub mod Stepping
+pub mod Worked
