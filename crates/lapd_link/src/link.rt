@@ -197,6 +197,7 @@ impl Link {
 /// What a link shows.
 #[tactic(auto, unfolding(lapd_states::specs::End::begin))]
 impl Link {
+    ghost use Rattle.std.specs.Prelude.{◌-◌, length};
     ghost use Rattle.lapd_states.specs.End.{End, runs};
     ghost use Rattle.lapd_states.specs.State.{state_number};
     ghost use Rattle.lapd_link.specs.Link.{LinkStandsFor, setup_of};
@@ -254,6 +255,13 @@ impl Link {
         ensures { (e : End) → LinkStandsFor self.now e → IsTail e.given e.first e.next result.now }
     {
         &self.machine.queue
+    }
+
+    /// How many messages are neither acknowledged nor dropped, 0 to 1,024.
+    pub fn waiting(&self) -> u16
+        ensures { (e : End) → LinkStandsFor self.now e → result ≡ length e.given - e.first }
+    {
+        self.machine.queue.len()
     }
 
     /// What it was made with.

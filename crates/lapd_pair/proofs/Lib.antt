@@ -5,6 +5,7 @@ pub mod Pairs
 pub mod Restarted
 pub mod Runs
 pub mod SafePairs
+pub mod Settling
 pub mod Steps
 pub mod Telling
 pub mod Views

@@ -124,12 +124,12 @@ reached_more : (user network user_after network_after : Station) (to_user to_net
 reached_more user network user_after network_after to_user to_network to_user_after to_network_after m outs x d =
     let start = new_world x.user x.network in
     let there = after_did (run Tagged x.moves start) (happens Tagged m (run Tagged x.moves start)) d.happened d.is ∙ sym (run_more x.moves m start) in
-    record { user = x.user; network = x.network; few_of_user = x.few_of_user; few_of_network = x.few_of_network; moves = x.moves ++ m ∷ []; stand = subst (StandForWorld user_after network_after to_user_after to_network_after) there d.stand }
+    record { user = x.user; network = x.network; few_of_user = x.few_of_user; few_of_network = x.few_of_network; some_of_user = x.some_of_user; some_of_network = x.some_of_network; moves = x.moves ++ m ∷ []; stand = subst (StandForWorld user_after network_after to_user_after to_network_after) there d.stand }
 
 reached_still : (user network user_after network_after : Station) (to_user to_network to_user_after to_network_after : Line) (x : IsReached user network to_user to_network)
     → StandForWorld user_after network_after to_user_after to_network_after (run Tagged x.moves (new_world x.user x.network)) → IsReached user_after network_after to_user_after to_network_after
 reached_still user network user_after network_after to_user to_network to_user_after to_network_after x stand =
-    record { user = x.user; network = x.network; few_of_user = x.few_of_user; few_of_network = x.few_of_network; moves = x.moves; stand = stand }
+    record { user = x.user; network = x.network; few_of_user = x.few_of_user; few_of_network = x.few_of_network; some_of_user = x.some_of_user; some_of_network = x.some_of_network; moves = x.moves; stand = stand }
 
 user_reaches : (m : Move) (user network after : Station) (to_user to_network to_user_after to_network_after : Line) (r : Result (ArrayVec Out) PairFault) → m.side ≡ User
     → IfOk r (ActsInView user to_user to_network after to_user_after to_network_after (λ side v. acts Tagged side m.deed v)) → OnErr r (ShowsViewAsBefore user to_user to_network after to_user_after to_network_after)
@@ -159,7 +159,7 @@ pub network_reached : (m : Move) (user network after : Station) (to_user to_netw
 network_reached m user network after to_user to_network to_user_after to_network_after r is acts_so shows reached =
     ∥∥₁_map reached (λ x. network_reaches m user network after to_user to_network to_user_after to_network_after r is acts_so shows x)
 
-pub new_reached : (user_parameters network_parameters : Parameters) (user network : Station) (to_user to_network : Line) → user_parameters.k ≤ 127 → network_parameters.k ≤ 127
+pub new_reached : (user_parameters network_parameters : Parameters) (user network : Station) (to_user to_network : Line) → user_parameters.k ≤ 127 → network_parameters.k ≤ 127 → 1 ≤ user_parameters.k → 1 ≤ network_parameters.k
     → StandForWorld user network to_user to_network (new_world user_parameters network_parameters) → ∥ IsReached user network to_user to_network ∥₁
-new_reached user_parameters network_parameters user network to_user to_network few_of_user few_of_network stand =
-    ∣ record { user = user_parameters; network = network_parameters; few_of_user = few_of_user; few_of_network = few_of_network; moves = []; stand = stand } ∣₁
+new_reached user_parameters network_parameters user network to_user to_network few_of_user few_of_network some_of_user some_of_network stand =
+    ∣ record { user = user_parameters; network = network_parameters; few_of_user = few_of_user; few_of_network = few_of_network; some_of_user = some_of_user; some_of_network = some_of_network; moves = []; stand = stand } ∣₁

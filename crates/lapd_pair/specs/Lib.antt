@@ -6,6 +6,7 @@ pub mod Moves
 pub mod Pair
 pub mod PairFault
 pub mod Runs
+pub mod Settles
 pub mod Setup
 pub mod Station
 pub mod Telling

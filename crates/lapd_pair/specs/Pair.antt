@@ -26,5 +26,7 @@ pub record IsReached (user_side network_side : Station) (line_to_user line_to_ne
   pub network : Parameters
   pub few_of_user : user.k ≤ 127
   pub few_of_network : network.k ≤ 127
+  pub some_of_user : 1 ≤ user.k
+  pub some_of_network : 1 ≤ network.k
   pub moves : List Move
   pub stand : StandForWorld user_side network_side line_to_user line_to_network (run Tagged moves (new_world user network))

@@ -17,6 +17,7 @@ mod moves;
 mod pair;
 mod pair_fault;
 mod received;
+mod settled;
 mod station;
 
 pub use fate::{Ending, Fate};
@@ -26,3 +27,4 @@ pub use moves::Move;
 pub use pair::Pair;
 pub use pair_fault::{PairFault, RunFault};
 pub use received::Received;
+pub use settled::Settled;

@@ -10,9 +10,10 @@ use crate::line::Line;
 use crate::moves::Move;
 use crate::pair_fault::{PairFault, RunFault};
 use crate::received::Received;
+use crate::settled::Settled;
 use crate::station::Station;
 use lapd_frame::Side;
-use lapd_link::{Link, Outs, Params};
+use lapd_link::{Link, Outs, Params, Timer};
 use std::alloc::{AllocError, Global};
 
 /// Two ends of one data link of SAPI 0 and TEI 64, user and network, and the line between them, which keeps the order of
@@ -227,5 +228,77 @@ impl Pair {
         ensures setup { (w : World) → PairStandsFor self.now w → setup_of result.now ≡ setup_for side }
     {
         &self.station(side).link
+    }
+}
+
+/// A pair settles.
+impl Pair {
+    ghost use Rattle.std.specs.Prelude.{option_map};
+    ghost use Rattle.lapd_world.specs.World.{World};
+    ghost use Rattle.lapd_drain.specs.Settle.{next_move, bound};
+    ghost use Rattle.lapd_pair.specs.Moves.{move_of};
+    ghost use Rattle.lapd_pair.specs.Runs.{PairStandsFor, IsSafePair};
+    ghost use Rattle.lapd_pair.specs.Settles.{Settles, StopsSettling, EmptiesWhereQuiet, IsDrainedPair};
+
+    /// Makes moves until none is possible any more, at most 8 for each message of [`Pair::left`] and 32 more. Each is the first
+    /// possible of: the next frame is delivered to the network, or to the user; T200 of the user expires, or of the network.
+    ///
+    /// Where both ends are in state 7 before it, neither receiver is busy and nothing is on the line, it makes at most 3 for
+    /// each message and 8, none is possible any more, and nothing is left: nothing was dropped, and each message that was left
+    /// is acknowledged, and was received. For no frame is lost (Q.921 5.6).
+    ///
+    /// # Errors
+    ///
+    /// P5 where memory was refused for a move. The moves made before stand.
+    pub fn settle(&mut self) -> Result<Settled, PairFault>
+        ensures ok { IfOk result (λ done. Settles self.old self.new done) }
+        ensures err { IfErr result (λ fault. StopsSettling self.old self.new fault) }
+        ensures emptied { IfOk result (λ done. EmptiesWhereQuiet self.old done) }
+        ensures drained { OnOk result (∥ IsDrainedPair self.old self.new ∥₁) }
+        ensures safe { ∥ IsSafePair self.new ∥₁ }
+    {
+        let most = self.most_moves();
+        let mut outs = Outs::new();
+        for moves in 0..most {
+            let Some(deed) = self.next_move() else {
+                return Ok(Settled { moves, rest: true });
+            };
+            match self.apply_into(&deed, &mut outs) {
+                Ok(()) => {}
+                Err(fault) => return Err(fault),
+            }
+        }
+        Ok(Settled {
+            moves: most,
+            rest: self.next_move().is_none(),
+        })
+    }
+
+    /// How many moves it makes at most.
+    fn most_moves(&self) -> u64
+        ensures { (w : World) → PairStandsFor self.now w → result ≡ bound w }
+    {
+        let left = u64::from(self.user.link.waiting()) + u64::from(self.network.link.waiting());
+        8 * (left + 4)
+    }
+
+    /// The move that it makes next.
+    fn next_move(&self) -> Option<Move>
+        ensures { (w : World) → PairStandsFor self.now w
+            → option_map (λ deed. move_of deed) result ≡ next_move Tagged w }
+    {
+        if self.to_network.first().is_some() {
+            return Some(Move::Deliver(Side::Network));
+        }
+        if self.to_user.first().is_some() {
+            return Some(Move::Deliver(Side::User));
+        }
+        if self.user.link.running(Timer::T200) {
+            return Some(Move::Expire200(Side::User));
+        }
+        if self.network.link.running(Timer::T200) {
+            return Some(Move::Expire200(Side::Network));
+        }
+        None
     }
 }

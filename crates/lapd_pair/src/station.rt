@@ -57,6 +57,7 @@ impl Station {
     pub fn new(alloc: Global, side: Side, params: Params) -> Result<Station, AllocError>
         ensures station { IfOk result (λ s. IsStation side s (new_station params)) }
         ensures window { params.k ≤ 127 }
+        ensures some { 1 ≤ params.k }
     {
         Ok(Station {
             link: new_link(alloc, side, params)?,

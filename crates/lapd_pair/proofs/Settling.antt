@@ -1,0 +1,269 @@
+-- A pair settles: its moves are those of the worlds that it stands for.
+use Rattle.std.proofs.Common.{◌≡◌, ℕ, zero, suc, ◌+◌, ◌-◌, ◌*◌, ◌<◌, ◌≤◌, not, Bool, true, false, if◌then◌else◌, List, [], ◌∷◌, ◌++◌, map, length, drop, is_some, is_none, is_ok, option_map, Option, Some, None, IfSome, IfNone, Result, Ok, Err, refl, sym, ap, subst, ◌∙◌, arith}
+use Rattle.std.proofs.Math.Bool.{Bool-set}
+use Rattle.std.proofs.Math.Bridge.{le_prop}
+use Rattle.std.proofs.Math.Logic.{∥∥₁_map, ∥∥₁_elim}
+use Rattle.std.proofs.Math.Nat.{ℕ_set}
+use Rattle.lapd_frame.specs.Frame.{spelling}
+use Rattle.lapd_frame.specs.declared.Side.{Side}
+use Rattle.lapd_frame.specs.declared.Side.TheVariants.{User, Network}
+use Rattle.lapd_mod128.specs.Counting.{Tagged}
+use Rattle.lapd_states.specs.declared.out.Out.{Out}
+use Rattle.lapd_states.specs.End.{begin}
+use Rattle.lapd_world.specs.Line.{Flight}
+use Rattle.lapd_world.specs.Move.{Deliver, Expire200, Move, Refusal}
+use Rattle.lapd_world.specs.World.{World, Happened, new_world, happens, run, left}
+use Rattle.lapd_world.proofs.Settled.{left_settled}
+use Rattle.lapd_drain.specs.Settle.{IsQuiet, first_admitted, tried, next_move, settling, bound}
+use Rattle.lapd_drain.proofs.Reached.{every_quiet_line_drains}
+use Rattle.lapd_drain.proofs.Stepping.{one_more, no_more, next_to_network, next_to_user, next_of_user, next_of_network, next_none}
+use Rattle.lapd_pair.specs.declared.line.Line.{Line}
+use Rattle.lapd_pair.specs.declared.pair.Pair.{Pair}
+use Rattle.lapd_pair.specs.declared.pair_fault.PairFault.{PairFault}
+use Rattle.lapd_pair.specs.declared.pair_fault.PairFault.TheVariants as fault
+use Rattle.lapd_pair.specs.declared.settled.Settled.{Settled}
+use Rattle.lapd_pair.specs.Line.{IsOn, IsFirst, fields_of}
+use Rattle.lapd_pair.specs.Moves.{IsRefusedAs}
+use Rattle.lapd_pair.specs.Pair.{IsReached}
+use Rattle.lapd_pair.specs.Runs.{PairStandsFor, HasHappened}
+use Rattle.lapd_pair.specs.Settles.{settled, HasSettled, Settles, HasStoppedSettling, IsEmptied, IsDrainedPair}
+use Rattle.lapd_pair.proofs.Pairs.{run_more, after_did}
+
+-- ---- The first frame of a line.
+
+pub record Starts (frames : List Flight) : Type 0 where
+  pub frame : Flight
+  pub rest : List Flight
+  pub is : frames ≡ frame ∷ rest
+
+starts_with : (from : Side) (octets : List ℕ) (frames : List Flight) → IsFirst from octets frames → Starts frames
+starts_with from octets [] first = absurd first
+starts_with from octets (frame ∷ rest) first = record { frame = frame; rest = rest; is = refl }
+
+pub some_starts : {A : Type 0} (octets_of : A → List ℕ) (from : Side) (line : Line) (o : Option A) (frames : List Flight) → true ≡ is_some o
+    → IfSome o (λ a. (from : Side) (frames : List Flight) → IsOn from line frames → IsFirst from (octets_of a) frames) → IsOn from line frames → Starts frames
+some_starts octets_of from line (Some a) frames is first on = starts_with from (octets_of a) frames (first from frames on)
+some_starts octets_of from line None frames is first on = cc
+
+pub none_starts : {A : Type 0} (from : Side) (line : Line) (o : Option A) (frames : List Flight) → false ≡ is_some o
+    → IfNone o ((from : Side) (frames : List Flight) → IsOn from line frames → frames ≡ []) → IsOn from line frames → frames ≡ []
+none_starts from line None frames is none on = none from frames on
+none_starts from line (Some a) frames is none on = cc
+
+-- ---- The next move, by what is on the line and which timers run.
+
+abbrev with_lines : World → List Flight → List Flight → World
+with_lines w to_user to_network = record w { to_user = to_user; to_network = to_network }
+
+lines_are : (P : World → Type 0) (w : World) (to_user to_network : List Flight) → w.to_user ≡ to_user → w.to_network ≡ to_network → P (with_lines w to_user to_network) → P w
+lines_are P w to_user to_network u n p = subst P (ap (λ l. with_lines w l to_network) (sym u) ∙ ap (λ l. with_lines w w.to_user l) (sym n)) p
+
+pub deliver_to_network : (w : World) → Starts w.to_network → Some (record { side = Network; deed = Deliver }) ≡ next_move Tagged w
+deliver_to_network w s = sym (lines_are (λ v. next_move Tagged v ≡ Some (record { side = Network; deed = Deliver })) w w.to_user (s.frame ∷ s.rest) refl s.is (next_to_network Tagged w.user w.network w.to_user s.frame s.rest))
+
+pub deliver_to_user : (w : World) → w.to_network ≡ [] → Starts w.to_user → Some (record { side = User; deed = Deliver }) ≡ next_move Tagged w
+deliver_to_user w none s = sym (lines_are (λ v. next_move Tagged v ≡ Some (record { side = User; deed = Deliver })) w (s.frame ∷ s.rest) [] s.is none (next_to_user Tagged w.user w.network s.frame s.rest))
+
+pub t200_of_user : (w : World) → w.to_network ≡ [] → w.to_user ≡ [] → w.user.end.t200 ≡ true → Some (record { side = User; deed = Expire200 }) ≡ next_move Tagged w
+t200_of_user w n u on = sym (lines_are (λ v. next_move Tagged v ≡ Some (record { side = User; deed = Expire200 })) w [] [] u n (next_of_user Tagged w.user w.network on))
+
+pub t200_of_network : (w : World) → w.to_network ≡ [] → w.to_user ≡ [] → w.user.end.t200 ≡ false → w.network.end.t200 ≡ true → Some (record { side = Network; deed = Expire200 }) ≡ next_move Tagged w
+t200_of_network w n u off on = sym (lines_are (λ v. next_move Tagged v ≡ Some (record { side = Network; deed = Expire200 })) w [] [] u n (next_of_network Tagged w.user w.network off on))
+
+abbrev no_move : Option Move
+no_move = None
+
+pub nothing_next : (w : World) → w.to_network ≡ [] → w.to_user ≡ [] → w.user.end.t200 ≡ false → w.network.end.t200 ≡ false → no_move ≡ next_move Tagged w
+nothing_next w n u off none = sym (lines_are (λ v. next_move Tagged v ≡ no_move) w [] [] u n (next_none Tagged w.user w.network off none))
+
+-- ---- How many at most.
+
+-- by how many messages wait at each end
+pub bound_is : (p : Pair) (w : World) (user network : ℕ) → PairStandsFor p w
+    → user ≡ length w.user.end.given - w.user.end.first → network ≡ length w.network.end.given - w.network.end.first → 8 * (user + network + 4) ≡ bound w
+bound_is p w user network s user_waits network_waits =
+    let a = left_settled w.user s.kept.user.settled in
+    let b = left_settled w.network s.kept.network.settled in
+    let c = s.kept.user.first in
+    let d = s.kept.network.first in
+    omega (arith, user_waits, network_waits, a, b, c, d)
+
+-- ---- The moves that are made.
+
+pub none_mapped : {A B : Type 0} (f : A → B) (o : Option A) → is_none (option_map f o) ≡ is_none o
+none_mapped f None = refl
+none_mapped f (Some a) = refl
+
+pub none_told : {A : Type 0} (o : Option A) (b : Bool) → is_some o ≡ not b → b ≡ is_none o
+none_told None true told = refl
+none_told None false told = cc
+none_told (Some a) true told = cc
+none_told (Some a) false told = refl
+
+pub record AreMade (before : Pair) (n : ℕ) (now : Pair) : Type 0 where
+  pub stands : (w : World) → PairStandsFor before w → PairStandsFor now (run Tagged (settling Tagged n w) w)
+  pub counted : (w : World) → PairStandsFor before w → length (settling Tagged n w) ≡ n
+
+pub none_made : (p : Pair) → AreMade p 0 p
+none_made p = record { stands = λ w s. s; counted = λ w s. refl }
+
+pub one_made : (before now after : Pair) (n : ℕ) (m : Move) (outs : List Out) → AreMade before n now → ((w : World) → PairStandsFor now w → Some m ≡ next_move Tagged w)
+    → ((w : World) → PairStandsFor now w → HasHappened after (happens Tagged m w) outs) → AreMade before (n + 1) after
+one_made before now after n m outs made next happened =
+    let same : suc n ≡ n + 1 = omega arith in
+    subst (λ k. AreMade before k after) same (record {
+      stands = λ w s.
+          let u = run Tagged (settling Tagged n w) w in
+          let su = made.stands w s in
+          let more = one_more Tagged n w m (made.counted w s) (sym (next u su)) in
+          let h = happened u su in
+          subst (PairStandsFor after) (after_did u (happens Tagged m u) h.happened h.is ∙ sym (run_more (settling Tagged n w) m w) ∙ ap (λ l. run Tagged l w) (sym more)) h.stands;
+      counted = λ w s.
+          let u = run Tagged (settling Tagged n w) w in
+          let more = one_more Tagged n w m (made.counted w s) (sym (next u (made.stands w s))) in
+          let count = made.counted w s in
+          ap length more ∙ one_longer (settling Tagged n w) m ∙ ap suc count;
+    })
+  where
+    one_longer : (l : List Move) (m : Move) → length (l ++ m ∷ []) ≡ suc (length l)
+    one_longer [] m = omega arith
+    one_longer (x ∷ l) m = let rest = one_longer l m in omega (arith, rest)
+
+-- none is possible any more
+pub at_rest : (before now : Pair) (n : ℕ) → AreMade before n now → ((w : World) → PairStandsFor now w → no_move ≡ next_move Tagged w) → (w : World) → PairStandsFor before w → n ≤ bound w → HasSettled now (record { moves = n; rest = true }) w
+at_rest before now n made none w s few =
+    let u = run Tagged (settling Tagged n w) w in
+    let su = made.stands w s in
+    let all = no_more Tagged n (bound w) w few (sym (none u su)) in
+    let there : settled w ≡ u = ap (λ l. run Tagged l w) all in
+    record {
+      stands = subst (PairStandsFor now) (sym there) su;
+      moves = sym (ap length all ∙ made.counted w s);
+      rest = sym (ap (λ v. is_none (next_move Tagged v)) there ∙ ap is_none (sym (none u su)));
+    }
+
+-- all are made
+pub all_made : (before now : Pair) (n : ℕ) (rest : Bool) → AreMade before n now → ((w : World) → PairStandsFor now w → rest ≡ is_none (next_move Tagged w)) → (w : World) → PairStandsFor before w → n ≡ bound w → HasSettled now (record { moves = n; rest = rest }) w
+all_made before now n rest made tells w s all =
+    let u = run Tagged (settling Tagged n w) w in
+    let there : u ≡ settled w = ap (λ k. run Tagged (settling Tagged k w) w) all in
+    record {
+      stands = subst (PairStandsFor now) there (made.stands w s);
+      moves = sym (made.counted w s) ∙ ap (λ k. length (settling Tagged k w)) all;
+      rest = tells u (made.stands w s) ∙ ap (λ v. is_none (next_move Tagged v)) there;
+    }
+
+-- ---- Memory is refused.
+
+same_some : (a b : Move) → Some a ≡ Some b → a ≡ b
+same_some a b is = cc
+
+first_by : (first m : Move) (w : World) (b : Bool) (rest : Option Move) → is_ok (happens Tagged first w) ≡ b → (rest ≡ Some m → is_ok (happens Tagged m w) ≡ true) → (if b then Some first else rest) ≡ Some m → is_ok (happens Tagged m w) ≡ true
+first_by first m w true rest here later is = subst (λ n. is_ok (happens Tagged n w) ≡ true) (same_some first m is) here
+first_by first m w false rest here later is = later is
+
+first_is_admitted : (moves : List Move) (w : World) (m : Move) → first_admitted Tagged moves w ≡ Some m → is_ok (happens Tagged m w) ≡ true
+first_is_admitted [] w m is = cc
+first_is_admitted (first ∷ moves) w m is = first_by first m w (is_ok (happens Tagged first w)) (first_admitted Tagged moves w) refl (λ later. first_is_admitted moves w m later) is
+
+pub stopped_at : (before now after : Pair) (n : ℕ) (m : Move) (why : PairFault) → AreMade before n now → ((w : World) → PairStandsFor now w → Some m ≡ next_move Tagged w) → ((w : World) → PairStandsFor now w → IsRefusedAs why (happens Tagged m w))
+    → ((w : World) → PairStandsFor now w → PairStandsFor after w) → (w : World) → PairStandsFor before w → n < bound w → HasStoppedSettling why after w
+stopped_at before now after n m why made next refuses same w s few =
+    let u = run Tagged (settling Tagged n w) w in
+    let su = made.stands w s in
+    record {
+      memory = by_fault why (happens Tagged m u) (refuses u su) (first_is_admitted tried u m (sym (next u su)));
+      made = n;
+      few = few;
+      stands = same u su;
+    }
+  where
+    by_fault : (why : PairFault) (outcome : Result Happened Refusal) → IsRefusedAs why outcome → is_ok outcome ≡ true → why ≡ fault.Memory
+    by_fault fault.Memory outcome is ok = refl
+    by_fault fault.NothingThere outcome is ok = cc
+    by_fault fault.NotRunning outcome is ok = cc
+    by_fault (fault.NotYet side at) outcome is ok = cc
+    by_fault (fault.Refused why) outcome is ok = cc
+
+-- ---- A quiet line.
+
+pub drained_pair : (old new : Pair) (done : Settled) → Settles old new done → ∥ IsDrainedPair old new ∥₁
+drained_pair old new done settles = ∥∥₁_map old.reached (λ x.
+    let w = run Tagged x.moves (new_world x.user x.network) in
+    record {
+      user = x.user;
+      network = x.network;
+      moves = x.moves;
+      stands = x.stand;
+      after = (settles w x.stand).stands;
+      drained = λ q. every_quiet_line_drains Tagged x.user x.network x.few_of_user x.few_of_network x.some_of_user x.some_of_network x.moves q;
+    })
+
+-- ---- What a pair shows of a world, it shows of each that it stands for.
+
+no_frames : (from : Side) (line : Line) (none other : List Flight) → none ≡ [] → IsOn from line none → IsOn from line other → other ≡ []
+no_frames from line none [] is on on_other = refl
+no_frames from line none (f ∷ fs) is on on_other = let spelled = sym (ap (λ l. map (λ x. spelling from (fields_of x)) l) is) ∙ sym on.octets ∙ on_other.octets in cc
+
+quiet_again : (p : Pair) (w v : World) → PairStandsFor p w → PairStandsFor p v → IsQuiet w → IsQuiet v
+unfolding begin
+quiet_again p w v s t q = record {
+  user = t.user.link.state ∙ sym s.user.link.state ∙ q.user;
+  network = t.network.link.state ∙ sym s.network.link.state ∙ q.network;
+  user_free = ap (λ m. m.own_busy) (t.user.link.window ∙ sym s.user.link.window) ∙ q.user_free;
+  network_free = ap (λ m. m.own_busy) (t.network.link.window ∙ sym s.network.link.window) ∙ q.network_free;
+  to_user = no_frames Network p.to_user w.to_user v.to_user q.to_user s.to_user t.to_user;
+  to_network = no_frames User p.to_network w.to_network v.to_network q.to_network s.to_network t.to_network;
+}
+
+left_again : (p : Pair) (w v : World) → PairStandsFor p w → PairStandsFor p v → left w ≡ left v
+left_again p w v s t =
+    let given_user : length w.user.end.given ≡ length v.user.end.given = ap length (sym s.user.history.given ∙ t.user.history.given) in
+    let given_network : length w.network.end.given ≡ length v.network.end.given = ap length (sym s.network.history.given ∙ t.network.history.given) in
+    omega (
+      arith,
+      given_user,
+      given_network,
+      left_settled w.user s.kept.user.settled,
+      left_settled w.network s.kept.network.settled,
+      left_settled v.user t.kept.user.settled,
+      left_settled v.network t.kept.network.settled,
+      s.kept.user.settled.counted,
+      s.kept.network.settled.counted,
+      t.kept.user.settled.counted,
+      t.kept.network.settled.counted,
+      s.user.history.acknowledged,
+      s.user.history.dropped,
+      s.network.history.acknowledged,
+      s.network.history.dropped,
+      t.user.history.acknowledged,
+      t.user.history.dropped,
+      t.network.history.acknowledged,
+      t.network.history.dropped,
+    )
+
+module _ (old new : Pair) (done : Settled) (settles : Settles old new done) (w : World) (s : PairStandsFor old w) (q : IsQuiet w) where
+  emptied_by : IsReached old.user old.network old.to_user old.to_network → IsEmptied done w (settled w)
+  emptied_by x =
+      let v = run Tagged x.moves (new_world x.user x.network) in
+      let d = every_quiet_line_drains Tagged x.user x.network x.few_of_user x.few_of_network x.some_of_user x.some_of_network x.moves (quiet_again old w v s x.stand q) in
+      let h = settles w s in
+      let i = settles v x.stand in
+      let moves = i.moves in
+      let few = d.few in
+      record {
+        rest = i.rest ∙ ap is_none d.drained.rests;
+        few = omega (arith, moves, few, left_again old w v s x.stand);
+        empty = left_again new (settled w) (settled v) h.stands i.stands ∙ d.drained.empty;
+        user = sym h.stands.user.history.dropped ∙ i.stands.user.history.dropped ∙ ap length d.drained.user.dropped ∙ sym x.stand.user.history.dropped ∙ s.user.history.dropped;
+        network = sym h.stands.network.history.dropped ∙ i.stands.network.history.dropped ∙ ap length d.drained.network.dropped ∙ sym x.stand.network.history.dropped ∙ s.network.history.dropped;
+      }
+
+  pub emptied : IsEmptied done w (settled w)
+  emptied = record {
+    rest = ∥∥₁_elim old.reached (Bool-set _ _) (λ x. (emptied_by x).rest);
+    few = ∥∥₁_elim old.reached le_prop (λ x. (emptied_by x).few);
+    empty = ∥∥₁_elim old.reached (ℕ_set _ _) (λ x. (emptied_by x).empty);
+    user = ∥∥₁_elim old.reached (ℕ_set _ _) (λ x. (emptied_by x).user);
+    network = ∥∥₁_elim old.reached (ℕ_set _ _) (λ x. (emptied_by x).network);
+  }

@@ -1,0 +1,60 @@
+-- What it comes to that a pair settles.
+use Rattle.std.specs.Prelude.{◌≡◌, ◌<◌, ◌≤◌, ℕ, true, List, length, is_none}
+use Rattle.lapd_drain.specs.Drained.{IsDrained}
+use Rattle.lapd_drain.specs.Settle.{IsQuiet, next_move, settling, bound, most_moves}
+use Rattle.lapd_mod128.specs.Counting.{Tagged}
+use Rattle.lapd_states.specs.Parameters.{Parameters}
+use Rattle.lapd_world.specs.Move as world
+use Rattle.lapd_world.specs.World.{World, new_world, run, left}
+use Rattle.lapd_pair.specs.Runs.{PairStandsFor}
+use Rattle.lapd_pair.specs.declared.pair.Pair.{Pair}
+use Rattle.lapd_pair.specs.declared.pair_fault.PairFault.{PairFault}
+use Rattle.lapd_pair.specs.declared.pair_fault.PairFault.TheVariants.{Memory}
+use Rattle.lapd_pair.specs.declared.settled.Settled.{Settled}
+
+-- the world after the moves by which a line settles
+abbrev pub settled : World → World
+settled w = run Tagged (settling Tagged (bound w) w) w
+
+-- these moves are made, as many as there are, and it is told whether one more is possible
+pub record HasSettled (p : Pair) (done : Settled) (w : World) : Type 0 where
+  pub stands : PairStandsFor p (settled w)
+  pub moves : done.moves ≡ length (settling Tagged (bound w) w)
+  pub rest : done.rest ≡ is_none (next_move Tagged (settled w))
+
+abbrev pub Settles : Pair → Pair → Settled → Type 0
+Settles old new done = (w : World) → PairStandsFor old w → HasSettled new done w
+
+-- memory was refused for a move, and those before it are made
+pub record HasStoppedSettling (fault : PairFault) (p : Pair) (w : World) : Type 0 where
+  pub memory : fault ≡ Memory
+  pub made : ℕ
+  pub few : made < bound w
+  pub stands : PairStandsFor p (run Tagged (settling Tagged made w) w)
+
+abbrev pub StopsSettling : Pair → Pair → PairFault → Type 0
+StopsSettling old new fault = (w : World) → PairStandsFor old w → HasStoppedSettling fault new w
+
+-- No further move is possible, few were made, nothing is left, and no more is dropped than before.
+pub record IsEmptied (done : Settled) (before after : World) : Type 0 where
+  pub rest : done.rest ≡ true
+  pub few : done.moves ≤ most_moves before
+  pub empty : left after ≡ 0
+  pub user : length after.user.history.dropped ≡ length before.user.history.dropped
+  pub network : length after.network.history.dropped ≡ length before.network.history.dropped
+
+-- so it is where the pair stood for a quiet world
+abbrev pub EmptiesWhereQuiet : Pair → Settled → Type 0
+EmptiesWhereQuiet old done =
+    (w : World) → PairStandsFor old w → IsQuiet w → IsEmptied done w (settled w)
+
+-- A pair that some moves have led to, as every pair is: where the world that they lead to is quiet, it drains. So each message
+-- that was not dropped before is acknowledged then, and was received.
+pub record IsDrainedPair (old new : Pair) : Type 0 where
+  pub user : Parameters
+  pub network : Parameters
+  pub moves : List world.Move
+  pub stands : PairStandsFor old (run Tagged moves (new_world user network))
+  pub after : PairStandsFor new (settled (run Tagged moves (new_world user network)))
+  pub drained : IsQuiet (run Tagged moves (new_world user network))
+      → IsDrained Tagged (run Tagged moves (new_world user network))
