@@ -33,6 +33,7 @@ pub mod Restarts
 pub mod Gives
 pub mod Nearness
 pub mod Dues
+pub mod Freshness
 pub mod UnderWay
 pub mod Deeds
 pub mod Delivers

@@ -15,7 +15,9 @@ use Rattle.lapd_world.proofs.Keeping.{new_world_kept, run_kept}
 use Rattle.lapd_world.proofs.TaggedMoves.{move_near, run_on_tags, outcomes_on_tags, safe_on_tags, new_world_on_tags}
 use Rattle.lapd_invariant.specs.Invariant.{IsInvariant}
 use Rattle.lapd_invariant.specs.Reports.{ReportsExpected, AllReportsExpected, AreFirstDue}
+use Rattle.lapd_invariant.specs.Fresh.{ComeFresh}
 use Rattle.lapd_invariant.proofs.Dues.{due_by_invariant, due_in_tags}
+use Rattle.lapd_invariant.proofs.Freshness.{fresh_by_invariant, fresh_in_tags}
 use Rattle.lapd_invariant.proofs.Nearness.{within_by_invariant}
 use Rattle.lapd_invariant.proofs.Whole.{each_move_keeps, each_run_keeps, each_run_is_safe, each_report_is_expected}
 use Rattle.lapd_invariant.proofs.Worlds.{new_holds}
@@ -78,6 +80,10 @@ module _ (user network : Parameters) (user_window : user.k ≤ 127) (network_win
   due_by Whole = due_by_invariant (run Whole moves start) (each_run_keeps moves start begins)
   due_by Tagged = subst (λ w. AreFirstDue Tagged w) (sym reached_tags) (due_in_tags (run Whole moves start) (each_run_keeps moves start begins))
 
+  fresh_by : (r : Reading) → ComeFresh (run r moves (new_world user network))
+  fresh_by Whole = fresh_by_invariant (run Whole moves start) (each_run_keeps moves start begins)
+  fresh_by Tagged = subst (λ w. ComeFresh w) (sym reached_tags) (fresh_in_tags (run Whole moves start) (each_run_keeps moves start begins))
+
 pub every_run_safe : (r : Reading) (user network : Parameters) → user.k ≤ 127 → network.k ≤ 127 → (moves : List Move) → AreSafe (run r moves (new_world user network))
 every_run_safe r user network u n moves = safe_by user network u n moves r
 
@@ -86,3 +92,6 @@ every_run_reports r user network u n moves = reports_by user network u n moves r
 
 pub every_run_is_due : (r : Reading) (user network : Parameters) → user.k ≤ 127 → network.k ≤ 127 → (moves : List Move) → AreFirstDue r (run r moves (new_world user network))
 every_run_is_due r user network u n moves = due_by user network u n moves r
+
+pub every_run_is_fresh : (r : Reading) (user network : Parameters) → user.k ≤ 127 → network.k ≤ 127 → (moves : List Move) → ComeFresh (run r moves (new_world user network))
+every_run_is_fresh r user network u n moves = fresh_by user network u n moves r

@@ -3,4 +3,5 @@ pub mod Parties
 pub mod Conjuncts
 pub mod Invariant
 pub mod Reports
+pub mod Fresh
 pub mod Premises

@@ -9,6 +9,7 @@ ghost use Rattle.lapd_world.specs.Safe.{AreSafe};
 ghost use Rattle.lapd_world.specs.Schedule as worked;
 ghost use Rattle.lapd_world.specs.Tagged.{tag_world, tag_outcome, AreFirstWithin, AreNearMoves};
 ghost use Rattle.lapd_world.specs.World.{World, new_world, world_after, happens, run, outcomes};
+ghost use Rattle.lapd_invariant.specs.Fresh.{ComeFresh};
 ghost use Rattle.lapd_invariant.specs.Invariant.{IsInvariant};
 ghost use Rattle.lapd_invariant.specs.Premises.{run_freely, hasty, stale, overtaken};
 ghost use Rattle.lapd_invariant.specs.Reports.{ReportsExpected, AllReportsExpected, AreFirstDue};
@@ -22,6 +23,14 @@ pub fn every_run_is_safe()
     ensures safe { (r : Reading) (user network : Parameters) → user.k ≤ 127 → network.k ≤ 127 → (moves : List Move) → AreSafe (run r moves (new_world user network)) }
     ensures reports { (r : Reading) (user network : Parameters) → user.k ≤ 127 → network.k ≤ 127 → (moves : List Move) → AllReportsExpected (outcomes r moves (new_world user network)) }
     ensures due { (r : Reading) (user network : Parameters) → user.k ≤ 127 → network.k ≤ 127 → (moves : List Move) → AreFirstDue r (run r moves (new_world user network)) }
+{}
+
+/// No message of an earlier establishment arrives: after every list of moves from a new world, on whole numbers and on tags, in
+/// windows of up to 127, each I frame on its way to an end in state 7 or 8 was last sent in its sender's present establishment.
+/// So once an establishment is confirmed, nothing comes that was dropped before it began.
+pub fn no_old_message_arrives()
+    ensures { (r : Reading) (user network : Parameters) → user.k ≤ 127 → network.k ≤ 127
+        → (moves : List Move) → ComeFresh (run r moves (new_world user network)) }
 {}
 
 /// A run on tags is the run on whole numbers, each number in its tag: in what each move comes to, and in the world that is
@@ -46,6 +55,7 @@ pub fn the_invariant_tells()
     ensures safe { (w : World) → IsInvariant w → AreSafe w }
     ensures reports { (move : Move) (w : World) → IsInvariant w → ReportsExpected (happens Whole move w) }
     ensures due { (w : World) → IsInvariant w → AreFirstDue Whole w }
+    ensures fresh { (w : World) → IsInvariant w → ComeFresh w }
     ensures within { (w : World) → IsInvariant w → AreFirstWithin w }
     ensures near { (moves : List Move) (w : World) → IsInvariant w → IsKeptWorld Whole w → AreNearMoves moves w }
 {}

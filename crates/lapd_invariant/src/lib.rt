@@ -3,7 +3,7 @@
 //!
 //! Nothing here runs. The definitions stand in specs/, to be read in this order: `Kinds`, what is read of the frames on
 //! their way; `Parties`, what is read of a side, and what it hears; `Conjuncts`, each a sentence on a few of these values;
-//! `Invariant`, all of them; `Reports`; and `Premises`, by which it is seen that each
+//! `Invariant`, all of them; `Reports`; `Fresh`, that no old message comes; and `Premises`, by which it is seen that each
 //! premise of the moves is needed. The laws below are proved from them: begin with [`every_run_is_safe`].
 #![tactic(auto)]
 
@@ -11,5 +11,5 @@ mod laws;
 
 pub use laws::{
     each_premise_is_needed, every_run_is_safe, every_run_is_the_same_on_tags,
-    the_invariant_is_kept, the_invariant_tells,
+    no_old_message_arrives, the_invariant_is_kept, the_invariant_tells,
 };
