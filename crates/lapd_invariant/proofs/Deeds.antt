@@ -1,5 +1,5 @@
 -- What a side does, and what happens to it, but for what is delivered.
-use Rattle.std.proofs.Common.{◌≡◌, ℕ, Bool, true, false, List, [], Option, Some, None, Result, refl, ap, ◌∙◌}
+use Rattle.std.proofs.Common.{◌≡◌, ℕ, Bool, true, false, List, [], Option, Some, None, Result, refl, ap, ◌∙◌, arith}
 use Rattle.lapd_timers.specs.declared.timer.Timer.TheVariants.{T200, T203}
 use Rattle.lapd_frame.specs.declared.Side.TheVariants as side
 use Rattle.lapd_mod128.specs.Counting.{Whole}
@@ -17,11 +17,12 @@ use Rattle.lapd_states.specs.Procedures.{put}
 use Rattle.lapd_states.specs.Table.{by_state, row}
 use Rattle.lapd_states.specs.TeiAssigned.{tei_assigned}
 use Rattle.lapd_states.specs.TimerRecovery.{timer_recovery}
-use Rattle.lapd_world.specs.Line.{first_poll, first_final}
+use Rattle.lapd_world.specs.Line.{Flight, first_poll, first_final}
 use Rattle.lapd_world.specs.Move.{Establish, Release, Expire200, Expire203, Busy, Station, View, Acted, Refusal, acts, takes, expires_200, expires_203, unless_under_way, busy_input, story_after}
-use Rattle.lapd_invariant.specs.Kinds.{Kind, kinds, tally, ask_of, answer_of, poll_of, final_of}
+use Rattle.lapd_invariant.specs.Kinds.{Kind, kinds}
 use Rattle.lapd_invariant.specs.Conjuncts.{most_asks}
 use Rattle.lapd_invariant.specs.Invariant.{Both}
+use Rattle.lapd_invariant.specs.Eager.{awaited, awaited_in}
 use Rattle.lapd_invariant.proofs.ClosedRows.{here, ends_as_it_was, ends_establishing, ends_established_by_layer3, ends_release_pending, ends_releasing, ends_t200_in_5, ends_t200_in_6}
 use Rattle.lapd_invariant.proofs.Goes.{Context, seen, line, Goes}
 use Rattle.lapd_invariant.proofs.Lists.{by_test}
@@ -86,22 +87,15 @@ ends_busy c ks s TimerRecovery false is b = ends_open c ks _ (goes_busy_off c s 
 
 -- ---- Timers.
 
--- neither a command with P=1 of this side, nor a response with F=1 to it, is on its way
-pub record NoneUnderWay (c : Context) (ks : List Kind) (s : StepState) : Type 0 where
-  pub polls : tally poll_of (line c s) ≡ 0
-  pub asks : tally ask_of (line c s) ≡ 0
-  pub finals : tally final_of ks ≡ 0
-  pub answers : tally answer_of ks ≡ 0
-
-by_t200 : (c : Context) (ks : List Kind) (s : StepState) (state : State) → s.end.state ≡ state → NoneUnderWay c ks s → Before c ks s → Ends c ks (close Whole (by_state Whole state (Expiry T200) s))
+by_t200 : (c : Context) (ks : List Kind) (s : StepState) (state : State) → s.end.state ≡ state → awaited state (line c s) ks ≡ 0 → Before c ks s → Ends c ks (close Whole (by_state Whole state (Expiry T200) s))
 unfolding by_state tei_assigned awaiting_establishment awaiting_release multiple_frame_established timer_recovery in_7_and_8
 by_t200 c ks s TeiAssigned is none b = ends_nothing c ks s b
-by_t200 c ks s AwaitingEstablishment is none b = ends_t200_in_5 c ks s is none.asks none.answers b
-by_t200 c ks s AwaitingRelease is none b = ends_t200_in_6 c ks s is none.asks none.answers b
+by_t200 c ks s AwaitingEstablishment is none b = ends_t200_in_5 c ks s is (omega (arith, none)) (omega (arith, none)) b
+by_t200 c ks s AwaitingRelease is none b = ends_t200_in_6 c ks s is (omega (arith, none)) (omega (arith, none)) b
 by_t200 c ks s MultipleFrameEstablished is none b = ends_open c ks _ (goes_t200_in_7 c s ks is (entered c ks s MultipleFrameEstablished is refl b))
-by_t200 c ks s TimerRecovery is none b = ends_t200_in_8 c s ks is (record { polls = heard_polls c.peer (line c s) none.polls; finals = none.finals }) b
+by_t200 c ks s TimerRecovery is none b = ends_t200_in_8 c s ks is (record { polls = heard_polls c.peer (line c s) (omega (arith, none)); finals = omega (arith, none) }) b
 
-ends_t200 : (c : Context) (ks : List Kind) (s : StepState) (state : State) → s.end.state ≡ state → NoneUnderWay c ks s → Before c ks s → Ends c ks (close Whole (row Whole state (Expiry T200) s))
+ends_t200 : (c : Context) (ks : List Kind) (s : StepState) (state : State) → s.end.state ≡ state → awaited state (line c s) ks ≡ 0 → Before c ks s → Ends c ks (close Whole (row Whole state (Expiry T200) s))
 unfolding row
 ends_t200 c ks s state is none b = by_test (λ (t : StepState). Ends c ks (close Whole t)) (runs T200 s.end) _ _ (λ _. by_t200 c ks s state is none b) (λ _. ends_nothing c ks s b)
 
@@ -148,12 +142,21 @@ unless_so v peer (Some n) final outcome h f = h
 unless_so v peer None (Some n) outcome h f = h
 unless_so v peer None None outcome h f = f refl refl
 
-no_frames : (v : View) (peer : Station) (h : Holds v peer) → first_poll v.outgoing ≡ None → first_final v.incoming ≡ None → NoneUnderWay (at v peer h) (kinds v.incoming) (begin v.station.end)
-unfolding story_after begin
-no_frames v peer h poll final = let out = none_under_way v.outgoing poll in let back = none_answered v.incoming final in record { polls = out.0; asks = out.1; finals = back.0; answers = back.1 }
+-- T200 expires, and nothing is awaited
+pub holds_after_t200 : (v : View) (peer : Station) → Holds v peer → awaited_in v ≡ 0 → Holds (left_by v (takes Whole (Expiry T200) [] v)) peer
+unfolding takes begin story_after
+holds_after_t200 v peer h none = by_refusal [] 0 v h.base h.its_base peer (Expiry T200) h (λ _. ends_t200 (at v peer h) (kinds v.incoming) (begin v.station.end) v.station.end.state refl none (started v peer h))
+
+-- where no command with P=1 and no response with F=1 is on its way, nothing is
+none_awaited : (state : State) (out back : List Flight) → first_poll out ≡ None → first_final back ≡ None → awaited state (kinds out) (kinds back) ≡ 0
+none_awaited TeiAssigned out back poll final = refl
+none_awaited AwaitingEstablishment out back poll final = omega (arith, (none_under_way out poll).1, (none_answered back final).1)
+none_awaited AwaitingRelease out back poll final = omega (arith, (none_under_way out poll).1, (none_answered back final).1)
+none_awaited MultipleFrameEstablished out back poll final = refl
+none_awaited TimerRecovery out back poll final = omega (arith, (none_under_way out poll).0, (none_answered back final).0)
 
 pub keeps_t200 : Keeps Expire200
-unfolding acts takes begin expires_200
+unfolding acts expires_200
 keeps_t200 v peer small h = by_test (λ (r : Result Acted Refusal). Holds (left_by v r) peer) v.station.end.t200 _ _
     (λ _. unless_so v peer (first_poll v.outgoing) (first_final v.incoming) _ h (λ poll final.
-    by_refusal [] 0 v h.base h.its_base peer (Expiry T200) h (λ _. ends_t200 (at v peer h) (kinds v.incoming) (begin v.station.end) v.station.end.state refl (no_frames v peer h poll final) (started v peer h)))) (λ _. h)
+    holds_after_t200 v peer h (none_awaited v.station.end.state v.outgoing v.incoming poll final))) (λ _. h)

@@ -39,5 +39,7 @@ pub mod Deeds
 pub mod Delivers
 pub mod Beginnings
 pub mod Whole
+pub mod Eager
 pub mod Reached
 pub mod Needed
+pub mod EagerSchedule

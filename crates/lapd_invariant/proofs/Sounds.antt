@@ -21,7 +21,7 @@ pub record StaysSound (before after : End) : Type 0 where
   pub sound : IsSound Whole after
   pub parameters : after.parameters ≡ before.parameters
 
-abbrev Left : View → Result Acted Refusal → Type 0
+abbrev pub Left : View → Result Acted Refusal → Type 0
 Left v r = StaysSound v.station.end (left_by v r).station.end
 
 module _ (v : View) (small : v.station.end.parameters.k ≤ 127) (sound : IsSound Whole v.station.end) where
@@ -34,7 +34,7 @@ module _ (v : View) (small : v.station.end.parameters.k ≤ 127) (sound : IsSoun
   by_outcome what octets place incoming (Ok s) is = record { sound = sound_step Whole what v.station.end s small sound is; parameters = step_keeps_parameters Whole what v.station.end s is }
   by_outcome what octets place incoming (Err fault) is = unchanged
 
-  taken : (what : Input) (octets : List ℕ) → Left v (takes Whole what octets v)
+  pub taken : (what : Input) (octets : List ℕ) → Left v (takes Whole what octets v)
   unfolding takes
   taken what octets = by_outcome what octets 0 v.incoming (step Whole what v.station.end) refl
 

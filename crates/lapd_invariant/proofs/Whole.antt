@@ -62,7 +62,7 @@ stepped_so : (octets : List ℕ) (place : ℕ) (v : View) (what : Input) (r : Re
 stepped_so octets place v what (Ok s) is due = due_is_expected Whole what v.station.end s due is
 stepped_so octets place v what (Err fault) is due = tt
 
-own_so : (what : Input) (octets : List ℕ) (v : View) → IsDue Whole what v.station.end → Expected (takes Whole what octets v)
+pub own_so : (what : Input) (octets : List ℕ) (v : View) → IsDue Whole what v.station.end → Expected (takes Whole what octets v)
 unfolding takes
 own_so what octets v due = stepped_so octets 0 v what (step Whole what v.station.end) refl due
 
@@ -94,7 +94,7 @@ deed_expected s (Busy on) v due = own_so (busy_input on) [] v (busy_is_due on v.
 deed_expected s (UnitData octets) v due = own_so (input.UnitData (length octets)) octets v tt
 deed_expected s Restart v due = tt
 
-in_world_so : (s : Side) (w : World) (r : Result Acted Refusal) → Expected r → ReportsExpected (in_world s w r)
+pub in_world_so : (s : Side) (w : World) (r : Result Acted Refusal) → Expected r → ReportsExpected (in_world s w r)
 in_world_so s w (Ok acted) e = e
 in_world_so s w (Err refusal) e = tt
 

@@ -4,4 +4,5 @@ pub mod Conjuncts
 pub mod Invariant
 pub mod Reports
 pub mod Fresh
+pub mod Eager
 pub mod Premises

@@ -1,14 +1,17 @@
 //! Laws of the invariant. They do nothing when they are called.
 
-ghost use Rattle.std.specs.Prelude.{◌≡◌, ◌≤◌, ℕ, List, map};
+ghost use Rattle.std.specs.Prelude.{◌≡◌, ◌≤◌, ℕ, List, ◌++◌, map, Err};
+ghost use Rattle.lapd_frame.specs.declared.Side.TheVariants as side;
 ghost use Rattle.lapd_mod128.specs.Counting.{Reading, Whole, Tagged};
 ghost use Rattle.lapd_states.specs.Parameters.{Parameters};
 ghost use Rattle.lapd_world.specs.Kept.{IsKeptWorld};
-ghost use Rattle.lapd_world.specs.Move.{Move};
+ghost use Rattle.lapd_world.specs.Move.{Expire200, Move, NotYet};
 ghost use Rattle.lapd_world.specs.Safe.{AreSafe};
 ghost use Rattle.lapd_world.specs.Schedule as worked;
+ghost use Rattle.lapd_world.specs.Schedule.{figures, of_user};
 ghost use Rattle.lapd_world.specs.Tagged.{tag_world, tag_outcome, AreFirstWithin, AreNearMoves};
 ghost use Rattle.lapd_world.specs.World.{World, new_world, world_after, happens, run, outcomes};
+ghost use Rattle.lapd_invariant.specs.Eager.{run_eagerly, outcomes_eagerly, enquiry_passed_over, second_enquiry, user_at_end, network_at_end};
 ghost use Rattle.lapd_invariant.specs.Fresh.{ComeFresh};
 ghost use Rattle.lapd_invariant.specs.Invariant.{IsInvariant};
 ghost use Rattle.lapd_invariant.specs.Premises.{run_freely, hasty, stale, overtaken};
@@ -31,6 +34,27 @@ pub fn every_run_is_safe()
 pub fn no_old_message_arrives()
     ensures { (r : Reading) (user network : Parameters) → user.k ≤ 127 → network.k ≤ 127
         → (moves : List Move) → ComeFresh (run r moves (new_world user network)) }
+{}
+
+/// All this holds with less of a premise on T200: where it may expire as soon as neither the command that it guards nor the
+/// answer is on its way, whatever else is.
+pub fn every_eager_run_is_safe()
+    ensures safe { (user network : Parameters) → user.k ≤ 127 → network.k ≤ 127
+        → (moves : List Move) → AreSafe (run_eagerly Whole moves (new_world user network)) }
+    ensures reports { (user network : Parameters) → user.k ≤ 127 → network.k ≤ 127
+        → (moves : List Move) → AllReportsExpected (outcomes_eagerly Whole moves (new_world user network)) }
+    ensures due { (user network : Parameters) → user.k ≤ 127 → network.k ≤ 127
+        → (moves : List Move) → AreFirstDue Whole (run_eagerly Whole moves (new_world user network)) }
+    ensures fresh { (user network : Parameters) → user.k ≤ 127 → network.k ≤ 127
+        → (moves : List Move) → ComeFresh (run_eagerly Whole moves (new_world user network)) }
+{}
+
+/// This says more: an enquiry is on its way that nobody will answer, a message of the next establishment is lost, and T200,
+/// which guards that message, may not expire. Eagerly it expires; the message is sent again, received once and acknowledged.
+pub fn eager_schedule_is_computed()
+    ensures refused { (r : Reading) → happens r (of_user Expire200) (run r enquiry_passed_over worked.start) ≡ Err (NotYet side.Network 0) }
+    ensures user { (r : Reading) → figures (run_eagerly r (enquiry_passed_over ++ second_enquiry) worked.start).user ≡ user_at_end }
+    ensures network { (r : Reading) → figures (run_eagerly r (enquiry_passed_over ++ second_enquiry) worked.start).network ≡ network_at_end }
 {}
 
 /// A run on tags is the run on whole numbers, each number in its tag: in what each move comes to, and in the world that is

@@ -10,6 +10,7 @@
 mod laws;
 
 pub use laws::{
-    each_premise_is_needed, every_run_is_safe, every_run_is_the_same_on_tags,
-    no_old_message_arrives, the_invariant_is_kept, the_invariant_tells,
+    each_premise_is_needed, eager_schedule_is_computed, every_eager_run_is_safe, every_run_is_safe,
+    every_run_is_the_same_on_tags, no_old_message_arrives, the_invariant_is_kept,
+    the_invariant_tells,
 };
