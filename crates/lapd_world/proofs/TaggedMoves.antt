@@ -93,10 +93,10 @@ told_on_tags o (out ∷ outs) t = ap (λ now. told o (map tag_out outs) now) (te
 
 -- ---- A step of a side.
 
-abbrev tag_view : View → View
+abbrev pub tag_view : View → View
 tag_view v = record { station = tag_station v.station; incoming = map tag_flight v.incoming; outgoing = map tag_flight v.outgoing }
 
-abbrev tag_acted : Result Acted Refusal → Result Acted Refusal
+abbrev pub tag_acted : Result Acted Refusal → Result Acted Refusal
 tag_acted (Ok acted) = Ok (record { view = tag_view acted.view; outs = map tag_out acted.outs })
 tag_acted (Err refusal) = Err refusal
 
@@ -129,7 +129,7 @@ module _ (who : Side) (v : View) (small : v.station.end.parameters.k ≤ 127) (s
   delivers_on_tags (frame ∷ rest) near = hears_on_tags frame rest near
 
   -- a request or an expiry
-  takes_on_tags : (what : Input) (octets : List ℕ) → IsHeardNear what v.station.end.window → takes Tagged (tag_input what) octets (tag_view v) ≡ tag_acted (takes Whole what octets v)
+  pub takes_on_tags : (what : Input) (octets : List ℕ) → IsHeardNear what v.station.end.window → takes Tagged (tag_input what) octets (tag_view v) ≡ tag_acted (takes Whole what octets v)
   unfolding takes
   takes_on_tags what octets near =
       rw (step_on_tags what v.station.end (record { window = small; sound = sound; heard = λ _. near })) (stepped_on_tags octets 0 v (step Whole what v.station.end))
@@ -164,7 +164,7 @@ module _ (who : Side) (v : View) (small : v.station.end.parameters.k ≤ 127) (s
   unfolding restarts
   restarts_on_tags = rw (initial_variables_on_tags) refl
 
-  acts_on_tags : (deed : Deed) → IsNearDeed deed v → acts Tagged who deed (tag_view v) ≡ tag_acted (acts Whole who deed v)
+  pub acts_on_tags : (deed : Deed) → IsNearDeed deed v → acts Tagged who deed (tag_view v) ≡ tag_acted (acts Whole who deed v)
   unfolding acts
   acts_on_tags (Give message) near = takes_on_tags (input.Give message) [] tt
   acts_on_tags Establish near = takes_on_tags input.Establish [] tt
@@ -179,11 +179,11 @@ module _ (who : Side) (v : View) (small : v.station.end.parameters.k ≤ 127) (s
 
 -- ---- The world.
 
-view_of_on_tags : (who : Side) (w : World) → view_of who (tag_world w) ≡ tag_view (view_of who w)
+pub view_of_on_tags : (who : Side) (w : World) → view_of who (tag_world w) ≡ tag_view (view_of who w)
 view_of_on_tags side.User w = refl
 view_of_on_tags side.Network w = refl
 
-in_world_on_tags : (who : Side) (w : World) (outcome : Result Acted Refusal) → in_world who (tag_world w) (tag_acted outcome) ≡ tag_outcome (in_world who w outcome)
+pub in_world_on_tags : (who : Side) (w : World) (outcome : Result Acted Refusal) → in_world who (tag_world w) (tag_acted outcome) ≡ tag_outcome (in_world who w outcome)
 in_world_on_tags side.User w (Ok acted) = refl
 in_world_on_tags side.Network w (Ok acted) = refl
 in_world_on_tags who w (Err refusal) = refl
@@ -204,7 +204,7 @@ move_on_tags move w kept near =
 
 -- ---- A run of moves.
 
-after_on_tags : (w : World) (outcome : Result Happened Refusal) → world_after (tag_world w) (tag_outcome outcome) ≡ tag_world (world_after w outcome)
+pub after_on_tags : (w : World) (outcome : Result Happened Refusal) → world_after (tag_world w) (tag_outcome outcome) ≡ tag_world (world_after w outcome)
 after_on_tags w (Ok happened) = refl
 after_on_tags w (Err refusal) = refl
 
@@ -220,7 +220,7 @@ outcomes_on_tags (move ∷ moves) w kept near =
 
 -- ---- Where moves are near.
 
-first_near : (k : ℕ) (frames : List Flight) (e : End) → k ≤ 127 → IsSound Whole e → IsFirstWithin k frames e → IsFirstNear frames e
+pub first_near : (k : ℕ) (frames : List Flight) (e : End) → k ≤ 127 → IsSound Whole e → IsFirstWithin k frames e → IsFirstNear frames e
 first_near k [] e small sound within = tt
 first_near k (frame ∷ rest) e small sound within = λ is. numbers_within_are_near k frame.control e small sound is (within is)
 
@@ -228,7 +228,7 @@ incoming_near : (who : Side) (w : World) → IsKeptWorld Whole w → AreFirstWit
 incoming_near side.User w kept within = first_near w.network.end.parameters.k w.to_user w.user.end kept.network.window kept.user.sound within.to_user
 incoming_near side.Network w kept within = first_near w.user.end.parameters.k w.to_network w.network.end kept.user.window kept.network.sound within.to_network
 
-deed_near : (deed : Deed) (v : View) → IsFirstNear v.incoming v.station.end → IsNearDeed deed v
+pub deed_near : (deed : Deed) (v : View) → IsFirstNear v.incoming v.station.end → IsNearDeed deed v
 deed_near Deliver v near = near
 deed_near deed v near = tt
 
