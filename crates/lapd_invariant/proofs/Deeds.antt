@@ -148,7 +148,7 @@ unfolding takes begin story_after
 holds_after_t200 v peer h none = by_refusal [] 0 v h.base h.its_base peer (Expiry T200) h (λ _. ends_t200 (at v peer h) (kinds v.incoming) (begin v.station.end) v.station.end.state refl none (started v peer h))
 
 -- where no command with P=1 and no response with F=1 is on its way, nothing is
-none_awaited : (state : State) (out back : List Flight) → first_poll out ≡ None → first_final back ≡ None → awaited state (kinds out) (kinds back) ≡ 0
+pub none_awaited : (state : State) (out back : List Flight) → first_poll out ≡ None → first_final back ≡ None → awaited state (kinds out) (kinds back) ≡ 0
 none_awaited TeiAssigned out back poll final = refl
 none_awaited AwaitingEstablishment out back poll final = omega (arith, (none_under_way out poll).1, (none_answered back final).1)
 none_awaited AwaitingRelease out back poll final = omega (arith, (none_under_way out poll).1, (none_answered back final).1)

@@ -1,28 +1,23 @@
--- Moves in which T200 waits only for what it guards keep the invariant too.
-use Rattle.std.proofs.Common.{◌≡◌, ◌≤◌, ◌==◌, ◌&&◌, ℕ, Bool, true, false, List, [], ◌∷◌, Result, arith}
+-- Eager moves: where they are admitted; and they keep the invariant too.
+use Rattle.std.proofs.Common.{◌≡◌, ◌≤◌, ◌==◌, ◌&&◌, ℕ, Bool, true, false, List, [], ◌∷◌, if◌then◌else◌, Option, Some, None, Result, Ok, Err, refl, arith}
 use Rattle.std.proofs.lemmas.Bool.Decides.{nat_tests}
 use Rattle.lapd_timers.specs.declared.timer.Timer.TheVariants.{T200}
 use Rattle.lapd_frame.specs.declared.Side.{Side}
 use Rattle.lapd_frame.specs.declared.Side.TheVariants as side
-use Rattle.lapd_mod128.specs.Counting.{Whole}
+use Rattle.lapd_mod128.specs.Counting.{Reading, Whole}
 use Rattle.lapd_states.specs.Input.{Expiry}
-use Rattle.lapd_states.specs.Parameters.{Parameters}
 use Rattle.lapd_states.specs.Sound.{IsSound}
-use Rattle.lapd_world.specs.Move.{Deed, Expire200, Move, View, Acted, Refusal, takes, expires_200, acts}
-use Rattle.lapd_world.specs.Safe.{AreSafe}
-use Rattle.lapd_world.specs.World.{World, new_world, view_of, in_world, world_after, happens}
+use Rattle.lapd_world.specs.Line.{first_poll, first_final}
+use Rattle.lapd_world.specs.Move.{Deed, Expire200, Move, NotRunning, View, Acted, Refusal, takes, unless_under_way, expires_200, acts}
+use Rattle.lapd_world.specs.World.{World, Happened, view_of, in_world, world_after, happens}
 use Rattle.lapd_invariant.specs.Invariant.{IsInvariant}
-use Rattle.lapd_invariant.specs.Reports.{ReportsExpected, AllReportsExpected, AreFirstDue}
-use Rattle.lapd_invariant.specs.Fresh.{ComeFresh}
+use Rattle.lapd_invariant.specs.Reports.{ReportsExpected, AllReportsExpected}
 use Rattle.lapd_invariant.specs.Eager.{awaited_in, expires_eagerly, acts_eagerly, happens_eagerly, run_eagerly, outcomes_eagerly}
-use Rattle.lapd_invariant.proofs.Deeds.{holds_after_t200}
-use Rattle.lapd_invariant.proofs.Dues.{due_by_invariant}
-use Rattle.lapd_invariant.proofs.Freshness.{fresh_by_invariant}
+use Rattle.lapd_invariant.proofs.Deeds.{holds_after_t200, none_awaited}
 use Rattle.lapd_invariant.proofs.Lists.{by_test}
 use Rattle.lapd_invariant.proofs.Moves.{side_keeps}
 use Rattle.lapd_invariant.proofs.Sounds.{taken}
 use Rattle.lapd_invariant.proofs.Whole.{each_move_keeps, each_report_is_expected, own_so, in_world_so}
-use Rattle.lapd_invariant.proofs.Worlds.{new_holds, safe_by_invariant}
 
 -- ---- What the invariant has of either side.
 
@@ -35,9 +30,6 @@ sound_by_invariant side.User w i = i.user_sound
 sound_by_invariant side.Network w i = i.network_sound
 
 -- ---- T200 expires.
-
-abbrev of_side : Side → Deed → Move
-of_side who deed = record { side = who; deed = deed }
 
 none_by_test : (running : Bool) (n : ℕ) → (running && (n == 0)) ≡ true → n ≡ 0
 none_by_test true n test = grind (arith, test, nat_tests)
@@ -80,20 +72,34 @@ pub eager_reports : (moves : List Move) (w : World) → IsInvariant w → AllRep
 eager_reports [] w i = tt
 eager_reports (move ∷ moves) w i = (eager_report_is_expected move w i, eager_reports moves (world_after w (happens_eagerly Whole move w)) (eager_move_keeps move w i))
 
--- ---- From a new world.
+-- ---- Where a move is admitted.
 
-module _ (user network : Parameters) (user_window : user.k ≤ 127) (network_window : network.k ≤ 127) (moves : List Move) where
-  reached : IsInvariant (run_eagerly Whole moves (new_world user network))
-  reached = eager_run_keeps moves (new_world user network) (new_holds user network user_window network_window)
+same_expiry : (s : Side) (w : World) (happened : Happened) (running none : Bool) (poll final : Option ℕ) (outcome : Result Acted Refusal) → in_world s w (if running then unless_under_way s poll final outcome else Err NotRunning) ≡ Ok happened
+    → in_world s w (if running && none then outcome else (if running then unless_under_way s poll final outcome else Err NotRunning)) ≡ Ok happened
+same_expiry s w happened false none poll final outcome is = is
+same_expiry s w happened true false poll final outcome is = is
+same_expiry s w happened true true (Some at) final outcome is = cc
+same_expiry s w happened true true None (Some at) outcome is = cc
+same_expiry s w happened true true None None outcome is = is
 
-  pub eager_run_safe : AreSafe (run_eagerly Whole moves (new_world user network))
-  eager_run_safe = safe_by_invariant (run_eagerly Whole moves (new_world user network)) reached
+same_deed : (r : Reading) (s : Side) (deed : Deed) (w : World) (happened : Happened) → in_world s w (acts r s deed (view_of s w)) ≡ Ok happened → in_world s w (acts_eagerly r s deed (view_of s w)) ≡ Ok happened
+unfolding acts expires_200 expires_eagerly
+same_deed r s Expire200 w happened is = let v = view_of s w in same_expiry s w happened v.station.end.t200 (awaited_in v == 0) (first_poll v.outgoing) (first_final v.incoming) (takes r (Expiry T200) [] v) is
+same_deed r s deed w happened is = is
 
-  pub eager_run_reports : AllReportsExpected (outcomes_eagerly Whole moves (new_world user network))
-  eager_run_reports = eager_reports moves (new_world user network) (new_holds user network user_window network_window)
+pub same_eagerly : (r : Reading) (move : Move) (w : World) (happened : Happened) → happens r move w ≡ Ok happened → happens_eagerly r move w ≡ Ok happened
+unfolding happens happens_eagerly
+same_eagerly r move w happened is = same_deed r move.side move.deed w happened is
 
-  pub eager_run_is_due : AreFirstDue Whole (run_eagerly Whole moves (new_world user network))
-  eager_run_is_due = due_by_invariant (run_eagerly Whole moves (new_world user network)) reached
+only_expiry : (s : Side) (running none : Bool) (n : ℕ) (poll final : Option ℕ) (outcome : Result Acted Refusal) (acted : Acted) → (n == 0) ≡ none → (poll ≡ None → final ≡ None → n ≡ 0)
+    → (if running && none then outcome else (if running then unless_under_way s poll final outcome else Err NotRunning)) ≡ Ok acted → (running ≡ true) × (n ≡ 0)
+only_expiry s false none n poll final outcome acted test quiet is = cc
+only_expiry s true true n poll final outcome acted test quiet is = (refl, grind (arith, test, nat_tests))
+only_expiry s true false n (Some at) final outcome acted test quiet is = cc
+only_expiry s true false n None (Some at) outcome acted test quiet is = cc
+only_expiry s true false n None None outcome acted test quiet is = (refl, quiet refl refl)
 
-  pub eager_run_is_fresh : ComeFresh (run_eagerly Whole moves (new_world user network))
-  eager_run_is_fresh = fresh_by_invariant (run_eagerly Whole moves (new_world user network)) reached
+pub only_unawaited : (r : Reading) (s : Side) (v : View) (acted : Acted) → expires_eagerly r s v ≡ Ok acted → (v.station.end.t200 ≡ true) × (awaited_in v ≡ 0)
+unfolding expires_200 expires_eagerly
+only_unawaited r s v acted is = only_expiry s v.station.end.t200 (awaited_in v == 0) (awaited_in v) (first_poll v.outgoing) (first_final v.incoming) (takes r (Expiry T200) [] v) acted refl
+    (λ poll final. none_awaited v.station.end.state v.outgoing v.incoming poll final) is

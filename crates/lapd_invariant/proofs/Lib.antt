@@ -40,6 +40,7 @@ pub mod Delivers
 pub mod Beginnings
 pub mod Whole
 pub mod Eager
+pub mod EagerOnTags
 pub mod Reached
 pub mod Needed
 pub mod EagerSchedule

@@ -1,4 +1,4 @@
--- What holds after every run of moves from a new world, on whole numbers and on tags.
+-- What holds after every run of moves from a new world, and after every eager one, on whole numbers and on tags.
 use Rattle.std.proofs.Common.{◌≡◌, ◌≤◌, List, [], ◌∷◌, map, Result, Ok, Err, sym, ap, subst, ◌∙◌}
 use Rattle.lapd_mod128.specs.Counting.{Reading, Whole, Tagged}
 use Rattle.lapd_states.specs.declared.out.Out.{Out}
@@ -16,11 +16,14 @@ use Rattle.lapd_world.proofs.TaggedMoves.{move_near, run_on_tags, outcomes_on_ta
 use Rattle.lapd_invariant.specs.Invariant.{IsInvariant}
 use Rattle.lapd_invariant.specs.Reports.{ReportsExpected, AllReportsExpected, AreFirstDue}
 use Rattle.lapd_invariant.specs.Fresh.{ComeFresh}
+use Rattle.lapd_invariant.specs.Eager.{run_eagerly, outcomes_eagerly}
 use Rattle.lapd_invariant.proofs.Dues.{due_by_invariant, due_in_tags}
+use Rattle.lapd_invariant.proofs.Eager.{eager_run_keeps, eager_reports}
+use Rattle.lapd_invariant.proofs.EagerOnTags.{eager_run_on_tags, eager_outcomes_on_tags}
 use Rattle.lapd_invariant.proofs.Freshness.{fresh_by_invariant, fresh_in_tags}
 use Rattle.lapd_invariant.proofs.Nearness.{within_by_invariant}
-use Rattle.lapd_invariant.proofs.Whole.{each_move_keeps, each_run_keeps, each_run_is_safe, each_report_is_expected}
-use Rattle.lapd_invariant.proofs.Worlds.{new_holds}
+use Rattle.lapd_invariant.proofs.Whole.{each_move_keeps, each_run_keeps, each_report_is_expected}
+use Rattle.lapd_invariant.proofs.Worlds.{new_holds, safe_by_invariant}
 
 -- each move is near: tags decide as whole numbers do
 pub near_moves : (moves : List Move) (w : World) → IsInvariant w → IsKeptWorld Whole w → AreNearMoves moves w
@@ -50,6 +53,25 @@ reports_on_tags : (rs : List (Result Happened Refusal)) → AllReportsExpected r
 reports_on_tags [] e = tt
 reports_on_tags (r ∷ rs) e = (outcome_on_tags r e.0, reports_on_tags rs e.1)
 
+-- outcomes in both readings
+reports_in : (outcomes_in : Reading → List (Result Happened Refusal)) → outcomes_in Tagged ≡ map tag_outcome (outcomes_in Whole) → AllReportsExpected (outcomes_in Whole) → (r : Reading) → AllReportsExpected (outcomes_in r)
+reports_in outcomes_in same e Whole = e
+reports_in outcomes_in same e Tagged = subst (λ rs. AllReportsExpected rs) (sym same) (reports_on_tags (outcomes_in Whole) e)
+
+-- a world in both readings
+module _ (world_in : Reading → World) (same : world_in Tagged ≡ tag_world (world_in Whole)) (i : IsInvariant (world_in Whole)) where
+  safe_in : (r : Reading) → AreSafe (world_in r)
+  safe_in Whole = safe_by_invariant (world_in Whole) i
+  safe_in Tagged = subst (λ w. AreSafe w) (sym same) ((safe_on_tags (world_in Whole)).1 (safe_by_invariant (world_in Whole) i))
+
+  due_in : (r : Reading) → AreFirstDue r (world_in r)
+  due_in Whole = due_by_invariant (world_in Whole) i
+  due_in Tagged = subst (λ w. AreFirstDue Tagged w) (sym same) (due_in_tags (world_in Whole) i)
+
+  fresh_in : (r : Reading) → ComeFresh (world_in r)
+  fresh_in Whole = fresh_by_invariant (world_in Whole) i
+  fresh_in Tagged = subst (λ w. ComeFresh w) (sym same) (fresh_in_tags (world_in Whole) i)
+
 -- ---- From a new world.
 
 module _ (user network : Parameters) (user_window : user.k ≤ 127) (network_window : network.k ≤ 127) (moves : List Move) where
@@ -68,30 +90,40 @@ module _ (user network : Parameters) (user_window : user.k ≤ 127) (network_win
   pub reached_outcomes : outcomes Tagged moves (new_world user network) ≡ map tag_outcome (outcomes Whole moves (new_world user network))
   reached_outcomes = ap (λ w. outcomes Tagged moves w) (sym (new_world_on_tags user network)) ∙ outcomes_on_tags moves start kept (near_moves moves start begins kept)
 
-  safe_by : (r : Reading) → AreSafe (run r moves (new_world user network))
-  safe_by Whole = each_run_is_safe moves start begins
-  safe_by Tagged = subst (λ w. AreSafe w) (sym reached_tags) ((safe_on_tags (run Whole moves start)).1 (each_run_is_safe moves start begins))
+  reached : IsInvariant (run Whole moves (new_world user network))
+  reached = each_run_keeps moves start begins
 
-  reports_by : (r : Reading) → AllReportsExpected (outcomes r moves (new_world user network))
-  reports_by Whole = reports_of_run moves start begins
-  reports_by Tagged = subst (λ rs. AllReportsExpected rs) (sym reached_outcomes) (reports_on_tags (outcomes Whole moves start) (reports_of_run moves start begins))
+  eager_tags : run_eagerly Tagged moves (new_world user network) ≡ tag_world (run_eagerly Whole moves (new_world user network))
+  eager_tags = ap (λ w. run_eagerly Tagged moves w) (sym (new_world_on_tags user network)) ∙ eager_run_on_tags moves start begins
 
-  due_by : (r : Reading) → AreFirstDue r (run r moves (new_world user network))
-  due_by Whole = due_by_invariant (run Whole moves start) (each_run_keeps moves start begins)
-  due_by Tagged = subst (λ w. AreFirstDue Tagged w) (sym reached_tags) (due_in_tags (run Whole moves start) (each_run_keeps moves start begins))
+  eager_outcomes : outcomes_eagerly Tagged moves (new_world user network) ≡ map tag_outcome (outcomes_eagerly Whole moves (new_world user network))
+  eager_outcomes = ap (λ w. outcomes_eagerly Tagged moves w) (sym (new_world_on_tags user network)) ∙ eager_outcomes_on_tags moves start begins
 
-  fresh_by : (r : Reading) → ComeFresh (run r moves (new_world user network))
-  fresh_by Whole = fresh_by_invariant (run Whole moves start) (each_run_keeps moves start begins)
-  fresh_by Tagged = subst (λ w. ComeFresh w) (sym reached_tags) (fresh_in_tags (run Whole moves start) (each_run_keeps moves start begins))
+  eagerly_reached : IsInvariant (run_eagerly Whole moves (new_world user network))
+  eagerly_reached = eager_run_keeps moves start begins
 
 pub every_run_safe : (r : Reading) (user network : Parameters) → user.k ≤ 127 → network.k ≤ 127 → (moves : List Move) → AreSafe (run r moves (new_world user network))
-every_run_safe r user network u n moves = safe_by user network u n moves r
+every_run_safe r user network u n moves = safe_in (λ r. run r moves (new_world user network)) (reached_tags user network u n moves) (reached user network u n moves) r
 
 pub every_run_reports : (r : Reading) (user network : Parameters) → user.k ≤ 127 → network.k ≤ 127 → (moves : List Move) → AllReportsExpected (outcomes r moves (new_world user network))
-every_run_reports r user network u n moves = reports_by user network u n moves r
+every_run_reports r user network u n moves = reports_in (λ r. outcomes r moves (new_world user network)) (reached_outcomes user network u n moves) (reports_of_run moves (new_world user network) (new_holds user network u n)) r
 
 pub every_run_is_due : (r : Reading) (user network : Parameters) → user.k ≤ 127 → network.k ≤ 127 → (moves : List Move) → AreFirstDue r (run r moves (new_world user network))
-every_run_is_due r user network u n moves = due_by user network u n moves r
+every_run_is_due r user network u n moves = due_in (λ r. run r moves (new_world user network)) (reached_tags user network u n moves) (reached user network u n moves) r
 
 pub every_run_is_fresh : (r : Reading) (user network : Parameters) → user.k ≤ 127 → network.k ≤ 127 → (moves : List Move) → ComeFresh (run r moves (new_world user network))
-every_run_is_fresh r user network u n moves = fresh_by user network u n moves r
+every_run_is_fresh r user network u n moves = fresh_in (λ r. run r moves (new_world user network)) (reached_tags user network u n moves) (reached user network u n moves) r
+
+-- ---- Eagerly.
+
+pub every_eager_run_safe : (r : Reading) (user network : Parameters) → user.k ≤ 127 → network.k ≤ 127 → (moves : List Move) → AreSafe (run_eagerly r moves (new_world user network))
+every_eager_run_safe r user network u n moves = safe_in (λ r. run_eagerly r moves (new_world user network)) (eager_tags user network u n moves) (eagerly_reached user network u n moves) r
+
+pub every_eager_run_reports : (r : Reading) (user network : Parameters) → user.k ≤ 127 → network.k ≤ 127 → (moves : List Move) → AllReportsExpected (outcomes_eagerly r moves (new_world user network))
+every_eager_run_reports r user network u n moves = reports_in (λ r. outcomes_eagerly r moves (new_world user network)) (eager_outcomes user network u n moves) (eager_reports moves (new_world user network) (new_holds user network u n)) r
+
+pub every_eager_run_is_due : (r : Reading) (user network : Parameters) → user.k ≤ 127 → network.k ≤ 127 → (moves : List Move) → AreFirstDue r (run_eagerly r moves (new_world user network))
+every_eager_run_is_due r user network u n moves = due_in (λ r. run_eagerly r moves (new_world user network)) (eager_tags user network u n moves) (eagerly_reached user network u n moves) r
+
+pub every_eager_run_is_fresh : (r : Reading) (user network : Parameters) → user.k ≤ 127 → network.k ≤ 127 → (moves : List Move) → ComeFresh (run_eagerly r moves (new_world user network))
+every_eager_run_is_fresh r user network u n moves = fresh_in (λ r. run_eagerly r moves (new_world user network)) (eager_tags user network u n moves) (eagerly_reached user network u n moves) r

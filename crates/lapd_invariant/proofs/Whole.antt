@@ -13,7 +13,6 @@ use Rattle.lapd_states.specs.Table.{step}
 use Rattle.lapd_states.proofs.ReportsOfStep.{due_is_expected}
 use Rattle.lapd_world.specs.Line.{Flight, first_poll, first_final}
 use Rattle.lapd_world.specs.Move.{Deed, Give, Establish, Release, Deliver, Lose, Expire200, Expire203, Busy, UnitData, Restart, Move, View, Acted, Refusal, acts, stepped, takes, hears, delivers, loses, expires_200, expires_203, unless_under_way, busy_input}
-use Rattle.lapd_world.specs.Safe.{AreSafe}
 use Rattle.lapd_world.specs.World.{World, view_of, in_world, world_after, happens, run}
 use Rattle.lapd_invariant.specs.Invariant.{IsInvariant}
 use Rattle.lapd_invariant.specs.Reports.{ReportsExpected, IsFirstDue}
@@ -25,7 +24,7 @@ use Rattle.lapd_invariant.proofs.Lists.{by_test}
 use Rattle.lapd_invariant.proofs.Moves.{keeps_lose, move_keeps, run_keeps}
 use Rattle.lapd_invariant.proofs.Restarts.{keeps_restart}
 use Rattle.lapd_invariant.proofs.Units.{keeps_unit_data}
-use Rattle.lapd_invariant.proofs.Worlds.{Keeps, safe_by_invariant}
+use Rattle.lapd_invariant.proofs.Worlds.{Keeps}
 
 -- ---- All deeds.
 
@@ -46,9 +45,6 @@ each_move_keeps move w i = move_keeps move.side move.deed (each_deed_keeps move.
 
 pub each_run_keeps : (moves : List Move) (w : World) → IsInvariant w → IsInvariant (run Whole moves w)
 each_run_keeps moves w i = run_keeps each_deed_keeps moves w i
-
-pub each_run_is_safe : (moves : List Move) (w : World) → IsInvariant w → AreSafe (run Whole moves w)
-each_run_is_safe moves w i = safe_by_invariant (run Whole moves w) (each_run_keeps moves w i)
 
 -- ---- Reports.
 

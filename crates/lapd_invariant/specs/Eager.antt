@@ -1,6 +1,6 @@
--- Moves under the premise on T200 at its word: it does not expire while the command with P=1 that it guards, or the answer, is
--- on its way. The moves themselves wait for more: for any command with P=1 and any response with F=1, also one that answers
--- nothing any more. Here T200 expires as soon as nothing is on its way that it waits for.
+-- Moves with less of a premise on T200: it does not expire while the command with P=1 that it guards, or the answer, is on
+-- its way. The moves of the world wait for more: for any command with P=1 of that side and any response with F=1 to it, also
+-- where nobody waits for an answer any more.
 use Rattle.std.specs.Prelude.{ℕ, ◌+◌, ◌==◌, ◌&&◌, if◌then◌else◌, List, [], ◌∷◌, ◌++◌, Some, None, Result}
 use Rattle.lapd_timers.specs.declared.timer.Timer.TheVariants.{T200}
 use Rattle.lapd_frame.specs.declared.Side.{Side}
@@ -13,9 +13,10 @@ use Rattle.lapd_world.specs.Schedule.{of_user, of_network, establishing, Figures
 use Rattle.lapd_world.specs.World.{World, Happened, view_of, in_world, world_after}
 use Rattle.lapd_invariant.specs.Kinds.{Kind, kinds, tally, ask_of, answer_of, poll_of, final_of}
 
--- How many frames T200 waits for in this state, among those on their way from its side and those on their way to it. In states
--- 5 and 6 it guards SABME and DISC, which UA and DM answer; in state 8 a command that polls, which a supervisory response
--- with F=1 answers. In state 7 it guards I frames with P=0: whatever it sends with P=1 goes out when it has expired, and not before.
+-- How many frames T200 waits for in this state, of those on their way from its side and of those on their way to it. In
+-- states 5 and 6 it guards SABME and DISC, which UA and DM answer; in state 8 a command that polls, which a supervisory
+-- response with F=1 answers. In state 7 it guards nothing that is answered so: what it sends with P=1, an enquiry or the last
+-- I frame again, goes out when it has expired (Q.921 5.6.7).
 abbrev pub awaited : State → List Kind → List Kind → ℕ
 awaited TeiAssigned out back = 0
 awaited AwaitingEstablishment out back = tally ask_of out + tally answer_of back
@@ -44,20 +45,21 @@ run_eagerly r (move ∷ moves) w = run_eagerly r moves (world_after w (happens_e
 
 abbrev pub outcomes_eagerly : Reading → List Move → World → List (Result Happened Refusal)
 outcomes_eagerly r [] w = []
-outcomes_eagerly r (move ∷ moves) w = happens_eagerly r move w ∷ outcomes_eagerly r moves (world_after w (happens_eagerly r move w))
+outcomes_eagerly r (move ∷ moves) w =
+    happens_eagerly r move w ∷ outcomes_eagerly r moves (world_after w (happens_eagerly r move w))
 
 -- ---- A schedule in which an enquiry is on its way that nobody will answer.
 
--- The network establishes again while an enquiry of the user is on its way, which it passes over in state 5. The user answers
--- its SABME, and sends a message in the new establishment, which is lost: T200 guards that message, and waits for no answer.
-abbrev pub enquiry_passed_over : List Move
-enquiry_passed_over = establishing ++ of_user Expire203 ∷ of_network Establish ∷ of_user Deliver ∷ of_user (Give (1 ∷ [])) ∷ of_network (Lose 2) ∷ []
+-- The network establishes again while an enquiry of the user is on its way, which it will pass over in state 5. The user
+-- answers the SABME, and sends a message, which is lost: T200 guards that message now, and waits for no answer.
+abbrev pub passed_over : List Move
+passed_over = establishing ++ of_user Expire203 ∷ of_network Establish ∷ of_user Deliver ∷ of_user (Give (1 ∷ [])) ∷ of_network (Lose 2) ∷ []
 
--- T200 expires, behind the first enquiry and the UA a second one comes, and it is answered; the message is sent again
+-- T200 expires; behind the first enquiry and the UA a second enquiry comes, which is answered, and the message is sent again
 abbrev pub second_enquiry : List Move
 second_enquiry = of_user Expire200 ∷ of_network Deliver ∷ of_network Deliver ∷ of_network Deliver ∷ of_user Deliver ∷ of_network Deliver ∷ of_user Deliver ∷ []
 
--- the message is received once, and acknowledged
+-- it is received once, and acknowledged
 abbrev pub user_at_end : Figures
 user_at_end = record { state = MultipleFrameEstablished; vs = 1; va = 1; vr = 0; received = []; acked = 0 ∷ []; dropped = []; begun = 0 ∷ 0 ∷ []; sent_in = Some 2 ∷ None ∷ None ∷ None ∷ [] }
 

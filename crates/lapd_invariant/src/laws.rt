@@ -1,17 +1,18 @@
 //! Laws of the invariant. They do nothing when they are called.
 
-ghost use Rattle.std.specs.Prelude.{◌≡◌, ◌≤◌, ℕ, List, ◌++◌, map, Err};
+ghost use Rattle.std.specs.Prelude.{◌≡◌, ◌≤◌, ℕ, true, List, ◌++◌, map, Ok, Err};
+ghost use Rattle.lapd_frame.specs.declared.Side.{Side};
 ghost use Rattle.lapd_frame.specs.declared.Side.TheVariants as side;
 ghost use Rattle.lapd_mod128.specs.Counting.{Reading, Whole, Tagged};
 ghost use Rattle.lapd_states.specs.Parameters.{Parameters};
 ghost use Rattle.lapd_world.specs.Kept.{IsKeptWorld};
-ghost use Rattle.lapd_world.specs.Move.{Expire200, Move, NotYet};
+ghost use Rattle.lapd_world.specs.Move.{Expire200, Move, View, Acted, NotYet};
 ghost use Rattle.lapd_world.specs.Safe.{AreSafe};
 ghost use Rattle.lapd_world.specs.Schedule as worked;
 ghost use Rattle.lapd_world.specs.Schedule.{figures, of_user};
 ghost use Rattle.lapd_world.specs.Tagged.{tag_world, tag_outcome, AreFirstWithin, AreNearMoves};
-ghost use Rattle.lapd_world.specs.World.{World, new_world, world_after, happens, run, outcomes};
-ghost use Rattle.lapd_invariant.specs.Eager.{run_eagerly, outcomes_eagerly, enquiry_passed_over, second_enquiry, user_at_end, network_at_end};
+ghost use Rattle.lapd_world.specs.World.{World, Happened, new_world, world_after, happens, run, outcomes};
+ghost use Rattle.lapd_invariant.specs.Eager.{awaited_in, expires_eagerly, happens_eagerly, run_eagerly, outcomes_eagerly, passed_over, second_enquiry, user_at_end, network_at_end};
 ghost use Rattle.lapd_invariant.specs.Fresh.{ComeFresh};
 ghost use Rattle.lapd_invariant.specs.Invariant.{IsInvariant};
 ghost use Rattle.lapd_invariant.specs.Premises.{run_freely, hasty, stale, overtaken};
@@ -23,38 +24,55 @@ ghost use Rattle.lapd_invariant.specs.Reports.{ReportsExpected, AllReportsExpect
 /// was received. Only the reports F, G, H and I ever arose; and the N(R) of the next frame that is delivered is valid, and no
 /// response comes unasked.
 pub fn every_run_is_safe()
-    ensures safe { (r : Reading) (user network : Parameters) → user.k ≤ 127 → network.k ≤ 127 → (moves : List Move) → AreSafe (run r moves (new_world user network)) }
-    ensures reports { (r : Reading) (user network : Parameters) → user.k ≤ 127 → network.k ≤ 127 → (moves : List Move) → AllReportsExpected (outcomes r moves (new_world user network)) }
-    ensures due { (r : Reading) (user network : Parameters) → user.k ≤ 127 → network.k ≤ 127 → (moves : List Move) → AreFirstDue r (run r moves (new_world user network)) }
+    ensures safe { (r : Reading) (user network : Parameters) → user.k ≤ 127 → network.k ≤ 127
+        → (moves : List Move) → AreSafe (run r moves (new_world user network)) }
+    ensures reports { (r : Reading) (user network : Parameters) → user.k ≤ 127 → network.k ≤ 127
+        → (moves : List Move) → AllReportsExpected (outcomes r moves (new_world user network)) }
+    ensures due { (r : Reading) (user network : Parameters) → user.k ≤ 127 → network.k ≤ 127
+        → (moves : List Move) → AreFirstDue r (run r moves (new_world user network)) }
 {}
 
-/// No message of an earlier establishment arrives: after every list of moves from a new world, on whole numbers and on tags, in
-/// windows of up to 127, each I frame on its way to an end in state 7 or 8 was last sent in its sender's present establishment.
-/// So once an establishment is confirmed, nothing comes that was dropped before it began.
+/// No message of an earlier establishment arrives: after every list of moves from a new world, on whole numbers and on tags,
+/// in windows of up to 127, each I frame on its way to an end in state 7 or 8 was last sent in its sender's present
+/// establishment. So once an establishment is confirmed, nothing comes that was dropped before it began.
 pub fn no_old_message_arrives()
     ensures { (r : Reading) (user network : Parameters) → user.k ≤ 127 → network.k ≤ 127
         → (moves : List Move) → ComeFresh (run r moves (new_world user network)) }
 {}
 
-/// All this holds with less of a premise on T200: where it may expire as soon as neither the command that it guards nor the
-/// answer is on its way, whatever else is.
+/// All this holds with a weaker premise on T200 too. In the moves above it does not expire while any command with P=1 of its
+/// side, or any response with F=1 to it, is on the line. Here only what it guards and the answer hold it back: in states 5
+/// and 6 SABME, DISC, UA and DM, in state 8 commands that poll and supervisory responses with F=1, and in state 7 nothing.
 pub fn every_eager_run_is_safe()
-    ensures safe { (user network : Parameters) → user.k ≤ 127 → network.k ≤ 127
-        → (moves : List Move) → AreSafe (run_eagerly Whole moves (new_world user network)) }
-    ensures reports { (user network : Parameters) → user.k ≤ 127 → network.k ≤ 127
-        → (moves : List Move) → AllReportsExpected (outcomes_eagerly Whole moves (new_world user network)) }
-    ensures due { (user network : Parameters) → user.k ≤ 127 → network.k ≤ 127
-        → (moves : List Move) → AreFirstDue Whole (run_eagerly Whole moves (new_world user network)) }
-    ensures fresh { (user network : Parameters) → user.k ≤ 127 → network.k ≤ 127
-        → (moves : List Move) → ComeFresh (run_eagerly Whole moves (new_world user network)) }
+    ensures safe { (r : Reading) (user network : Parameters) → user.k ≤ 127 → network.k ≤ 127
+        → (moves : List Move) → AreSafe (run_eagerly r moves (new_world user network)) }
+    ensures reports { (r : Reading) (user network : Parameters) → user.k ≤ 127 → network.k ≤ 127
+        → (moves : List Move) → AllReportsExpected (outcomes_eagerly r moves (new_world user network)) }
+    ensures due { (r : Reading) (user network : Parameters) → user.k ≤ 127 → network.k ≤ 127
+        → (moves : List Move) → AreFirstDue r (run_eagerly r moves (new_world user network)) }
+    ensures fresh { (r : Reading) (user network : Parameters) → user.k ≤ 127 → network.k ≤ 127
+        → (moves : List Move) → ComeFresh (run_eagerly r moves (new_world user network)) }
 {}
 
-/// This says more: an enquiry is on its way that nobody will answer, a message of the next establishment is lost, and T200,
-/// which guards that message, may not expire. Eagerly it expires; the message is sent again, received once and acknowledged.
+/// Eagerly every move that is admitted comes to the same; and T200 expires only where it runs and nothing is on its way that
+/// it waits for.
+pub fn eager_moves_are_admitted()
+    ensures same { (r : Reading) (move : Move) (w : World) (happened : Happened)
+        → happens r move w ≡ Ok happened → happens_eagerly r move w ≡ Ok happened }
+    ensures only { (r : Reading) (side : Side) (v : View) (acted : Acted)
+        → expires_eagerly r side v ≡ Ok acted → (v.station.end.t200 ≡ true) × (awaited_in v ≡ 0) }
+{}
+
+/// More moves are admitted eagerly: an enquiry is on its way that nobody will answer, a message of the next establishment is
+/// lost, and T200, which guards that message, may not expire. Eagerly it expires; the message is sent again, received once
+/// and acknowledged.
 pub fn eager_schedule_is_computed()
-    ensures refused { (r : Reading) → happens r (of_user Expire200) (run r enquiry_passed_over worked.start) ≡ Err (NotYet side.Network 0) }
-    ensures user { (r : Reading) → figures (run_eagerly r (enquiry_passed_over ++ second_enquiry) worked.start).user ≡ user_at_end }
-    ensures network { (r : Reading) → figures (run_eagerly r (enquiry_passed_over ++ second_enquiry) worked.start).network ≡ network_at_end }
+    ensures refused { (r : Reading) → happens r (of_user Expire200) (run r passed_over worked.start)
+        ≡ Err (NotYet side.Network 0) }
+    ensures user { (r : Reading)
+        → figures (run_eagerly r (passed_over ++ second_enquiry) worked.start).user ≡ user_at_end }
+    ensures network { (r : Reading)
+        → figures (run_eagerly r (passed_over ++ second_enquiry) worked.start).network ≡ network_at_end }
 {}
 
 /// A run on tags is the run on whole numbers, each number in its tag: in what each move comes to, and in the world that is
@@ -73,8 +91,9 @@ pub fn the_invariant_is_kept()
     ensures runs { (moves : List Move) (w : World) → IsInvariant w → IsInvariant (run Whole moves w) }
 {}
 
-/// Where it holds, the histories are safe; a move reports nothing but F, G, H and I; and the first frame on its way to a
-/// side carries numbers near those of that side, so that each of a list of moves does on tags what it does on whole numbers.
+/// Where it holds, the histories are safe; a move reports nothing but F, G, H and I; no old message comes; and the first frame
+/// on its way to a side carries numbers near those of that side, so that each of a list of moves does on tags what it does on
+/// whole numbers.
 pub fn the_invariant_tells()
     ensures safe { (w : World) → IsInvariant w → AreSafe w }
     ensures reports { (move : Move) (w : World) → IsInvariant w → ReportsExpected (happens Whole move w) }

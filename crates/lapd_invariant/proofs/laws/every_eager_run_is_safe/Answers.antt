@@ -1,5 +1,5 @@
-use Rattle.lapd_invariant.proofs.Eager.{eager_run_safe, eager_run_reports, eager_run_is_due, eager_run_is_fresh}
+use Rattle.lapd_invariant.proofs.Reached.{every_eager_run_safe, every_eager_run_reports, every_eager_run_is_due, every_eager_run_is_fresh}
 use Rattle.lapd_invariant.proofs.laws.every_eager_run_is_safe.Goals as goal
 
 pub returns : goal.returns
-returns c = record { safe = eager_run_safe; reports = eager_run_reports; due = eager_run_is_due; fresh = eager_run_is_fresh }
+returns c = record { safe = every_eager_run_safe; reports = every_eager_run_reports; due = every_eager_run_is_due; fresh = every_eager_run_is_fresh }
