@@ -50,7 +50,7 @@ tally_alike : (f : Kind → ℕ) → ((frame : Flight) → f (kind (tag_flight f
 tally_alike f same [] = refl
 tally_alike f same (frame ∷ frames) = omega (arith, same frame, tally_alike f same frames)
 
-awaited_alike : (state : State) (out back : List Flight) → awaited state (kinds (map tag_flight out)) (kinds (map tag_flight back)) ≡ awaited state (kinds out) (kinds back)
+pub awaited_alike : (state : State) (out back : List Flight) → awaited state (kinds (map tag_flight out)) (kinds (map tag_flight back)) ≡ awaited state (kinds out) (kinds back)
 awaited_alike TeiAssigned out back = refl
 awaited_alike AwaitingEstablishment out back = omega (arith, tally_alike ask_of (λ frame. (alike frame).0) out, tally_alike answer_of (λ frame. (alike frame).1) back)
 awaited_alike AwaitingRelease out back = omega (arith, tally_alike ask_of (λ frame. (alike frame).0) out, tally_alike answer_of (λ frame. (alike frame).1) back)

@@ -1,6 +1,7 @@
 -- What holds after every run of moves from a new world, and after every eager one, on whole numbers and on tags.
-use Rattle.std.proofs.Common.{◌≡◌, ◌≤◌, List, [], ◌∷◌, map, Result, Ok, Err, sym, ap, subst, ◌∙◌}
+use Rattle.std.proofs.Common.{◌≡◌, ◌≤◌, List, [], ◌∷◌, map, Result, Ok, Err, sym, ap, subst, ◌∙◌, arith}
 use Rattle.lapd_mod128.specs.Counting.{Reading, Whole, Tagged}
+use Rattle.lapd_states.specs.declared.state.State.TheVariants.{AwaitingEstablishment}
 use Rattle.lapd_states.specs.declared.out.Out.{Out}
 use Rattle.lapd_states.specs.declared.out.Out.TheVariants.{Send, SendMessage}
 use Rattle.lapd_states.specs.Parameters.{Parameters}
@@ -16,10 +17,11 @@ use Rattle.lapd_world.proofs.TaggedMoves.{move_near, run_on_tags, outcomes_on_ta
 use Rattle.lapd_invariant.specs.Invariant.{IsInvariant}
 use Rattle.lapd_invariant.specs.Reports.{ReportsExpected, AllReportsExpected, AreFirstDue}
 use Rattle.lapd_invariant.specs.Fresh.{ComeFresh}
+use Rattle.lapd_invariant.specs.Exchanges.{AskOneAtATime}
 use Rattle.lapd_invariant.specs.Eager.{run_eagerly, outcomes_eagerly}
 use Rattle.lapd_invariant.proofs.Dues.{due_by_invariant, due_in_tags}
 use Rattle.lapd_invariant.proofs.Eager.{eager_run_keeps, eager_reports}
-use Rattle.lapd_invariant.proofs.EagerOnTags.{eager_run_on_tags, eager_outcomes_on_tags}
+use Rattle.lapd_invariant.proofs.EagerOnTags.{awaited_alike, eager_run_on_tags, eager_outcomes_on_tags}
 use Rattle.lapd_invariant.proofs.Freshness.{fresh_by_invariant, fresh_in_tags}
 use Rattle.lapd_invariant.proofs.Nearness.{within_by_invariant}
 use Rattle.lapd_invariant.proofs.Whole.{each_move_keeps, each_run_keeps, each_report_is_expected}
@@ -58,6 +60,15 @@ reports_in : (outcomes_in : Reading → List (Result Happened Refusal)) → outc
 reports_in outcomes_in same e Whole = e
 reports_in outcomes_in same e Tagged = subst (λ rs. AllReportsExpected rs) (sym same) (reports_on_tags (outcomes_in Whole) e)
 
+one_by_invariant : (w : World) → IsInvariant w → AskOneAtATime w
+one_by_invariant w i = record { user = i.both.mine.exchange.one; network = i.both.its.exchange.one }
+
+one_on_tags : (w : World) → AskOneAtATime w → AskOneAtATime (tag_world w)
+one_on_tags w one = record {
+  user = omega (arith, one.user, awaited_alike AwaitingEstablishment w.to_network w.to_user);
+  network = omega (arith, one.network, awaited_alike AwaitingEstablishment w.to_user w.to_network);
+}
+
 -- a world in both readings
 module _ (world_in : Reading → World) (same : world_in Tagged ≡ tag_world (world_in Whole)) (i : IsInvariant (world_in Whole)) where
   safe_in : (r : Reading) → AreSafe (world_in r)
@@ -71,6 +82,10 @@ module _ (world_in : Reading → World) (same : world_in Tagged ≡ tag_world (w
   fresh_in : (r : Reading) → ComeFresh (world_in r)
   fresh_in Whole = fresh_by_invariant (world_in Whole) i
   fresh_in Tagged = subst (λ w. ComeFresh w) (sym same) (fresh_in_tags (world_in Whole) i)
+
+  one_in : (r : Reading) → AskOneAtATime (world_in r)
+  one_in Whole = one_by_invariant (world_in Whole) i
+  one_in Tagged = subst (λ w. AskOneAtATime w) (sym same) (one_on_tags (world_in Whole) (one_by_invariant (world_in Whole) i))
 
 -- ---- From a new world.
 
@@ -113,6 +128,9 @@ every_run_is_due r user network u n moves = due_in (λ r. run r moves (new_world
 
 pub every_run_is_fresh : (r : Reading) (user network : Parameters) → user.k ≤ 127 → network.k ≤ 127 → (moves : List Move) → ComeFresh (run r moves (new_world user network))
 every_run_is_fresh r user network u n moves = fresh_in (λ r. run r moves (new_world user network)) (reached_tags user network u n moves) (reached user network u n moves) r
+
+pub every_run_asks_one : (r : Reading) (user network : Parameters) → user.k ≤ 127 → network.k ≤ 127 → (moves : List Move) → AskOneAtATime (run r moves (new_world user network))
+every_run_asks_one r user network u n moves = one_in (λ r. run r moves (new_world user network)) (reached_tags user network u n moves) (reached user network u n moves) r
 
 -- ---- Eagerly.
 

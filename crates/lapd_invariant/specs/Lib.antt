@@ -4,5 +4,6 @@ pub mod Conjuncts
 pub mod Invariant
 pub mod Reports
 pub mod Fresh
+pub mod Exchanges
 pub mod Eager
 pub mod Premises

@@ -13,6 +13,7 @@ ghost use Rattle.lapd_world.specs.Schedule.{figures, of_user};
 ghost use Rattle.lapd_world.specs.Tagged.{tag_world, tag_outcome, AreFirstWithin, AreNearMoves};
 ghost use Rattle.lapd_world.specs.World.{World, Happened, new_world, world_after, happens, run, outcomes};
 ghost use Rattle.lapd_invariant.specs.Eager.{awaited_in, expires_eagerly, happens_eagerly, run_eagerly, outcomes_eagerly, passed_over, second_enquiry, user_at_end, network_at_end};
+ghost use Rattle.lapd_invariant.specs.Exchanges.{AskOneAtATime};
 ghost use Rattle.lapd_invariant.specs.Fresh.{ComeFresh};
 ghost use Rattle.lapd_invariant.specs.Invariant.{IsInvariant};
 ghost use Rattle.lapd_invariant.specs.Premises.{run_freely, hasty, stale, overtaken};
@@ -38,6 +39,14 @@ pub fn every_run_is_safe()
 pub fn no_old_message_arrives()
     ensures { (r : Reading) (user network : Parameters) → user.k ≤ 127 → network.k ≤ 127
         → (moves : List Move) → ComeFresh (run r moves (new_world user network)) }
+{}
+
+/// Of the SABME and DISC commands of a side and the answers to them, at most one is under way after every list of moves from a
+/// new world, on whole numbers and on tags, in windows of up to 127; and in states 4, 7 and 8 none is. So no answer is taken
+/// for that to another command (Q.921 5.5.1, 5.5.3).
+pub fn each_side_asks_one_at_a_time()
+    ensures { (r : Reading) (user network : Parameters) → user.k ≤ 127 → network.k ≤ 127
+        → (moves : List Move) → AskOneAtATime (run r moves (new_world user network)) }
 {}
 
 /// All this holds with a weaker premise on T200 too. In the moves above it does not expire while any command with P=1 of its
