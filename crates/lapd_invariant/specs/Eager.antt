@@ -15,8 +15,8 @@ use Rattle.lapd_invariant.specs.Kinds.{Kind, kinds, tally, ask_of, answer_of, po
 
 -- How many frames T200 waits for in this state, of those on their way from its side and of those on their way to it. In
 -- states 5 and 6 it guards SABME and DISC, which UA and DM answer; in state 8 a command that polls, which a supervisory
--- response with F=1 answers. In state 7 it guards nothing that is answered so: what it sends with P=1, an enquiry or the last
--- I frame again, goes out when it has expired (Q.921 5.6.7).
+-- response with F=1 answers. An old one that the other side will pass over counts there too. In state 7 it guards nothing that
+-- is answered so: what it sends with P=1, an enquiry or the last I frame again, goes out when it has expired (Q.921 5.6.7).
 abbrev pub awaited : State → List Kind → List Kind → ℕ
 awaited TeiAssigned out back = 0
 awaited AwaitingEstablishment out back = tally ask_of out + tally answer_of back
