@@ -2,6 +2,7 @@ pub mod Acts
 pub mod Fates
 pub mod Lines
 pub mod Pairs
+pub mod Reported
 pub mod Restarted
 pub mod Runs
 pub mod SafePairs

@@ -2,10 +2,12 @@
 use Rattle.std.proofs.Common.{◌≡◌, ◌≤◌, ◌<◌, ◌+◌, ℕ, true, false, List, [], ◌∷◌, ◌++◌, length, take, drop, get_or, Some, Result, Ok, is_ok, refl, sym, ap, ◌∙◌, subst, arith}
 use Rattle.std.proofs.lemmas.List.{drop_more, take_more}
 use Rattle.std.proofs.lemmas.Option.{slice_get-get_or}
+use Rattle.lapd_invariant.specs.Reports.{ReportsExpected, AllReportsExpected}
 use Rattle.lapd_mod128.specs.Counting.{Tagged}
+use Rattle.lapd_states.specs.Reports.{AreExpected}
 use Rattle.lapd_states.specs.declared.out.Out.{Out}
 use Rattle.lapd_world.specs.Move.{Move, Refusal}
-use Rattle.lapd_world.specs.World.{World, Happened, happens, world_after, run}
+use Rattle.lapd_world.specs.World.{World, Happened, happens, world_after, run, outcomes}
 use Rattle.lapd_pair.specs.declared.pair.Pair.{Pair}
 use Rattle.lapd_pair.specs.declared.pair_fault.PairFault.{PairFault}
 use Rattle.lapd_pair.specs.declared.pair_fault.PairFault.TheVariants as fault
@@ -13,16 +15,22 @@ use Rattle.lapd_pair.specs.Moves.{IsRefusedAs}
 use Rattle.lapd_pair.specs.PairFault.{is_memory}
 use Rattle.lapd_pair.specs.Runs.{PairStandsFor, HasHappened, HasStoppedAt, refused_of, refusals}
 use Rattle.lapd_pair.proofs.Pairs.{run_more, after_did}
+use Rattle.lapd_pair.proofs.Reported.{reports_more, admitted_reports}
 
 -- as many moves as this are done, and so many of them were refused
 pub record AreDone (before : Pair) (moves : List Move) (at refused : ℕ) (now : Pair) : Type 0 where
   pub stands : (w : World) → PairStandsFor before w → PairStandsFor now (run Tagged (take at moves) w)
   pub counted : (w : World) → PairStandsFor before w → refused + refusals (drop at moves) (run Tagged (take at moves) w) ≡ refusals moves w
   pub few : refused ≤ at
+  pub reports : (w : World) → PairStandsFor before w → AllReportsExpected (outcomes Tagged (take at moves) w)
 
 -- the next move leads to the world after it
 next : (moves : List Move) (at : ℕ) (m : Move) (w : World) → take (at + 1) moves ≡ take at moves ++ m ∷ [] → run Tagged (take (at + 1) moves) w ≡ world_after (run Tagged (take at moves) w) (happens Tagged m (run Tagged (take at moves) w))
 next moves at m w split = ap (λ (ms : List Move). run Tagged ms w) split ∙ run_more (take at moves) m w
+
+next_reports : (moves : List Move) (at : ℕ) (m : Move) (w : World) → take (at + 1) moves ≡ take at moves ++ m ∷ [] → AllReportsExpected (outcomes Tagged (take at moves) w)
+    → ReportsExpected (happens Tagged m (run Tagged (take at moves) w)) → AllReportsExpected (outcomes Tagged (take (at + 1) moves) w)
+next_reports moves at m w split all last = subst (λ (ms : List Move). AllReportsExpected (outcomes Tagged ms w)) (sym split) (reports_more (take at moves) m w all last)
 
 refused_more : (moves rest : List Move) (at : ℕ) (m : Move) (u : World) → drop at moves ≡ m ∷ rest → refusals (drop at moves) u ≡ refused_of (happens Tagged m u) + refusals rest (world_after u (happens Tagged m u))
 refused_more moves rest at m u split = ap (λ (ms : List Move). refusals ms u) split
@@ -31,8 +39,9 @@ admitted_one : (outcome : Result Happened Refusal) (happened : Happened) → out
 admitted_one outcome happened is = rw is refl
 
 pub one_done : (before now after : Pair) (moves : List Move) (at refused : ℕ) (m : Move) (outs : List Out) → at < length moves → get_or moves at m ≡ m
-    → ((w : World) → PairStandsFor now w → HasHappened after (happens Tagged m w) outs) → AreDone before moves at refused now → AreDone before moves (at + 1) refused after
-one_done before now after moves at refused m outs within is happened done =
+    → ((w : World) → PairStandsFor now w → HasHappened after (happens Tagged m w) outs) → AreExpected outs
+    → AreDone before moves at refused now → AreDone before moves (at + 1) refused after
+one_done before now after moves at refused m outs within is happened expected done =
     let left = drop_more moves at m within ∙ ap (λ (x : Move). x ∷ drop (at + 1) moves) is in
     let gone = take_more moves at m within ∙ ap (λ (x : Move). take at moves ++ x ∷ []) is in
     record {
@@ -48,6 +57,10 @@ one_done before now after moves at refused m outs within is happened done =
           let before_it = done.counted w s in
           rw (next moves at m w gone) (omega (arith, more, none, before_it));
       few = omega (arith, done.few);
+      reports = λ w s.
+          let u = run Tagged (take at moves) w in
+          let h = happened u (done.stands w s) in
+          next_reports moves at m w gone (done.reports w s) (admitted_reports (happens Tagged m u) h.happened outs h.is h.same expected);
     }
 
 -- what is refused changes nothing, and is counted
@@ -57,6 +70,13 @@ refused_is fault.NothingThere u outcome skipped is = rw is (refl, refl)
 refused_is fault.NotRunning u outcome skipped is = rw is (refl, refl)
 refused_is (fault.NotYet side at) u outcome skipped is = rw is (refl, refl)
 refused_is (fault.Refused why) u outcome skipped is = rw is (refl, refl)
+
+refused_reports : (why : PairFault) (outcome : Result Happened Refusal) → is_memory why ≡ false → IsRefusedAs why outcome → ReportsExpected outcome
+refused_reports fault.Memory outcome skipped is = cc
+refused_reports fault.NothingThere outcome skipped is = rw is tt
+refused_reports fault.NotRunning outcome skipped is = rw is tt
+refused_reports (fault.NotYet side at) outcome skipped is = rw is tt
+refused_reports (fault.Refused why) outcome skipped is = rw is tt
 
 admitted_is : (why : PairFault) (outcome : Result Happened Refusal) → is_memory why ≡ true → IsRefusedAs why outcome → is_ok outcome ≡ true
 admitted_is fault.Memory outcome memory is = is
@@ -83,6 +103,9 @@ one_skipped before now after moves at refused m why within is skipped refuses sa
           let before_it = done.counted w s in
           rw (next moves at m w gone) (omega (arith, more, one, before_it));
       few = omega (arith, done.few);
+      reports = λ w s.
+          let u = run Tagged (take at moves) w in
+          next_reports moves at m w gone (done.reports w s) (refused_reports why (happens Tagged m u) skipped (refuses u (done.stands w s)));
     }
 
 pub stopped : (before now after : Pair) (moves : List Move) (at refused : ℕ) (m : Move) (why : PairFault) → at < length moves → get_or moves at m ≡ m → is_memory why ≡ true
@@ -110,3 +133,8 @@ all_done before now moves at refused end done w s =
     let count = done.counted w s in
     let left : refusals (drop at moves) (run Tagged (take at moves) w) ≡ 0 = ap (λ (ms : List Move). refusals ms (run Tagged (take at moves) w)) none in
     (subst (λ (ms : List Move). PairStandsFor now (run Tagged ms w)) all (done.stands w s), omega (arith, count, left))
+
+pub all_reported : (before now : Pair) (moves : List Move) (at refused : ℕ) → at ≡ length moves → AreDone before moves at refused now → (w : World) → PairStandsFor before w → AllReportsExpected (outcomes Tagged moves w)
+all_reported before now moves at refused end done w s =
+    let all : take at moves ≡ moves = rw end (take_all moves) in
+    subst (λ (ms : List Move). AllReportsExpected (outcomes Tagged ms w)) all (done.reports w s)

@@ -11,6 +11,7 @@ use Rattle.lapd_world.specs.Tagged.{tag_world, tag_outcome}
 use Rattle.lapd_world.specs.World.{World, Happened, new_world, happens, world_after, run, outcomes}
 use Rattle.lapd_pair.specs.Pair.{StandForWorld}
 use Rattle.lapd_pair.specs.declared.pair.Pair.{Pair}
+use Rattle.lapd_pair.specs.declared.pair_fault.RunFault.{RunFault}
 
 -- a pair stands for a world
 abbrev pub PairStandsFor : Pair → World → Type 0
@@ -39,6 +40,11 @@ pub record HasStoppedAt (at : ℕ) (moves : List world.Move) (p : Pair) (w : Wor
   pub there : slice_get moves at ≡ Some move
   pub before : PairStandsFor p (run Tagged (take at moves) w)
   pub admitted : is_ok (happens Tagged move (run Tagged (take at moves) w)) ≡ true
+
+-- of these, the moves that a run came to: all, or those before the one that found no memory
+abbrev pub moves_made : Result ℕ RunFault → List world.Move → List world.Move
+moves_made (Ok refused) moves = moves
+moves_made (Err fault) moves = take fault.at moves
 
 -- A pair that some moves have led to, as every pair is.
 --   stands   it stands for the world that these moves lead to, its numbers being tags;

@@ -29,9 +29,11 @@ pub struct Pair {
 }
 
 impl Pair {
-    ghost use Rattle.lapd_world.specs.World.{World, new_world, happens, run};
+    ghost use Rattle.lapd_invariant.specs.Reports.{AllReportsExpected};
+    ghost use Rattle.lapd_states.specs.Reports.{AreExpected};
+    ghost use Rattle.lapd_world.specs.World.{World, new_world, happens, run, outcomes};
     ghost use Rattle.lapd_pair.specs.Moves.{move_of, IsRefusedAs};
-    ghost use Rattle.lapd_pair.specs.Runs.{PairStandsFor, HasHappened, HasStoppedAt, IsSafePair, refusals};
+    ghost use Rattle.lapd_pair.specs.Runs.{PairStandsFor, HasHappened, HasStoppedAt, IsSafePair, moves_made, refusals};
     ghost use Rattle.lapd_pair.specs.Station.{with_outs};
 
     /// Both ends in state 4, and nothing on the line.
@@ -67,6 +69,7 @@ impl Pair {
         ensures ok { IfOk result (λ outs. (w : World) → PairStandsFor self.old w → HasHappened self.new (happens Tagged (move_of deed.now) w) outs.items) }
         ensures err { IfErr result (λ fault. (w : World) → PairStandsFor self.old w → IsRefusedAs fault (happens Tagged (move_of deed.now) w)) }
         ensures unchanged { OnErr result ((w : World) → PairStandsFor self.old w → PairStandsFor self.new w) }
+        ensures reports { IfOk result (λ outs. AreExpected outs.items) }
         ensures safe { ∥ IsSafePair self.new ∥₁ }
     {
         let mut outs = Outs::new();
@@ -85,6 +88,7 @@ impl Pair {
         ensures ok { IfOk (with_outs result outs.new) (λ made. (w : World) → PairStandsFor self.old w → HasHappened self.new (happens Tagged (move_of deed.now) w) made.items) }
         ensures err { IfErr (with_outs result outs.new) (λ fault. (w : World) → PairStandsFor self.old w → IsRefusedAs fault (happens Tagged (move_of deed.now) w)) }
         ensures unchanged { OnErr (with_outs result outs.new) ((w : World) → PairStandsFor self.old w → PairStandsFor self.new w) }
+        ensures reports { IfOk (with_outs result outs.new) (λ made. AreExpected made.items) }
         ensures safe { ∥ IsSafePair self.new ∥₁ }
     {
         match deed.side() {
@@ -115,6 +119,8 @@ impl Pair {
         ensures ok { IfOk result (λ refused. (w : World) → PairStandsFor self.old w
             → PairStandsFor self.new (run Tagged (map move_of moves.now) w) × (refused ≡ refusals (map move_of moves.now) w)) }
         ensures err { IfErr result (λ fault. (w : World) → PairStandsFor self.old w → HasStoppedAt fault.at (map move_of moves.now) self.new w) }
+        ensures reports { (w : World) → PairStandsFor self.old w
+            → AllReportsExpected (outcomes Tagged (moves_made result (map move_of moves.now)) w) }
         ensures safe { ∥ IsSafePair self.new ∥₁ }
     {
         let mut refused = 0;

@@ -3,6 +3,7 @@ use Rattle.std.proofs.Common.{sym, ◌∙◌}
 use Rattle.lapd_pair.specs.Moves.{move_of}
 use Rattle.lapd_pair.proofs.Acts.{if_ok, if_err, on_err}
 use Rattle.lapd_pair.proofs.Pairs.{user_did, network_did, user_refused, network_refused, user_still, network_still, user_reached, network_reached}
+use Rattle.lapd_pair.proofs.Reported.{move_reports}
 use Rattle.lapd_pair.proofs.SafePairs.{pair_is_safe}
 use Rattle.lapd_pair.proofs.pair.Pair.apply_into.Goals as goal
 
@@ -53,6 +54,12 @@ returns-in-Network-clause-unchanged c =
     let p = c.args.self.now in
     let a = c.act-in-Network in
     on_err _ _ (with_outs a.result a.new.outs) (λ shows w s. network_still w p.user p.network a.new.self p.to_user p.to_network a.new.outward a.new.inward s shows) a.ensures.unchanged
+
+pub returns-in-User-clause-reports : goal.returns-in-User-clause-reports
+returns-in-User-clause-reports c = move_reports c.args.self.now _ (move_of c.args.deed.now) (with_outs c.act.result c.act.new.outs) (returns-in-User-clause-ok c)
+
+pub returns-in-Network-clause-reports : goal.returns-in-Network-clause-reports
+returns-in-Network-clause-reports c = move_reports c.args.self.now _ (move_of c.args.deed.now) (with_outs c.act-in-Network.result c.act-in-Network.new.outs) (returns-in-Network-clause-ok c)
 
 pub returns-in-User-clause-safe : goal.returns-in-User-clause-safe
 returns-in-User-clause-safe c = pair_is_safe _
