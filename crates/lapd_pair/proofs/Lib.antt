@@ -1,11 +1,13 @@
 pub mod Acts
 pub mod Fates
 pub mod Lines
+pub mod Numbered
 pub mod Pairs
 pub mod Reported
 pub mod Restarted
 pub mod Runs
 pub mod SafePairs
+pub mod SafeReaders
 pub mod Settling
 pub mod Steps
 pub mod Telling

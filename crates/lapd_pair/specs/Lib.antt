@@ -1,3 +1,4 @@
+pub mod Establishments
 pub mod Fates
 pub mod Histories
 pub mod Line
@@ -5,6 +6,7 @@ pub mod Marked
 pub mod Moves
 pub mod Pair
 pub mod PairFault
+pub mod Readers
 pub mod Runs
 pub mod Settles
 pub mod Setup

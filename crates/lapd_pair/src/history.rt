@@ -3,6 +3,7 @@ ghost use Rattle.std.specs.Vec.{vec_len};
 ghost use Rattle.lapd_world.specs.Histories as world;
 ghost use Rattle.lapd_world.specs.Histories.{new_history, with_sending, with_acked, with_dropped, with_rest_dropped, with_receipt, with_unit};
 ghost use Rattle.lapd_world.specs.Kept.{AreSettled};
+ghost use Rattle.lapd_pair.specs.Establishments.{AreNumbered};
 ghost use Rattle.lapd_pair.specs.Fates.{ended, with_endings};
 
 use crate::fate::{Ending, Fate};
@@ -21,6 +22,7 @@ pub struct History {
     acknowledged: u64,
     dropped: u64,
     ghost within: { acknowledged + dropped ≤ vec_len fates },
+    ghost numbered: { AreNumbered received.items begun.items },
 }
 
 impl History {

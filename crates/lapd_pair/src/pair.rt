@@ -33,6 +33,7 @@ impl Pair {
     ghost use Rattle.lapd_states.specs.Reports.{AreExpected};
     ghost use Rattle.lapd_world.specs.World.{World, new_world, happens, run, outcomes};
     ghost use Rattle.lapd_pair.specs.Moves.{move_of, IsRefusedAs};
+    ghost use Rattle.lapd_pair.specs.Readers.{AreSafeReadings};
     ghost use Rattle.lapd_pair.specs.Runs.{PairStandsFor, HasHappened, HasStoppedAt, IsSafePair, moves_made, refusals};
     ghost use Rattle.lapd_pair.specs.Station.{with_outs};
 
@@ -43,6 +44,7 @@ impl Pair {
     /// `AllocError` where the memory of an I queue was refused.
     pub fn new(alloc: Global, user: Params, network: Params) -> Result<Pair, AllocError>
         ensures stands { IfOk result (λ pair. PairStandsFor pair (new_world user network)) }
+        ensures readers { IfOk result (λ pair. AreSafeReadings pair) }
     {
         Ok(Pair {
             alloc,
@@ -71,6 +73,7 @@ impl Pair {
         ensures unchanged { OnErr result ((w : World) → PairStandsFor self.old w → PairStandsFor self.new w) }
         ensures reports { IfOk result (λ outs. AreExpected outs.items) }
         ensures safe { ∥ IsSafePair self.new ∥₁ }
+        ensures readers { AreSafeReadings self.new }
     {
         let mut outs = Outs::new();
         match self.apply_into(deed, &mut outs) {
@@ -90,6 +93,7 @@ impl Pair {
         ensures unchanged { OnErr (with_outs result outs.new) ((w : World) → PairStandsFor self.old w → PairStandsFor self.new w) }
         ensures reports { IfOk (with_outs result outs.new) (λ made. AreExpected made.items) }
         ensures safe { ∥ IsSafePair self.new ∥₁ }
+        ensures readers { AreSafeReadings self.new }
     {
         match deed.side() {
             Side::User => self.user.act(
@@ -122,6 +126,7 @@ impl Pair {
         ensures reports { (w : World) → PairStandsFor self.old w
             → AllReportsExpected (outcomes Tagged (moves_made result (map move_of moves.now)) w) }
         ensures safe { ∥ IsSafePair self.new ∥₁ }
+        ensures readers { AreSafeReadings self.new }
     {
         let mut refused = 0;
         let mut outs = Outs::new();
@@ -148,13 +153,15 @@ impl Pair {
     ghost use Rattle.lapd_world.specs.World.{World, left, view_of};
     ghost use Rattle.lapd_pair.specs.Histories.{of_received, octets_and_establishment, fates_of};
     ghost use Rattle.lapd_pair.specs.Line.{fields_of};
+    ghost use Rattle.lapd_pair.specs.Readers.{history_of, given_by, fates_by, received_by, begun_by};
     ghost use Rattle.lapd_pair.specs.Runs.{PairStandsFor};
     ghost use Rattle.lapd_pair.specs.Setup.{setup_for};
     ghost use Rattle.lapd_pair.specs.Station.{IsStation};
 
     /// This side.
     fn station(&self, side: Side) -> &Station
-        ensures { (w : World) → PairStandsFor self.now w → IsStation side result.now (view_of side w).station }
+        ensures shows { (w : World) → PairStandsFor self.now w → IsStation side result.now (view_of side w).station }
+        ensures history { result.now.history ≡ history_of side self.now }
     {
         match side {
             Side::User => &self.user,
@@ -164,14 +171,16 @@ impl Pair {
 
     /// The messages that this side's layer 3 gave and that were accepted, in order.
     pub fn given(&self, side: Side) -> &[Vec<u8>]
-        ensures { (w : World) → PairStandsFor self.now w → map (λ message. message.items) result.now ≡ (view_of side w).station.end.given }
+        ensures shows { (w : World) → PairStandsFor self.now w → map (λ message. message.items) result.now ≡ (view_of side w).station.end.given }
+        ensures now { result.now ≡ given_by side self.now }
     {
         self.station(side).history.given()
     }
 
     /// The messages that this side's layer 3 received, in order.
     pub fn received(&self, side: Side) -> &[Received]
-        ensures { (w : World) → PairStandsFor self.now w → map of_received result.now ≡ map octets_and_establishment (view_of side w).station.history.received }
+        ensures shows { (w : World) → PairStandsFor self.now w → map of_received result.now ≡ map octets_and_establishment (view_of side w).station.history.received }
+        ensures now { result.now ≡ received_by side self.now }
     {
         self.station(side).history.received()
     }
@@ -185,14 +194,16 @@ impl Pair {
 
     /// What became of each message of [`Pair::given`].
     pub fn fates(&self, side: Side) -> &[Fate]
-        ensures { (w : World) → PairStandsFor self.now w → result.now ≡ fates_of (length (view_of side w).station.end.given) (view_of side w).station.history }
+        ensures shows { (w : World) → PairStandsFor self.now w → result.now ≡ fates_of (length (view_of side w).station.end.given) (view_of side w).station.history }
+        ensures now { result.now ≡ fates_by side self.now }
     {
         self.station(side).history.fates()
     }
 
     /// For each establishment of this side, how many messages it had received before it.
     pub fn begun(&self, side: Side) -> &[u64]
-        ensures { (w : World) → PairStandsFor self.now w → result.now ≡ (view_of side w).station.history.begun }
+        ensures shows { (w : World) → PairStandsFor self.now w → result.now ≡ (view_of side w).station.history.begun }
+        ensures now { result.now ≡ begun_by side self.now }
     {
         self.station(side).history.begun()
     }

@@ -5,6 +5,7 @@ use Rattle.lapd_pair.proofs.Acts.{if_ok, if_err, on_err}
 use Rattle.lapd_pair.proofs.Pairs.{user_did, network_did, user_refused, network_refused, user_still, network_still, user_reached, network_reached}
 use Rattle.lapd_pair.proofs.Reported.{move_reports}
 use Rattle.lapd_pair.proofs.SafePairs.{pair_is_safe}
+use Rattle.lapd_pair.proofs.SafeReaders.{readings_are_safe}
 use Rattle.lapd_pair.proofs.pair.Pair.apply_into.Goals as goal
 
 pub invariant_of-self : goal.invariant_of-self
@@ -66,3 +67,9 @@ returns-in-User-clause-safe c = pair_is_safe _
 
 pub returns-in-Network-clause-safe : goal.returns-in-Network-clause-safe
 returns-in-Network-clause-safe c = pair_is_safe _
+
+pub returns-in-User-clause-readers : goal.returns-in-User-clause-readers
+returns-in-User-clause-readers c = readings_are_safe _
+
+pub returns-in-Network-clause-readers : goal.returns-in-Network-clause-readers
+returns-in-Network-clause-readers c = readings_are_safe _

@@ -4,6 +4,7 @@ use Rattle.std.proofs.lemmas.List.{length-map}
 use Rattle.lapd_pair.specs.Moves.{move_of}
 use Rattle.lapd_pair.proofs.Runs.{one_done, one_skipped, stopped, all_done, all_reported}
 use Rattle.lapd_pair.proofs.SafePairs.{pair_is_safe}
+use Rattle.lapd_pair.proofs.SafeReaders.{readings_are_safe}
 use Rattle.lapd_pair.proofs.pair.Pair.run.Goals as goal
 use Rattle.lapd_pair.proofs.pair.Pair.run.Goals.{in-Ok, in-Err+else-is_memory}
 
@@ -45,3 +46,6 @@ returns-then-is_memory-clause-reports c = c.loop-at.invariant.reports
 
 pub returns-clause-safe : goal.returns-clause-safe
 returns-clause-safe c = pair_is_safe _
+
+pub returns-clause-readers : goal.returns-clause-readers
+returns-clause-readers c = readings_are_safe _
