@@ -1,11 +1,10 @@
 -- What the readers of a pair return is safe.
-use Rattle.std.proofs.Common.{◌≡◌, ◌⊎◌, inl, inr, ℕ, zero, suc, ◌+◌, ◌<◌, ◌==◌, Bool, true, false, ◌||◌, if◌then◌else◌, List, [], ◌∷◌, map, length, get_or, slice_get, Option, Some, None, Vec, refl, sym, ap, ◌∙◌, add-one, arith}
+use Rattle.std.proofs.Common.{◌≡◌, inl, inr, ℕ, zero, suc, ◌+◌, ◌<◌, ◌==◌, Bool, true, false, if◌then◌else◌, List, [], ◌∷◌, map, length, slice_get, Option, Some, None, Vec, refl, sym, ap, ◌∙◌, add-one, arith}
 use Rattle.std.proofs.Math.Logic.{∥∥₁_map}
 use Rattle.std.proofs.lemmas.Bool.Decides.{nat_tests}
 use Rattle.std.proofs.lemmas.List.{length-map}
 use Rattle.std.proofs.lemmas.List.FromFn.{length-map-range_with_len, get_or-map-range_with_len}
 use Rattle.std.proofs.lemmas.Option.{slice_get-map, slice_get_within, slice_get-get_or, same_Some}
-use Rattle.std.specs.List.{range_with_len}
 use Rattle.std.specs.Option.{option_map}
 use Rattle.std.specs.declared.alloc.Global.{Global}
 use Rattle.lapd_frame.specs.Address.{other_side}
@@ -21,7 +20,7 @@ use Rattle.lapd_world.specs.World.{new_world, run}
 use Rattle.lapd_pair.specs.Establishments.{establishment_at}
 use Rattle.lapd_pair.specs.Histories.{ending_at, fate_at, fates_of, octets_and_establishment, of_received, IsHistory}
 use Rattle.lapd_pair.specs.Pair.{IsReached}
-use Rattle.lapd_pair.specs.Readers.{octets_at, sent_in_at, end_at, given_by, fates_by, received_by, begun_by, IsSafeReading, AreSafeReadings}
+use Rattle.lapd_pair.specs.Readers.{octets_at, sent_in_at, IsSafeReading, IsSafelyReadFrom, AreSafeReadings}
 use Rattle.lapd_pair.specs.declared.fate.Ending.{Ending}
 use Rattle.lapd_pair.specs.declared.fate.Ending.TheVariants.{Waiting, Acked, Dropped}
 use Rattle.lapd_pair.specs.declared.fate.Fate.{Fate}
@@ -157,10 +156,11 @@ safe_reading sender receiver messages others h g sends receives safe =
           let read_smaller = sent_read h (length messages) smaller (omega (arith, there, less)) in
           safe.prefix place smaller among less (same_Some _ _ (sym read_smaller ∙ rw (← sends.fates) same ∙ read));
       acknowledged_was_received = λ place is. safe.acknowledged place (acked_at h (length messages) place (rw (← sends.fates) is));
+      fate_of_each = ap length sends.fates ∙ length-map-range_with_len (fate_at h) 0 (length messages) ∙ sym (ap length sends.given) ∙ length-map sender.given.items (λ message. message.items);
       numbered = receiver.numbered.came;
     }
 
-reached_readings : (p : Pair) → (sender : Side) → IsReached p.user p.network p.to_user p.to_network → IsSafeReading (given_by sender p) (fates_by sender p) (received_by (other_side sender) p) (begun_by (other_side sender) p)
+reached_readings : (p : Pair) (sender : Side) → IsReached p.user p.network p.to_user p.to_network → IsSafelyReadFrom sender (other_side sender) p
 reached_readings p User x =
     let w = run Tagged x.moves (new_world x.user x.network) in
     safe_reading p.user.history p.network.history w.user.end.given w.network.end.given w.user.history w.network.history x.stand.user.history x.stand.network.history

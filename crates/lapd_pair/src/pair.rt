@@ -60,7 +60,8 @@ impl Pair {
     ///
     /// After it the histories are safe, each side against the other, as after every call: what a side received is among
     /// what the other was given, in order and once each; within one establishment nothing is skipped; and what a sender
-    /// counts as acknowledged was received.
+    /// counts as acknowledged was received. `readers` says so of what [`Pair::given`], [`Pair::fates`], [`Pair::received`]
+    /// and [`Pair::begun`] return. No report but F, G, H and I is among the outputs.
     ///
     /// # Errors
     ///
