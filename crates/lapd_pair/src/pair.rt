@@ -255,6 +255,7 @@ impl Pair {
     ghost use Rattle.lapd_world.specs.World.{World};
     ghost use Rattle.lapd_drain.specs.Settle.{next_move, bound};
     ghost use Rattle.lapd_pair.specs.Moves.{move_of};
+    ghost use Rattle.lapd_pair.specs.Readers.{AreSafeReadings};
     ghost use Rattle.lapd_pair.specs.Runs.{PairStandsFor, IsSafePair};
     ghost use Rattle.lapd_pair.specs.Settles.{Settles, StopsSettling, EmptiesWhereQuiet, IsDrainedPair};
 
@@ -274,6 +275,7 @@ impl Pair {
         ensures emptied { IfOk result (λ done. EmptiesWhereQuiet self.old done) }
         ensures drained { OnOk result (∥ IsDrainedPair self.old self.new ∥₁) }
         ensures safe { ∥ IsSafePair self.new ∥₁ }
+        ensures readers { AreSafeReadings self.new }
     {
         let most = self.most_moves();
         let mut outs = Outs::new();

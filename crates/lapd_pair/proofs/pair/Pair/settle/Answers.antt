@@ -1,6 +1,7 @@
 use Rattle.std.proofs.Common.{is_none, sym, ap, subst, ◌∙◌, arith}
 use Rattle.lapd_pair.specs.Moves.{move_of}
 use Rattle.lapd_pair.proofs.SafePairs.{pair_is_safe}
+use Rattle.lapd_pair.proofs.SafeReaders.{readings_are_safe}
 use Rattle.lapd_pair.proofs.Settling.{AreMade, none_mapped, none_told, none_made, one_made, at_rest, all_made, stopped_at, drained_pair, emptied}
 use Rattle.lapd_pair.proofs.pair.Pair.settle.Goals as goal
 
@@ -24,6 +25,9 @@ returns-in_default-clause-emptied c = emptied c.args.self.now c.loop-moves.self 
 pub returns-in_default-clause-safe : goal.returns-in_default-clause-safe
 returns-in_default-clause-safe c = pair_is_safe _
 
+pub returns-in_default-clause-readers : goal.returns-in_default-clause-readers
+returns-in_default-clause-readers c = readings_are_safe _
+
 -- ---- Memory is refused.
 
 pub returns-in-Err-clause-err : goal.returns-in-Err-clause-err
@@ -43,3 +47,6 @@ returns-clause-emptied c = emptied c.args.self.now c.loop-moves.self _ (λ w s. 
 
 pub returns-clause-safe : goal.returns-clause-safe
 returns-clause-safe c = pair_is_safe _
+
+pub returns-clause-readers : goal.returns-clause-readers
+returns-clause-readers c = readings_are_safe _
