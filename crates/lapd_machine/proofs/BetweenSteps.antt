@@ -1,8 +1,11 @@
 -- A machine between two steps: how many messages are sent follows from the law of the table, at the end whose messages
 -- are just those of the queue.
-use Rattle.std.proofs.Common.{◌≡◌, ◌≤◌, ◌+◌, ℕ, Bool, true, false, List, [], length, Option, Some, None, Ok, Err, if◌then◌else◌, refl, sym, subst, ◌∙◌, arith}
+use Rattle.std.proofs.Common.{◌≡◌, ◌≤◌, ◌+◌, ℕ, zero, suc, Bool, true, false, List, [], ◌∷◌, length, drop, Option, Some, None, Ok, Err, if◌then◌else◌, refl, sym, subst, ◌∙◌, arith}
+use Rattle.std.proofs.lemmas.List.Elements.{All-nil, All-cons, All-head, All-tail}
+use Rattle.std.specs.List.{All}
+use Rattle.lapd_frame.specs.Frame.{n201}
 use Rattle.lapd_mod128.specs.Counting.{Tagged, reaches, steps}
-use Rattle.lapd_supervision.specs.StateVariables.{StateVariables}
+use Rattle.lapd_supervision.specs.StateVariables.{StateVariables, AreTags}
 use Rattle.lapd_states.specs.declared.state.State.{State}
 use Rattle.lapd_states.specs.declared.state.State.TheVariants.{TeiAssigned, AwaitingEstablishment, AwaitingRelease, MultipleFrameEstablished, TimerRecovery}
 use Rattle.lapd_states.specs.declared.event.LinkFault.{LinkFault}
@@ -17,9 +20,10 @@ use Rattle.lapd_states.specs.Parameters.{Parameters}
 use Rattle.lapd_states.specs.Procedures.{queue_up}
 use Rattle.lapd_states.specs.Refusal.{give_refused, refused_when_full, refused}
 use Rattle.lapd_states.specs.Sound.{AreAwaiting, IsSound, IsSoundIn}
+use Rattle.lapd_states.specs.Spoken.{AreShort}
 use Rattle.lapd_states.specs.Table.{row, by_state, step}
 use Rattle.lapd_states.specs.TimerRecovery.{timer_recovery}
-use Rattle.lapd_states.proofs.KeptByStep.{step_keeps_parameters}
+use Rattle.lapd_states.proofs.KeptByStep.{step_keeps_parameters, step_is_short}
 use Rattle.lapd_states.proofs.Soundness.{sound_step}
 use Rattle.lapd_machine.specs.declared.machine.Machine.{Machine}
 use Rattle.lapd_machine.specs.Sent.{sent_in_state, IsBetweenSteps}
@@ -124,8 +128,30 @@ within_of AwaitingRelease e h = h.within
 within_of MultipleFrameEstablished e h = h.within
 within_of TimerRecovery e h = h.within
 
-between_of : (m : Machine) (outs : List Out) (s : StepState) → StandsFor m outs s → s.end.parameters.k ≤ 127 → IsSound Tagged s.end → IsBetweenSteps m
-between_of m outs s h small sound =
+-- all messages that are sent are outstanding
+pub is_sound : (m : Machine) → IsBetweenSteps m → IsSound Tagged (end_of m)
+is_sound m between = sound_from m.state (end_of m) (omega (arith, between.sent)) between.within
+
+-- ---- Messages of up to N201 octets.
+
+pub are_short : (messages : List (List ℕ)) → All (λ message. length message ≤ n201) messages → AreShort messages
+are_short [] h = tt
+are_short (message ∷ messages) h = (All-head (λ message. length message ≤ n201) message messages h, are_short messages (All-tail (λ message. length message ≤ n201) message messages h))
+
+all_short : (messages : List (List ℕ)) → AreShort messages → All (λ message. length message ≤ n201) messages
+all_short [] h = All-nil (λ message. length message ≤ n201)
+all_short (message ∷ messages) h = All-cons (λ message. length message ≤ n201) message messages h.0 (all_short messages h.1)
+
+-- those behind some of short messages are short
+pub short_behind : (n : ℕ) (messages : List (List ℕ)) → AreShort messages → AreShort (drop n messages)
+short_behind zero messages h = h
+short_behind (suc n) [] h = h
+short_behind (suc n) (message ∷ messages) h = short_behind n messages h.1
+
+-- ---- A machine between two steps.
+
+between_of : (m : Machine) (outs : List Out) (s : StepState) → StandsFor m outs s → s.end.parameters.k ≤ 127 → IsSound Tagged s.end → AreTags m.window → AreShort s.end.given → IsBetweenSteps m
+between_of m outs s h small sound numbers short =
     let there = sound_to s.end.state s.end sound in
     let same = same_sent s.end.state m.state s.end.layer3_initiated m.layer3_initiated s.end.release_pending m.release_pending s.end.window m.window h.state h.layer3_initiated h.release_pending h.window in
     let Room : Parameters → Type 0 = λ p. p.room ≡ m.queue.room in
@@ -135,15 +161,17 @@ between_of m outs s h small sound =
       within = omega (arith, within_of s.end.state s.end sound, h.queue.next_is, h.queue.within, tail_waiting _ _ _ _ h.queue);
       room = subst Room h.parameters h.room;
       few = subst Few h.parameters small;
+      numbers = numbers;
+      short = all_short m.queue.messages (subst AreShort h.queue.messages (short_behind s.end.first s.end.given short));
     }
 
 -- so a step keeps it
 pub stays_between : (input : Input) (m n : Machine) (outs : List Out) (s : StepState) → IsBetweenSteps m
-    → step Tagged input (end_of m) ≡ Ok s → StandsFor n outs s → IsBetweenSteps n
-stays_between input m n outs s between done stands =
-    let sound = sound_from m.state (end_of m) (omega (arith, between.sent)) between.within in
+    → step Tagged input (end_of m) ≡ Ok s → StandsFor n outs s → AreTags n.window → IsBetweenSteps n
+stays_between input m n outs s between done stands numbers =
     let Few : Parameters → Type 0 = λ p. p.k ≤ 127 in
-    between_of n outs s stands (subst Few (sym (step_keeps_parameters Tagged input (end_of m) s done)) between.few) (sound_step Tagged input (end_of m) s between.few sound done)
+    between_of n outs s stands (subst Few (sym (step_keeps_parameters Tagged input (end_of m) s done)) between.few) (sound_step Tagged input (end_of m) s between.few (is_sound m between) done)
+    numbers (step_is_short Tagged input (end_of m) s (are_short m.queue.messages between.short) done)
 
 -- ---- A step by whether it is refused.
 

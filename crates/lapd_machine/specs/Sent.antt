@@ -1,7 +1,10 @@
--- What a machine keeps between two steps: how many messages are sent, the room of its queue, and the bound of its window.
+-- What a machine keeps between two steps: how many messages are sent, the room of its queue, the bound of its window, that
+-- it counts by tags, and that no message is longer than a frame carries.
 use Rattle.std.specs.Prelude.{◌≡◌, ◌≤◌, ℕ, Bool, true, false, length}
+use Rattle.std.specs.List.{All}
+use Rattle.lapd_frame.specs.Frame.{n201}
 use Rattle.lapd_mod128.specs.Counting.{Tagged}
-use Rattle.lapd_supervision.specs.StateVariables.{StateVariables, outstanding, is_valid_nr, with_va, acknowledged_count, acknowledges_all}
+use Rattle.lapd_supervision.specs.StateVariables.{StateVariables, AreTags, outstanding, is_valid_nr, with_va, acknowledged_count, acknowledges_all}
 use Rattle.lapd_supervision.specs.declared.advance.Advance.{Advance}
 use Rattle.lapd_states.specs.declared.state.State.{State}
 use Rattle.lapd_states.specs.declared.state.State.TheVariants.{TeiAssigned, AwaitingEstablishment, AwaitingRelease, MultipleFrameEstablished, TimerRecovery}
@@ -27,6 +30,8 @@ pub record IsBetweenSteps (m : Machine) : Type 0 where
   pub within : m.queue.sent ≤ length m.queue.messages
   pub room : m.params.room ≡ m.queue.room
   pub few : m.params.k ≤ 127
+  pub numbers : AreTags m.window
+  pub short : All (λ message. length message ≤ n201) m.queue.messages
 
 -- What a valid N(R) leaves of the window, and what it acknowledges.
 pub record IsTaken (nr : ℕ) (before : StateVariables) (taken : StateVariables × Advance) : Type 0 where

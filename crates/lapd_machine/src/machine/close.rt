@@ -3,7 +3,7 @@
 ghost use Rattle.std.specs.Prelude.{◌≡◌, ◌≤◌, ◌<◌, ◌+◌, List, true, length};
 ghost use Rattle.arrayvec.specs.ArrayVec.{array_vec_len};
 ghost use Rattle.lapd_mod128.specs.Counting.{Tagged};
-ghost use Rattle.lapd_supervision.specs.StateVariables.{outstanding};
+ghost use Rattle.lapd_supervision.specs.StateVariables.{outstanding, AreTags};
 ghost use Rattle.lapd_states.specs.declared.out.Out.{Out};
 ghost use Rattle.lapd_states.specs.Close.{may_send_next, is_established, is_7_or_8, acknowledge_pending, close};
 ghost use Rattle.lapd_states.specs.End.{StepState, unsent};
@@ -22,9 +22,11 @@ impl Machine {
     pub fn close(&mut self, outs: &mut Outs)
         requires room { array_vec_len outs.old ≤ 6 }
         ensures step { Does self.old outs.old self.new outs.new (close Tagged) }
+        ensures numbers { AreTags self.new.window }
     {
         self.send_all(outs);
         self.acknowledge_pending(outs);
+        self.counts_by_tags();
     }
 
     /// Messages go out, in state 7, while the window is open.
@@ -59,6 +61,14 @@ impl Machine {
         if self.is_7_or_8() && self.window.ack_pending() {
             self.transmit_rr(outs);
         }
+    }
+
+    /// V(S), V(A) and V(R) are tags (Q.921 3.5.2.1), as their type says. It does nothing when it is called.
+    #[inline(always)]
+    fn counts_by_tags(&self)
+        ensures { AreTags self.now.window }
+    {
+        let _tags = (self.window.vs(), self.window.va(), self.window.vr());
     }
 
     fn is_established(&self) -> bool

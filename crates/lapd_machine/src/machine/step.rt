@@ -2,6 +2,7 @@
 
 ghost use Rattle.std.specs.Prelude.{◌≡◌, [], IfOk};
 ghost use Rattle.lapd_mod128.specs.Counting.{Tagged};
+ghost use Rattle.lapd_supervision.specs.StateVariables.{AreTags};
 ghost use Rattle.lapd_states.specs.Close.{close};
 ghost use Rattle.lapd_states.specs.End.{End, begin, new_end};
 ghost use Rattle.lapd_states.specs.Input.{input_of};
@@ -45,6 +46,7 @@ impl Machine {
         requires between { IsBetweenSteps self.old }
         ensures step { (e : End) → StandsFor self.old [] (begin e)
             → StandsFor self.new outs.new.items (close Tagged (row Tagged e.state (input_of event.entry) (begin e))) }
+        ensures numbers { AreTags self.new.window }
     {
         self.row(event, outs);
         self.close(outs);
