@@ -1,1 +1,2 @@
 pub use Rattle.lapd_machine.proofs.BetweenSteps
+pub mod Frames

@@ -10,11 +10,13 @@ pub use Rattle.lapd_queue.specs.Waiting
 pub use Rattle.lapd_states.specs.Close
 pub use Rattle.lapd_states.specs.End
 pub use Rattle.lapd_states.specs.Input
+pub use Rattle.lapd_states.specs.Numbers
 pub use Rattle.lapd_states.specs.Out
 pub use Rattle.lapd_states.specs.Parameters
 pub use Rattle.lapd_states.specs.Procedures
 pub use Rattle.lapd_states.specs.Refusal
 pub use Rattle.lapd_states.specs.Sound
+pub use Rattle.lapd_states.specs.Spoken
 pub use Rattle.lapd_states.specs.State
 pub use Rattle.lapd_states.specs.Table
 pub use Rattle.lapd_supervision.specs.StateVariables

@@ -1,19 +1,42 @@
--- What an output puts on the line (Q.921 2.1 to 2.5, 4.1): a frame with the link's SAPI and TEI.
-use Rattle.std.specs.Prelude.{ℕ, false, List, [], length, slice_get, Option, Some, None}
+-- What an output puts on the line (Q.921 2.1 to 2.5, 4.1): a frame with the link's SAPI and TEI. Each output that is sent has
+-- one.
+use Rattle.std.specs.Prelude.{◌≡◌, ◌≤◌, ℕ, false, List, [], length, drop, get_or, slice_get, Option, Some, None}
+use Rattle.std.specs.List.{All}
 use Rattle.std.specs.Result.{result_ok}
 use Rattle.lapd_frame.specs.declared.Role.{Role}
 use Rattle.lapd_frame.specs.declared.Role.TheVariants.{Command}
 use Rattle.lapd_frame.specs.declared.Address.{Address}
 use Rattle.lapd_frame.specs.declared.Control.{Control}
 use Rattle.lapd_frame.specs.declared.Control.TheVariants.{Ui}
-use Rattle.lapd_frame.specs.Frame.{Fields, content_fault, frame_of}
+use Rattle.lapd_frame.specs.Frame.{Fields, n201, content_fault, frame_of}
+use Rattle.lapd_mod128.specs.Counting.{Tagged}
 use Rattle.lapd_states.specs.declared.out.Out.{Out}
 use Rattle.lapd_states.specs.declared.out.Out.TheVariants as out
-use Rattle.lapd_link.specs.Link.{Setup}
+use Rattle.lapd_states.specs.End.{End}
+use Rattle.lapd_states.specs.Numbers.{AreNumbers}
+use Rattle.lapd_states.specs.Sound.{IsSound}
+use Rattle.lapd_states.specs.Spoken.{AreShort}
+use Rattle.lapd_link.specs.Link.{LinkStandsFor, Setup, setup_of}
+use Rattle.lapd_link.specs.declared.link.Link.{Link}
 
 -- the link's address, in a command or a response
 abbrev pub link_address : Setup → Role → Address
 link_address setup role = record { sapi = setup.sapi; tei = setup.tei; role = role }
+
+-- the parts of a frame of the link
+abbrev pub link_parts : Setup → Role → Control → List ℕ → Fields
+link_parts setup role control info = record { address = link_address setup role; control = control; info = info }
+
+-- The frame of each output that is sent, and none of any other: `messages` are those that are neither acknowledged nor dropped
+-- after the step, and `handed` are the octets of the unit data that was just handed in.
+abbrev pub sent_frame : Setup → List (List ℕ) → List ℕ → Out → Option Fields
+sent_frame setup messages handed (out.Send role control) = Some (link_parts setup role control [])
+sent_frame setup messages handed (out.SendMessage place control) =
+    Some (link_parts setup Command control (get_or messages place []))
+sent_frame setup messages handed out.SendUnit = Some (link_parts setup Command (Ui false) handed)
+sent_frame setup messages handed other = None
+
+-- ---- What is made of any output.
 
 -- the frame of these parts, where the control table has it (Q.921 Table 5)
 abbrev pub link_frame : Setup → Role → Control → List ℕ → Option Fields
@@ -24,10 +47,29 @@ abbrev pub message_frame : Setup → Control → Option (List ℕ) → Option Fi
 message_frame setup control None = None
 message_frame setup control (Some message) = link_frame setup Command control message
 
--- The frame of an output: `messages` are those that are neither acknowledged nor dropped after the step, and `handed` are
--- the octets of the unit data that was just handed in.
-abbrev pub sent_frame : Setup → List (List ℕ) → List ℕ → Out → Option Fields
-sent_frame setup messages handed (out.Send role control) = link_frame setup role control []
-sent_frame setup messages handed (out.SendMessage place control) = message_frame setup control (slice_get messages place)
-sent_frame setup messages handed out.SendUnit = link_frame setup Command (Ui false) handed
-sent_frame setup messages handed other = None
+-- the frame that is made of an output: none also where its message is not there, or its parts are no frame
+abbrev pub made_frame : Setup → List (List ℕ) → List ℕ → Out → Option Fields
+made_frame setup messages handed (out.Send role control) = link_frame setup role control []
+made_frame setup messages handed (out.SendMessage place control) = message_frame setup control (slice_get messages place)
+made_frame setup messages handed out.SendUnit = link_frame setup Command (Ui false) handed
+made_frame setup messages handed other = None
+
+-- ---- The outputs of a step.
+
+-- The frame of each of these outputs is made of it: its message is there, and its parts are a frame. So it is whatever was
+-- handed in, of up to N201 octets.
+abbrev pub HaveFrames : Setup → List (List ℕ) → List Out → Type 0
+HaveFrames setup messages outs = (handed : List ℕ) → length handed ≤ n201
+    → All (λ output. made_frame setup messages handed output ≡ sent_frame setup messages handed output) outs
+
+-- a link has them, after the step that gave these outputs
+abbrev pub HasFramesOf : Link → List Out → Type 0
+HasFramesOf link outs = (e : End) → LinkStandsFor link e → HaveFrames (setup_of link) (drop e.first e.given) outs
+
+-- What an end keeps from step to step, so that the outputs of each have their frames: its window has at most 127 places, its
+-- sent messages are outstanding, its numbers are tags, and its messages have at most N201 octets.
+pub record KeepsFrames (e : End) : Type 0 where
+  pub few : e.parameters.k ≤ 127
+  pub sound : IsSound Tagged e
+  pub numbers : AreNumbers Tagged e.window
+  pub short : AreShort e.given

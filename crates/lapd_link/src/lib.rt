@@ -6,6 +6,7 @@
 //! and what is to be sent, started or told to layer 3 is handed out.
 #![tactic(auto)]
 
+mod laws;
 mod link;
 mod sent_frame;
 
@@ -17,4 +18,5 @@ pub use lapd_queue::IQueue;
 pub use lapd_states::{Event, Letter, LinkFault, Out, Params, Recovery, Refused, State};
 pub use lapd_supervision::{Seq, Window};
 pub use lapd_timers::Timer;
+pub use laws::sent_outputs_have_frames;
 pub use link::Link;

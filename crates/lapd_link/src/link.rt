@@ -38,6 +38,7 @@ impl Link {
     ghost use Rattle.lapd_states.specs.Input.{input_of, Give};
     ghost use Rattle.lapd_states.specs.Refusal.{refused};
     ghost use Rattle.lapd_link.specs.Link.{LinkStandsFor, Setup, setup_of, Steps, Refuses, IsForLink, is_address_of};
+    ghost use Rattle.lapd_link.specs.SentFrame.{HasFramesOf};
 
     /// A link in state 4, of this side, for `sapi` (not management) and `tei` (not the group TEI). It takes the memory
     /// of its I queue.
@@ -79,6 +80,7 @@ impl Link {
     pub fn handle(&mut self, event: Event) -> Result<Outs, LinkFault>
         requires for_link { IsForLink self.old event }
         ensures ok { IfOk result (λ outs. Steps self.old self.new (input_of event.entry) outs.items) }
+        ensures frames { IfOk result (λ outs. HasFramesOf self.new outs.items) }
         ensures err { IfErr result (Refuses self.old (input_of event.entry)) }
         ensures unchanged { OnErr result (self.new ≡ self.old) }
         ensures setup { setup_of self.new ≡ setup_of self.old }
@@ -97,6 +99,7 @@ impl Link {
     pub fn handle_into(&mut self, event: Event, outs: &mut Outs) -> Result<(), LinkFault>
         requires for_link { IsForLink self.old event }
         ensures ok { OnOk result (Steps self.old self.new (input_of event.entry) outs.new.items) }
+        ensures frames { OnOk result (HasFramesOf self.new outs.new.items) }
         ensures err { IfErr result (Refuses self.old (input_of event.entry)) }
         ensures unchanged { OnErr result (self.new ≡ self.old) }
         ensures empty { OnErr result (outs.new.items ≡ []) }
@@ -122,6 +125,7 @@ impl Link {
     /// back, and the link is unchanged.
     pub fn give(&mut self, message: Vec<u8>) -> Result<Outs, Refused>
         ensures ok { IfOk result (λ outs. Steps self.old self.new (Give message.items) outs.items) }
+        ensures frames { IfOk result (λ outs. HasFramesOf self.new outs.items) }
         ensures err { IfErr result (λ refused. (refused.message ≡ message) × Refuses self.old (Give message.items) refused.fault) }
         ensures unchanged { OnErr result (self.new ≡ self.old) }
         ensures setup { setup_of self.new ≡ setup_of self.old }
@@ -139,6 +143,7 @@ impl Link {
     #[inline(always)]
     pub fn give_into(&mut self, message: Vec<u8>, outs: &mut Outs) -> Result<(), Refused>
         ensures ok { OnOk result (Steps self.old self.new (Give message.items) outs.new.items) }
+        ensures frames { OnOk result (HasFramesOf self.new outs.new.items) }
         ensures err { IfErr result (λ refused. (refused.message ≡ message) × Refuses self.old (Give message.items) refused.fault) }
         ensures unchanged { OnErr result (self.new ≡ self.old) }
         ensures empty { OnErr result (outs.new.items ≡ []) }

@@ -3,7 +3,7 @@
 ghost use Rattle.std.specs.Prelude.{◌≡◌, drop, slice_get};
 ghost use Rattle.lapd_states.specs.End.{End};
 ghost use Rattle.lapd_link.specs.Link.{LinkStandsFor, setup_of};
-ghost use Rattle.lapd_link.specs.SentFrame.{link_frame, message_frame, sent_frame};
+ghost use Rattle.lapd_link.specs.SentFrame.{link_frame, message_frame, made_frame};
 
 use crate::Link;
 use lapd_frame::{Address, Control, Frame, Role};
@@ -14,15 +14,17 @@ impl Link {
     /// sends it. `handed` are the octets of the unit data that was handed in (no octets for any other event). It borrows
     /// its information, and nothing is copied.
     ///
+    /// Each output of the last step that is sent has its frame, as long as `handed` are at most 260 octets.
+    ///
     /// - `Send`: of this role and control field, without information.
     /// - `SendMessage`: the I command with the message at this place of the queue (Q.921 5.6.1).
     /// - `SendUnit`: the UI command with P=0 and the octets handed in (Q.921 5.2).
     ///
-    /// `None` for an output that is no frame, and for parts that are no frame of the control table (Q.921 Table 5): the
-    /// wrong role, more than 260 octets, a place where no message is.
+    /// `None` for an output that is not sent. One that is not of the last step has none either where its parts are no frame
+    /// of the control table (Q.921 Table 5): the wrong role, more than 260 octets, a place where no message is.
     #[inline(always)]
     pub fn frame<'a>(&'a self, out: &Out, handed: &'a [u8]) -> Option<Frame<'a>>
-        ensures { (e : End) → LinkStandsFor self.now e → result ≡ sent_frame (setup_of self.now) (drop e.first e.given) handed.now out.now }
+        ensures { (e : End) → LinkStandsFor self.now e → result ≡ made_frame (setup_of self.now) (drop e.first e.given) handed.now out.now }
     {
         match out {
             Out::Send(role, control) => self.frame_with(*role, *control, &[]),
