@@ -1,13 +1,17 @@
 -- What a step of one link makes of all links of a side.
-use Rattle.std.proofs.Common.{◌≡◌, ◌≢◌, ℕ, List, ◌++◌, [], map, Bool, true, false, Option, Some, None, Result, Err, option_map, option_copied, Bor, rules, refl, sym, ap, subst, ◌∙◌}
+use Rattle.std.proofs.Common.{◌≡◌, ◌≢◌, ◌≤◌, ℕ, List, ◌∷◌, ◌++◌, [], drop, length, map, Bool, true, false, Option, Some, None, Result, Err, option_map, option_copied, Bor, rules, refl, sym, ap, subst, ◌∙◌, arith}
 use Rattle.std.specs.Prelude.{IsSomeAnd, IfSome, if◌then◌else◌}
-use Rattle.std.specs.List.{filter_map}
+use Rattle.std.proofs.lemmas.List.Elements.{All-head, All-tail}
+use Rattle.std.specs.List.{All, cons_option, filter_map}
 use Rattle.std.specs.Cmp.Rules.{comparing}
 use Rattle.lapd_timers.specs.declared.timer.Timer.{Timer}
 use Rattle.lapd_timers.specs.Due.{Timers, deadline_of}
 use Rattle.lapd_frame.specs.declared.Side.{Side}
 use Rattle.lapd_mod128.specs.Counting.{Tagged}
-use Rattle.lapd_link.specs.Link.{LinkStandsFor, Refuses}
+use Rattle.lapd_frame.specs.Frame.{Fields, n201, spelling}
+use Rattle.lapd_link.specs.Link.{LinkStandsFor, Setup, setup_of, Refuses}
+use Rattle.lapd_link.specs.SentFrame.{made_frame, sent_frame, HasFramesOf}
+use Rattle.lapd_link.proofs.Frames.{frames_of_link}
 use Rattle.lapd_link.specs.declared.link.Link.{Link}
 use Rattle.lapd_states.specs.declared.event.LinkFault.{LinkFault}
 use Rattle.lapd_states.specs.declared.out.Out.{Out}
@@ -19,6 +23,7 @@ use Rattle.lapd_table.specs.LinkId.{id_eq, setup_for}
 use Rattle.lapd_table.specs.LinkTable.{link_at, side_of, StepsAt, RefusesAt}
 use Rattle.lapd_table.specs.declared.link_table.LinkTable.{LinkTable}
 use Rattle.lapd_table.proofs.Ids.{same_id_eq}
+use Rattle.lapd_table.proofs.Tables.{setup_at}
 use Rattle.lapd_links.specs.declared.expiry.Expiry.{Expiry as Due}
 use Rattle.lapd_links.specs.declared.links.LinkSet.{LinkSet}
 use Rattle.lapd_links.specs.declared.primitive.Primitive.TheVariants.{Of}
@@ -29,7 +34,7 @@ use Rattle.lapd_links.specs.Links.{Links, Linked, Acted, acted, link_acts, link_
 use Rattle.lapd_links.specs.Expiries.{IsFirst, IsPast, of_links}
 use Rattle.lapd_links.specs.Places.{AreAtRest}
 use Rattle.lapd_links.specs.Placed.{of_places}
-use Rattle.lapd_links.specs.Shown.{timers_at, IsLinked, ShowLinks, HaveActed}
+use Rattle.lapd_links.specs.Shown.{timers_at, made_by, IsLinked, ShowLinks, HaveActed}
 use Rattle.lapd_links.proofs.Dues.{same_past}
 
 -- ---- No link is there.
@@ -101,16 +106,31 @@ same_effects a frames primitives f p = rw (sym f, sym p) refl
 id_eq_self : (a : LinkId) → id_eq a a ≡ true
 id_eq_self a = search (comparing, rules)
 
+-- what is made of the outputs of a step is what is sent
+same_octets : (setup : Setup) (e : End) (octets : List ℕ) (outs : List Out) → All (λ output. made_frame setup (drop e.first e.given) octets output ≡ sent_frame setup (drop e.first e.given) octets output) outs
+    → filter_map (made_by setup e octets) outs ≡ filter_map (sent_by setup e octets) outs
+same_octets setup e octets [] h = refl
+same_octets setup e octets (output ∷ outs) h =
+    let P : Out → Type 0 = λ output. made_frame setup (drop e.first e.given) octets output ≡ sent_frame setup (drop e.first e.given) octets output in
+    ap (λ (f : Option Fields). cons_option (option_map (spelling setup.side) f) (filter_map (made_by setup e octets) outs)) (All-head P output outs h)
+    ∙ ap (cons_option (sent_by setup e octets output)) (same_octets setup e octets outs (All-tail P output outs h))
+
+frames_are_sent : (table : LinkTable) (id : LinkId) (link : Link) (e : End) (octets : List ℕ) (outs : List Out) → HasFramesOf link outs → link_at table id ≡ Some link → LinkStandsFor link e → length octets ≤ n201
+    → filter_map (made_by (setup_for (side_of table) id) e octets) outs ≡ filter_map (sent_by (setup_for (side_of table) id) e octets) outs
+frames_are_sent table id link e octets outs has there stands fits =
+    subst (λ (setup : Setup). filter_map (made_by setup e octets) outs ≡ filter_map (sent_by setup e octets) outs) (setup_at table id link there) (same_octets (setup_of link) e octets outs (has e stands octets fits))
+
 -- All that is left of a step: the table does it, the timers follow, and what it gives is told.
 have_done : (side : Side) (old new : LinkSet) (table : LinkTable) (links : Links) (id : LinkId) (now : ℕ) (input : Input) (octets : List ℕ) (change : Timers → Timers) (outs : List Out) (told told_after : Effects)
     → StepsAt old.table table id input outs → new.table ≡ table
     → timers_at new.timings id ≡ option_map (timed now outs) (option_map change (timers_at old.timings id))
     → ((other : LinkId) → other ≢ id → timers_at new.timings other ≡ timers_at old.timings other)
-    → ((link : Link) (e : End) → link_at table id ≡ Some link → LinkStandsFor link e → told_after.frames ≡ told.frames ++ filter_map (sent_by (setup_for (side_of table) id) e octets) outs)
+    → ((link : Link) (e : End) → link_at table id ≡ Some link → LinkStandsFor link e → told_after.frames ≡ told.frames ++ filter_map (made_by (setup_for (side_of table) id) e octets) outs)
     → told_after.primitives ≡ told.primitives ++ map (Of id) (filter_map (what_of octets) outs)
+    → length octets ≤ n201
     → ShowLinks side old links → HaveActed side new told told_after (in_links id (does_so side id now input octets change) links)
 unfolding in_links
-have_done side old new table links id now input octets change outs told told_after steps same_table own others frames primitives shown =
+have_done side old new table links id now input octets change outs told told_after steps same_table own others frames primitives fits shown =
     let x = shown_linked steps.before (timers_at old.timings id) (links id) (subst (λ (found : Option Link). IsLinked found (timers_at old.timings id) (links id)) steps.was (shown.each id)) in
     let done = steps.steps x.linked.end x.stands in
     let s = done.0 in
@@ -124,7 +144,9 @@ have_done side old new table links id now input octets change outs told told_aft
     own ∙ ap (λ (t : Option Timers). option_map (timed now outs) (option_map change t)) x.timers ∙ ap (λ (o : List Out). Some (timed now o (change x.linked.timers))) (sym same) in
     let of_side : side_of table ≡ side = steps.changes.side ∙ shown.of_side in
     let told_frames : told_after.frames ≡ told.frames ++ filter_map (sent_by (setup_for side id) s.end octets) s.outs =
-    frames steps.after s.end steps.changes.there stands ∙ ap (λ (k : Side). told.frames ++ filter_map (sent_by (setup_for k id) s.end octets) outs) of_side
+    frames steps.after s.end steps.changes.there stands
+    ∙ ap (λ (f : List (List ℕ)). told.frames ++ f) (frames_are_sent table id steps.after s.end octets outs (frames_of_link steps.before steps.after input outs steps.steps) steps.changes.there stands fits)
+    ∙ ap (λ (k : Side). told.frames ++ filter_map (sent_by (setup_for k id) s.end octets) outs) of_side
     ∙ ap (λ (o : List Out). told.frames ++ filter_map (sent_by (setup_for side id) s.end octets) o) (sym same) in
     let told_primitives : told_after.primitives ≡ told.primitives ++ map (Of id) (filter_map (what_of octets) s.outs) =
     primitives ∙ ap (λ (o : List Out). told.primitives ++ map (Of id) (filter_map (what_of octets) o)) (sym same) in
@@ -151,24 +173,25 @@ pub have_acted : (side : Side) (old new : LinkSet) (table : LinkTable) (links : 
     → StepsAt old.table table id input outs → new.table ≡ table
     → timers_at new.timings id ≡ option_map (timed now outs) (timers_at old.timings id)
     → ((other : LinkId) → other ≢ id → timers_at new.timings other ≡ timers_at old.timings other)
-    → ((link : Link) (e : End) → link_at table id ≡ Some link → LinkStandsFor link e → told_after.frames ≡ told.frames ++ filter_map (sent_by (setup_for (side_of table) id) e octets) outs)
+    → ((link : Link) (e : End) → link_at table id ≡ Some link → LinkStandsFor link e → told_after.frames ≡ told.frames ++ filter_map (made_by (setup_for (side_of table) id) e octets) outs)
     → told_after.primitives ≡ told.primitives ++ map (Of id) (filter_map (what_of octets) outs)
+    → length octets ≤ n201
     → ShowLinks side old links → HaveActed side new told told_after (in_links id (link_acts side id now input octets) links)
 unfolding link_acts
-have_acted side old new table links id now input octets outs told told_after steps same_table own others frames primitives shown =
-    have_done side old new table links id now input octets (λ (s : Timers). s) outs told told_after steps same_table (own ∙ ap (option_map (timed now outs)) (unchanged_timers (timers_at old.timings id))) others frames primitives shown
+have_acted side old new table links id now input octets outs told told_after steps same_table own others frames primitives fits shown =
+    have_done side old new table links id now input octets (λ (s : Timers). s) outs told told_after steps same_table (own ∙ ap (option_map (timed now outs)) (unchanged_timers (timers_at old.timings id))) others frames primitives fits shown
 
 -- the same after an expiry: the timer was stopped before
 pub have_expired : (side : Side) (old new : LinkSet) (table : LinkTable) (links : Links) (id : LinkId) (now : ℕ) (timer : Timer) (middle : Option Timers) (outs : List Out) (told told_after : Effects)
     → StepsAt old.table table id (Expiry timer) outs → new.table ≡ table
     → middle ≡ option_map (stopped timer) (timers_at old.timings id) → timers_at new.timings id ≡ option_map (timed now outs) middle
     → ((other : LinkId) → other ≢ id → timers_at new.timings other ≡ timers_at old.timings other)
-    → ((link : Link) (e : End) → link_at table id ≡ Some link → LinkStandsFor link e → told_after.frames ≡ told.frames ++ filter_map (sent_by (setup_for (side_of table) id) e []) outs)
+    → ((link : Link) (e : End) → link_at table id ≡ Some link → LinkStandsFor link e → told_after.frames ≡ told.frames ++ filter_map (made_by (setup_for (side_of table) id) e []) outs)
     → told_after.primitives ≡ told.primitives ++ map (Of id) (filter_map (what_of []) outs)
     → ShowLinks side old links → HaveActed side new told told_after (in_links id (link_expires side id now timer) links)
 unfolding link_acts link_expires
 have_expired side old new table links id now timer middle outs told told_after steps same_table stop own others frames primitives shown =
-    have_done side old new table links id now (Expiry timer) [] (stopped timer) outs told told_after steps same_table (own ∙ ap (option_map (timed now outs)) stop) others frames primitives shown
+    have_done side old new table links id now (Expiry timer) [] (stopped timer) outs told told_after steps same_table (own ∙ ap (option_map (timed now outs)) stop) others frames primitives (omega arith) shown
 
 -- a search that found none
 pub absent_of : (found : Option (Bor Link)) (link : Option Link) → option_copied found ≡ link → found ≡ None → link ≡ None

@@ -58,8 +58,8 @@ what_of octets (out.Dropped n) = Some (what.Dropped n)
 what_of octets (out.Report letter) = Some (what.Report letter)
 what_of octets other = None
 
--- The octets that an output of such a link puts on the line, after a step that ended in `e`; `octets` are the unit data
--- handed in.
+-- The octets that an output of such a link puts on the line, after a step that ended in `e`, and none of an output that is
+-- not sent; `octets` are the unit data handed in.
 abbrev pub sent_by : Setup → End → List ℕ → Out → Option (List ℕ)
 sent_by setup e octets output = option_map (spelling setup.side) (sent_frame setup (drop e.first e.given) octets output)
 

@@ -1,9 +1,12 @@
 -- How the links of a side in code show those of the definition.
-use Rattle.std.specs.Prelude.{◌≡◌, Option, Some, None, IfSome, Result, Ok}
+use Rattle.std.specs.Prelude.{◌≡◌, ℕ, List, drop, Option, Some, None, option_map, IfSome, Result, Ok}
 use Rattle.lapd_timers.specs.Due.{Timers}
 use Rattle.lapd_frame.specs.declared.Side.{Side}
-use Rattle.lapd_link.specs.Link.{LinkStandsFor}
+use Rattle.lapd_frame.specs.Frame.{spelling}
+use Rattle.lapd_link.specs.Link.{LinkStandsFor, Setup}
+use Rattle.lapd_link.specs.SentFrame.{made_frame}
 use Rattle.lapd_link.specs.declared.link.Link.{Link}
+use Rattle.lapd_states.specs.declared.out.Out.{Out}
 use Rattle.lapd_states.specs.End.{End}
 use Rattle.lapd_table.specs.declared.link_id.LinkId.{LinkId}
 use Rattle.lapd_table.specs.declared.link_table.LinkTable.{LinkTable}
@@ -25,6 +28,10 @@ pub record StandsAt (table : LinkTable) (id : LinkId) (e : End) : Type 0 where
   pub link : Link
   pub there : link_at table id ≡ Some link
   pub stands : LinkStandsFor link e
+
+-- the octets that are made of an output of this link, after a step that ended in `e`
+abbrev pub made_by : Setup → End → List ℕ → Out → Option (List ℕ)
+made_by setup e octets output = option_map (spelling setup.side) (made_frame setup (drop e.first e.given) octets output)
 
 -- a link with its timers; or no link, and no timer that runs in its place
 abbrev pub IsLinked : Option Link → Option Timers → Option Linked → Type 0

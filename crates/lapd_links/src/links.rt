@@ -14,7 +14,7 @@ ghost use Rattle.lapd_table.specs.declared.link_id.LinkId.{LinkId};
 ghost use Rattle.lapd_table.specs.LinkTable.{link_at, side_of, IsFor};
 ghost use Rattle.lapd_table.specs.LinkId.{setup_for};
 ghost use Rattle.lapd_links.specs.declared.primitive.Primitive.TheVariants.{Of};
-ghost use Rattle.lapd_links.specs.Effects.{timed, what_of, sent_by};
+ghost use Rattle.lapd_links.specs.Effects.{timed, what_of};
 ghost use Rattle.lapd_links.specs.Expiries.{IsFirst, IsPast, IsTimerOf, of_links};
 ghost use Rattle.lapd_links.specs.Links.{Links, IsOfLink, no_links, of_sapi, with_link, with_tei, without_tei, new_linked, parting, parting_of, told_at_parting, told_of_tei, links_of_held, in_links, link_acts, link_expires};
 
@@ -39,7 +39,7 @@ pub struct LinkSet {
 }
 
 impl LinkSet {
-    ghost use Rattle.lapd_links.specs.Shown.{timers_at, ShowLinks, HaveActed};
+    ghost use Rattle.lapd_links.specs.Shown.{timers_at, made_by, ShowLinks, HaveActed};
 
     /// No links, with room for the timers of all that may come. That room is taken here.
     ///
@@ -191,7 +191,7 @@ impl LinkSet {
         requires frame_room { length acts.old.frames ≤ 144 }
         requires primitive_room { length acts.old.primitives ≤ 144 }
         ensures frames { (link : Link) (e : End) → link_at self.old.table id ≡ Some link → LinkStandsFor link e
-            → acts.new.frames ≡ acts.old.frames ++ filter_map (sent_by (setup_for (side_of self.old.table) id) e octets.now) self.old.outs.items }
+            → acts.new.frames ≡ acts.old.frames ++ filter_map (made_by (setup_for (side_of self.old.table) id) e octets.now) self.old.outs.items }
         ensures primitives { acts.new.primitives ≡ acts.old.primitives ++ map (Of id) (filter_map (what_of octets.now) self.old.outs.items) }
         ensures most_frames { length acts.new.frames ≤ length acts.old.frames + 136 }
         ensures most_primitives { length acts.new.primitives ≤ length acts.old.primitives + 136 }

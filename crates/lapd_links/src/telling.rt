@@ -4,13 +4,13 @@ ghost use Rattle.std.specs.Prelude.{◌≡◌, ◌≤◌, ◌+◌, ◌++◌, len
 ghost use Rattle.std.specs.List.{filter_map};
 ghost use Rattle.lapd_link.specs.Link.{LinkStandsFor};
 ghost use Rattle.lapd_link.specs.declared.link.Link.{Link};
-ghost use Rattle.lapd_link.specs.SentFrame.{sent_frame, link_frame};
+ghost use Rattle.lapd_link.specs.SentFrame.{made_frame, link_frame};
 ghost use Rattle.lapd_table.specs.LinkTable.{link_at, side_of};
 ghost use Rattle.lapd_table.specs.LinkId.{setup_for};
 ghost use Rattle.lapd_states.specs.End.{End};
 ghost use Rattle.lapd_links.specs.declared.primitive.Primitive.TheVariants.{Of};
-ghost use Rattle.lapd_links.specs.Effects.{sent_by, what_of, timed};
-ghost use Rattle.lapd_links.specs.Shown.{StandsAt};
+ghost use Rattle.lapd_links.specs.Effects.{what_of, timed};
+ghost use Rattle.lapd_links.specs.Shown.{StandsAt, made_by};
 
 use crate::{Acts, Octets, Primitive, What};
 use lapd_frame::{Control, Frame, Role, Side};
@@ -23,7 +23,7 @@ use lapd_timers::TimerSet;
 pub fn put_frames(table: &LinkTable, id: &LinkId, octets: &[u8], outs: &[Out], acts: &mut Acts)
     requires room { length acts.old.frames + length outs.now ≤ 280 }
     ensures frames { (e : End) → StandsAt table.now id.now e
-        → acts.new.frames ≡ acts.old.frames ++ filter_map (sent_by (setup_for (side_of table.now) id.now) e octets.now) outs.now }
+        → acts.new.frames ≡ acts.old.frames ++ filter_map (made_by (setup_for (side_of table.now) id.now) e octets.now) outs.now }
     ensures primitives { acts.new.primitives ≡ acts.old.primitives }
     ensures at_most { length acts.new.frames ≤ length acts.old.frames + length outs.now }
 {
@@ -38,7 +38,7 @@ pub fn put_frames(table: &LinkTable, id: &LinkId, octets: &[u8], outs: &[Out], a
 #[inline(always)]
 fn frame_of<'a>(table: &'a LinkTable, id: &LinkId, out: &Out, octets: &'a [u8]) -> Option<Frame<'a>>
     ensures { (e : End) → StandsAt table.now id.now e
-        → result ≡ sent_frame (setup_for (side_of table.now) id.now) (drop e.first e.given) octets.now out.now }
+        → result ≡ made_frame (setup_for (side_of table.now) id.now) (drop e.first e.given) octets.now out.now }
 {
     match out {
         Out::Send(role, control) => frame_with(id, *role, *control, &[]),
@@ -56,7 +56,7 @@ fn frame_of_link<'a>(
     octets: &'a [u8],
 ) -> Option<Frame<'a>>
     ensures { (link : Link) (e : End) → link_at table.now id.now ≡ Some link → LinkStandsFor link e
-        → result ≡ sent_frame (setup_for (side_of table.now) id.now) (drop e.first e.given) octets.now out.now }
+        → result ≡ made_frame (setup_for (side_of table.now) id.now) (drop e.first e.given) octets.now out.now }
 {
     let Some(link) = table.link(*id) else {
         return None;

@@ -1,4 +1,4 @@
-use Rattle.std.proofs.Common.{[], Err, sym, ap, ◌∙◌}
+use Rattle.std.proofs.Common.{[], Err, sym, ap, ◌∙◌, arith}
 use Rattle.lapd_states.specs.Input.{Give}
 use Rattle.lapd_table.specs.LinkTable.{link_at}
 use Rattle.lapd_links.proofs.Acting.{no_link, refuses, have_acted, absent_of}
@@ -11,7 +11,7 @@ returns-in_default-clause-err c = λ side links shown.
 pub returns-in-Ok-clause-ok : goal.returns-in-Ok-clause-ok
 returns-in-Ok-clause-ok c = λ side links shown.
     have_acted side c.args.self.now c.carry_out.new.self c.give_into.new.self links c.args.id c.args.now (Give c.args.message.items) [] c.give_into.new.outs.items c.args.acts.now c.carry_out.new.acts
-    c.in-Ok.ensures.ok c.carry_out.ensures.table c.carry_out.ensures.own c.carry_out.ensures.others c.carry_out.ensures.frames c.carry_out.ensures.primitives shown
+    c.in-Ok.ensures.ok c.carry_out.ensures.table c.carry_out.ensures.own c.carry_out.ensures.others c.carry_out.ensures.frames c.carry_out.ensures.primitives (omega arith) shown
 
 pub returns-in-Err-clause-err : goal.returns-in-Err-clause-err
 returns-in-Err-clause-err c = λ side links shown.
