@@ -1,5 +1,6 @@
 pub mod Acts
 pub mod Fates
+pub mod Framed
 pub mod Lines
 pub mod Numbered
 pub mod Pairs

@@ -10,7 +10,7 @@ use Rattle.lapd_frame.specs.declared.Control.{Control}
 use Rattle.lapd_frame.specs.declared.Control.TheVariants.{Ui}
 use Rattle.lapd_frame.specs.Frame.{Fields, n201, content_fault}
 use Rattle.lapd_link.specs.Link.{Setup, setup_of}
-use Rattle.lapd_link.specs.SentFrame.{link_frame, message_frame, sent_frame}
+use Rattle.lapd_link.specs.SentFrame.{link_frame, message_frame, made_frame}
 use Rattle.lapd_states.specs.declared.out.Out.{Out}
 use Rattle.lapd_states.specs.declared.out.Out.TheVariants.{Send, SendMessage, SendUnit, Up, UnitUp, Acknowledged, Dropped}
 use Rattle.lapd_states.specs.Counts.{leaving, ups, unit_ups}
@@ -48,7 +48,7 @@ message_is side setup control found message place same is proper = rw is (frame_
 
 -- the frame that a link makes of an output is the one that is told
 pub sent_is_told : (side : Side) (e : End) (o : Occasion) (passed : ℕ) (out : Out) (rest : List Out) (setup : Setup) → setup ≡ setup_for side → AreInOrder e passed (out ∷ rest) → o.given ≡ e.given → AreShort e.given → length o.octets ≤ n201
-    → sent_frame setup (drop e.first e.given) o.octets out ≡ FrameOf (flight_of o passed out)
+    → made_frame setup (drop e.first e.given) o.octets out ≡ FrameOf (flight_of o passed out)
 sent_is_told side e o passed (Send role control) rest setup same order given short fits = frame_is side setup role control [] same order.spoken.0
 sent_is_told side e o passed (SendMessage n control) rest setup same order given short fits =
     let at : passed ≡ e.first = omega (arith, order.first, order.counted.0) in
@@ -79,20 +79,20 @@ told_apart o (Dropped n) t = refl
 told_apart o out t = refl
 
 pub sent_on : (side from : Side) (e : End) (o : Occasion) (out : Out) (rest : List Out) (s : Station) (before after : Line) (copy : Option (Vec ℕ Global)) (t : Story) (octets : List ℕ) (f : Fields)
-    → from ≡ s.link.side → sent_frame (setup_of s.link) (drop e.first e.given) octets out ≡ Some f → ((line : List Flight) (sent : Flight) → IsOn from before line → fields_of sent ≡ f → IsOn from after (with_sent (Some sent) line))
+    → from ≡ s.link.side → made_frame (setup_of s.link) (drop e.first e.given) octets out ≡ Some f → ((line : List Flight) (sent : Flight) → IsOn from before line → fields_of sent ≡ f → IsOn from after (with_sent (Some sent) line))
     → octets ≡ o.octets → IsTelling side e o (out ∷ rest) s before copy t → IsOn side after (with_sent (flight_of o t.history.passed out) t.line)
 sent_on side from e o out rest s before after copy t octets f own is shows same h =
     let frame = sent_is_told side e o t.history.passed out rest (setup_of s.link) h.setup h.order h.given h.short h.fits in
     let sends : from ≡ side = own ∙ ap (λ (setup : Setup). setup.side) h.setup in
     let Shows : Side → Type 0 = λ x. (line : List Flight) (sent : Flight) → IsOn x before line → fields_of sent ≡ f → IsOn x after (with_sent (Some sent) line) in
-    told_where side before after t.line (flight_of o t.history.passed out) f (sym frame ∙ ap (λ x. sent_frame (setup_of s.link) (drop e.first e.given) x out) (sym same) ∙ is) (λ sent are. subst Shows sends shows t.line sent h.line are)
+    told_where side before after t.line (flight_of o t.history.passed out) f (sym frame ∙ ap (λ x. made_frame (setup_of s.link) (drop e.first e.given) x out) (sym same) ∙ is) (λ sent are. subst Shows sends shows t.line sent h.line are)
 
 pub sent_nothing : (side : Side) (e : End) (o : Occasion) (out : Out) (rest : List Out) (s : Station) (before : Line) (copy : Option (Vec ℕ Global)) (t : Story) (octets : List ℕ)
-    → sent_frame (setup_of s.link) (drop e.first e.given) octets out ≡ None
+    → made_frame (setup_of s.link) (drop e.first e.given) octets out ≡ None
     → octets ≡ o.octets → IsTelling side e o (out ∷ rest) s before copy t → IsOn side before (with_sent (flight_of o t.history.passed out) t.line)
 sent_nothing side e o out rest s before copy t octets is same h =
     let frame = sent_is_told side e o t.history.passed out rest (setup_of s.link) h.setup h.order h.given h.short h.fits in
-    told_nowhere side before t.line (flight_of o t.history.passed out) (sym frame ∙ ap (λ x. sent_frame (setup_of s.link) (drop e.first e.given) x out) (sym same) ∙ is) h.line
+    told_nowhere side before t.line (flight_of o t.history.passed out) (sym frame ∙ ap (λ x. made_frame (setup_of s.link) (drop e.first e.given) x out) (sym same) ∙ is) h.line
 
 -- what an output tells to be acknowledged or dropped was given
 leaving_within : (e : End) (passed : ℕ) (out : Out) (rest : List Out) → e.first ≤ length e.given → AreInOrder e passed (out ∷ rest) → passed + leaving (out ∷ []) ≤ length e.given
