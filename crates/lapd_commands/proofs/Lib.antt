@@ -1,2 +1,3 @@
 pub mod Closed
+mod Framed
 mod Refusals

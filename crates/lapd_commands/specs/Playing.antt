@@ -1,7 +1,23 @@
--- How the command's value stands for a world.
+-- How the command's value stands for a world, and what its calls print.
+use Rattle.std.specs.Prelude.{ℕ, List, flat_map}
+use Rattle.lapd_frame.specs.declared.Side.{Side}
+use Rattle.lapd_states.specs.declared.out.Out.{Out}
+use Rattle.lapd_link.specs.SentFrame.{made_frame}
+use Rattle.lapd_pair.specs.Setup.{setup_for}
+use Rattle.lapd_world.specs.Move.{Station}
 use Rattle.lapd_commands.specs.declared.mover.Mover.{Mover}
+use Rattle.lapd_commands.specs.Answer.{messages_of}
+use Rattle.lapd_commands.specs.Pair.{frame_or_side_line, octets_for}
 use Rattle.lapd_pair.specs.Runs.{PairStandsFor}
 use Rattle.lapd_world.specs.World.{World}
 
 abbrev pub IsMover : Mover → World → Type 0
 IsMover mover w = PairStandsFor mover.pair w
+
+-- the line of an output of a side, by the frame that is made of it
+abbrev pub made_told_line : Side → Station → List ℕ → Out → List ℕ
+made_told_line side s unit output =
+    frame_or_side_line side (made_frame (setup_for side) (messages_of s.end) (octets_for s.history unit output) output) (octets_for s.history unit output) output
+
+abbrev pub made_told_lines : Side → Station → List ℕ → List Out → List ℕ
+made_told_lines side s unit outs = flat_map (made_told_line side s unit) outs

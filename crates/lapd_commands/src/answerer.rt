@@ -1,6 +1,6 @@
 //! The command `answer`: one link that answers a script.
 
-ghost use Rattle.std.specs.Prelude.{◌≡◌, ◌&&◌, [], length, true, IfOk, IfSome, IsOkUnless, OnOk, Some};
+ghost use Rattle.std.specs.Prelude.{◌≡◌, ◌≤◌, ◌&&◌, [], length, true, IfOk, IfSome, IsOkUnless, OnOk, Some};
 ghost use Rattle.std.specs.Io.KnownBytes.{Appends};
 ghost use Rattle.lapd_commands.specs.Answer.{answer_step, new_session};
 ghost use Rattle.lapd_script.specs.Script.{EndsAs, LineEndsAs, lines_of};
@@ -96,8 +96,7 @@ impl Answerer {
     ghost use Rattle.lapd_link.specs.Link.{IsForLink, is_address_of, setup_of};
     ghost use Rattle.lapd_frame.specs.declared.Address.{Address};
     ghost use Rattle.lapd_commands.specs.Answer.{Session, alone, with_octets, answer_word, hear, hear_frame, hear_fault, busy, link_step, state_line, messages_of};
-    ghost use Rattle.lapd_commands.specs.Outputs.{outs_text};
-    ghost use Rattle.lapd_commands.specs.Session.{IsAnswerer};
+    ghost use Rattle.lapd_commands.specs.Session.{IsAnswerer, IsHandedWith, made_text};
 
     /// Does what a word calls for, with the words behind it.
     fn word<W: Write>(
@@ -140,6 +139,7 @@ impl Answerer {
         out: &mut W,
     ) -> Result<(), LineFault>
         requires for_link { IsForLink self.old.link event }
+        requires handed { IsHandedWith (input_of event) [] }
         ensures { (s : Session) → IsAnswerer self.old s
             → LineEndsAs IsAnswerer (alone behind.entry (link_step s (input_of event.entry) [])) result self.new (W.contents out.old) (W.contents out.new) }
     {
@@ -182,6 +182,7 @@ impl Answerer {
 
     /// Takes a frame, if it is for this link.
     fn hear_frame<W: Write>(&mut self, frame: &Frame<'_>, out: &mut W) -> Result<(), LineFault>
+        requires fits { length frame.now.info ≤ 260 }
         ensures { (s : Session) → IsAnswerer self.old s
             → LineEndsAs IsAnswerer (Some (hear_frame s frame.now)) result self.new (W.contents out.old) (W.contents out.new) }
     {
@@ -213,6 +214,7 @@ impl Answerer {
     /// Makes a step of the link, to which these octets are handed, and prints its outputs.
     fn step<W: Write>(&mut self, event: Event, handed: &[u8], out: &mut W) -> Result<(), LineFault>
         requires for_link { IsForLink self.old.link event }
+        requires handed { IsHandedWith (input_of event) handed.now }
         ensures { (s : Session) → IsAnswerer self.old s
             → LineEndsAs IsAnswerer (Some (link_step s (input_of event.entry) handed.now)) result self.new (W.contents out.old) (W.contents out.new) }
     {
@@ -246,7 +248,7 @@ impl Answerer {
     /// Prints the outputs of the step that was just done, to which these octets were handed.
     fn put_outs<W: Write>(&self, handed: &[u8], out: &mut W) -> Result<(), LineFault>
         ensures ok { (s : Session) → IsAnswerer self.now s
-            → OnOk result (Appends (W.contents out.old) (W.contents out.new) (outs_text s.setup (messages_of s.end) handed.now self.now.outs.items)) }
+            → OnOk result (Appends (W.contents out.old) (W.contents out.new) (made_text s.setup (messages_of s.end) handed.now self.now.outs.items)) }
         ensures err { IsOkUnless result LineFault.Device }
     {
         put_outs(&self.link, handed, self.outs.as_slice(), out)

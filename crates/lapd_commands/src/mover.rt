@@ -108,7 +108,8 @@ impl Command for Mover {
 
 impl Mover {
     ghost use Rattle.std.specs.Prelude.{IfOk, Some};
-    ghost use Rattle.lapd_commands.specs.Pair.{closing_line, closing_lines, figures_of, move_made, octets_for, told_line, told_lines};
+    ghost use Rattle.lapd_commands.specs.Pair.{closing_line, closing_lines, figures_of, move_made, octets_for};
+    ghost use Rattle.lapd_commands.specs.Playing.{made_told_line, made_told_lines};
     ghost use Rattle.lapd_script.specs.Script.{LineEndsAs};
     ghost use Rattle.lapd_world.specs.World.{view_of};
 
@@ -134,7 +135,7 @@ impl Mover {
     /// The lines of the outputs of a move of this side, which is done.
     fn told(&self, side: Side, unit: &[u8], outs: &[Out]) -> Result<Vec<u8>, LineFault>
         ensures ok { (w : World) → IsMover self.now w
-            → IfOk result (λ text. text.items ≡ told_lines side (view_of side w).station unit.now outs.now) }
+            → IfOk result (λ text. text.items ≡ made_told_lines side (view_of side w).station unit.now outs.now) }
         ensures err { IsOkUnless result LineFault.Memory }
     {
         let mut text = Vec::new(self.alloc);
@@ -153,7 +154,7 @@ impl Mover {
         text: &mut Vec<u8>,
     ) -> Result<(), LineFault>
         ensures ok { (w : World) → IsMover self.now w
-            → OnOk result (text.new.items ≡ text.old.items ++ told_line side (view_of side w).station unit.now given.now) }
+            → OnOk result (text.new.items ≡ text.old.items ++ made_told_line side (view_of side w).station unit.now given.now) }
         ensures err { IsOkUnless result LineFault.Memory }
     {
         let octets = self.octets_for(side, unit, given);

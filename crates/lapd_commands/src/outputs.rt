@@ -4,7 +4,8 @@ ghost use Rattle.std.specs.Prelude.{◌≡◌, drop, IsOkUnless, OnOk, None};
 ghost use Rattle.std.specs.Io.KnownBytes.{Appends};
 ghost use Rattle.lapd_link.specs.End.{End};
 ghost use Rattle.lapd_link.specs.Link.{LinkStandsFor, setup_of};
-ghost use Rattle.lapd_commands.specs.Outputs.{out_line, outs_text, primitive_line, refusal_line, send_line};
+ghost use Rattle.lapd_commands.specs.Outputs.{primitive_line, refusal_line, send_line};
+ghost use Rattle.lapd_commands.specs.Session.{made_line, made_text};
 
 use lapd_frame::{Frame, MOST_OCTETS, Side, write};
 use lapd_link::{Link, LinkFault, Out};
@@ -23,7 +24,7 @@ pub fn put_outs<W: Write>(
     out: &mut W,
 ) -> Result<(), LineFault>
     ensures ok { (e : End) → LinkStandsFor link.now e
-        → OnOk result (Appends (W.contents out.old) (W.contents out.new) (outs_text (setup_of link.now) (drop e.first e.given) handed.now outs.now)) }
+        → OnOk result (Appends (W.contents out.old) (W.contents out.new) (made_text (setup_of link.now) (drop e.first e.given) handed.now outs.now)) }
     ensures err { IsOkUnless result LineFault.Device }
 {
     for given in outs {
@@ -35,7 +36,7 @@ pub fn put_outs<W: Write>(
 /// Prints one output: a frame, or a primitive, a timer or a report.
 fn put_out<W: Write>(link: &Link, handed: &[u8], given: &Out, out: &mut W) -> Result<(), LineFault>
     ensures ok { (e : End) → LinkStandsFor link.now e
-        → OnOk result (Appends (W.contents out.old) (W.contents out.new) (out_line (setup_of link.now) (drop e.first e.given) handed.now given.now)) }
+        → OnOk result (Appends (W.contents out.old) (W.contents out.new) (made_line (setup_of link.now) (drop e.first e.given) handed.now given.now)) }
     ensures err { IsOkUnless result LineFault.Device }
 {
     match link.frame(given, handed) {
