@@ -1,16 +1,20 @@
 -- What the steps of a network side come to.
-use Rattle.std.proofs.Common.{◌≡◌, ℕ, List, length, Bool, false, Option, Some, None, Result, Ok, Err, sym, ap, subst, ◌∙◌}
+use Rattle.std.proofs.Common.{◌≡◌, ℕ, List, [], length, Bool, false, Option, Some, None, Result, Ok, Err, refl, sym, ap, subst, ◌∙◌}
 use Rattle.std.specs.Prelude.{OnOk, OnErr, IfErr, ◌&&◌, ◌==◌, if◌then◌else◌}
-use Rattle.lapd_states.specs.Input.{UnitData}
+use Rattle.lapd_states.specs.Input.{Faulty, Heard, UnitData}
 use Rattle.lapd_timers.specs.Due.{Timers}
 use Rattle.lapd_frame.specs.declared.Side.TheVariants as side
+use Rattle.lapd_frame.specs.declared.Address.{Address}
+use Rattle.lapd_frame.specs.declared.fault_kind.FaultKind.{FaultKind}
+use Rattle.lapd_frame.specs.Frame.{Fields}
 use Rattle.lapd_tei.specs.declared.assigner.AssignerEvent.{AssignerEvent}
 use Rattle.lapd_tei.specs.declared.out.TeiOut.{TeiOut}
 use Rattle.lapd_tei.specs.Assigner.{assigner_step}
-use Rattle.lapd_tei.specs.Message.{group_tei}
+use Rattle.lapd_tei.specs.Message.{group_tei, message_at}
 use Rattle.lapd_tei.specs.Out.{tei_given}
 use Rattle.lapd_links.specs.declared.config.Config.{Config}
 use Rattle.lapd_table.specs.declared.link_id.LinkId.{LinkId}
+use Rattle.lapd_table.specs.LinkId.{id_of_address}
 use Rattle.lapd_links.specs.declared.expiry.Expiry.{Expiry}
 use Rattle.lapd_sides.specs.declared.net_side.NetSide.{NetSide}
 use Rattle.lapd_sides.specs.declared.served.LinksAndTimer.{LinksAndTimer}
@@ -18,22 +22,22 @@ use Rattle.lapd_links.specs.declared.side_fault.SideKind.{SideKind}
 use Rattle.lapd_links.specs.Effects.{Effects, no_effects}
 use Rattle.lapd_links.specs.Expiries.{IsDue}
 use Rattle.lapd_links.specs.Links.{Links, Acted, is_served}
-use Rattle.lapd_sides.specs.Management.{links_with, manages}
+use Rattle.lapd_sides.specs.Management.{carries_message, links_with, manages, one_more}
 use Rattle.lapd_links.specs.Links.{Served}
-use Rattle.lapd_sides.specs.Network.{Network, link_of_network, unit_requested, unit_to_group, network_expires, assigner_acts, among_links, or_discarded}
+use Rattle.lapd_sides.specs.Network.{Network, link_of_network, unit_requested, unit_to_group, network_expires, assigner_acts, among_links, or_discarded, or_unmoved, message_heard, frame_heard, fault_heard}
 use Rattle.lapd_links.specs.Shown.{ShowLinks, HaveActed}
 use Rattle.lapd_sides.specs.Shows.{ShowServed, HaveServed}
 use Rattle.lapd_sides.specs.ShowsNetwork.{ShowNetwork, HasDone, HasGranted, HasExpired}
 
 -- ---- TEI management.
 
-pub assigned_so : (code : NetSide) (config : Config) (now : ℕ) (event : AssignerEvent) (s : Network) (outs : List TeiOut) (acts : Effects) → code.config ≡ config
+pub assigned_so : (code : NetSide) (config : Config) (now : ℕ) (event : AssignerEvent) (s : Network) (outs : List TeiOut) (acts : Effects) → code.config ≡ config → code.discarded ≡ s.discarded
     → outs ≡ (assigner_step s.assigner event).outs → code.assigner ≡ (assigner_step s.assigner event).now
     → HaveServed side.Network code.served acts (manages side.Network config now outs s.served) → HasDone code config acts (assigner_acts config now event s)
 unfolding assigner_acts
-assigned_so code config now event s outs acts configured same assigner done =
+assigned_so code config now event s outs acts configured counted same assigner done =
     let served = subst (λ (o : List TeiOut). HaveServed side.Network code.served acts (manages side.Network config now o s.served)) same done in
-    record { shown = record { configured = configured; served = served.shown; assigner = assigner }; given = served.given }
+    record { shown = record { configured = configured; served = served.shown; assigner = assigner; discarded = counted }; given = served.given }
 
 -- where no TEI is given, the links are as they were
 pub none_given : (code : LinksAndTimer) (config : Config) (outs : List TeiOut) (s : Served) → tei_given outs ≡ None → ShowServed side.Network code s → ShowServed side.Network code (record s { links = links_with config (tei_given outs) s.links })
@@ -41,33 +45,58 @@ none_given code config outs s none shown = subst (λ (t : Option ℕ). ShowServe
 
 -- ---- A link.
 
-pub granted : (code : NetSide) (config : Config) (s : Network) (before acts : Effects) (outcome : Result (Acted Links) SideKind) → code.config ≡ config → code.assigner ≡ s.assigner → code.served.timers ≡ s.served.timers
+pub granted : (code : NetSide) (config : Config) (s : Network) (before acts : Effects) (outcome : Result (Acted Links) SideKind) → code.config ≡ config → code.assigner ≡ s.assigner → code.discarded ≡ s.discarded → code.served.timers ≡ s.served.timers
     → before ≡ no_effects → HaveActed side.Network code.served.links before acts outcome → HasGranted code config acts (among_links s outcome)
-granted code config s before acts outcome configured assigner timers empty h =
+granted code config s before acts outcome configured assigner counted timers empty h =
     let done = subst (λ (e : Effects). HaveActed side.Network code.served.links e acts outcome) empty h in
     record {
       acted = _;
       is = ap (among_links s) done.is;
-      done = record { shown = record { configured = configured; served = record { links = done.shown; timers = timers }; assigner = assigner }; given = done.given };
+      done = record { shown = record { configured = configured; served = record { links = done.shown; timers = timers }; assigner = assigner; discarded = counted }; given = done.given };
     }
 
-pub kept : (code : NetSide) (config : Config) (s : Network) → code.config ≡ config → code.assigner ≡ s.assigner → code.served.timers ≡ s.served.timers → ShowLinks side.Network code.served.links s.served.links → ShowNetwork code config s
-kept code config s configured assigner timers shown = record { configured = configured; served = record { links = shown; timers = timers }; assigner = assigner }
-
-granted_is_done : (code : NetSide) (config : Config) (s : Network) (acts : Effects) (outcome : Result (Acted Network) SideKind) → HasGranted code config acts outcome → HasDone code config acts (or_discarded s outcome)
-granted_is_done code config s acts outcome h = subst (λ (o : Result (Acted Network) SideKind). HasDone code config acts (or_discarded s o)) (sym h.is) h.done
+pub kept : (code : NetSide) (config : Config) (s : Network) → code.config ≡ config → code.assigner ≡ s.assigner → code.discarded ≡ s.discarded → code.served.timers ≡ s.served.timers → ShowLinks side.Network code.served.links s.served.links → ShowNetwork code config s
+kept code config s configured assigner counted timers shown = record { configured = configured; served = record { links = shown; timers = timers }; assigner = assigner; discarded = counted }
 
 pub granted_as : (code : NetSide) (config : Config) (acts : Effects) (outcome same : Result (Acted Network) SideKind) → same ≡ outcome → HasGranted code config acts outcome → HasGranted code config acts same
 granted_as code config acts outcome same is h = subst (HasGranted code config acts) (sym is) h
 
--- what a link does, or nothing where it refuses or is not there
-pub done_or_discarded : (result : Result (Unit {0}) SideKind) (code : NetSide) (config : Config) (s : Network) (before acts : Effects) (outcome : Result (Acted Links) SideKind)
-    → code.config ≡ config → code.assigner ≡ s.assigner → code.served.timers ≡ s.served.timers → before ≡ no_effects
+-- a link does what it does
+pub done_as : (after : Network → Result (Acted Network) SideKind → Acted Network) (code : NetSide) (config : Config) (s : Network) (acts : Effects) (outcome : Result (Acted Network) SideKind)
+    → ((a : Acted Network) → after s (Ok a) ≡ a) → HasGranted code config acts outcome → HasDone code config acts (after s outcome)
+done_as after code config s acts outcome same h = subst (λ (o : Result (Acted Network) SideKind). HasDone code config acts (after s o)) (sym h.is) (subst (HasDone code config acts) (sym (same h.acted)) h.done)
+
+-- or nothing, where it is not there
+pub done_or_unmoved : (result : Result (Unit {0}) SideKind) (code : NetSide) (config : Config) (s : Network) (before acts : Effects) (outcome : Result (Acted Links) SideKind)
+    → code.config ≡ config → code.assigner ≡ s.assigner → code.discarded ≡ s.discarded → code.served.timers ≡ s.served.timers → before ≡ no_effects
     → OnOk result (HaveActed side.Network code.served.links before acts outcome) → IfErr result (λ k. outcome ≡ Err k) → OnErr result (ShowLinks side.Network code.served.links s.served.links) → OnErr result (acts ≡ before)
+    → HasDone code config acts (or_unmoved s (among_links s outcome))
+done_or_unmoved (Ok u) code config s before acts outcome configured assigner counted timers empty ok err shown nothing = done_as or_unmoved code config s acts (among_links s outcome) (λ a. refl) (granted code config s before acts outcome configured assigner counted timers empty ok)
+done_or_unmoved (Err k) code config s before acts outcome configured assigner counted timers empty ok err shown nothing =
+    subst (λ (o : Result (Acted Links) SideKind). HasDone code config acts (or_unmoved s (among_links s o))) (sym err) (record { shown = kept code config s configured assigner counted timers shown; given = nothing ∙ empty })
+
+-- or it is discarded, and counted
+pub discarded_so : (code : NetSide) (config : Config) (s : Network) (before acts : Effects) (outcome : Result (Acted Links) SideKind) (kind : SideKind) → code.config ≡ config → code.assigner ≡ s.assigner
+    → code.discarded ≡ one_more s.discarded → code.served.timers ≡ s.served.timers → before ≡ no_effects → outcome ≡ Err kind → ShowLinks side.Network code.served.links s.served.links → acts ≡ before
     → HasDone code config acts (or_discarded s (among_links s outcome))
-done_or_discarded (Ok u) code config s before acts outcome configured assigner timers empty ok err shown nothing = granted_is_done code config s acts (among_links s outcome) (granted code config s before acts outcome configured assigner timers empty ok)
-done_or_discarded (Err k) code config s before acts outcome configured assigner timers empty ok err shown nothing =
-    subst (λ (o : Result (Acted Links) SideKind). HasDone code config acts (or_discarded s (among_links s o))) (sym err) (record { shown = kept code config s configured assigner timers shown; given = nothing ∙ empty })
+discarded_so code config s before acts outcome kind configured assigner counted timers empty err shown nothing =
+    subst (λ (o : Result (Acted Links) SideKind). HasDone code config acts (or_discarded s (among_links s o))) (sym err)
+    (record { shown = record { configured = configured; served = record { links = shown; timers = timers }; assigner = assigner; discarded = counted }; given = nothing ∙ empty })
+
+-- a frame that is no message is for the link that it names
+pub heard_by_link : (after : NetSide) (config : Config) (now : ℕ) (frame : Fields) (s : Network) (test : Bool) (address : Address) (id : LinkId) (octets : List ℕ) (acts : Effects) → test ≡ carries_message frame → test ≡ false
+    → address ≡ frame.address → id ≡ id_of_address address → octets ≡ frame.info → HasDone after config acts (or_discarded s (link_of_network now id (Heard frame.control frame.address.role) octets s)) → HasDone after config acts (frame_heard config now frame s)
+heard_by_link after config now frame s test address id octets acts is fails of named same h =
+    subst (λ (b : Bool). HasDone after config acts (if b then message_heard config now (message_at frame.info) s else or_discarded s (link_of_network now (id_of_address frame.address) (Heard frame.control frame.address.role) frame.info s))) (sym fails ∙ is)
+    (subst (λ (o : List ℕ). HasDone after config acts (or_discarded s (link_of_network now (id_of_address frame.address) (Heard frame.control frame.address.role) o s))) same
+    (subst (λ (i : LinkId). HasDone after config acts (or_discarded s (link_of_network now i (Heard frame.control frame.address.role) octets s))) (named ∙ ap (λ (a : Address). id_of_address a) of) h))
+
+-- and so is a fault with an address
+pub faulty : (after : NetSide) (config : Config) (acts : Effects) (now : ℕ) (kind : FaultKind) (found : Option Address) (address : Address) (id : LinkId) (s : Network) → found ≡ Some address → id ≡ id_of_address address
+    → HasDone after config acts (or_discarded s (link_of_network now id (Faulty kind) [] s)) → HasDone after config acts (fault_heard now kind found s)
+faulty after config acts now kind found address id s is named h =
+    subst (λ (f : Option Address). HasDone after config acts (fault_heard now kind f s)) (sym is)
+    (subst (λ (i : LinkId). HasDone after config acts (or_discarded s (link_of_network now i (Faulty kind) [] s))) named h)
 
 -- unit data that is not for all terminals is for a link
 pub not_to_group : (own config : Config) (now : ℕ) (id : LinkId) (octets : List ℕ) (s : Network) (test : Bool) → test ≡ (is_served own id.sapi && (id.tei == group_tei)) → test ≡ false → own ≡ config

@@ -37,8 +37,8 @@ use Rattle.lapd_links.specs.declared.side_fault.SideKind.TheVariants.{NoLink}
 use Rattle.lapd_links.specs.Expiries.{IsDue}
 use Rattle.lapd_links.specs.Effects.{Effects, no_effects, and_then}
 use Rattle.lapd_links.specs.Links.{Links, Acted, is_served, in_links, link_acts, of_sapi, no_links, with_tei}
-use Rattle.lapd_sides.specs.Management.{links_with, manages}
-use Rattle.lapd_sides.specs.User.{User, Kept, nothing_kept, among_links, or_discarded, next, link_of_user, with_tei_or, establishes, establishes_kept, terminal_acts, assigned, kept_after, fault_heard, for_layer_3, data_heard, unit_from_group, user_expires, user_requested, wants, keeps, is_kept, forgets, sends_message, next_reference, advanced, drawn, links_of_fixed}
+use Rattle.lapd_sides.specs.Management.{links_with, manages, one_more}
+use Rattle.lapd_sides.specs.User.{User, Kept, nothing_kept, among_links, or_discarded, or_unmoved, next, link_of_user, with_tei_or, establishes, establishes_kept, terminal_acts, assigned, kept_after, fault_heard, for_layer_3, data_heard, unit_from_group, user_expires, user_requested, wants, keeps, is_kept, forgets, sends_message, next_reference, advanced, drawn, links_of_fixed}
 use Rattle.lapd_sides.specs.Requests.{message_of}
 use Rattle.lapd_links.specs.Shown.{ShowLinks, HaveActed}
 use Rattle.lapd_sides.specs.Shows.{ShowServed, HaveServed}
@@ -52,7 +52,7 @@ relinked code links = record code { served = record code.served { links = links 
 
 pub reshown : (code : UserSide) (links : LinkSet) (config : Config) (s : User) (shown : Links) → ShowUser code config s → ShowLinks side.User links shown
     → ShowUser (relinked code links) config (record s { served = record { links = shown; timers = s.served.timers } })
-reshown code links config s shown h l = record { configured = h.configured; served = record { links = l; timers = h.served.timers }; terminal = h.terminal; kept = h.kept; random = h.random }
+reshown code links config s shown h l = record { configured = h.configured; served = record { links = l; timers = h.served.timers }; terminal = h.terminal; kept = h.kept; random = h.random; discarded = h.discarded }
 
 granted : (code : UserSide) (links : LinkSet) (config : Config) (s : User) (before acts : Effects) (outcome : Result (Acted Links) SideKind) → ShowUser code config s
     → before ≡ no_effects → HaveActed side.User links before acts outcome → HasGranted (relinked code links) config acts (among_links s outcome)
@@ -81,30 +81,41 @@ behind : (e : Effects) → e ≡ and_then e no_effects
 behind e = rw (append-nil e.frames, append-nil e.primitives) refl
 
 granted_follows : (code : UserSide) (links : LinkSet) (config : Config) (s : User) (before acts : Effects) (outcome : Result (Acted Links) SideKind) → ShowUser code config s
-    → HaveActed side.User links before acts outcome → HasFollowed (relinked code links) config before acts (or_discarded s (among_links s outcome))
+    → HaveActed side.User links before acts outcome → HasFollowed (relinked code links) config before acts (or_unmoved s (among_links s outcome))
 granted_follows code links config s before acts outcome shown done =
-    subst (λ (o : Result (Acted Links) SideKind). HasFollowed (relinked code links) config before acts (or_discarded s (among_links s o))) (sym done.is)
+    subst (λ (o : Result (Acted Links) SideKind). HasFollowed (relinked code links) config before acts (or_unmoved s (among_links s o))) (sym done.is)
     (record { shown = reshown code links config s done.acted.after shown done.shown; given = done.given })
 
--- what a link does, or nothing where it refuses or is not there
-follows : (result : Result (Unit {0}) SideKind) (code : UserSide) (links : LinkSet) (config : Config) (s : User) (before acts : Effects) (outcome : Result (Acted Links) SideKind) → ShowUser code config s
-    → OnOk result (HaveActed side.User links before acts outcome) → IfErr result (λ k. outcome ≡ Err k) → OnErr result (ShowLinks side.User links s.served.links) → OnErr result (acts ≡ before)
-    → HasFollowed (relinked code links) config before acts (or_discarded s (among_links s outcome))
-follows (Ok u) code links config s before acts outcome shown ok err same nothing = granted_follows code links config s before acts outcome shown ok
-follows (Err k) code links config s before acts outcome shown ok err same nothing =
-    subst (λ (o : Result (Acted Links) SideKind). HasFollowed (relinked code links) config before acts (or_discarded s (among_links s o))) (sym err)
-    (record { shown = links_kept code links config s shown same; given = nothing ∙ behind before })
-
--- what the calls of a link set answer, at the links that are shown
+-- what the calls of a link set answer, at the links that are shown: a link does what it does, or nothing where it is not there
 pub step_follows : (result : Result (Unit {0}) SideKind) (code : UserSide) (links : LinkSet) (config : Config) (s : User) (before acts : Effects) (does : Side → Links → Result (Acted Links) SideKind) → ShowUser code config s
     → OnOk result ((at : Side) (l : Links) → ShowLinks at code.served.links l → HaveActed at links before acts (does at l))
     → IfErr result (λ k. (at : Side) (l : Links) → ShowLinks at code.served.links l → does at l ≡ Err k)
     → OnErr result ((at : Side) (l : Links) → ShowLinks at code.served.links l → ShowLinks at links l) → OnErr result (acts ≡ before)
-    → HasFollowed (relinked code links) config before acts (or_discarded s (among_links s (does side.User s.served.links)))
+    → HasFollowed (relinked code links) config before acts (or_unmoved s (among_links s (does side.User s.served.links)))
 step_follows (Ok u) code links config s before acts does shown ok err same nothing = granted_follows code links config s before acts (does side.User s.served.links) shown (ok side.User s.served.links shown.served.links)
 step_follows (Err k) code links config s before acts does shown ok err same nothing =
-    subst (λ (o : Result (Acted Links) SideKind). HasFollowed (relinked code links) config before acts (or_discarded s (among_links s o))) (sym (err side.User s.served.links shown.served.links))
+    subst (λ (o : Result (Acted Links) SideKind). HasFollowed (relinked code links) config before acts (or_unmoved s (among_links s o))) (sym (err side.User s.served.links shown.served.links))
     (record { shown = links_kept code links config s shown (same side.User s.served.links shown.served.links); given = nothing ∙ behind before })
+
+-- a frame is heard by its link
+pub heard_so : (code : UserSide) (config : Config) (s : User) (acts : Effects) (outcome : Result (Acted User) SideKind) → HasGranted code config acts outcome → HasDone code config acts (or_discarded s outcome)
+heard_so code config s acts outcome h = subst (λ (o : Result (Acted User) SideKind). HasDone code config acts (or_discarded s o)) (sym h.is) h.done
+
+-- or it is discarded, and counted
+pub discarded_so : (code : UserSide) (links : LinkSet) (count : ℕ) (config : Config) (s : User) (before acts : Effects) (outcome : Result (Acted Links) SideKind) (kind : SideKind) → ShowUser code config s → before ≡ no_effects
+    → outcome ≡ Err kind → ShowLinks side.User links s.served.links → acts ≡ before → count ≡ one_more code.discarded → HasDone (record (relinked code links) { discarded = count }) config acts (or_discarded s (among_links s outcome))
+discarded_so code links count config s before acts outcome kind shown empty err l nothing counted =
+    subst (λ (o : Result (Acted Links) SideKind). HasDone (record (relinked code links) { discarded = count }) config acts (or_discarded s (among_links s o))) (sym err) (record {
+      shown = record {
+        configured = shown.configured;
+        served = record { links = l; timers = shown.served.timers };
+        terminal = shown.terminal;
+        kept = shown.kept;
+        random = shown.random;
+        discarded = counted ∙ ap (λ (n : ℕ). one_more n) shown.discarded;
+      };
+      given = nothing ∙ empty;
+    })
 
 -- behind nothing
 pub done_first : (code : UserSide) (config : Config) (before acts : Effects) (a : Acted User) → before ≡ no_effects → HasFollowed code config before acts a → HasDone code config acts a
@@ -165,7 +176,7 @@ both_establish code first second kept config s before mid after call packet one 
     let done : HasFollowed first config before mid a =
     subst (λ (b : Bool). HasFollowed first config before mid (establishes b now (of_sapi sapi.Call own) t)) (is_call ∙ ap (λ (k : Kept). k.call) shown.kept)
     (subst (λ (i : LinkId). HasFollowed first config before mid (establishes call now i t)) is_one
-    (does config t (record { configured = shown.configured; served = shown.served; terminal = shown.terminal; kept = nothing; random = shown.random }))) in
+    (does config t (record { configured = shown.configured; served = shown.served; terminal = shown.terminal; kept = nothing; random = shown.random; discarded = shown.discarded }))) in
     follows_next first second config before mid after a (establishes s.kept.packet now (of_sapi sapi.Packet own)) done
     (subst (λ (b : Bool). HasFollowed second config mid after (establishes b now (of_sapi sapi.Packet own) a.after)) (is_packet ∙ ap (λ (k : Kept). k.packet) shown.kept)
     (subst (λ (i : LinkId). HasFollowed second config mid after (establishes packet now i a.after)) is_other (other_does config a.after done.shown)))
@@ -182,11 +193,11 @@ settles code after config now i outs item out s before last a below is_item is s
 
 -- the outputs of the terminal have been carried out, and then what is kept
 pub carried : (code after : UserSide) (config : Config) (now : ℕ) (s : User) (step : TerminalStep) (outs : List TeiOut) (sent : Bool) (acts last : Effects) → step.outs ≡ outs → sent ≡ sends_message outs
-    → code.config ≡ config → code.terminal ≡ step.now → code.kept ≡ s.kept → ShowReferences code.references (if sent then advanced (pcg32 s.random) else s.random)
+    → code.config ≡ config → code.discarded ≡ s.discarded → code.terminal ≡ step.now → code.kept ≡ s.kept → ShowReferences code.references (if sent then advanced (pcg32 s.random) else s.random)
     → HaveServed side.User code.served acts (manages side.User config now outs s.served)
     → ((k : Config) (t : User) → ShowUser code k t → HasFollowed after k acts last (kept_after now outs t))
     → HasDone after config last (assigned config now step s)
-carried code after config now s step outs sent acts last same is_sent configured terminal kept random served rest =
+carried code after config now s step outs sent acts last same is_sent configured counted terminal kept random served rest =
     let a : Acted User = record {
       after = record s { served = (manages side.User config now step.outs s.served).after; terminal = step.now; random = drawn step.outs s.random };
       effects = (manages side.User config now step.outs s.served).effects;
@@ -198,6 +209,7 @@ carried code after config now s step outs sent acts last same is_sent configured
       terminal = terminal;
       kept = kept;
       random = subst (λ (b : Bool). ShowReferences code.references (if b then advanced (pcg32 s.random) else s.random)) (is_sent ∙ ap sends_message (sym same)) random;
+      discarded = counted;
     } in
     let k : HasFollowed after config acts last (kept_after now step.outs a.after) = subst (λ (o : List TeiOut). HasFollowed after config acts last (kept_after now o a.after)) (sym same) (rest config a.after shown) in
     record { shown = k.shown; given = k.given ∙ ap (λ (e : Effects). and_then e (kept_after now step.outs a.after).effects) managed.given }
@@ -216,6 +228,7 @@ handled code config s event phase shown is none = record {
   terminal = is ∙ ap (λ (p : Phase). (terminal_step p event).now) shown.terminal;
   kept = shown.kept;
   random = shown.random;
+  discarded = shown.discarded;
 }
 
 pub outs_of : (code : UserSide) (config : Config) (s : User) (event : TerminalEvent) (outs : List TeiOut) → ShowUser code config s → outs ≡ (terminal_step code.terminal event).outs → (terminal_step s.terminal event).outs ≡ outs
@@ -300,7 +313,7 @@ data_for_link code after config now frame s test id octets acts t named is_octet
 
 pub reshown_after : (code : UserSide) (links : LinkSet) (timers : Timers) (config : Config) (s : User) (own : Timers) → ShowUser code config s → timers ≡ own → ShowLinks side.User links s.served.links
     → ShowUser (record code { served = record { links = links; timers = timers } }) config (record s { served = record { links = s.served.links; timers = own } })
-reshown_after code links timers config s own shown is l = record { configured = shown.configured; served = record { links = l; timers = is }; terminal = shown.terminal; kept = shown.kept; random = shown.random }
+reshown_after code links timers config s own shown is l = record { configured = shown.configured; served = record { links = l; timers = is }; terminal = shown.terminal; kept = shown.kept; random = shown.random; discarded = shown.discarded }
 
 pub expired_so : (code : UserSide) (config : Config) (acts : Effects) (now : ℕ) (s : User) (e : Expiry) (of : Option LinkId) → IsDue now s.served (Some e) → e.of ≡ of → HasDone code config acts (user_expires config now e.timer of s) → HasExpired code config acts now s
 expired_so code config acts now s e of due is done = record {
@@ -343,7 +356,7 @@ forgotten code kept config sapi s acts test is holds forgot told shown = record 
   is = ap (λ (b : Bool). if b then Ok (record { after = record s { kept = keeps sapi false s.kept }; effects = record no_effects { primitives = Of (of_sapi sapi group_tei) what.ReleaseConfirm ∷ [] } }) else Err NoLink)
       (ap (λ (k : Kept). is_kept sapi k) (sym shown.kept) ∙ sym is ∙ holds);
   done = record {
-    shown = record { configured = shown.configured; served = shown.served; terminal = shown.terminal; kept = forgot ∙ ap (λ (k : Kept). keeps sapi false k) shown.kept; random = shown.random };
+    shown = record { configured = shown.configured; served = shown.served; terminal = shown.terminal; kept = forgot ∙ ap (λ (k : Kept). keeps sapi false k) shown.kept; random = shown.random; discarded = shown.discarded };
     given = told;
   };
 }

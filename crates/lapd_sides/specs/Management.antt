@@ -1,5 +1,5 @@
 -- TEI management within a side: the links come and go with the TEIs, and T201 or T202 runs beside theirs (Q.921 5.3).
-use Rattle.std.specs.Prelude.{ℕ, ◌==◌, ◌&&◌, Bool, true, false, List, [], ◌++◌, Option, Some, None}
+use Rattle.std.specs.Prelude.{ℕ, ◌+◌, ◌-◌, ◌^◌, ◌==◌, ◌&&◌, min, Bool, true, false, List, [], ◌++◌, Option, Some, None}
 use Rattle.lapd_frame.specs.declared.Sapi.{Sapi}
 use Rattle.lapd_frame.specs.declared.Sapi.TheVariants as sapi
 use Rattle.lapd_frame.specs.declared.Side.{Side}
@@ -58,6 +58,10 @@ manages side config now outs s = record {
   after = record { links = links_without (tei_freed outs) (links_with config (tei_given outs) s.links); timers = managed now outs s.timers };
   effects = with_partings (told_without (tei_freed outs) (links_with config (tei_given outs) s.links)) (effects_of_management side outs);
 }
+
+-- one frame more is discarded (2.9); the count stays at the greatest of 64 bits
+abbrev pub one_more : ℕ → ℕ
+one_more n = min (n + 1) (2 ^ 64 - 1)
 
 -- own receiver busy begins or ends (Q.921 5.6.6)
 abbrev pub busy_input : Bool → Input

@@ -29,29 +29,36 @@ use Rattle.lapd_links.specs.declared.side_fault.SideKind.{SideKind}
 use Rattle.lapd_links.specs.declared.side_fault.SideKind.TheVariants.{Link}
 use Rattle.lapd_links.specs.Effects.{no_effects, stopped}
 use Rattle.lapd_links.specs.Links.{Links, Acted, is_served, in_links, link_acts, link_expires, links_of_held}
-use Rattle.lapd_sides.specs.Management.{carries_message, manages, busy_input}
+use Rattle.lapd_sides.specs.Management.{carries_message, manages, one_more, busy_input}
 use Rattle.lapd_links.specs.Links.{Served}
 
+-- with how many frames it has discarded
 pub record Network : Type 0 where
   pub served : Served
   pub assigner : AssignerState
+  pub discarded : ℕ
 
 -- as it is made: the TEIs that are known are held, and have their links
 abbrev pub new_network : Config → List ℕ → Network
 new_network config known = record {
   served = record { links = links_of_held config (known_held known).held; timers = at_rest config.durations };
   assigner = known_held known;
+  discarded = 0;
 }
 
 -- nothing happens
 abbrev pub unmoved : Network → Acted Network
 unmoved s = record { after = s; effects = no_effects }
 
+-- a frame is discarded, and counted
+abbrev pub discards : Network → Acted Network
+discards s = record { after = record s { discarded = one_more s.discarded }; effects = no_effects }
+
 -- ---- TEI management.
 
 abbrev pub assigned : Config → ℕ → AssignerStep → Network → Acted Network
 assigned config now step s = record {
-  after = record { served = (manages side.Network config now step.outs s.served).after; assigner = step.now };
+  after = record s { served = (manages side.Network config now step.outs s.served).after; assigner = step.now };
   effects = (manages side.Network config now step.outs s.served).effects;
 }
 
@@ -78,7 +85,12 @@ link_of_network now id input octets s = among_links s (in_links id (link_acts si
 -- what is for no link is discarded
 abbrev pub or_discarded : Network → Result (Acted Network) SideKind → Acted Network
 or_discarded s (Ok a) = a
-or_discarded s (Err kind) = unmoved s
+or_discarded s (Err kind) = discards s
+
+-- and no timer of it expires
+abbrev pub or_unmoved : Network → Result (Acted Network) SideKind → Acted Network
+or_unmoved s (Ok a) = a
+or_unmoved s (Err kind) = unmoved s
 
 -- ---- Octets come from the line.
 
@@ -90,7 +102,7 @@ frame_heard config now frame s =
 
 -- a fault of a frame for a link (F4 to F7), or of octets for none (F1 to F3)
 abbrev pub fault_heard : ℕ → FaultKind → Option Address → Network → Acted Network
-fault_heard now kind None s = unmoved s
+fault_heard now kind None s = discards s
 fault_heard now kind (Some address) s = or_discarded s (link_of_network now (id_of_address address) (Faulty kind) [] s)
 
 abbrev pub heard : Config → ℕ → Result Fields FrameFault → Network → Acted Network
@@ -119,7 +131,7 @@ management_expires config now timer s = assigner_acts config now event.T201 (rec
 
 unfoldable pub network_expires : Config → ℕ → Timer → Option LinkId → Network → Acted Network
 network_expires config now timer None s = management_expires config now timer s
-network_expires config now timer (Some id) s = or_discarded s (among_links s (in_links id (link_expires side.Network id now timer) s.served.links))
+network_expires config now timer (Some id) s = or_unmoved s (among_links s (in_links id (link_expires side.Network id now timer) s.served.links))
 
 -- ---- Requests.
 

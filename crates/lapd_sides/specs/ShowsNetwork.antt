@@ -11,11 +11,12 @@ use Rattle.lapd_links.specs.Links.{Acted}
 use Rattle.lapd_sides.specs.Network.{Network, network_expires}
 use Rattle.lapd_sides.specs.Shows.{ShowServed}
 
--- with what it was made, its links, and its assigner
+-- with what it was made, its links, its assigner, and how many frames it has discarded
 pub record ShowNetwork (code : NetSide) (config : Config) (s : Network) : Type 0 where
   pub configured : code.config ≡ config
   pub served : ShowServed side.Network code.served s.served
   pub assigner : code.assigner ≡ s.assigner
+  pub discarded : code.discarded ≡ s.discarded
 
 -- a step has been done: the side shows what it leaves, and what it gives is there
 pub record HasDone (code : NetSide) (config : Config) (acts : Effects) (a : Acted Network) : Type 0 where

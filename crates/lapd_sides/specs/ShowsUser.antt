@@ -22,13 +22,15 @@ pub record ShowReferences (code : References) (random : Lcg) : Type 0 where
   pub next : code.next ≡ next_reference random
   pub rest : code.rest ≡ advanced (pcg32 random)
 
--- with what it was made, its links, its terminal, the establishments that it keeps, and its references
+-- with what it was made, its links, its terminal, the establishments that it keeps, its references, and how many frames it
+-- has discarded
 pub record ShowUser (code : UserSide) (config : Config) (s : User) : Type 0 where
   pub configured : code.config ≡ config
   pub served : ShowServed side.User code.served s.served
   pub terminal : code.terminal ≡ s.terminal
   pub kept : code.kept ≡ s.kept
   pub random : ShowReferences code.references s.random
+  pub discarded : code.discarded ≡ s.discarded
 
 -- a step has been done: the side shows what it leaves, and what it gives is there
 pub record HasDone (code : UserSide) (config : Config) (acts : Effects) (a : Acted User) : Type 0 where

@@ -38,7 +38,7 @@ use Rattle.lapd_links.specs.declared.side_fault.SideKind.{SideKind}
 use Rattle.lapd_links.specs.declared.side_fault.SideKind.TheVariants.{NoLink, Link}
 use Rattle.lapd_links.specs.Effects.{no_effects, and_then, stopped}
 use Rattle.lapd_links.specs.Links.{Links, Acted, of_sapi, is_served, in_links, link_acts, link_expires, no_links, with_tei}
-use Rattle.lapd_sides.specs.Management.{carries_message, is_unit_to_group, manages, busy_input}
+use Rattle.lapd_sides.specs.Management.{carries_message, is_unit_to_group, manages, one_more, busy_input}
 use Rattle.lapd_links.specs.Links.{Served}
 
 -- For which SAPIs an establishment is kept until the terminal has a TEI.
@@ -46,11 +46,13 @@ pub record Kept : Type 0 where
   pub call : Bool
   pub packet : Bool
 
+-- with how many frames it has discarded
 pub record User : Type 0 where
   pub served : Served
   pub terminal : Phase
   pub kept : Kept
   pub random : Lcg
+  pub discarded : ℕ
 
 abbrev pub nothing_kept : Kept
 nothing_kept = record { call = false; packet = false }
@@ -66,10 +68,15 @@ new_user config fixed random = record {
   terminal = new_terminal fixed;
   kept = nothing_kept;
   random = random;
+  discarded = 0;
 }
 
 abbrev pub unmoved : User → Acted User
 unmoved s = record { after = s; effects = no_effects }
+
+-- a frame is discarded, and counted
+abbrev pub discards : User → Acted User
+discards s = record { after = record s { discarded = one_more s.discarded }; effects = no_effects }
 
 -- ---- References.
 
@@ -108,9 +115,15 @@ among_links s (Err kind) = Err kind
 unfoldable pub link_of_user : ℕ → LinkId → Input → List ℕ → User → Result (Acted User) SideKind
 link_of_user now id input octets s = among_links s (in_links id (link_acts side.User id now input octets) s.served.links)
 
+-- a frame that is for no link is discarded
 abbrev pub or_discarded : User → Result (Acted User) SideKind → Acted User
 or_discarded s (Ok a) = a
-or_discarded s (Err kind) = unmoved s
+or_discarded s (Err kind) = discards s
+
+-- and for no link a timer expires, or an establishment is done
+abbrev pub or_unmoved : User → Result (Acted User) SideKind → Acted User
+or_unmoved s (Ok a) = a
+or_unmoved s (Err kind) = unmoved s
 
 -- ---- TEI management: what its outcomes mean for the establishments that are kept.
 
@@ -120,7 +133,7 @@ next a does = record { after = (does a.after).after; effects = and_then a.effect
 
 -- a kept establishment is done
 abbrev pub establishes : Bool → ℕ → LinkId → User → Acted User
-establishes true now id s = or_discarded s (link_of_user now id Establish [] s)
+establishes true now id s = or_unmoved s (link_of_user now id Establish [] s)
 establishes false now id s = unmoved s
 
 -- With a TEI those that are kept are done, SAPI 0 first, and none is kept any more.
@@ -182,7 +195,7 @@ abbrev pub frame_heard : Config → ℕ → Fields → User → Acted User
 frame_heard config now frame s = if carries_message frame then message_heard config now (message_at frame.info) s else data_heard config now frame s
 
 abbrev pub fault_heard : ℕ → FaultKind → Option Address → User → Acted User
-fault_heard now kind None s = unmoved s
+fault_heard now kind None s = discards s
 fault_heard now kind (Some address) s = or_discarded s (link_of_user now (of_sapi address.sapi address.tei) (Faulty kind) [] s)
 
 abbrev pub heard : Config → ℕ → Result Fields FrameFault → User → Acted User
@@ -211,7 +224,7 @@ management_expires config now timer s = terminal_acts config now event.T202 (rec
 
 unfoldable pub user_expires : Config → ℕ → Timer → Option LinkId → User → Acted User
 user_expires config now timer None s = management_expires config now timer s
-user_expires config now timer (Some id) s = or_discarded s (among_links s (in_links id (link_expires side.User id now timer) s.served.links))
+user_expires config now timer (Some id) s = or_unmoved s (among_links s (in_links id (link_expires side.User id now timer) s.served.links))
 
 -- ---- Requests. Only the SAPI of a name is looked at.
 

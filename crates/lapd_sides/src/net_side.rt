@@ -14,7 +14,7 @@ ghost use Rattle.lapd_sides.specs.Shows.{ShowEnds};
 ghost use Rattle.lapd_links.specs.Links.{IsOfLink};
 ghost use Rattle.lapd_sides.specs.Network.{Network, new_network, network_takes, network_expires, network_requested, assigner_acts, message_heard, link_of_network, or_discarded, frame_heard, fault_heard, unit_requested, unit_to_group, given_for, given_for_frame};
 
-use crate::served::{LinksAndTimer, carries_message};
+use crate::served::{LinksAndTimer, carries_message, one_more};
 use crate::{Acts, Config, Expiry, Request, SideFault, SideKind};
 use lapd_frame::{Address, Control, FaultKind, Frame, FrameFault, Role, Sapi, Side, Tei, read};
 use lapd_link::{Event, LinkFault};
@@ -34,6 +34,8 @@ pub struct NetSide {
     config: Config,
     served: LinksAndTimer,
     assigner: Assigner,
+    /// How many frames it has discarded; it stays at `u64::MAX` once it is there.
+    discarded: u64,
 }
 
 impl NetSide {
@@ -56,6 +58,7 @@ impl NetSide {
             config,
             served,
             assigner,
+            discarded: 0,
         })
     }
 
@@ -121,15 +124,18 @@ impl NetSide {
         }
     }
 
-    /// A fault of a frame for a link, or of octets for none.
+    /// A fault of a frame for a link, or of octets for none, which are discarded.
     fn hear_fault(&mut self, fault: &FrameFault, now: u64, acts: &mut Acts)
         requires empty { acts.old ≡ no_effects }
         requires of_link { IfSome fault.now.address (λ address. is_for_link fault.now.kind ≡ true) }
         ensures { (config : Config) (s : Network) → ShowNetwork self.old config s → HasDone self.new config acts.new (fault_heard now fault.now.kind fault.now.address s) }
     {
-        if let Some(address) = fault.address {
-            let id = LinkId::of_address(&address);
-            self.act_or_discard(id, Event::Fault(fault.kind), &[], now, acts);
+        match fault.address {
+            Some(address) => {
+                let id = LinkId::of_address(&address);
+                self.act_or_discard(id, Event::Fault(fault.kind), &[], now, acts);
+            }
+            None => self.discarded = one_more(self.discarded),
         }
     }
 
@@ -175,7 +181,10 @@ impl NetSide {
         requires fits { length octets.now ≤ 260 }
         ensures { (config : Config) (s : Network) → ShowNetwork self.old config s → HasDone self.new config acts.new (or_discarded s (link_of_network now id (input_of event.entry) octets.now s)) }
     {
-        let _ = self.served.links.act(id, event, octets, now, acts);
+        match self.served.links.act(id, event, octets, now, acts) {
+            Ok(()) => {}
+            Err(_) => self.discarded = one_more(self.discarded),
+        }
     }
 
     /// What is due at the moment `now`, the first alone: its timer has expired. `false` where nothing is due. It takes no
@@ -344,6 +353,14 @@ impl NetSide {
         ensures { (config : Config) (s : Network) → ShowNetwork self.now config s → result.now ≡ s.assigner }
     {
         &self.assigner
+    }
+
+    /// How many frames [`NetSide::take`] has discarded since the side was made: those with F1 to F3, and those for a link
+    /// that is not there. It stays at `u64::MAX` once it is there. What TEI management ignores is not counted.
+    pub fn discarded(&self) -> u64
+        ensures { (config : Config) (s : Network) → ShowNetwork self.now config s → result ≡ s.discarded }
+    {
+        self.discarded
     }
 }
 

@@ -7,7 +7,7 @@ ghost use Rattle.lapd_timers.specs.Due.{at_rest};
 ghost use Rattle.lapd_tei.specs.Out.{IsInRange, tei_given, tei_freed};
 ghost use Rattle.lapd_links.specs.Effects.{managed, message_sent, outcome_of, no_effects};
 ghost use Rattle.lapd_links.specs.Links.{no_links};
-ghost use Rattle.lapd_sides.specs.Management.{carries_message, is_unit_to_group, links_with, manages};
+ghost use Rattle.lapd_sides.specs.Management.{carries_message, is_unit_to_group, links_with, manages, one_more};
 ghost use Rattle.lapd_links.specs.Links.{Served};
 ghost use Rattle.lapd_sides.specs.Shows.{ShowServed, HaveServed};
 
@@ -97,6 +97,13 @@ pub fn is_unit_to_group(frame: &Frame<'_>) -> bool
         Control::Ui { .. } => frame.address().tei == Tei::group(),
         _ => false,
     }
+}
+
+/// How many frames are discarded with one more. The count stays at `u64::MAX` once it is there.
+pub fn one_more(count: u64) -> u64
+    ensures { result ≡ one_more count }
+{
+    count.saturating_add(1)
 }
 
 /// The TEI that is given by these outputs, or got.

@@ -21,7 +21,7 @@ ghost use Rattle.lapd_sides.specs.User.{User, seeded, sends_message, new_user, u
 
 use crate::kept::Kept;
 use crate::references::References;
-use crate::served::{LinksAndTimer, carries_message, is_unit_to_group};
+use crate::served::{LinksAndTimer, carries_message, is_unit_to_group, one_more};
 use crate::{Acts, Config, Expiry, Octets, Primitive, Request, SideFault, SideKind, What};
 use lapd_frame::{FaultKind, Frame, FrameFault, Sapi, Side, Tei, read};
 use lapd_link::{Event, LinkFault};
@@ -43,6 +43,8 @@ pub struct UserSide {
     terminal: Terminal,
     kept: Kept,
     references: References,
+    /// How many frames it has discarded; it stays at `u64::MAX` once it is there.
+    discarded: u64,
 }
 
 impl UserSide {
@@ -68,6 +70,7 @@ impl UserSide {
             terminal: Terminal::new(fixed),
             kept: Kept::nothing(),
             references: References::new(config.seed),
+            discarded: 0,
         })
     }
 
@@ -147,15 +150,18 @@ impl UserSide {
         }
     }
 
-    /// A fault of a frame for a link, or of octets for none.
+    /// A fault of a frame for a link, or of octets for none, which are discarded.
     fn hear_fault(&mut self, fault: &FrameFault, now: u64, acts: &mut Acts)
         requires empty { acts.old ≡ no_effects }
         requires of_link { IfSome fault.now.address (λ address. is_for_link fault.now.kind ≡ true) }
         ensures { (config : Config) (s : User) → ShowUser self.old config s → HasDone self.new config acts.new (fault_heard now fault.now.kind fault.now.address s) }
     {
-        if let Some(address) = fault.address {
-            let id = LinkId::of_address(&address);
-            self.act_or_discard(id, Event::Fault(fault.kind), &[], now, acts);
+        match fault.address {
+            Some(address) => {
+                let id = LinkId::of_address(&address);
+                self.act_or_discard(id, Event::Fault(fault.kind), &[], now, acts);
+            }
+            None => self.discarded = one_more(self.discarded),
         }
     }
 
@@ -189,7 +195,10 @@ impl UserSide {
         requires fits { length octets.now ≤ 260 }
         ensures { (config : Config) (s : User) → ShowUser self.old config s → HasDone self.new config acts.new (or_discarded s (link_of_user now id (input_of event.entry) octets.now s)) }
     {
-        let _ = self.served.links.act(id, event, octets, now, acts);
+        match self.served.links.act(id, event, octets, now, acts) {
+            Ok(()) => {}
+            Err(_) => self.discarded = one_more(self.discarded),
+        }
     }
 
     /// What is due at the moment `now`, the first alone: its timer has expired. `false` where nothing is due. It takes no
@@ -276,6 +285,14 @@ impl UserSide {
         ensures { (config : Config) (s : User) → ShowUser self.now config s → result.now ≡ s.terminal }
     {
         &self.terminal
+    }
+
+    /// How many frames [`UserSide::take`] has discarded since the side was made: those with F1 to F3, and those for a link
+    /// that is not there. It stays at `u64::MAX` once it is there. What TEI management ignores is not counted.
+    pub fn discarded(&self) -> u64
+        ensures { (config : Config) (s : User) → ShowUser self.now config s → result ≡ s.discarded }
+    {
+        self.discarded
     }
 }
 

@@ -7,11 +7,11 @@ use Rattle.lapd_sides.proofs.net_side.NetSide.act.Goals as goal
 pub returns-in-Ok-clause-ok : goal.returns-in-Ok-clause-ok
 unfolding link_of_network
 returns-in-Ok-clause-ok c = λ config s shown.
-    granted _ config s c.args.acts.now c.act.new.acts _ shown.configured shown.assigner shown.served.timers c.requires.empty (c.in-Ok.ensures.ok side.Network s.served.links shown.served.links)
+    granted _ config s c.args.acts.now c.act.new.acts _ shown.configured shown.assigner shown.discarded shown.served.timers c.requires.empty (c.in-Ok.ensures.ok side.Network s.served.links shown.served.links)
 
 pub returns-in-Err-clause-err : goal.returns-in-Err-clause-err
 unfolding link_of_network
 returns-in-Err-clause-err c = λ config s shown. ap (among_links s) (c.in-Err.ensures.err side.Network s.served.links shown.served.links)
 
 pub returns-in-Err-clause-unchanged : goal.returns-in-Err-clause-unchanged
-returns-in-Err-clause-unchanged c = λ config s shown. kept _ config s shown.configured shown.assigner shown.served.timers (c.in-Err.ensures.unchanged side.Network s.served.links shown.served.links)
+returns-in-Err-clause-unchanged c = λ config s shown. kept _ config s shown.configured shown.assigner shown.discarded shown.served.timers (c.in-Err.ensures.unchanged side.Network s.served.links shown.served.links)

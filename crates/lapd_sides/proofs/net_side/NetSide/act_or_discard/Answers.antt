@@ -1,15 +1,17 @@
+use Rattle.std.proofs.Common.{refl, ap, ◌∙◌, ℕ}
 use Rattle.lapd_frame.specs.declared.Side.TheVariants as side
-use Rattle.lapd_sides.specs.Network.{link_of_network}
-use Rattle.lapd_sides.proofs.Networking.{done_or_discarded}
-use Rattle.lapd_links.proofs.Outcomes.{ok_gives, err_gives, each_err}
+use Rattle.lapd_sides.specs.Management.{one_more}
+use Rattle.lapd_sides.specs.Network.{link_of_network, or_discarded}
+use Rattle.lapd_sides.proofs.Networking.{granted, done_as, discarded_so}
 use Rattle.lapd_sides.proofs.net_side.NetSide.act_or_discard.Goals as goal
 
-pub returns : goal.returns
+pub returns-in-Ok : goal.returns-in-Ok
 unfolding link_of_network
-returns c = λ config s shown.
-    let result = c.act.result in
-    let links = s.served.links in
-    let here = shown.served.links in
-    done_or_discarded result _ config s c.args.acts.now c.act.new.acts _ shown.configured shown.assigner shown.served.timers c.requires.empty
-    (ok_gives result _ _ (λ f. f side.Network links here) c.act.ensures.ok) (each_err result _ _ (λ k f. f side.Network links here) c.act.ensures.err)
-    (err_gives result _ _ (λ f. f side.Network links here) c.act.ensures.unchanged) c.act.ensures.nothing
+returns-in-Ok c = λ config s shown. done_as or_discarded _ config s c.act.new.acts _ (λ a. refl)
+    (granted _ config s c.args.acts.now c.act.new.acts _ shown.configured shown.assigner shown.discarded shown.served.timers c.requires.empty (c.in-Ok.ensures.ok side.Network s.served.links shown.served.links))
+
+pub returns-in-Err : goal.returns-in-Err
+unfolding link_of_network
+returns-in-Err c = λ config s shown.
+    discarded_so _ config s c.args.acts.now c.act.new.acts _ _ shown.configured shown.assigner (c.one_more-self.ensures ∙ ap (λ (n : ℕ). one_more n) shown.discarded) shown.served.timers c.requires.empty
+    (c.in-Err.ensures.err side.Network s.served.links shown.served.links) (c.in-Err.ensures.unchanged side.Network s.served.links shown.served.links) c.in-Err.ensures.nothing

@@ -8,11 +8,11 @@ use Rattle.lapd_sides.proofs.net_side.NetSide.give.Goals as goal
 pub returns-clause-ok : goal.returns-clause-ok
 unfolding link_of_network
 returns-clause-ok c = ok_gives c.give.result _ _
-    (λ f config s shown. granted _ config s c.args.acts.now c.give.new.acts _ shown.configured shown.assigner shown.served.timers c.requires.empty (f side.Network s.served.links shown.served.links)) c.give.ensures.ok
+    (λ f config s shown. granted _ config s c.args.acts.now c.give.new.acts _ shown.configured shown.assigner shown.discarded shown.served.timers c.requires.empty (f side.Network s.served.links shown.served.links)) c.give.ensures.ok
 
 pub returns-clause-err : goal.returns-clause-err
 unfolding link_of_network
 returns-clause-err c = each_err c.give.result _ _ (λ k f config s shown. ap (among_links s) (f side.Network s.served.links shown.served.links)) c.give.ensures.err
 
 pub returns-clause-unchanged : goal.returns-clause-unchanged
-returns-clause-unchanged c = err_gives c.give.result _ _ (λ f config s shown. kept _ config s shown.configured shown.assigner shown.served.timers (f side.Network s.served.links shown.served.links)) c.give.ensures.unchanged
+returns-clause-unchanged c = err_gives c.give.result _ _ (λ f config s shown. kept _ config s shown.configured shown.assigner shown.discarded shown.served.timers (f side.Network s.served.links shown.served.links)) c.give.ensures.unchanged

@@ -15,6 +15,7 @@ returns-in_err-admit-clause-unchanged c = on_err c.from_residual.result _ (λ co
   configured = shown.configured;
   served = c.in_err-admit.ensures.unchanged side.Network s.served shown.served;
   assigner = shown.assigner;
+  discarded = shown.discarded;
 })
 
 pub returns-clause-ok : goal.returns-clause-ok
@@ -22,7 +23,7 @@ returns-clause-ok c = λ config s shown.
     let outs = c.as_slice-2.result.now in
     let heard = event.Heard c.args.message in
     let are = c.as_slice-2.ensures.value ∙ c.handle-outs.ensures.outs in
-    assigned_so _ config c.args.now heard s outs c.carry_out.new.acts shown.configured
+    assigned_so _ config c.args.now heard s outs c.carry_out.new.acts shown.configured shown.discarded
     (are ∙ ap (λ (a : AssignerState). (assigner_step a heard).outs) shown.assigner)
     (c.handle-outs.ensures.now ∙ ap (λ (a : AssignerState). (assigner_step a heard).now) shown.assigner)
     (c.carry_out.ensures.done config s.served

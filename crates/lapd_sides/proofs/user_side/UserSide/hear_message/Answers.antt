@@ -19,6 +19,7 @@ returns-in_err-admit-clause-unchanged c = on_err c.from_residual.result _ (λ co
   terminal = shown.terminal;
   kept = shown.kept;
   random = shown.random;
+  discarded = shown.discarded;
 })
 
 pub returns-clause-ok : goal.returns-clause-ok
@@ -36,4 +37,5 @@ returns-clause-ok c = λ config s shown.
       terminal = c.handle-outs.ensures.now ∙ ap (λ (p : Phase). (terminal_step p heard).now) shown.terminal;
       kept = shown.kept;
       random = shown.random;
+      discarded = shown.discarded;
     }))

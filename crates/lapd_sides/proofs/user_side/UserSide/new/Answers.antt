@@ -17,4 +17,4 @@ returns c =
       | in_default w ↦ without_fixed c.in_ok-served.served c.match-fixed.served c.args.config c.args.fixed w.in_default.is w.served-is c.in_ok-served.ensures
     ] in
     let fixed : c.match-fixed.fixed ≡ c.args.fixed = elim c.match-fixed.branch [ in-Some+in_ok-add_tei w ↦ w.fixed-is ∙ sym w.in-Some.is | in_default w ↦ w.fixed-is ] in
-    record { configured = refl; served = served; terminal = c.new-2.ensures ∙ ap new_terminal fixed; kept = c.nothing.ensures; random = c.new-3.ensures }
+    record { configured = refl; served = served; terminal = c.new-2.ensures ∙ ap new_terminal fixed; kept = c.nothing.ensures; random = c.new-3.ensures; discarded = refl }

@@ -18,4 +18,5 @@ returns-clause-ok c = λ config s shown.
       terminal = shown.terminal;
       kept = c.set.ensures ∙ ap (λ (k : Kept). keeps c.args.sapi true k) shown.kept;
       random = shown.random;
+      discarded = shown.discarded;
     })))
