@@ -98,6 +98,12 @@ one_released = Comes (0x40 ∷ 0x81 ∷ 0x53 ∷ []) 500 ∷ []
 abbrev pub vain_check : List Happening
 vain_check = Asked (request.Check 64) 600 ∷ Expires T201 None 1600 ∷ Expires T201 None 2600 ∷ []
 
+-- octets that are no frame for a link that is there, four times, and then a SABME
+abbrev pub four_and_sabme : List Happening
+four_and_sabme =
+    Comes (0x00 ∷ []) 0 ∷ Comes (0x01 ∷ 0x81 ∷ 0x73 ∷ []) 0 ∷ Comes (0x04 ∷ 0x81 ∷ 0x7F ∷ []) 0 ∷ Comes (0x00 ∷ 0x83 ∷ 0x7F ∷ []) 0
+    ∷ Comes (0x00 ∷ 0x81 ∷ 0x7F ∷ []) 0 ∷ []
+
 -- ---- The user side.
 
 abbrev pub random : Lcg

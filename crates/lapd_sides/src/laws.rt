@@ -8,10 +8,11 @@ ghost use Rattle.lapd_timers.specs.declared.timer.Timer.TheVariants.{T200, T202,
 ghost use Rattle.lapd_timers.specs.Due.{deadline_of};
 ghost use Rattle.lapd_links.specs.declared.primitive.Primitive.TheVariants.{Of, Management};
 ghost use Rattle.lapd_links.specs.declared.primitive.What.TheVariants as what;
+ghost use Rattle.lapd_links.specs.Effects.{no_effects};
 ghost use Rattle.lapd_links.specs.Links.{of_sapi};
 ghost use Rattle.lapd_sides.specs.Network.{new_network};
 ghost use Rattle.lapd_sides.specs.User.{new_user};
-ghost use Rattle.lapd_sides.specs.Worked.{network_run, network_gives, user_run, user_gives, state_of, ends_at, asking, reference, both_sapis, call_control_alone, tei_and_disc, both_established, one_released, vain_check, random, vain_want, want_and_tei};
+ghost use Rattle.lapd_sides.specs.Worked.{network_run, network_gives, user_run, user_gives, state_of, ends_at, asking, reference, both_sapis, call_control_alone, tei_and_disc, both_established, one_released, vain_check, four_and_sabme, random, vain_want, want_and_tei};
 
 /// A network side assigns a TEI, and from then on its two links answer; a DISC for another TEI is discarded.
 pub fn assignments_make_links()
@@ -41,6 +42,14 @@ pub fn freed_teis_lose_their_links()
         ∷ Ok (record { frames = (0xFE ∷ 0xFF ∷ 0x03 ∷ 0x0F ∷ 0x00 ∷ 0x00 ∷ 0x04 ∷ 0x81 ∷ []) ∷ []; primitives = [] })
         ∷ Ok (record { frames = []; primitives = Management (tei.Free 64) ∷ Of (of_sapi Call 64) what.Released ∷ Of (of_sapi Packet 64) what.Released ∷ [] }) ∷ [] }
     ensures gone { (network_run both_sapis (both_established ++ vain_check) (new_network both_sapis (64 ∷ []))).served.links (of_sapi Call 64) ≡ None }
+{}
+
+/// Octets with F1, F2 and F3, and a frame for a TEI that is not there, are discarded and counted; a SABME is answered.
+pub fn discarded_frames_are_counted()
+    ensures gives { network_gives call_control_alone four_and_sabme (new_network call_control_alone (64 ∷ []))
+        ≡ Ok no_effects ∷ Ok no_effects ∷ Ok no_effects ∷ Ok no_effects
+        ∷ Ok (record { frames = (0x00 ∷ 0x81 ∷ 0x73 ∷ []) ∷ []; primitives = Of (of_sapi Call 64) what.Established ∷ [] }) ∷ [] }
+    ensures counts { (network_run call_control_alone four_and_sabme (new_network call_control_alone (64 ∷ []))).discarded ≡ 4 }
 {}
 
 /// A user side without TEI is asked to establish. It asks for a TEI three times, 2,000 ms apart, each time with a new

@@ -16,8 +16,8 @@ pub use lapd_links::{
 };
 pub use lapd_tei::{Assigner, Terminal};
 pub use laws::{
-    assignments_make_links, freed_teis_lose_their_links, kept_establishments_are_done,
-    releases_leave_other_links, vain_requests_are_released,
+    assignments_make_links, discarded_frames_are_counted, freed_teis_lose_their_links,
+    kept_establishments_are_done, releases_leave_other_links, vain_requests_are_released,
 };
 pub use net_side::NetSide;
 pub use request::Request;
