@@ -113,6 +113,14 @@ impl AnySide {
         }
     }
 
+    /// How many frames it has discarded.
+    pub(crate) fn discarded(&self) -> u64 {
+        match self {
+            AnySide::Network(side) => side.discarded(),
+            AnySide::User(side) => side.discarded(),
+        }
+    }
+
     /// Octets come. A refusal is written.
     fn take(
         &mut self,

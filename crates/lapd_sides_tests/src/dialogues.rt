@@ -20,8 +20,8 @@ pub(crate) enum Made {
     User(Held, bool),
 }
 
-/// A name, the side, and calls with what they give.
-type Row = (&'static str, Made, &'static [(Call, &'static str)]);
+/// A name, the side, calls with what they give, and how many frames are discarded then.
+type Row = (&'static str, Made, &'static [(Call, &'static str)], u64);
 
 const NETWORK: &[Row] = &[
     (
@@ -35,6 +35,7 @@ const NETWORK: &[Row] = &[
             (Call::Tick(10_000), "02810101;"),
             (Call::Tick(10_000), "none;"),
         ],
+        0,
     ),
     (
         "a TEI is given, and its links are there",
@@ -53,6 +54,7 @@ const NETWORK: &[Row] = &[
             ),
             (Call::Take(0, "008353"), "00831f;"),
         ],
+        1,
     ),
     (
         "what is for nobody is discarded",
@@ -71,6 +73,7 @@ const NETWORK: &[Row] = &[
             (Call::Take(0, "00817f00"), "0 64 report M;"),
             (Call::Take(0, "00817f"), "008173;0 64 established;"),
         ],
+        8,
     ),
     (
         "a TEI is free again, and its links go",
@@ -98,6 +101,7 @@ const NETWORK: &[Row] = &[
             (Call::Take(100_000, "00817f"), ""),
             (Call::Establish(100_000, 0, 64), "refused B1;"),
         ],
+        1,
     ),
     (
         "a TEI is in use, then doubled",
@@ -116,6 +120,7 @@ const NETWORK: &[Row] = &[
             ),
             (Call::Take(3_000, "008153"), ""),
         ],
+        1,
     ),
     (
         "unit data to all terminals",
@@ -128,6 +133,7 @@ const NETWORK: &[Row] = &[
             (Call::Unit(0, 0, 64, "0a"), "refused B1 0a;"),
             (Call::AskTei(0), ""),
         ],
+        0,
     ),
     (
         "a receiver is busy",
@@ -141,6 +147,42 @@ const NETWORK: &[Row] = &[
             (Call::Busy(0, 0, 64, false), "00810100;"),
             (Call::Take(0, "0081000108"), "00810103;0 64 data 08;"),
         ],
+        0,
+    ),
+    (
+        "frames that are discarded are counted",
+        Made::Net(Held::Tei64, false),
+        &[
+            (Call::Take(0, "00"), ""),
+            (Call::Take(0, "018173"), ""),
+            (Call::Take(0, "04817f"), ""),
+            (Call::Take(0, "00837f"), ""),
+            (Call::Take(0, "00817f"), "008173;0 64 established;"),
+        ],
+        4,
+    ),
+    (
+        "SAPI 63 has no links",
+        Made::Net(Held::Tei64, false),
+        &[
+            (Call::Take(0, "fc81030f123401ff"), ""),
+            (Call::Take(0, "fcffaf"), ""),
+            (Call::Take(0, "fcff7f"), ""),
+            (Call::Take(0, "feff030f123401ff"), ""),
+        ],
+        4,
+    ),
+    (
+        "what TEI management ignores is not counted",
+        Made::Net(Held::Tei64, false),
+        &[
+            (Call::Take(0, "fcff03"), ""),
+            (Call::Take(0, "fcff030f123401"), ""),
+            (Call::Take(0, "fcff030f123408ff"), ""),
+            (Call::Take(0, "fcff030f123405ff"), ""),
+            (Call::Take(0, "fcff130f56780581"), ""),
+        ],
+        0,
     ),
 ];
 
@@ -159,6 +201,7 @@ const USER: &[Row] = &[
             (Call::Release(100_000, 0, 127), "refused B1;"),
             (Call::Establish(100_000, 0, 127), "fcff030f983001ff;"),
         ],
+        0,
     ),
     (
         "a TEI is got, and the establishment done",
@@ -173,6 +216,7 @@ const USER: &[Row] = &[
             (Call::Take(1_200, "008173"), "0 64 confirmed;"),
             (Call::Give(1_200, 0, 0, "0801"), "008100000801;"),
         ],
+        0,
     ),
     (
         "without a TEI there is no link",
@@ -189,6 +233,7 @@ const USER: &[Row] = &[
             (Call::Check(0, 64), ""),
             (Call::Take(0, "02817f"), ""),
         ],
+        1,
     ),
     (
         "two establishments are kept, of each SAPI one",
@@ -201,6 +246,7 @@ const USER: &[Row] = &[
             (Call::Take(0, "feff030f61990281"), "00817f;40817f;got 64;"),
             (Call::Establish(0, 0, 127), ""),
         ],
+        0,
     ),
     (
         "two establishments are kept in vain",
@@ -212,6 +258,7 @@ const USER: &[Row] = &[
             (Call::Tick(4_000), "fcff030f15ec01ff;"),
             (Call::Tick(6_000), "failed;0 127 released;16 127 released;"),
         ],
+        0,
     ),
     (
         "an establishment is forgotten",
@@ -225,6 +272,7 @@ const USER: &[Row] = &[
             (Call::Take(2_000, "feff030f76910281"), "got 64;"),
             (Call::Establish(2_000, 0, 127), "00817f;"),
         ],
+        0,
     ),
     (
         "unit data to all terminals",
@@ -241,6 +289,7 @@ const USER: &[Row] = &[
             (Call::Unit(0, 0, 127, "0c"), "0081030c;"),
             (Call::Unit(0, 16, 64, "0c"), "refused B1 0c;"),
         ],
+        2,
     ),
     (
         "a TEI is fixed, checked and removed",
@@ -260,6 +309,7 @@ const USER: &[Row] = &[
             (Call::Take(100_000, "02817f"), ""),
             (Call::AskTei(100_000), "fcff030f15ec01ff;"),
         ],
+        1,
     ),
     (
         "its TEI is assigned to another",
@@ -269,6 +319,21 @@ const USER: &[Row] = &[
             (Call::Take(0, "feff030f12340281"), "gone 64;"),
             (Call::Release(0, 0, 0), "refused B1;"),
         ],
+        0,
+    ),
+    (
+        "frames that are discarded are counted",
+        Made::User(Held::Nothing, false),
+        &[
+            (Call::Take(0, "02"), ""),
+            (Call::Take(0, "02817f"), ""),
+            (Call::Take(0, "02ff7f"), ""),
+            (Call::Take(0, "42ff030a"), ""),
+            (Call::Take(0, "fe81030f12340281"), ""),
+            (Call::Take(0, "feff030f123402"), ""),
+            (Call::Take(0, "02ff030a"), "0 127 unit 0a;"),
+        ],
+        5,
     ),
 ];
 
@@ -296,27 +361,22 @@ pub(crate) fn side_of(alloc: Global, made: Made) -> Result<AnySide, AllocError> 
     }
 }
 
-/// Goes over the calls of a row.
-fn talks(
-    alloc: Global,
-    name: &str,
-    side: &mut AnySide,
-    acts: &mut Acts,
-    calls: &[(Call, &'static str)],
-) -> Result<(), Fail> {
-    for (call, wanted) in calls {
+/// Goes over the calls of a row, and looks at how many frames were discarded.
+fn talks(alloc: Global, row: &Row, side: &mut AnySide, acts: &mut Acts) -> Result<(), Fail> {
+    let (name, _, calls, discarded) = row;
+    for (call, wanted) in *calls {
         let given = side.gives(alloc, *call, acts, wanted)?;
         wants(given, name, wanted)?;
     }
-    Ok(())
+    wants(side.discarded() == *discarded, name, "another count")
 }
 
 /// Goes over a row.
 fn goes(alloc: Global, row: &Row) -> Result<(), Fail> {
-    let (name, made, calls) = row;
+    let (_, made, _, _) = row;
     let mut acts = Acts::new(alloc)?;
     let mut side = side_of(alloc, *made)?;
-    talks(alloc, name, &mut side, &mut acts, calls)
+    talks(alloc, row, &mut side, &mut acts)
 }
 
 /// Goes over the calls of each row.
