@@ -18,10 +18,6 @@ use std::io::{self, Read, Write};
 /// The last moment of the clock, in milliseconds.
 const LAST_MOMENT: u64 = 1_000_000_000_000_000;
 
-/// How many times a line calls `tick` at most. That always suffices: a side has at most 254 links with two timers each,
-/// and the timer of TEI management.
-const MOST_TICKS: u64 = 1_024;
-
 /// A side, its clock, and what it is given and gives: a port and a writer.
 #[derive(Drop)]
 struct SideRunner<'o, W, S, K> {
@@ -151,7 +147,8 @@ impl<W: Write, S: Source, K: Sink> SideRunner<'_, W, S, K> {
         }
     }
 
-    /// All that is due is done, one after another.
+    /// All that is due is done, one after another, until nothing is. No timer that is started at this moment is due at it, as
+    /// each runs a millisecond at least. The loop counts so far only that it be seen to end.
     fn do_due(&mut self) -> Result<(), LineFault>
         ensures side { side_of self.new.side ≡ side_of self.old.side }
         ensures clock { self.new.now ≡ self.old.now }
@@ -159,7 +156,7 @@ impl<W: Write, S: Source, K: Sink> SideRunner<'_, W, S, K> {
     {
         let side = self.side.side();
         let mut given = Given::new(self.alloc);
-        for _tick in 0..MOST_TICKS {
+        for _tick in 0..u64::MAX {
             if !self.side.tick(self.now, &mut self.acts) {
                 break;
             }
