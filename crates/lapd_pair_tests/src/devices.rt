@@ -51,6 +51,23 @@ impl Read for Octets<'_> {
     }
 }
 
+// Gives a line feed at each read, this many in all.
+#[derive(Drop)]
+struct Feeds {
+    left: u64,
+}
+
+impl Read for Feeds {
+    fn read(&mut self, buf: &mut [u8]) -> io::Result<usize> {
+        if self.left == 0 || buf.is_empty() {
+            return Ok(0);
+        }
+        buf[0] = b'\n';
+        self.left -= 1;
+        Ok(1)
+    }
+}
+
 // Takes one octet at each write, and this many in all.
 #[derive(Drop)]
 struct Narrow {
@@ -153,6 +170,23 @@ fn reader_fails(rt: HostRuntime) -> Result<(), Fail> {
     let text = printed.as_slice() == b"state 4\nsend 00811f\n".as_slice();
     let so = ended == Err(ScriptFault::Device) && text;
     wants(so, "reader", "the fault, or the text before it")
+}
+
+// How many line feeds a script has, and how it ends: a million reads have to reach its end.
+const FEEDS: &[(u64, Result<(), ScriptFault>, &str)] = &[
+    (999_999, Ok(()), "a million reads"),
+    (1_000_000, Err(ScriptFault::Device), "a read more"),
+    (u64::MAX, Err(ScriptFault::Device), "no end"),
+];
+
+#[test]
+fn reads_a_million_times(rt: HostRuntime) -> Result<(), Fail> {
+    for (feeds, wanted, row) in FEEDS {
+        let mut script = Feeds { left: *feeds };
+        let ended = run(rt.alloc(), &mut script, &mut io::sink());
+        wants(ended == *wanted, row, "its end")?;
+    }
+    Ok(())
 }
 
 #[test]
