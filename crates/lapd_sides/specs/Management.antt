@@ -59,7 +59,7 @@ manages side config now outs s = record {
   effects = with_partings (told_without (tei_freed outs) (links_with config (tei_given outs) s.links)) (effects_of_management side outs);
 }
 
--- one frame more is discarded (2.9); the count stays at the greatest of 64 bits
+-- one frame more is discarded; the count stays at the greatest number of 64 bits
 abbrev pub one_more : ℕ → ℕ
 one_more n = min (n + 1) (2 ^ 64 - 1)
 

@@ -87,7 +87,7 @@ abbrev pub or_discarded : Network → Result (Acted Network) SideKind → Acted 
 or_discarded s (Ok a) = a
 or_discarded s (Err kind) = discards s
 
--- and no timer of it expires
+-- of a link that is not there no timer expires
 abbrev pub or_unmoved : Network → Result (Acted Network) SideKind → Acted Network
 or_unmoved s (Ok a) = a
 or_unmoved s (Err kind) = unmoved s

@@ -120,7 +120,7 @@ abbrev pub or_discarded : User → Result (Acted User) SideKind → Acted User
 or_discarded s (Ok a) = a
 or_discarded s (Err kind) = discards s
 
--- and for no link a timer expires, or an establishment is done
+-- of a link that is not there no timer expires, and no establishment is done
 abbrev pub or_unmoved : User → Result (Acted User) SideKind → Acted User
 or_unmoved s (Ok a) = a
 or_unmoved s (Err kind) = unmoved s

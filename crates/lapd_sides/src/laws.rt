@@ -46,10 +46,15 @@ pub fn freed_teis_lose_their_links()
 
 /// Octets with F1, F2 and F3, and a frame for a TEI that is not there, are discarded and counted; a SABME is answered.
 pub fn discarded_frames_are_counted()
-    ensures gives { network_gives call_control_alone four_and_sabme (new_network call_control_alone (64 ∷ []))
+    ensures gives { network_gives call_control_alone four_and_sabme
+        (new_network call_control_alone (64 ∷ []))
         ≡ Ok no_effects ∷ Ok no_effects ∷ Ok no_effects ∷ Ok no_effects
-        ∷ Ok (record { frames = (0x00 ∷ 0x81 ∷ 0x73 ∷ []) ∷ []; primitives = Of (of_sapi Call 64) what.Established ∷ [] }) ∷ [] }
-    ensures counts { (network_run call_control_alone four_and_sabme (new_network call_control_alone (64 ∷ []))).discarded ≡ 4 }
+        ∷ Ok (record {
+          frames = (0x00 ∷ 0x81 ∷ 0x73 ∷ []) ∷ [];
+          primitives = Of (of_sapi Call 64) what.Established ∷ [];
+        }) ∷ [] }
+    ensures counts { (network_run call_control_alone four_and_sabme
+        (new_network call_control_alone (64 ∷ []))).discarded ≡ 4 }
 {}
 
 /// A user side without TEI is asked to establish. It asks for a TEI three times, 2,000 ms apart, each time with a new

@@ -63,8 +63,8 @@ impl NetSide {
     }
 
     /// Octets come from the line at the moment `now`: a frame is heard by the link that it names, or a message by TEI
-    /// management. What is for no link, and octets with one of F1 to F3, are discarded. It takes memory only where a TEI is
-    /// assigned, for its links.
+    /// management. What is for no link, and octets with one of F1 to F3, are discarded, and counted by
+    /// [`NetSide::discarded`]. It takes memory only where a TEI is assigned, for its links.
     ///
     /// # Errors
     ///
@@ -358,7 +358,8 @@ impl NetSide {
     /// How many frames [`NetSide::take`] has discarded since the side was made: those with F1 to F3, and those for a link
     /// that is not there. It stays at `u64::MAX` once it is there. What TEI management ignores is not counted.
     pub fn discarded(&self) -> u64
-        ensures { (config : Config) (s : Network) → ShowNetwork self.now config s → result ≡ s.discarded }
+        ensures { (config : Config) (s : Network) → ShowNetwork self.now config s
+            → result ≡ s.discarded }
     {
         self.discarded
     }

@@ -76,7 +76,7 @@ impl UserSide {
 
     /// Octets come from the line at the moment `now`: a frame is heard by the link that it names, a message by TEI
     /// management, and unit data to all terminals by layer 3. What is for no link, and octets with one of F1 to F3, are
-    /// discarded. It takes memory only where the terminal gets a TEI, for its links.
+    /// discarded, and counted by [`UserSide::discarded`]. It takes memory only where the terminal gets a TEI, for its links.
     ///
     /// # Errors
     ///
@@ -290,7 +290,8 @@ impl UserSide {
     /// How many frames [`UserSide::take`] has discarded since the side was made: those with F1 to F3, and those for a link
     /// that is not there. It stays at `u64::MAX` once it is there. What TEI management ignores is not counted.
     pub fn discarded(&self) -> u64
-        ensures { (config : Config) (s : User) → ShowUser self.now config s → result ≡ s.discarded }
+        ensures { (config : Config) (s : User) → ShowUser self.now config s
+            → result ≡ s.discarded }
     {
         self.discarded
     }
