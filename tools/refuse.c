@@ -1,0 +1,36 @@
+/* Refuses one allocation of a program: the one whose number, from 1, the variable REFUSE holds. It stands before the C
+   library (LD_PRELOAD), from which the programs that `rt` builds take all their memory. Where it refuses one, it says so on
+   standard error, by a line that no program of this repository writes. */
+
+#include <stddef.h>
+
+void *__libc_malloc(size_t octets);
+void *__libc_realloc(void *old, size_t octets);
+char *getenv(const char *name);
+long write(int file, const void *octets, size_t count);
+
+static int is_refused(void)
+{
+    static unsigned long long number, wanted;
+    static const char told[] = "refuse: this allocation is refused\n";
+    if (number == 0) {
+        const char *digits = getenv("REFUSE");
+        for (; digits && '0' <= *digits && *digits <= '9'; digits++)
+            wanted = wanted * 10 + (*digits - '0');
+    }
+    number++;
+    if (number != wanted)
+        return 0;
+    write(2, told, sizeof told - 1);
+    return 1;
+}
+
+void *malloc(size_t octets)
+{
+    return is_refused() ? NULL : __libc_malloc(octets);
+}
+
+void *realloc(void *old, size_t octets)
+{
+    return is_refused() ? NULL : __libc_realloc(old, octets);
+}
