@@ -2,7 +2,7 @@
 
 use crate::wants::wants;
 use lapd_trace::{History, Side, line};
-use std::alloc::Global;
+use std::alloc::{AllocError, Global};
 use std::test::Fail;
 
 // ---- Lines.
@@ -240,29 +240,86 @@ fn a_history_of_two_lines_drops_the_first(rt: HostRuntime) -> Result<(), Fail> {
     wants(holds_b_and_c(&history), "of a, b and c", "not the last two")
 }
 
-// ---- Without memory.
+// ---- Memory that is refused: `tools/refuse-memory` refuses each allocation of a run in turn (docs/DEVELOPING.md).
 
-/// Where there is memory for it, the line is this text.
-fn prints_or_fails(alloc: Global, from: Side, octets: &[u8], text: &str) -> Result<(), Fail> {
+/// Who sent octets, and their line: frames and faults for whose lines memory is taken once, and twice.
+const TOLD: &[(Side, &[u8], &str)] = &[
+    (Side::User, &[], "U>N F1 TooShort"),
+    (
+        Side::Network,
+        b"\x02\x81\x01\x01",
+        "N>U SAPI 0 TEI 64 C RR N(R)=0 P=1",
+    ),
+    (
+        Side::User,
+        b"\x00\x81\x02\x04\x08\x02",
+        "U>N SAPI 0 TEI 64 C I N(S)=1 N(R)=2 P=0 info=0802",
+    ),
+    (Side::User, b"\x04\x81\x7f", "U>N F3 SapiNotServed 04817f"),
+];
+
+/// How often memory was refused: to a line, and to a history.
+#[derive(Clone, Copy, Debug, Default, PartialEq, Eq)]
+struct Refusals {
+    lines: u32,
+    histories: u32,
+}
+
+/// A line, at the second try where the first finds no memory.
+fn line_at_last(
+    alloc: Global,
+    from: Side,
+    octets: &[u8],
+    met: &mut Refusals,
+) -> Result<String, AllocError> {
     match line(alloc, from, octets) {
-        Ok(printed) => wants(printed.as_str() == text, text, "other text"),
-        Err(_) => Ok(()),
+        Ok(printed) => Ok(printed),
+        Err(AllocError) => {
+            met.lines = met.lines.saturating_add(1);
+            line(alloc, from, octets)
+        }
     }
 }
 
-#[test]
-fn without_memory_no_other_text(rt: HostRuntime) -> Result<(), Fail> {
-    let alloc = rt.alloc();
-    let poll = [0x02, 0x81, 0x01, 0x01];
-    prints_or_fails(
-        alloc,
-        Side::Network,
-        &poll,
-        "N>U SAPI 0 TEI 64 C RR N(R)=0 P=1",
-    )?;
-    prints_or_fails(alloc, Side::User, &[], "U>N F1 TooShort")?;
+/// A history of two lines, at the second try where the first finds no memory.
+fn history_at_last(alloc: Global, met: &mut Refusals) -> Result<History, AllocError> {
     match History::new(alloc, 2) {
-        Ok(history) => wants(history.lines().count() == 0, "a history", "no line"),
-        Err(_) => Ok(()),
+        Ok(history) => Ok(history),
+        Err(AllocError) => {
+            met.histories = met.histories.saturating_add(1);
+            History::new(alloc, 2)
+        }
     }
+}
+
+/// Puts each line into a history.
+fn push_told(alloc: Global, history: &mut History, met: &mut Refusals) -> Result<(), Fail> {
+    for (from, octets, text) in TOLD {
+        let printed = line_at_last(alloc, *from, octets, met)?;
+        wants(printed.as_str() == *text, text, "other text")?;
+        history.push(printed);
+    }
+    Ok(())
+}
+
+/// Whether the history holds the last two of these lines.
+fn holds_told(history: &History) -> bool {
+    let mut lines = history.lines();
+    lines.next() == Some(TOLD[2].2) && lines.next() == Some(TOLD[3].2) && lines.next().is_none()
+}
+
+fn keeps_told(alloc: Global, met: &mut Refusals) -> Result<(), Fail> {
+    let mut history = history_at_last(alloc, met)?;
+    push_told(alloc, &mut history, met)?;
+    wants(holds_told(&history), "of four lines", "not the last two")
+}
+
+#[test]
+fn lines_without_memory(rt: HostRuntime) -> Result<(), Fail> {
+    let mut met = Refusals::default();
+    keeps_told(rt.alloc(), &mut met)?;
+    if met != Refusals::default() {
+        println!(rt; "refused: {met:?}")?;
+    }
+    Ok(())
 }
