@@ -1,5 +1,5 @@
-//! Memory that is refused. No test can refuse an allocation itself: `rt try --test --fail-alloc N` refuses the one of that
-//! number in a run, and the test prints that it met it (docs/DEVELOPING.md).
+//! Memory that is refused. No test can refuse an allocation itself: `tools/refuse-memory` refuses each of a run in turn, and
+//! the test prints that it met it (docs/DEVELOPING.md).
 
 use crate::devices::{SOUND, port_of};
 use crate::dialogues::{Ended, MOST, Row, WORKED_NET, WORKED_USER, octets_of, play};

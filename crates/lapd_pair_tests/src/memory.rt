@@ -1,6 +1,6 @@
-//! Memory that is refused. No test can refuse an allocation itself: `rt try --test --fail-alloc N` refuses the one of that
-//! number in a run, and the test prints where it met it (docs/DEVELOPING.md). A move that finds no memory leaves all that
-//! the pair shows as it was, and then comes to what it comes to where none is refused.
+//! Memory that is refused. No test can refuse an allocation itself: `tools/refuse-memory` refuses each of a run in turn, and
+//! the test prints where it met it (docs/DEVELOPING.md). A move that finds no memory leaves all that the pair shows as it was,
+//! and then comes to what it comes to where none is refused.
 
 use crate::made::params;
 use crate::readers::digest;
