@@ -1,5 +1,6 @@
-//! Tests of the crates below, as tables: octets, rows of the state table, counters and queues, and what they call for. Those
-//! of the commands and of two ends stand in `lapd_pair_tests`.
+//! Tests of the crates below, as tables: octets, rows of the state table, counters and queues, and what they call for; and
+//! links that drawn events lead on, beside the state table as text. Those of the commands and of two ends stand in
+//! `lapd_pair_tests`.
 //!
 //! They stand apart so that each crate is proved once. What a contract says is not tested again. A row shows that the
 //! definitions say what is meant, that a call can succeed, and what a value prints. `wants` fails a test with the row's

@@ -4,6 +4,7 @@
 //! were written by hand, after the table.
 
 mod awaiting;
+mod drawn;
 mod established;
 mod every_state;
 mod scripts;

@@ -1,0 +1,282 @@
+//! Events that are drawn, as lines of the command `answer`.
+
+use crate::rows::drawn::plain::{Heard, Plain};
+use crate::rows::drawn::text::Text;
+use rand_core::{Rng, SeedableRng};
+use rand_pcg::Pcg32;
+
+/// Events `event | then | line`, each drawn as often as it stands here. `then` is the event behind it, of a frame with N(R). In a
+/// line `C`, `R` and `E` are the address of a command, of a response and of either, `+` adds a drawn P or F, `S` is N(S), `N` is
+/// N(R) with P or F, `I` information, `J` the same behind a space, `L` 261 octets, `M` the next message, and `_` a space.
+const COMMON: &str = "\
+I | N(R) of I | frame _ C S N I
+I | N(R) of I | frame _ C S N I
+I | N(R) of I | frame _ C S N I
+RR | N(R) of RR | frame _ E 01 N
+RR | N(R) of RR | frame _ E 01 N
+REJ | N(R) of REJ | frame _ E 09 N
+RNR | N(R) of RNR | frame _ E 05 N
+give | - | give _ M
+give | - | give _ M
+give | - | give _ M
+T200 | - | t200
+T203 | - | t203
+busy off | - | busy _ off
+busy off | - | busy _ off
+busy on | - | busy _ on";
+
+const FRAMES: &str = "\
+I | N(R) of I | frame _ C S N I
+I | N(R) of I | frame _ C S N I
+RR | N(R) of RR | frame _ E 01 N
+REJ | N(R) of REJ | frame _ E 09 N
+RNR | N(R) of RNR | frame _ E 05 N";
+
+const MESSAGES: &str = "give | - | give _ M";
+
+const TIMERS: &str = "T200 | - | t200";
+
+const ESTABLISHES: &str = "\
+SABME | - | frame _ C 6f+
+establish | - | establish
+UA | - | frame _ R 63+
+UA | - | frame _ R 63+";
+
+const ALL: &str = "\
+I | N(R) of I | frame _ C S N I
+I | N(R) of I | frame _ C S N I
+RR | N(R) of RR | frame _ E 01 N
+REJ | N(R) of REJ | frame _ E 09 N
+RNR | N(R) of RNR | frame _ E 05 N
+SABME | - | frame _ C 6f+
+DISC | - | frame _ C 43+
+UI | - | frame _ C 03+ I
+DM | - | frame _ R 0f+
+UA | - | frame _ R 63+
+FRMR | - | frame _ R 87+ 7f00020401
+XID | - | frame _ E af+ I
+F4 | - | frame _ C 1100
+F4 | - | frame _ E 0d00
+F4 | - | frame _ C 63+
+F4 | - | frame _ R 6f+
+F4 | - | frame _ R S N I
+F4 | - | frame _ E ff
+F5 | - | frame _ C 6f+ 00
+F5 | - | frame _ R 0f+ aa
+F6 | - | frame _ E 01 N 00
+F6 | - | frame _ R 87+ 00000000
+F7 | - | frame _ C S N L
+F7 | - | frame _ C 03+ L
+F7 | - | frame _ E af+ L
+T200 | - | t200
+T203 | - | t203
+busy on | - | busy _ on
+busy off | - | busy _ off
+establish | - | establish
+release | - | release
+give | - | give _ M
+give | - | give _ L
+unit | - | unit J
+unit | - | unit _ L";
+
+/// Information that is drawn.
+const INFORMATION: &[&str] = &["", "00", "05aa", "0102ff"];
+
+/// An event of the table, and the event behind it.
+pub(super) type Drawn = (&'static str, &'static str);
+
+/// Draws of events: the random sequence, what is mostly drawn, and the line of the last event.
+#[derive(Drop)]
+pub(super) struct Draws {
+    random: Pcg32,
+    mood: &'static str,
+    line: Text,
+}
+
+/// The line at a place of a text.
+fn line_at(text: &'static str, place: u32) -> &'static str {
+    for (line, number) in text.lines().zip(0..=place) {
+        if number == place {
+            return line;
+        }
+    }
+    ""
+}
+
+/// The event of a line, the one behind it, and its words.
+fn parts_of(line: &'static str) -> (&'static str, &'static str, &'static str) {
+    match line.split_once(" | ") {
+        Some((event, rest)) => match rest.split_once(" | ") {
+            Some((then, words)) => (event, then, words),
+            None => ("", "", ""),
+        },
+        None => ("", "", ""),
+    }
+}
+
+impl Draws {
+    /// Draws from this seed on.
+    pub(super) fn new(seed: u64) -> Draws {
+        Draws {
+            random: Pcg32::seed_from_u64(seed),
+            mood: ALL,
+            line: Text::new(),
+        }
+    }
+
+    /// The line of the event that was drawn last.
+    pub(super) fn line(&self) -> &[u8] {
+        self.line.octets()
+    }
+
+    /// A number below this one.
+    fn below(&mut self, limit: u32) -> u32 {
+        self.random.next_u32().checked_rem(limit).unwrap_or(0)
+    }
+
+    /// A number below this one, at most 256.
+    fn octet_below(&mut self, limit: u8) -> u8 {
+        (self.below(u32::from(limit)) & 0xff) as u8
+    }
+
+    /// Draws an event for an end, which hears it.
+    pub(super) fn draw(&mut self, plain: &mut Plain) -> Drawn {
+        let text = self.text_for(plain);
+        let line = self.line_of(text);
+        let heard = self.heard(plain, text != ALL);
+        let info = self.information();
+        let (event, then, words) = parts_of(line);
+        plain.hear(
+            &Heard {
+                long: words.ends_with("L"),
+                ..heard
+            },
+            info,
+        );
+        self.put_words(plain, words, &heard, info);
+        (event, then)
+    }
+
+    /// Of which events one is drawn.
+    fn text_for(&mut self, plain: &Plain) -> &'static str {
+        if self.below(200) == 0 {
+            self.change_mood();
+        }
+        if plain.state() < 7 && self.below(2) == 0 {
+            ESTABLISHES
+        } else if self.mood == ALL || self.below(60) == 0 {
+            ALL
+        } else if self.below(if self.mood == MESSAGES { 40 } else { 2 }) == 0 {
+            COMMON
+        } else {
+            self.mood
+        }
+    }
+
+    /// What is mostly drawn changes.
+    fn change_mood(&mut self) {
+        self.mood = match self.below(4) {
+            0 => ALL,
+            1 => MESSAGES,
+            2 => FRAMES,
+            _ => TIMERS,
+        };
+    }
+
+    /// A line of a text.
+    fn line_of(&mut self, text: &'static str) -> &'static str {
+        let mut count = 0u32;
+        for _ in text.lines() {
+            count = count.wrapping_add(1);
+        }
+        let place = self.below(count);
+        line_at(text, place)
+    }
+
+    /// Information.
+    fn information(&mut self) -> &'static str {
+        let place = self.octet_below(4);
+        INFORMATION.get(usize::from(place)).copied().unwrap_or("")
+    }
+
+    /// Numbers and marks of a frame. Of one that is calm N(R) is valid, and N(S) mostly the one that is wanted.
+    fn heard(&mut self, plain: &Plain, calm: bool) -> Heard {
+        let ns = self.octet_below(128);
+        let nr = self.octet_below(128);
+        let valid = self.octet_below(plain.outstanding().wrapping_add(1));
+        let wanted = self.below(6) > 0;
+        Heard {
+            command: self.below(2) == 0,
+            p: self.below(2) == 0,
+            ns: if calm && wanted { plain.vr() } else { ns },
+            nr: if calm { plain.behind_va(valid) } else { nr },
+            long: false,
+        }
+    }
+
+    /// Puts the line of an event together.
+    fn put_words(&mut self, plain: &Plain, words: &str, heard: &Heard, info: &str) {
+        self.line.clear();
+        for word in words.split(" ") {
+            self.put_word(plain, word, heard, info);
+        }
+    }
+
+    /// Puts a word behind the others.
+    fn put_word(&mut self, plain: &Plain, word: &str, heard: &Heard, info: &str) {
+        match word.as_bytes() {
+            [letter] => self.put_letter(plain, *letter, heard, info),
+            [_, _, b'+'] => self.put_with_p(word, heard.p),
+            _ => self.line.text(word),
+        }
+    }
+
+    /// Puts an octet behind, with P or F.
+    fn put_with_p(&mut self, word: &str, p: bool) {
+        if let Some(digits) = word.strip_suffix("+") {
+            self.line.with_p(digits, p);
+        }
+    }
+
+    /// Puts what a letter stands for behind.
+    fn put_letter(&mut self, plain: &Plain, letter: u8, heard: &Heard, info: &str) {
+        match letter {
+            b'C' => self.put_address(plain, true),
+            b'R' => self.put_address(plain, false),
+            b'E' => self.put_address(plain, heard.command),
+            b'S' => self.line.octet(heard.ns.wrapping_mul(2)),
+            b'N' => self
+                .line
+                .octet(heard.nr.wrapping_mul(2) | u8::from(heard.p)),
+            b'J' => self.put_behind_space(info),
+            b'M' => self.line.message(plain.next_message()),
+            b'L' => self.put_long(),
+            b'_' => self.line.text(" "),
+            _ => self.line.text(info),
+        }
+    }
+
+    /// Puts the address of a frame of the other side behind.
+    fn put_address(&mut self, plain: &Plain, command: bool) {
+        self.line.text(if command == plain.is_network() {
+            "0081"
+        } else {
+            "0281"
+        });
+    }
+
+    /// Puts information behind a space, where there is some.
+    fn put_behind_space(&mut self, info: &str) {
+        if !info.is_empty() {
+            self.line.text(" ");
+            self.line.text(info);
+        }
+    }
+
+    /// Puts 261 octets behind.
+    fn put_long(&mut self) {
+        for _ in 0..261 {
+            self.line.text("aa");
+        }
+    }
+}

@@ -1,0 +1,262 @@
+//! The state table (Q.921 Annex B) as text, written by hand after docs/SPECIFICATION.md.
+//!
+//! A row is `states | event | conditions | actions | next state`, with `-` for none and `=` for the state before. The first row
+//! that fits is taken; where none does, nothing is done. A frame with N(R) is two events, `RR` and then `N(R) of RR`, and the end
+//! of each step is the event `end` for as long as a row of it fits.
+
+use crate::rows::drawn::plain::Plain;
+use crate::wants::wants;
+use std::alloc::Global;
+use std::test::Fail;
+
+/// What actions mean that are several.
+pub(super) const PROCEDURES: &str = "\
+CLEAR | clear peer busy, clear own busy, clear rejecting, clear ack pending
+ZERO | V(S):=0, V(A):=0, V(R):=0
+EST | clear peer busy, clear own busy, clear rejecting, clear ack pending, clear RP, RC:=0, SABME, STOP T203, START T200
+";
+
+/// The frames that are sent: `C` and `R` are the address of a command and of a response, `+` adds F=P, `V0`, `V1` and `V+` are
+/// N(R)=V(R) with this P or F, `?` is RR, or RNR where own receiver busy is set, `S` and `s` are V(S) and the number before it as
+/// N(S), `M` and `m` the message that is sent next and the one that was sent last, and `I` the information of the request.
+pub(super) const FRAMES: &str = "\
+UA | R 63+
+DM | R 0f+
+SABME | C 7f
+DISC | C 53
+RR | R 01 V0
+RNR | R 05 V0
+REJ | R 09 V+
+ANSWER | R ? V1
+ENQUIRY | C ? V1
+I | C S V0 M
+LAST I | C s V1 m
+UI | C 03 I
+";
+
+/// The rows.
+const TABLE: &str = "\
+# All states.
+45678 | UI | - | UNIT UP | =
+45678 | XID | - | - | =
+45678 | unit | long | refused L3 TooLong | =
+45678 | unit | not long | UI | =
+45678 | give | long | refused L3 TooLong | =
+456 | F4 | - | report L | =
+456 | F5 | - | report M | =
+456 | F6 | - | report N | =
+456 | F7 | - | report O | =
+
+# TEI assigned.
+4 | establish | - | DISCARD, set L3I, EST | 5
+4 | release | - | release-confirmed | 4
+4 | give | - | refused L1 NotEstablished | 4
+4 | SABME | - | UA, CLEAR, ZERO, established, START T203 | 7
+4 | DISC | - | DM | 4
+4 | UA | P | report C | 4
+4 | UA | not P | report D | 4
+
+# Awaiting establishment.
+5 | establish | RP | refused L4 Releasing | 5
+5 | establish | not RP | DISCARD, set L3I | 5
+5 | release | - | DISCARD, set RP | 5
+5 | give | RP | refused L4 Releasing | 5
+5 | give | L3I | refused L5 LayerThreeEstablishing | 5
+5 | give | full | refused L2 QueueFull | 5
+5 | give | - | QUEUE | 5
+5 | SABME | - | UA | 5
+5 | DISC | - | DM | 5
+5 | UA | P, RP | clear RP, RC:=0, DISC, START T200 | 6
+5 | UA | P, not RP, L3I | confirmed, ZERO, STOP T200, START T203 | 7
+5 | UA | P, not RP, not L3I, not V(S)=V(A) | DISCARD, established, ZERO, STOP T200, START T203 | 7
+5 | UA | P, not RP, not L3I, V(S)=V(A) | ZERO, STOP T200, START T203 | 7
+5 | UA | not P | report D | 5
+5 | DM | P, not RP | DISCARD, STOP T200, released | 4
+5 | DM | P, RP | DISCARD, STOP T200, release-confirmed, clear RP | 4
+5 | T200 | T200, RC=N200, not RP | clear T200, DISCARD, report G, released | 4
+5 | T200 | T200, RC=N200, RP | clear T200, DISCARD, report G, release-confirmed, clear RP | 4
+5 | T200 | T200, not RC=N200 | clear T200, RC+1, SABME, START T200 | 5
+
+# Awaiting release.
+6 | establish | - | refused L4 Releasing | 6
+6 | give | - | refused L4 Releasing | 6
+6 | SABME | - | DM | 6
+6 | DISC | - | UA | 6
+6 | UA | P | STOP T200, release-confirmed | 4
+6 | UA | not P | report D | 6
+6 | DM | P | STOP T200, release-confirmed | 4
+6 | T200 | T200, RC=N200 | clear T200, report H, release-confirmed | 4
+6 | T200 | T200, not RC=N200 | clear T200, RC+1, DISC, START T200 | 6
+
+# Multiple frame established, and timer recovery: requests, and frames without numbers.
+78 | establish | - | DISCARD, set L3I, EST | 5
+78 | release | - | DISCARD, RC:=0, DISC, STOP T203, START T200 | 6
+78 | give | full | refused L2 QueueFull | =
+78 | give | not full | QUEUE | =
+78 | busy on | not own busy | set own busy, RNR | =
+78 | busy off | own busy | clear own busy, RR | =
+78 | SABME | V(S)=V(A) | UA, CLEAR, report F, STOP T200, START T203, ZERO | 7
+78 | SABME | not V(S)=V(A) | UA, CLEAR, report F, DISCARD, established, STOP T200, START T203, ZERO | 7
+78 | DISC | - | DISCARD, UA, released, STOP T200, STOP T203 | 4
+78 | UA | P | report C | =
+78 | UA | not P | report D | =
+7 | DM | P | report B | 7
+8 | DM | P | report B, clear L3I, EST | 5
+78 | DM | not P | report E, clear L3I, EST | 5
+78 | FRMR | - | report K, clear L3I, EST | 5
+78 | F4 | - | report L, clear L3I, EST | 5
+78 | F5 | - | report M, clear L3I, EST | 5
+78 | F6 | - | report N, clear L3I, EST | 5
+78 | F7 | - | report O, clear L3I, EST | 5
+
+# Timers.
+7 | T203 | T203 | clear T203, RC:=0, ENQUIRY, START T200 | 8
+7 | T200 | T200, the last again, not peer busy, not V(S)=V(A) | clear T200, LAST I, START T200, RC:=1 | 8
+7 | T200 | T200 | clear T200, ENQUIRY, START T200, RC:=1 | 8
+8 | T200 | T200, RC=N200 | clear T200, report I, clear L3I, EST | 5
+8 | T200 | T200, not RC=N200 | clear T200, ENQUIRY, START T200, RC+1 | 8
+
+# The N(S) of an I frame.
+78 | I | own busy, P | ANSWER | =
+78 | I | own busy, not P | - | =
+78 | I | N(S)=V(R), P | V(R)+1, clear rejecting, UP, ANSWER | =
+78 | I | N(S)=V(R), not P | V(R)+1, clear rejecting, UP, set ack pending | =
+78 | I | not rejecting | set rejecting, REJ | =
+78 | I | rejecting, P | ANSWER | =
+78 | I | rejecting, not P | - | =
+
+# What an S frame says of the other side.
+78 | RR | command, P | clear peer busy, ANSWER | =
+7 | RR | not command, P | clear peer busy, report A | 7
+78 | RR | - | clear peer busy | =
+78 | REJ | command, P | clear peer busy, ANSWER | =
+7 | REJ | not command, P | clear peer busy, report A | 7
+78 | REJ | - | clear peer busy | =
+78 | RNR | command, P | set peer busy, ANSWER | =
+7 | RNR | not command, P | set peer busy, report A | 7
+78 | RNR | - | set peer busy | =
+
+# The N(R) of an I frame or an S frame.
+78 | N(R) of I | not valid | report J, clear L3I, EST | 5
+78 | N(R) of RR | not valid | report J, clear L3I, EST | 5
+78 | N(R) of REJ | not valid | report J, clear L3I, EST | 5
+78 | N(R) of RNR | not valid | report J, clear L3I, EST | 5
+7 | N(R) of I | peer busy | ACK | 7
+7 | N(R) of I | N(R)=V(S) | ACK, STOP T200, START T203 | 7
+7 | N(R) of I | N(R)=V(A) | - | 7
+7 | N(R) of I | - | ACK, START T200 | 7
+8 | N(R) of I | - | ACK | 8
+7 | N(R) of RR | N(R)=V(S) | ACK, STOP T200, START T203 | 7
+7 | N(R) of RR | N(R)=V(A) | - | 7
+7 | N(R) of RR | - | ACK, START T200 | 7
+8 | N(R) of RR | not command, P | BACK, STOP T200, START T203 | 7
+8 | N(R) of RR | - | ACK | 8
+7 | N(R) of REJ | - | BACK, STOP T200, START T203 | 7
+8 | N(R) of REJ | not command, P | BACK, STOP T200, START T203 | 7
+8 | N(R) of REJ | - | ACK | 8
+7 | N(R) of RNR | - | ACK, STOP T203, START T200 | 7
+8 | N(R) of RNR | not command, P | BACK, START T200 | 7
+8 | N(R) of RNR | - | ACK | 8
+
+# The end of every step.
+7 | end | unsent, open, not peer busy, T200 | I, V(S)+1 | 7
+7 | end | unsent, open, not peer busy, not T200 | I, V(S)+1, STOP T203, START T200 | 7
+78 | end | ack pending | RR | =
+";
+
+/// A row of the table.
+#[derive(Clone, Copy)]
+pub(super) struct Row {
+    line: &'static str,
+    states: &'static str,
+    event: &'static str,
+    conditions: &'static str,
+    pub(super) actions: &'static str,
+    next: &'static str,
+}
+
+/// The rows, and how often each was taken.
+#[derive(Drop)]
+pub(super) struct Table {
+    rows: Vec<Row>,
+    met: Vec<u32>,
+}
+
+/// The row that a line is.
+fn row_of(line: &'static str) -> Option<Row> {
+    let (states, rest) = line.split_once(" | ")?;
+    let (event, rest) = rest.split_once(" | ")?;
+    let (conditions, rest) = rest.split_once(" | ")?;
+    let (actions, next) = rest.split_once(" | ")?;
+    Some(Row {
+        line,
+        states: states.trim(),
+        event: event.trim(),
+        conditions: conditions.trim(),
+        actions: actions.trim(),
+        next,
+    })
+}
+
+impl Row {
+    /// Whether it is taken at this end for this event.
+    fn fits(&self, event: &str, plain: &Plain) -> bool {
+        self.event == event && plain.is_in(self.states) && plain.meets(self.conditions)
+    }
+
+    /// The state that it leads to from this one.
+    pub(super) fn leads_to(&self, state: u8) -> u8 {
+        match self.next.as_bytes() {
+            [digit] if *digit != b'=' => digit.wrapping_sub(b'0'),
+            _ => state,
+        }
+    }
+}
+
+impl Table {
+    /// The table, with no row taken.
+    pub(super) fn new(alloc: Global) -> Table {
+        Table {
+            rows: Vec::new(alloc),
+            met: Vec::new(alloc),
+        }
+    }
+
+    /// Reads the rows.
+    pub(super) fn read(&mut self) -> Result<(), Fail> {
+        for line in TABLE.lines() {
+            if !line.is_empty() && !line.starts_with("#") {
+                self.rows.push(row_of(line).ok_or("a row has five parts")?)?;
+                self.met.push(0)?;
+            }
+        }
+        Ok(())
+    }
+
+    /// Where the first row stands that fits.
+    fn place_of(&self, event: &str, plain: &Plain) -> Option<usize> {
+        for (place, row) in self.rows.iter().enumerate() {
+            if row.fits(event, plain) {
+                return Some(place);
+            }
+        }
+        None
+    }
+
+    /// The row that is taken, which is counted; `None` where the table names none.
+    pub(super) fn taken(&mut self, event: &str, plain: &Plain) -> Option<Row> {
+        let place = self.place_of(event, plain)?;
+        if let Some(met) = self.met.get_mut(place) {
+            *met = met.wrapping_add(1);
+        }
+        self.rows.get(place).copied()
+    }
+
+    /// Fails the test at a row that was never taken.
+    pub(super) fn are_met(&self) -> Result<(), Fail> {
+        for (row, met) in self.rows.iter().zip(self.met.iter()) {
+            wants(*met > 0, row.line, "never taken")?;
+        }
+        Ok(())
+    }
+}

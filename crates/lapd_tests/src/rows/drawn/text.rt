@@ -1,0 +1,113 @@
+//! Text that is put together piece by piece, and texts that name things.
+
+use arrayvec::ArrayVec;
+
+/// Text. What has no room is left out, so that the text is not the one that is wanted.
+#[derive(Drop)]
+pub(super) struct Text {
+    octets: ArrayVec<u8, 4096>,
+}
+
+/// A digit of a hexadecimal number.
+fn digit_of(number: u8) -> u8 {
+    if number < 10 {
+        b'0'.wrapping_add(number)
+    } else {
+        b'a'.wrapping_add(number.wrapping_sub(10))
+    }
+}
+
+/// Where a name stands among these.
+pub(super) fn place_in(names: &[&str], name: &str) -> Option<usize> {
+    for (place, known) in names.iter().enumerate() {
+        if *known == name {
+            return Some(place);
+        }
+    }
+    None
+}
+
+/// What stands behind a name in a text of lines `name | meaning`.
+pub(super) fn meaning(text: &'static str, name: &str) -> Option<&'static str> {
+    for line in text.lines() {
+        if let Some(rest) = line.strip_prefix(name) {
+            if let Some(meaning) = rest.strip_prefix(" | ") {
+                return Some(meaning);
+            }
+        }
+    }
+    None
+}
+
+impl Text {
+    /// No text.
+    pub(super) fn new() -> Text {
+        Text {
+            octets: ArrayVec::new(),
+        }
+    }
+
+    /// The text.
+    pub(super) fn octets(&self) -> &[u8] {
+        self.octets.as_slice()
+    }
+
+    /// Forgets all.
+    pub(super) fn clear(&mut self) {
+        self.octets.clear();
+    }
+
+    /// Puts octets behind the others.
+    pub(super) fn put(&mut self, octets: &[u8]) {
+        let _ = self.octets.try_extend_from_slice(octets);
+    }
+
+    /// Puts text behind.
+    pub(super) fn text(&mut self, text: &str) {
+        self.put(text.as_bytes());
+    }
+
+    /// Puts a line behind.
+    pub(super) fn line(&mut self, line: &str) {
+        self.text(line);
+        self.put(b"\n");
+    }
+
+    /// Puts an octet behind, in hexadecimal.
+    pub(super) fn octet(&mut self, octet: u8) {
+        self.put(&[digit_of(octet / 16), digit_of(octet % 16)]);
+    }
+
+    /// Puts the octets of a message behind, which are those of its number.
+    pub(super) fn message(&mut self, number: u32) {
+        for octet in number.to_be_bytes() {
+            self.octet(octet);
+        }
+    }
+
+    /// Puts two digits behind, with 1 added to the first of them where P or F is 1.
+    pub(super) fn with_p(&mut self, digits: &str, p: bool) {
+        if let [first, second] = digits.as_bytes() {
+            self.put(&[first.wrapping_add(u8::from(p)), *second]);
+        }
+    }
+
+    /// Puts a line with a number below 1,000 behind, where it is not 0.
+    pub(super) fn count(&mut self, name: &str, number: u16) {
+        if number > 0 {
+            self.text(name);
+            self.digit(number, 100);
+            self.digit(number, 10);
+            self.digit(number, 1);
+            self.put(b"\n");
+        }
+    }
+
+    /// Puts the digit of a number behind that counts so much, unless the number is less.
+    fn digit(&mut self, number: u16, unit: u16) {
+        if number >= unit {
+            let digit = number.checked_div(unit).unwrap_or(0) % 10;
+            self.put(&[digit_of((digit & 0xff) as u8)]);
+        }
+    }
+}
