@@ -1,3 +1,4 @@
 pub mod Closed
 mod Framed
 mod Refusals
+mod Settling

@@ -1,7 +1,9 @@
 -- The command `pair`: two ends and the line between them, by the moves of a script.
-use Rattle.std.specs.Prelude.{◌≡◌, ℕ, ◌-◌, List, [], ◌∷◌, ◌++◌, codes, flat_map, get_or, length, map, None, Some, Option, option_map, Result, Ok, Err, ⊤}
+use Rattle.std.specs.Prelude.{◌≡◌, ℕ, ◌-◌, Bool, true, false, if◌then◌else◌, List, [], ◌∷◌, ◌++◌, codes, flat_map, get_or, is_none, length, map, None, Some, Option, option_map, Result, Ok, Err, ⊤}
+use Rattle.std.specs.Str.{bytes_eq}
 use Rattle.std.specs.Io.KnownBytes.{Appends}
 use Rattle.std.specs.Fmt.{decimal}
+use Rattle.lapd_drain.specs.Settle.{bound, next_move, settling}
 use Rattle.lapd_frame.specs.declared.Side.{Side}
 use Rattle.lapd_frame.specs.declared.Side.TheVariants.{Network, User}
 use Rattle.lapd_frame.specs.Frame.{Fields, spelling}
@@ -11,10 +13,11 @@ use Rattle.lapd_states.specs.declared.out.Out.TheVariants as out
 use Rattle.lapd_states.specs.State.{state_number}
 use Rattle.lapd_link.specs.SentFrame.{sent_frame}
 use Rattle.lapd_pair.specs.Histories.{octets_and_establishment}
+use Rattle.lapd_pair.specs.Settles.{settled}
 use Rattle.lapd_pair.specs.Setup.{setup_for}
 use Rattle.lapd_trace.specs.Trace.{trace_line}
 use Rattle.lapd_script.specs.Line.{text_line}
-use Rattle.lapd_script.specs.Script.{EndsAs, Outcome, bad_line, output_of, state_after}
+use Rattle.lapd_script.specs.Script.{EndsAs, Step, bad_line, output_of, state_after}
 use Rattle.lapd_script.specs.declared.script.ScriptFault.{ScriptFault}
 use Rattle.lapd_world.specs.Histories.{History}
 use Rattle.lapd_world.specs.Move.{Deed, Move, Refusal, Station, UnitData, NothingThere, NotRunning, NotYet, Refused}
@@ -88,9 +91,28 @@ move_told w move (Err refusal) = (not_admitted refusal, w)
 abbrev pub move_made : World → Move → List ℕ × World
 move_made w move = move_told w move (happens Tagged move w)
 
--- what each line calls for
-abbrev pub pair_step : World → List ℕ → Outcome World
-pair_step w line = option_map (move_made w) (move_of_line line)
+-- what a line calls for that names a move
+abbrev pub move_step : Step World
+move_step w line = option_map (move_made w) (move_of_line line)
+
+-- ---- What it comes to that the line settles.
+
+-- how many moves were made, and whether none is possible any more
+abbrev pub settled_line : ℕ → Bool → List ℕ
+settled_line moves true = text_line (codes "settled " ++ (decimal moves ++ codes " rest"))
+settled_line moves false = text_line (codes "settled " ++ decimal moves)
+
+-- its text, and the world after it; of the moves themselves nothing is printed
+abbrev pub settle_made : World → List ℕ × World
+settle_made w = (
+  settled_line (length (settling Tagged (bound w) w)) (is_none (next_move Tagged (settled w))),
+  settled w,
+)
+
+-- what each line calls for: a line of the single word `settle`, or a move
+abbrev pub pair_step : Step World
+pair_step w line =
+    if bytes_eq line (codes "settle") then Some (settle_made w) else move_step w line
 
 -- ---- What is printed at the end.
 
@@ -115,8 +137,12 @@ closing_line side s = figures_line side (figures_of s)
 abbrev pub closing_lines : World → List ℕ
 closing_lines w = closing_line User w.user ++ closing_line Network w.network
 
--- how the command ends: a script that is done to its end has these two lines behind it
+-- how a command ends whose lines call for this: a script that is done to its end has these two lines behind it
+abbrev pub ClosesAs : Step World → World → Result ⊤ ScriptFault → List (List ℕ) → Option (List ℕ) → Option (List ℕ) → Type 0
+ClosesAs step w (Ok done) lines old new =
+    (bad_line step w lines ≡ None) × Appends old new (output_of step w lines ++ closing_lines (state_after step w lines))
+ClosesAs step w (Err fault) lines old new = EndsAs step w (Err fault) lines old new
+
+-- how the command `pair` ends
 abbrev pub PairEndsAs : World → Result ⊤ ScriptFault → List (List ℕ) → Option (List ℕ) → Option (List ℕ) → Type 0
-PairEndsAs w (Ok done) lines old new =
-    (bad_line pair_step w lines ≡ None) × Appends old new (output_of pair_step w lines ++ closing_lines (state_after pair_step w lines))
-PairEndsAs w (Err fault) lines old new = EndsAs pair_step w (Err fault) lines old new
+PairEndsAs w result lines old new = ClosesAs pair_step w result lines old new

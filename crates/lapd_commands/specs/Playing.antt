@@ -1,4 +1,4 @@
--- How the command's value stands for a world, and what its calls print.
+-- How the values of the commands stand for a world, and what their calls print.
 use Rattle.std.specs.Prelude.{ℕ, List, flat_map}
 use Rattle.lapd_frame.specs.declared.Side.{Side}
 use Rattle.lapd_states.specs.declared.out.Out.{Out}
@@ -6,6 +6,7 @@ use Rattle.lapd_link.specs.SentFrame.{made_frame}
 use Rattle.lapd_pair.specs.Setup.{setup_for}
 use Rattle.lapd_world.specs.Move.{Station}
 use Rattle.lapd_commands.specs.declared.mover.Mover.{Mover}
+use Rattle.lapd_commands.specs.declared.settler.Settler.{Settler}
 use Rattle.lapd_commands.specs.Answer.{messages_of}
 use Rattle.lapd_commands.specs.Pair.{frame_or_side_line, octets_for}
 use Rattle.lapd_pair.specs.Runs.{PairStandsFor}
@@ -13,6 +14,9 @@ use Rattle.lapd_world.specs.World.{World}
 
 abbrev pub IsMover : Mover → World → Type 0
 IsMover mover w = PairStandsFor mover.pair w
+
+abbrev pub IsSettler : Settler → World → Type 0
+IsSettler settler w = IsMover settler.mover w
 
 -- the line of an output of a side, by the frame that is made of it
 abbrev pub made_told_line : Side → Station → List ℕ → Out → List ℕ

@@ -2,7 +2,8 @@
 //!
 //! [`answer`] goes over a script as one end of a data link of the ISDN D channel (ITU-T Q.921), and prints what each line
 //! calls for: begin with the definition `answer_word` in specs/Answer.antt, which has a row for each word. [`pair`] goes
-//! over a script of moves as two ends and the line between them: `move_named` in specs/Moves.antt has a row for each word.
+//! over a script of moves as two ends and the line between them: `move_named` in specs/Moves.antt has a row for each word, and
+//! `pair_step` in specs/Pair.antt for the word `settle`. [`Mover`] makes the moves alone.
 //! [`decode`] prints octets as trace lines. All three end as a script of `lapd_script` ends. [`params_of`] reads what a
 //! link is made with.
 #![tactic(auto)]
@@ -13,6 +14,7 @@ mod mover;
 mod moves;
 mod numbers;
 mod outputs;
+mod settler;
 mod words;
 
 pub use answerer::{Answerer, answer};
@@ -20,5 +22,6 @@ pub use decoder::decode;
 pub use lapd_link::{Link, Params, Side};
 pub use lapd_pair::Pair;
 pub use lapd_script::ScriptFault;
-pub use mover::{Mover, pair};
+pub use mover::Mover;
 pub use numbers::{number_of, params_of};
+pub use settler::pair;

@@ -1,14 +1,13 @@
-//! The command `pair`: two ends and the line between them, on which a script makes the moves.
+//! Two ends and the line between them, on which a script makes the moves.
 
-ghost use Rattle.std.specs.Prelude.{◌≡◌, ◌∷◌, ◌++◌, IfSome, IsOkUnless, OnOk};
+ghost use Rattle.std.specs.Prelude.{◌≡◌, ◌∷◌, ◌++◌, IsOkUnless, OnOk};
 ghost use Rattle.std.specs.Io.KnownBytes.{Appends};
 ghost use Rattle.lapd_commands.specs.Playing.{IsMover};
-ghost use Rattle.lapd_commands.specs.Pair.{PairEndsAs, figures_line, not_admitted, side_line, side_name as name_of, unit_of as unit_data_of};
+ghost use Rattle.lapd_commands.specs.Pair.{figures_line, not_admitted, settled_line, side_line, side_name as name_of, unit_of as unit_data_of};
 ghost use Rattle.lapd_frame.specs.Frame.{spelling};
 ghost use Rattle.lapd_pair.specs.Moves.{move_of};
 ghost use Rattle.lapd_script.specs.Line.{text_line};
 ghost use Rattle.lapd_commands.specs.Outputs.{primitive_line};
-ghost use Rattle.lapd_script.specs.Script.{lines_of};
 ghost use Rattle.lapd_trace.specs.Trace.{trace_line};
 ghost use Rattle.lapd_world.specs.Move.{NotYet};
 ghost use Rattle.lapd_world.specs.World.{World, new_world};
@@ -17,54 +16,16 @@ use crate::moves::read_move;
 use crate::outputs::{put_primitive, put_refusal};
 use lapd_frame::{Frame, MOST_OCTETS, Side, write};
 use lapd_link::{Out, Params};
-use lapd_pair::{Move, Pair, PairFault};
-use lapd_script::{Command, LineFault, ScriptFault, put_line, put_number, walk};
+use lapd_pair::{Move, Pair, PairFault, Settled};
+use lapd_script::{Command, LineFault, ScriptFault, put_line, put_number};
 use std::alloc::{AllocError, Global};
-use std::io::{Read, Write};
+use std::io::Write;
 
 /// Two ends of a link and the line between them, which make the moves of a script, a line each, by [`Command::run`].
 #[derive(Drop)]
 pub struct Mover {
     alloc: Global,
     pair: Pair,
-}
-
-/// Goes over a script of moves of two ends of SAPI 0 and TEI 64, made with these parameters, and writes what they call
-/// for: a line for each frame, primitive and report, or why a move is refused. Behind a script that is done to its end
-/// comes a line for each side, of its state and its messages.
-///
-/// # Errors
-///
-/// `BadLine` at the first line that is none of the command's, `Device` where a read or a write fails, and `Memory`.
-pub fn pair<R: Read, W: Write>(
-    alloc: Global,
-    script: &mut R,
-    out: &mut W,
-    user: Params,
-    network: Params,
-) -> Result<(), ScriptFault>
-    ensures { IfSome (R.remaining script.old) (λ octets. PairEndsAs (new_world user network) result
-        (lines_of octets) (W.contents out.old) (W.contents out.new)) }
-{
-    match Mover::new(alloc, user, network) {
-        Ok(mut mover) => walk_to_close(&mut mover, script, out),
-        Err(_) => Err(ScriptFault::Memory),
-    }
-}
-
-/// Goes over the script, and prints where both sides are in the end.
-fn walk_to_close<R: Read, W: Write>(
-    mover: &mut Mover,
-    script: &mut R,
-    out: &mut W,
-) -> Result<(), ScriptFault>
-    ensures { (w : World) → IsMover mover.old w → IfSome (R.remaining script.old) (λ octets. PairEndsAs w result
-        (lines_of octets) (W.contents out.old) (W.contents out.new)) }
-{
-    match walk(mover.alloc, mover, script, out) {
-        Ok(()) => mover.close(out),
-        Err(fault) => Err(fault),
-    }
 }
 
 impl Mover {
@@ -92,11 +53,11 @@ impl Mover {
 }
 
 impl Command for Mover {
-    ghost use Rattle.lapd_commands.specs.Pair.{pair_step};
+    ghost use Rattle.lapd_commands.specs.Pair.{move_step};
 
     ghost State = { World };
 
-    ghost step = { pair_step };
+    ghost step = { move_step };
 
     ghost stands_for = { IsMover };
 
@@ -108,7 +69,7 @@ impl Command for Mover {
 
 impl Mover {
     ghost use Rattle.std.specs.Prelude.{IfOk, Some};
-    ghost use Rattle.lapd_commands.specs.Pair.{closing_line, closing_lines, figures_of, move_made, octets_for};
+    ghost use Rattle.lapd_commands.specs.Pair.{closing_line, closing_lines, figures_of, move_made, octets_for, settle_made};
     ghost use Rattle.lapd_commands.specs.Playing.{made_told_line, made_told_lines};
     ghost use Rattle.lapd_script.specs.Script.{LineEndsAs};
     ghost use Rattle.lapd_world.specs.World.{view_of};
@@ -129,6 +90,18 @@ impl Mover {
             Err(PairFault::NotYet(to, place)) => put_not_yet(to, place, out),
             Err(PairFault::Refused(fault)) => put_refusal(fault, out),
             Err(PairFault::Memory) => Err(LineFault::Memory),
+        }
+    }
+
+    /// Makes the moves by which the line settles, and prints how many they are.
+    pub(crate) fn settle<W: Write>(&mut self, out: &mut W) -> Result<(), LineFault>
+        ensures { (w : World) → IsMover self.old w
+            → LineEndsAs IsMover (Some (settle_made w)) result self.new
+            (W.contents out.old) (W.contents out.new) }
+    {
+        match self.pair.settle() {
+            Ok(settled) => put_settled(settled, out),
+            Err(_) => Err(LineFault::Memory),
         }
     }
 
@@ -252,6 +225,21 @@ fn put_figures<W: Write>(side: Side, figures: Figures, out: &mut W) -> Result<()
         out,
         ": state {state}, given {given}, received {received}, acknowledged {acknowledged}, dropped {dropped}"
     )?;
+    Ok(())
+}
+
+/// Prints how many moves were made, and whether none is possible any more.
+fn put_settled<W: Write>(settled: Settled, out: &mut W) -> Result<(), LineFault>
+    ensures ok { OnOk result
+        (Appends (W.contents out.old) (W.contents out.new) (settled_line settled.moves settled.rest)) }
+    ensures err { IsOkUnless result LineFault.Device }
+{
+    let Settled { moves, rest } = settled;
+    if rest {
+        writeln!(out, "settled {moves} rest")?;
+    } else {
+        writeln!(out, "settled {moves}")?;
+    }
     Ok(())
 }
 
