@@ -84,6 +84,12 @@ impl Call {
         }
     }
 
+    /// The octets that it names, in hexadecimal digits.
+    pub(crate) fn digits(self) -> &'static str {
+        let (_, _, _, digits) = self.parts();
+        digits
+    }
+
     /// The request that it makes, for this link and with these octets; none where it is no request.
     fn request(self, id: LinkId, octets: Vec<u8>) -> Option<Request> {
         match self {
@@ -163,17 +169,16 @@ impl AnySide {
         }
     }
 
-    /// Makes a call. A refusal is written, and `none` where nothing is due.
+    /// Makes a call with these octets. A refusal is written, and `none` where nothing is due.
     fn make(
         &mut self,
-        alloc: Global,
         call: Call,
+        octets: Vec<u8>,
         acts: &mut Acts,
         text: &mut Vec<u8>,
     ) -> Result<(), Fail> {
-        let (now, sapi, tei, digits) = call.parts();
+        let (now, sapi, tei, _) = call.parts();
         let id = id_of(sapi, tei)?;
-        let octets = octets_of(alloc, digits)?;
         let done = match call {
             Call::Take(..) => self.take(octets.as_slice(), now, acts, text),
             Call::Tick(_) => self.tick(now, acts, text),
@@ -192,19 +197,20 @@ impl AnySide {
         wanted: &str,
     ) -> Result<bool, Fail> {
         let mut text = Vec::new(alloc);
-        self.write_given(alloc, call, acts, &mut text)?;
+        let octets = octets_of(alloc, call.digits())?;
+        self.write_given(call, octets, acts, &mut text)?;
         Ok(text.as_slice() == wanted.as_bytes())
     }
 
-    /// Writes what a call gives.
-    fn write_given(
+    /// Writes what a call with these octets gives.
+    pub(crate) fn write_given(
         &mut self,
-        alloc: Global,
         call: Call,
+        octets: Vec<u8>,
         acts: &mut Acts,
         text: &mut Vec<u8>,
     ) -> Result<(), Fail> {
-        self.make(alloc, call, acts, text)?;
+        self.make(call, octets, acts, text)?;
         put_frames(acts, text)?;
         put_primitives(acts, text)?;
         Ok(())

@@ -21,9 +21,9 @@ pub(crate) enum Made {
 }
 
 /// A name, the side, calls with what they give, and how many frames are discarded then.
-type Row = (&'static str, Made, &'static [(Call, &'static str)], u64);
+pub(crate) type Row = (&'static str, Made, &'static [(Call, &'static str)], u64);
 
-const NETWORK: &[Row] = &[
+pub(crate) const NETWORK: &[Row] = &[
     (
         "a link goes, and the timer of the other runs on",
         Made::Net(Held::Tei64, true),
@@ -186,7 +186,7 @@ const NETWORK: &[Row] = &[
     ),
 ];
 
-const USER: &[Row] = &[
+pub(crate) const USER: &[Row] = &[
     (
         "no TEI is assigned",
         Made::User(Held::Nothing, false),

@@ -12,9 +12,13 @@ mod dialogues;
 #[cfg(test)]
 mod follow;
 #[cfg(test)]
+mod memory;
+#[cfg(test)]
 mod readers;
 #[cfg(test)]
 mod refusals;
+#[cfg(test)]
+mod shown;
 #[cfg(test)]
 mod table;
 #[cfg(test)]

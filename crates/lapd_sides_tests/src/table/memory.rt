@@ -1,5 +1,5 @@
-//! Allocations that are refused: `rt try --test --fail-alloc N` refuses the one of that number. A link that finds no memory
-//! comes back, the table has the links that it had, and the same call with memory adds it.
+//! Memory that is refused to a table: `tools/refuse-memory` refuses each allocation of a run in turn (docs/DEVELOPING.md). A
+//! link that finds no memory comes back, the table has the links that it had, and the same call with memory adds it.
 
 use crate::table::ids::has;
 use crate::table::made::{Numbers, id_of, is_of_link};
