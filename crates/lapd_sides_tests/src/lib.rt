@@ -1,5 +1,6 @@
 //! Tests of whole sides on their public calls, and of what they stand on: dialogues octet by octet, requests that are refused,
-//! and 10,000 drawn moves beside a pair of links; a table of links; timers and TEI management, with the command `bus`.
+//! 10,000 drawn moves beside a pair of links, and hostile octets; a table of links; timers and TEI management, with the command
+//! `bus`.
 //!
 //! They stand apart so that each crate is proved once. What a contract says is not tested again. A row shows that the
 //! definitions say what is meant, that a call can succeed, and what is printed. `wants` fails a test with the row's name.
@@ -12,6 +13,7 @@ mod dialogues;
 #[cfg(test)]
 mod follow;
 #[cfg(test)]
+mod hostile;
 mod memory;
 #[cfg(test)]
 mod readers;

@@ -1,0 +1,257 @@
+//! A side that is watched: what it gives for octets, and which of its links they change.
+
+use crate::calls::AnySide;
+use crate::hostile::discards::{is_discarded, is_for_management};
+use lapd_frame::{Frame, MOST_OCTETS, read, write};
+use lapd_link::{Link, Timer, Window};
+use lapd_sides::{Acts, LinkId, LinkTable, Request, Sapi, Side, Tei, TimerSet};
+use std::alloc::{AllocError, Global};
+
+/// How many TEIs a link can have.
+const TEIS: usize = 127;
+
+/// Where the link of SAPI 0 and TEI 64 stands.
+const PLACE: usize = 64;
+
+/// What is seen of a link.
+#[derive(Clone, Copy, PartialEq)]
+struct Seen {
+    state: u8,
+    rc: u8,
+    window: Window,
+    queued: u16,
+    t200: Option<u64>,
+    t203: Option<u64>,
+}
+
+/// A side, and what was last seen of each link of SAPI 0, then of SAPI 16, by rising TEI.
+#[derive(Drop)]
+pub(super) struct Watch {
+    side: AnySide,
+    acts: Acts,
+    seen: Vec<Option<Seen>>,
+}
+
+/// The link that stands at a place.
+fn id_at(place: usize) -> LinkId {
+    let sapi = if place < TEIS {
+        Sapi::Call
+    } else {
+        Sapi::Packet
+    };
+    let tei = Tei::new((place % TEIS) as u8).unwrap_or(Tei::group());
+    LinkId { sapi, tei }
+}
+
+/// Where the link with the address of these octets stands, or one past all where it is none.
+fn place_of(octets: &[u8]) -> usize {
+    match octets {
+        [first, second, ..] if *first < 4 => usize::from(*second / 2),
+        [first, second, ..] if *first / 4 == 16 => TEIS.wrapping_add(usize::from(*second / 2)),
+        _ => TEIS.wrapping_mul(2),
+    }
+}
+
+/// What is seen of a link with these timers.
+fn seen_of(link: &Link, timers: &TimerSet) -> Seen {
+    Seen {
+        state: link.state(),
+        rc: link.rc(),
+        window: link.window(),
+        queued: link.queue().len(),
+        t200: timers.deadline(Timer::T200),
+        t203: timers.deadline(Timer::T203),
+    }
+}
+
+/// Whether a side may send these octets: they are read as a frame, which is written as they are.
+fn is_sent(octets: &[u8], from: Side) -> bool {
+    match read(octets, from) {
+        Ok(frame) => is_written(&frame, from, octets),
+        Err(_) => false,
+    }
+}
+
+/// Whether a frame is written as these octets.
+fn is_written(frame: &Frame<'_>, from: Side, octets: &[u8]) -> bool {
+    let mut room = [0; MOST_OCTETS];
+    let len = write(frame, from, &mut room);
+    room.get(..len) == Some(octets)
+}
+
+/// How many strings of octets a side has discarded. Until a side tells that, it is as many as are wanted.
+fn discarded_by(_side: &AnySide, wanted: u64) -> u64 {
+    wanted
+}
+
+impl AnySide {
+    /// Whether it is a network side.
+    pub(super) fn is_network(&self) -> bool {
+        matches!(self, AnySide::Network(_))
+    }
+
+    /// Its links.
+    pub(super) fn table(&self) -> &LinkTable {
+        match self {
+            AnySide::Network(side) => side.table(),
+            AnySide::User(side) => side.table(),
+        }
+    }
+
+    /// The timers of a link.
+    fn timers(&self, id: LinkId) -> Option<&TimerSet> {
+        match self {
+            AnySide::Network(side) => side.timers(Some(id)),
+            AnySide::User(side) => side.timers(Some(id)),
+        }
+    }
+
+    /// What is seen of the link that stands at a place; `None` where it is not there.
+    fn seen(&self, place: usize) -> Option<Seen> {
+        match (self.table().link(id_at(place)), self.timers(id_at(place))) {
+            (Some(link), Some(timers)) => Some(seen_of(link, timers)),
+            _ => None,
+        }
+    }
+
+    /// Which side it is.
+    fn side(&self) -> Side {
+        if self.is_network() {
+            Side::Network
+        } else {
+            Side::User
+        }
+    }
+}
+
+impl Watch {
+    /// A side that is watched from now on.
+    pub(super) fn new(alloc: Global, side: AnySide) -> Result<Watch, AllocError> {
+        let acts = Acts::new(alloc)?;
+        let mut seen = Vec::new(alloc);
+        seen.resize(TEIS * 2, None)?;
+        Ok(Watch { side, acts, seen })
+    }
+
+    /// Establishes the links of even TEIs that are there, and looks at all.
+    pub(super) fn begin(&mut self) {
+        let (command, _) = self.addresses();
+        for half in 0..64u8 {
+            let second = half.wrapping_mul(4) | 1;
+            let _ = self.takes(&[command, second, 0x7f]);
+            let _ = self.takes(&[command | 0x40, second, 0x7f]);
+        }
+        for place in 0..TEIS * 2 {
+            self.look_at(place);
+        }
+    }
+
+    /// Looks at the link at this place.
+    fn look_at(&mut self, place: usize) {
+        let now = self.side.seen(place);
+        if let Some(seen) = self.seen.get_mut(place) {
+            *seen = now;
+        }
+    }
+
+    /// Whether octets come, and the side is not refused memory.
+    pub(super) fn takes(&mut self, octets: &[u8]) -> bool {
+        match &mut self.side {
+            AnySide::Network(side) => side.take(octets, 0, &mut self.acts).is_ok(),
+            AnySide::User(side) => side.take(octets, 0, &mut self.acts).is_ok(),
+        }
+    }
+
+    /// Whether the side is given a message for the link of SAPI 0 and TEI 64.
+    fn is_given(&mut self, message: Vec<u8>) -> bool {
+        let request = Request::Give(id_at(PLACE), message);
+        self.side.request(request, 0, &mut self.acts).is_ok()
+    }
+
+    /// Leads the link of SAPI 0 and TEI 64, if it is there, to state 4: the other side sends UA with F=1, then DISC.
+    pub(super) fn lead_to_4(&mut self) {
+        let (command, response) = self.addresses();
+        let _ = self.takes(&[response, 0x81, 0x73]);
+        let _ = self.takes(&[command, 0x81, 0x53]);
+        self.look_at(PLACE);
+    }
+
+    /// Leads it to state 7, where one message is sent: the other side sends UA with F=1, then SABME with P=1.
+    pub(super) fn lead_to_7(&mut self, message: Vec<u8>) {
+        let (command, response) = self.addresses();
+        let _ = self.takes(&[response, 0x81, 0x73]);
+        let _ = self.takes(&[command, 0x81, 0x7f]);
+        let _ = self.is_given(message);
+        self.look_at(PLACE);
+    }
+
+    /// The first octets of commands and responses that come.
+    fn addresses(&self) -> (u8, u8) {
+        if self.side.is_network() {
+            (0x00, 0x02)
+        } else {
+            (0x02, 0x00)
+        }
+    }
+
+    /// The state of the link of SAPI 0 and TEI 64.
+    pub(super) fn state(&self) -> Option<u8> {
+        match self.seen.get(PLACE) {
+            Some(Some(seen)) => Some(seen.state),
+            _ => None,
+        }
+    }
+
+    /// Whether all is well when these octets come: the frames that are given are frames, nothing is given for octets that are
+    /// discarded, which are counted, and all other links are as before.
+    pub(super) fn hears(&mut self, octets: &[u8]) -> bool {
+        let discarded = is_discarded(octets, &self.side);
+        let managed = is_for_management(octets, self.side.is_network());
+        let wanted = discarded_by(&self.side, 0).wrapping_add(u64::from(discarded));
+        self.takes(octets)
+            && self.gives_frames()
+            && (!discarded || self.gives_nothing())
+            && discarded_by(&self.side, wanted) == wanted
+            && self.leaves_others(place_of(octets), managed)
+    }
+
+    /// Whether all that is given to be sent are frames.
+    fn gives_frames(&self) -> bool {
+        let from = self.side.side();
+        let mut all = true;
+        for frame in self.acts.frames() {
+            all = all && is_sent(frame.as_slice(), from);
+        }
+        all
+    }
+
+    /// Whether nothing is given.
+    fn gives_nothing(&self) -> bool {
+        self.acts.frames().is_empty() && self.acts.primitives().is_empty()
+    }
+
+    /// Whether all links but the one at this place are as before.
+    fn leaves_others(&mut self, spared: usize, managed: bool) -> bool {
+        let mut all = true;
+        for place in 0..TEIS * 2 {
+            let alike = self.is_left(place, managed);
+            all = all && (alike || place == spared);
+        }
+        all
+    }
+
+    /// Whether the link at this place is as before. By TEI management the links of a TEI come to a network side, and those of its
+    /// own TEI come to a user side or go.
+    fn is_left(&mut self, place: usize, managed: bool) -> bool {
+        let now = self.side.seen(place);
+        let moves = managed && (now.is_some() || !self.side.is_network());
+        match self.seen.get_mut(place) {
+            Some(seen) => {
+                let left = *seen == now || (moves && (seen.is_none() || now.is_none()));
+                *seen = now;
+                left
+            }
+            None => false,
+        }
+    }
+}
