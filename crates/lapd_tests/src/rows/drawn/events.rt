@@ -40,7 +40,12 @@ const ESTABLISHES: &str = "\
 SABME | - | frame _ C 6f+
 establish | - | establish
 UA | - | frame _ R 63+
-UA | - | frame _ R 63+";
+UA | - | frame _ R 63+
+release | - | release
+T200 | - | t200
+T200 | - | t200
+T200 | - | t200
+T200 | - | t200";
 
 const ALL: &str = "\
 I | N(R) of I | frame _ C S N I
@@ -162,15 +167,22 @@ impl Draws {
         if self.below(200) == 0 {
             self.change_mood();
         }
-        if plain.state() < 7 && self.below(2) == 0 {
+        let establishes = plain.state() < 7 && self.below(2) == 0;
+        let common = self.common_of();
+        if establishes {
             ESTABLISHES
         } else if self.mood == ALL || self.below(60) == 0 {
             ALL
-        } else if self.below(if self.mood == MESSAGES { 40 } else { 2 }) == 0 {
+        } else if self.below(common) == 0 {
             COMMON
         } else {
             self.mood
         }
+    }
+
+    /// Of how many events one is common. While messages are given it is few, so that the queue fills.
+    fn common_of(&self) -> u32 {
+        if self.mood == MESSAGES { 400 } else { 2 }
     }
 
     /// What is mostly drawn changes.
