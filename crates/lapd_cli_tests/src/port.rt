@@ -4,4 +4,5 @@ mod adapters;
 mod calls;
 pub(crate) mod devices;
 mod reads;
+mod strings;
 mod writes;
