@@ -14,6 +14,7 @@ mod dialogues;
 mod follow;
 #[cfg(test)]
 mod hostile;
+#[cfg(test)]
 mod memory;
 #[cfg(test)]
 mod readers;
