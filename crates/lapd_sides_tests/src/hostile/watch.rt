@@ -79,9 +79,12 @@ fn is_written(frame: &Frame<'_>, from: Side, octets: &[u8]) -> bool {
     room.get(..len) == Some(octets)
 }
 
-/// How many strings of octets a side has discarded. Until a side tells that, it is as many as are wanted.
-fn discarded_by(_side: &AnySide, wanted: u64) -> u64 {
-    wanted
+/// How many strings of octets a side has discarded.
+fn discarded_by(side: &AnySide) -> u64 {
+    match side {
+        AnySide::Network(side) => side.discarded(),
+        AnySide::User(side) => side.discarded(),
+    }
 }
 
 impl AnySide {
@@ -207,11 +210,11 @@ impl Watch {
     pub(super) fn hears(&mut self, octets: &[u8]) -> bool {
         let discarded = is_discarded(octets, &self.side);
         let managed = is_for_management(octets, self.side.is_network());
-        let wanted = discarded_by(&self.side, 0).wrapping_add(u64::from(discarded));
+        let wanted = discarded_by(&self.side).wrapping_add(u64::from(discarded));
         self.takes(octets)
             && self.gives_frames()
             && (!discarded || self.gives_nothing())
-            && discarded_by(&self.side, wanted) == wanted
+            && discarded_by(&self.side) == wanted
             && self.leaves_others(place_of(octets), managed)
     }
 
