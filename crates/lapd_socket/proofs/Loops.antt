@@ -1,4 +1,4 @@
--- What the lines of a script come to for `loop` is what they come to for `pair`, and the frames of them all cross.
+-- What the lines of a script come to for `loop` is what they come to as moves, and the frames of them all cross.
 use Rattle.std.specs.Prelude.{⊤}
 use Rattle.std.proofs.Common.{◌≡◌, ℕ, ◌+◌, List, [], ◌∷◌, ◌++◌, length, drop, Bool, true, false, Option, Some, None, option_map, Result, Ok, Err, OnOk, IfSome, IsSomeAnd, IsErrAnd, append-nil, append_assoc, if◌then◌else◌, ap, refl, sym, subst, ◌∙◌}
 use Rattle.std.specs.Io.KnownBytes.{Appends}
@@ -8,7 +8,7 @@ use Rattle.lapd_script.specs.declared.script.LineFault.TheVariants.{Bad, Device 
 use Rattle.lapd_script.specs.Script.{EndsAs, LineEndsAs, Outcome, bad_from, before_rest, is_passed_over, lines_of, number_or, outcome_of, output_of, state_after, state_or}
 use Rattle.lapd_script.specs.declared.script.ScriptFault.{ScriptFault}
 use Rattle.lapd_script.specs.declared.script.ScriptFault.TheVariants.{BadLine, Device, Memory, Port}
-use Rattle.lapd_commands.specs.Pair.{pair_step}
+use Rattle.lapd_commands.specs.Pair.{move_step}
 use Rattle.lapd_commands.specs.Playing.{IsMover}
 use Rattle.lapd_commands.specs.declared.mover.Mover.{Mover}
 use Rattle.lapd_world.specs.World.{World}
@@ -33,56 +33,56 @@ same_after s =
     let e : s.crossed ≡ s.crossed ++ put_between s.world s.world = sym (ap (λ frames. s.crossed ++ frames) (nothing_put s.world) ∙ append-nil s.crossed) in
     ap (λ frames. record { world = s.world; crossed = frames; rest = s.rest; written = s.written }) e
 
--- a line comes to what it comes to for `pair`
-line_same : (s : Looped) (line : List ℕ) → outcome_of loop_step s line ≡ option_map (after_line s) (outcome_of pair_step s.world line)
+-- a line comes to what it comes to as a move
+line_same : (s : Looped) (line : List ℕ) → outcome_of loop_step s line ≡ option_map (after_line s) (outcome_of move_step s.world line)
 line_same s line = by_test (is_passed_over line)
   where
-    by_test : (passed : Bool) → (if passed then Some ([], s) else loop_step s line) ≡ option_map (after_line s) (if passed then Some ([], s.world) else pair_step s.world line)
+    by_test : (passed : Bool) → (if passed then Some ([], s) else loop_step s line) ≡ option_map (after_line s) (if passed then Some ([], s.world) else move_step s.world line)
     by_test true = ap (λ t. Some ([], t)) (same_after s)
     by_test false = refl
 
 -- ---- All lines.
 
-bad_same : (n : ℕ) (s : Looped) (lines : List (List ℕ)) → bad_from n loop_step s lines ≡ bad_from n pair_step s.world lines
+bad_same : (n : ℕ) (s : Looped) (lines : List (List ℕ)) → bad_from n loop_step s lines ≡ bad_from n move_step s.world lines
 bad_same n s [] = refl
 bad_same n s (line ∷ lines) =
-    ap (λ o. number_or n o (λ t. bad_from (n + 1) loop_step t lines)) (line_same s line) ∙ by_outcome (λ t. bad_same (n + 1) t lines) (outcome_of pair_step s.world line)
+    ap (λ o. number_or n o (λ t. bad_from (n + 1) loop_step t lines)) (line_same s line) ∙ by_outcome (λ t. bad_same (n + 1) t lines) (outcome_of move_step s.world line)
   where
-    by_outcome : ((t : Looped) → bad_from (n + 1) loop_step t lines ≡ bad_from (n + 1) pair_step t.world lines) → (o : Outcome World)
-        → number_or n (option_map (after_line s) o) (λ t. bad_from (n + 1) loop_step t lines) ≡ number_or n o (λ v. bad_from (n + 1) pair_step v lines)
+    by_outcome : ((t : Looped) → bad_from (n + 1) loop_step t lines ≡ bad_from (n + 1) move_step t.world lines) → (o : Outcome World)
+        → number_or n (option_map (after_line s) o) (λ t. bad_from (n + 1) loop_step t lines) ≡ number_or n o (λ v. bad_from (n + 1) move_step v lines)
     by_outcome rest None = refl
     by_outcome rest (Some (text, v)) = rest (after_line s (text, v)).1
 
-output_same : (s : Looped) (lines : List (List ℕ)) → output_of loop_step s lines ≡ output_of pair_step s.world lines
+output_same : (s : Looped) (lines : List (List ℕ)) → output_of loop_step s lines ≡ output_of move_step s.world lines
 output_same s [] = refl
 output_same s (line ∷ lines) =
-    ap (λ o. before_rest o (λ t. output_of loop_step t lines)) (line_same s line) ∙ by_outcome (λ t. output_same t lines) (outcome_of pair_step s.world line)
+    ap (λ o. before_rest o (λ t. output_of loop_step t lines)) (line_same s line) ∙ by_outcome (λ t. output_same t lines) (outcome_of move_step s.world line)
   where
-    by_outcome : ((t : Looped) → output_of loop_step t lines ≡ output_of pair_step t.world lines) → (o : Outcome World)
-        → before_rest (option_map (after_line s) o) (λ t. output_of loop_step t lines) ≡ before_rest o (λ v. output_of pair_step v lines)
+    by_outcome : ((t : Looped) → output_of loop_step t lines ≡ output_of move_step t.world lines) → (o : Outcome World)
+        → before_rest (option_map (after_line s) o) (λ t. output_of loop_step t lines) ≡ before_rest o (λ v. output_of move_step v lines)
     by_outcome rest None = refl
     by_outcome rest (Some (text, v)) = ap (λ more. text ++ more) (rest (after_line s (text, v)).1)
 
--- the world after the lines is that of `pair`, and the frames that they put on the line have crossed behind those of before
+-- the world after the lines is that of their moves, and the frames that they put on the line have crossed behind those of before
 abbrev crossed_after : Looped → List (List ℕ) → Looped
-crossed_after s lines = record { world = state_after pair_step s.world lines; crossed = s.crossed ++ frames_put s.world lines; rest = s.rest; written = s.written }
+crossed_after s lines = record { world = state_after move_step s.world lines; crossed = s.crossed ++ frames_put s.world lines; rest = s.rest; written = s.written }
 
 pub state_same : (s : Looped) (lines : List (List ℕ)) → state_after loop_step s lines ≡ crossed_after s lines
 state_same s [] = ap (λ frames. record { world = s.world; crossed = frames; rest = s.rest; written = s.written }) (sym (append-nil s.crossed))
 state_same s (line ∷ lines) =
-    ap (λ o. state_or s o (λ t. state_after loop_step t lines)) (line_same s line) ∙ by_outcome (λ t. state_same t lines) (outcome_of pair_step s.world line)
+    ap (λ o. state_or s o (λ t. state_after loop_step t lines)) (line_same s line) ∙ by_outcome (λ t. state_same t lines) (outcome_of move_step s.world line)
   where
     by_outcome : ((t : Looped) → state_after loop_step t lines ≡ crossed_after t lines) → (o : Outcome World)
         → state_or s (option_map (after_line s) o) (λ t. state_after loop_step t lines)
-        ≡ record { world = state_or s.world o (λ v. state_after pair_step v lines); crossed = s.crossed ++ put_first s.world o (λ v. frames_put v lines); rest = s.rest; written = s.written }
+        ≡ record { world = state_or s.world o (λ v. state_after move_step v lines); crossed = s.crossed ++ put_first s.world o (λ v. frames_put v lines); rest = s.rest; written = s.written }
     by_outcome rest None = ap (λ frames. record { world = s.world; crossed = frames; rest = s.rest; written = s.written }) (sym (append-nil s.crossed))
     by_outcome rest (Some (text, v)) =
         rest (after_line s (text, v)).1
-        ∙ ap (λ frames. record { world = state_after pair_step v lines; crossed = frames; rest = s.rest; written = s.written }) (append_assoc s.crossed (put_between s.world v) (frames_put v lines))
+        ∙ ap (λ frames. record { world = state_after move_step v lines; crossed = frames; rest = s.rest; written = s.written }) (append_assoc s.crossed (put_between s.world v) (frames_put v lines))
 
 -- ---- How one line of the command ends.
 
--- `pair` makes no good line of it
+-- the line is no move
 pub line_failed : {L : Type 0} (stands_for : L → Looped → Type 0) (s : Looped) (o : Outcome World) (result : Result ⊤ LineFault) (fault : LineFault) (mover : Mover) (looper : L) (old new : Option (List ℕ))
     → IsErrAnd result (λ e. e ≡ fault) → LineEndsAs IsMover o (Err fault) mover old new → LineEndsAs stands_for (option_map (after_line s) o) result looper old new
 line_failed stands_for s o (Ok done) fault mover looper old new is h = absurd is
@@ -112,8 +112,8 @@ line_crossed s (Some (text, v)) mover after to_user to_network mid left more gro
 
 -- ---- How the command ends.
 
--- a script ends as it does for `pair`
-pub ends_same : (s : Looped) (result : Result ⊤ ScriptFault) (lines : List (List ℕ)) (old new : Option (List ℕ)) → EndsAs loop_step s result lines old new → EndsAs pair_step s.world result lines old new
+-- a script ends as its moves do
+pub ends_same : (s : Looped) (result : Result ⊤ ScriptFault) (lines : List (List ℕ)) (old new : Option (List ℕ)) → EndsAs loop_step s result lines old new → EndsAs move_step s.world result lines old new
 ends_same s (Ok done) lines old new ends = (sym (bad_same 1 s lines) ∙ ends.0, subst (Appends old new) (output_same s lines) ends.1)
 ends_same s (Err (BadLine number)) lines old new ends = (sym (bad_same 1 s lines) ∙ ends.0, subst (Appends old new) (output_same s lines) ends.1)
 ends_same s (Err Memory) lines old new ends =
@@ -127,13 +127,13 @@ new_stands mover w rest written stands = (stands, none_crossed rest written)
 
 -- the same of a script whose octets are known, where they are
 pub text_same : (known : Option (List ℕ)) (s : Looped) (result : Result ⊤ ScriptFault) (old new : Option (List ℕ)) → IfSome known (λ octets. EndsAs loop_step s result (lines_of octets) old new)
-    → IfSome known (λ octets. EndsAs pair_step s.world result (lines_of octets) old new)
+    → IfSome known (λ octets. EndsAs move_step s.world result (lines_of octets) old new)
 text_same None s result old new ends = tt
 text_same (Some octets) s result old new ends = ends_same s result (lines_of octets) old new ends
 
--- in the end the value stands for the world of `pair`
+-- in the end the value stands for the world of the moves
 pub stands_same : (known : Option (List ℕ)) (s : Looped) (mover : Mover) (left grown : Option (List ℕ)) → IfSome known (λ octets. IsLooped mover left grown (state_after loop_step s (lines_of octets)))
-    → IfSome known (λ octets. IsMover mover (state_after pair_step s.world (lines_of octets)))
+    → IfSome known (λ octets. IsMover mover (state_after move_step s.world (lines_of octets)))
 stands_same None s mover left grown stands = tt
 stands_same (Some octets) s mover left grown stands = (subst (IsLooped mover left grown) (state_same s (lines_of octets)) stands).0
 

@@ -1,13 +1,14 @@
--- The command `loop`: two ends, and a port that each frame of their line crosses.
-use Rattle.std.specs.Prelude.{ℕ, List, [], ◌∷◌, ◌++◌, drop, length, map, None, Some}
+-- The command `loop`: two ends, and a port that each frame of their line crosses. Its lines are moves.
+use Rattle.std.specs.Prelude.{ℕ, List, [], ◌∷◌, ◌++◌, drop, length, map, None, Option, Some, Result, ⊤}
 use Rattle.lapd_frame.specs.declared.Side.{Side}
 use Rattle.lapd_frame.specs.declared.Side.TheVariants.{Network, User}
 use Rattle.lapd_frame.specs.Address.{other_side}
 use Rattle.lapd_frame.specs.Frame.{spelling}
 use Rattle.lapd_pair.specs.Line.{fields_of}
 use Rattle.lapd_script.specs.Script.{Outcome, outcome_of}
+use Rattle.lapd_script.specs.declared.script.ScriptFault.{ScriptFault}
 use Rattle.lapd_world.specs.World.{World, view_of}
-use Rattle.lapd_commands.specs.Pair.{pair_step}
+use Rattle.lapd_commands.specs.Pair.{ClosesAs, move_step}
 
 -- the octets of the frames on their way to a side, the first of them first
 abbrev pub line_to : Side → World → List (List ℕ)
@@ -28,4 +29,8 @@ put_first w (Some (text, v)) rest = put_between w v ++ rest v
 -- the frames that the lines of a script put on the line, up to the first bad one
 abbrev pub frames_put : World → List (List ℕ) → List (List ℕ)
 frames_put w [] = []
-frames_put w (line ∷ lines) = put_first w (outcome_of pair_step w line) (λ v. frames_put v lines)
+frames_put w (line ∷ lines) = put_first w (outcome_of move_step w line) (λ v. frames_put v lines)
+
+-- how the command ends
+abbrev pub LoopEndsAs : World → Result ⊤ ScriptFault → List (List ℕ) → Option (List ℕ) → Option (List ℕ) → Type 0
+LoopEndsAs w result lines old new = ClosesAs move_step w result lines old new

@@ -2,7 +2,7 @@
 use Rattle.std.specs.Prelude.{ℕ, List, [], ◌++◌, Option, option_map}
 use Rattle.lapd_script.specs.Script.{Step}
 use Rattle.lapd_world.specs.World.{World}
-use Rattle.lapd_commands.specs.Pair.{pair_step}
+use Rattle.lapd_commands.specs.Pair.{move_step}
 use Rattle.lapd_commands.specs.Playing.{IsMover}
 use Rattle.lapd_commands.specs.declared.mover.Mover.{Mover}
 use Rattle.lapd_socket.specs.Crossing.{HaveCrossed}
@@ -16,12 +16,12 @@ pub record Looped : Type 0 where
   pub rest : Option (List ℕ)
   pub written : Option (List ℕ)
 
--- what a line calls for is printed as by `pair`, and the frames that it puts on the line cross
+-- what a move comes to is printed as by `pair`, and the frames that it puts on the line cross
 abbrev pub after_line : Looped → List ℕ × World → List ℕ × Looped
 after_line s (text, v) = (text, record { world = v; crossed = s.crossed ++ put_between s.world v; rest = s.rest; written = s.written })
 
 abbrev pub loop_step : Step Looped
-loop_step s line = option_map (after_line s) (pair_step s.world line)
+loop_step s line = option_map (after_line s) (move_step s.world line)
 
 -- nothing has crossed yet
 abbrev pub new_loop : World → Option (List ℕ) → Option (List ℕ) → Looped

@@ -1,10 +1,9 @@
 //! The command `loop`: two ends whose frames go through a port.
 
 ghost use Rattle.std.specs.Prelude.{◌≡◌, IfSome, OnOk, drop};
-ghost use Rattle.lapd_commands.specs.Pair.{PairEndsAs};
 ghost use Rattle.lapd_script.specs.Script.{lines_of};
 ghost use Rattle.lapd_socket.specs.Crossing.{HaveCrossed};
-ghost use Rattle.lapd_socket.specs.Loop.{frames_put};
+ghost use Rattle.lapd_socket.specs.Loop.{LoopEndsAs, frames_put};
 ghost use Rattle.lapd_world.specs.World.{new_world};
 
 use crate::crossing::{FrameOctets, cross_all};
@@ -22,9 +21,9 @@ struct Looper<S, K> {
     port: Port<S, K>,
 }
 
-/// Goes over a script of moves as [`lapd_commands::pair`] does, and prints the same. Each frame that a line of the script
-/// puts on the line goes out through the port before the next line is done, and has to come back by it. The port is handed
-/// back.
+/// Goes over a script of moves as [`lapd_commands::pair`] does, and prints the same; `settle` is no line of it. Each frame
+/// that a line of the script puts on the line goes out through the port before the next line is done, and has to come back
+/// by it. The port is handed back.
 ///
 /// # Errors
 ///
@@ -38,7 +37,7 @@ pub fn loop_over<R: Read, W: Write, S: Source, K: Sink>(
     network: Params,
     port: Port<S, K>,
 ) -> (Result<(), ScriptFault>, Port<S, K>)
-    ensures text { IfSome (R.remaining script.old) (λ octets. PairEndsAs (new_world user network) result.0
+    ensures text { IfSome (R.remaining script.old) (λ octets. LoopEndsAs (new_world user network) result.0
         (lines_of octets) (W.contents out.old) (W.contents out.new)) }
     ensures crossed { IfSome (R.remaining script.old) (λ octets. OnOk result.0 (HaveCrossed (S.rest port.source) (S.rest result.1.source)
         (K.written port.sink) (K.written result.1.sink) (frames_put (new_world user network) (lines_of octets)))) }

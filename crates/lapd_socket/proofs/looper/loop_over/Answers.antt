@@ -1,5 +1,6 @@
 use Rattle.std.proofs.Common.{Ok, Err}
 use Rattle.lapd_commands.proofs.Closed.{closed}
+use Rattle.lapd_commands.specs.Pair.{move_step}
 use Rattle.lapd_commands.specs.Playing.{IsMover}
 use Rattle.lapd_world.specs.World.{new_world}
 use Rattle.lapd_socket.specs.Looped.{new_loop}
@@ -17,7 +18,7 @@ returns-in-Ok-ended-clause-text g c =
     let stands = new_stands c.in-Ok.mover w rest written c.in-Ok.ensures in
     let a = g.W.Write.contents c.args.out.now in
     let b = g.W.Write.contents c.walk-ended.new.out in
-    closed IsMover known w looper.mover c.close.result a b (g.W.Write.contents c.close.new.out) (text_same known s (Ok tt) a b (c.in-Ok-ended.ensures.ended s stands))
+    closed move_step IsMover known w looper.mover c.close.result a b (g.W.Write.contents c.close.new.out) (text_same known s (Ok tt) a b (c.in-Ok-ended.ensures.ended s stands))
     (stands_same known s looper.mover (g.S.Source.rest looper.port.source) (g.K.Sink.written looper.port.sink) (c.in-Ok-ended.ensures.state s stands)) c.close.ensures.ok c.close.ensures.err
 
 pub returns-in-Ok-ended-clause-crossed : goal.returns-in-Ok-ended-clause-crossed
