@@ -1,6 +1,6 @@
 //! Tests of the commands `answer`, `decode` and `pair` as functions, and of two ends on a lossy line: scripts and what they
 //! print, readers and writers that fail, moves of a `Pair` with the octets that they put on the line, refusals, memory that
-//! is refused, and 10,000 drawn moves for each recovery at each side.
+//! is refused, 10,000 drawn moves for each recovery at each side, and how a line settles.
 //!
 //! They stand apart from the other tests so that the check of either is short. `wants` fails a test with the row's name.
 #![tactic(auto)]
@@ -11,6 +11,8 @@ mod answers;
 mod decodes;
 #[cfg(test)]
 mod devices;
+#[cfg(test)]
+mod draws;
 #[cfg(test)]
 mod losses;
 #[cfg(test)]
@@ -27,6 +29,8 @@ mod refusals;
 mod schedule;
 #[cfg(test)]
 mod scripts;
+#[cfg(test)]
+mod settles;
 #[cfg(test)]
 mod shown;
 #[cfg(test)]

@@ -4,11 +4,12 @@
 
 use crate::made::params;
 use crate::readers::digest;
+use crate::schedule::is_safe;
 use crate::steps::move_of;
 use crate::wants::wants;
 use lapd_frame::Side;
 use lapd_link::{Outs, Params, Recovery};
-use lapd_pair::{Move, Pair, PairFault};
+use lapd_pair::{Move, Pair, PairFault, Settled};
 use std::alloc::{AllocError, Global};
 use std::test::Fail;
 
@@ -87,12 +88,13 @@ net deliver",
     ),
 ];
 
-/// How often memory was refused: to `Pair::new`, to a move, and to the test for a message of its own.
+/// How often memory was refused: to `Pair::new`, to a move, to the test for a message of its own, and to `Pair::settle`.
 #[derive(Clone, Copy, Debug, Default, PartialEq, Eq)]
 struct Refusals {
     pairs: u32,
     moves: u32,
     messages: u32,
+    settles: u32,
 }
 
 /// Two pairs that are led alike. One allocation of a run is refused at most, so that one of the two meets no refusal.
@@ -105,17 +107,6 @@ struct Twins<'a> {
 }
 
 impl Twins<'_> {
-    /// The move that a line names, at the second try where the first finds no memory.
-    fn made(&mut self, line: &str) -> Option<Move> {
-        match move_of(self.alloc, line) {
-            Some(deed) => Some(deed),
-            None => {
-                self.met.messages = self.met.messages.saturating_add(1);
-                move_of(self.alloc, line)
-            }
-        }
-    }
-
     /// What a move comes to of both, and shows after it: `None` where that is not the same.
     fn apply(&mut self, deed: &Move) -> Option<Result<Outs, PairFault>> {
         let one = outcome(self.one, deed, self.met);
@@ -126,7 +117,7 @@ impl Twins<'_> {
 
     /// Makes a move with both, and tells whether it is refused.
     fn is_refused(&mut self, row: &str, line: &str) -> Result<bool, Fail> {
-        let deed = self.made(line).ok_or("no move")?;
+        let deed = made(self.alloc, line, self.met).ok_or("no move")?;
         match self.apply(&deed) {
             Some(outcome) => Ok(outcome.is_err()),
             None => Err(Fail::new(format_args!("{row}: a move comes to something else"))),
@@ -145,6 +136,17 @@ impl Twins<'_> {
         wants(faults == refused, name, "how many are refused")?;
         let all = self.one.received(Side::Network).len() == received;
         wants(all, name, "another number of messages is received")
+    }
+}
+
+/// The move that a line names, at the second try where the first finds no memory.
+fn made(alloc: Global, line: &str, met: &mut Refusals) -> Option<Move> {
+    match move_of(alloc, line) {
+        Some(deed) => Some(deed),
+        None => {
+            met.messages = met.messages.saturating_add(1);
+            move_of(alloc, line)
+        }
     }
 }
 
@@ -222,4 +224,84 @@ fn keeps_and_tells(rt: &HostRuntime, row: &Row) -> Result<(), Fail> {
         println!(rt; "refused in {}: {met:?}", row.0)?;
     }
     Ok(())
+}
+
+/// Three messages are lost.
+const THREE_LOST: &str = "user establish
+net deliver
+user deliver
+user give 01
+user give 02
+user give 03
+net lose 0
+net lose 0
+net lose 0";
+
+/// Where memory is refused to a line that settles, the histories are safe, and it settles afterwards.
+#[test]
+fn settles_without_memory(rt: HostRuntime) -> Result<(), Fail> {
+    let mut met = Refusals::default();
+    settles(rt.alloc(), &mut met)?;
+    if met != Refusals::default() {
+        println!(rt; "refused in three messages that are lost: {met:?}")?;
+    }
+    Ok(())
+}
+
+fn settles(alloc: Global, met: &mut Refusals) -> Result<(), Fail> {
+    let params = params(3, 512)?;
+    let mut pair = new_pair(alloc, params, params, met)?;
+    settles_where_lost(alloc, &mut pair, met)
+}
+
+/// Loses the three messages, and lets the line settle.
+fn settles_where_lost(alloc: Global, pair: &mut Pair, met: &mut Refusals) -> Result<(), Fail> {
+    for line in THREE_LOST.lines() {
+        leads(alloc, pair, line, met)?;
+    }
+    let what = "it settles otherwise, or is not safe";
+    wants(is_settled(pair, met), "three messages are lost", what)
+}
+
+/// Makes the move that a line names.
+fn leads(alloc: Global, pair: &mut Pair, line: &str, met: &mut Refusals) -> Result<(), Fail> {
+    let deed = made(alloc, line, met).ok_or("no move")?;
+    wants(outcome(pair, &deed, met).is_ok(), line, "it is refused")
+}
+
+/// Whether the line settles, at the second try where the first finds no memory and the histories are safe.
+fn is_settled(pair: &mut Pair, met: &mut Refusals) -> bool {
+    let first = pair.settle();
+    if first.err() == Some(PairFault::Memory) {
+        met.settles = met.settles.saturating_add(1);
+        are_safe(pair) && rests(pair, 9)
+    } else {
+        first == NINE && is_recovered(pair)
+    }
+}
+
+/// What `settle` comes to where it finds memory for all moves.
+const NINE: Result<Settled, PairFault> = Ok(Settled {
+    moves: 9,
+    rest: true,
+});
+
+/// Whether the line settles, in at most so many moves.
+fn rests(pair: &mut Pair, most: u64) -> bool {
+    match pair.settle() {
+        Ok(Settled { moves, rest }) => rest && moves <= most && is_recovered(pair),
+        Err(_) => false,
+    }
+}
+
+fn are_safe(pair: &Pair) -> bool {
+    is_safe(pair, Side::User) && is_safe(pair, Side::Network)
+}
+
+/// Whether all three messages are received and acknowledged.
+fn is_recovered(pair: &Pair) -> bool {
+    pair.received(Side::Network).len() == 3
+        && pair.acknowledged(Side::User) == 3
+        && pair.left() == 0
+        && are_safe(pair)
 }

@@ -232,7 +232,34 @@ deliver net
 deliver net
     net release-confirmed
     user: state 4, given 0, received 1, acknowledged 0, dropped 0
-    net: state 4, given 1, received 0, acknowledged 0, dropped 1";
+    net: state 4, given 1, received 0, acknowledged 0, dropped 1
+
+# a new pair rests, and settles after the SABME is lost
+settle
+    settled 0 rest
+establish user
+    U>N SAPI 0 TEI 64 C SABME P=1
+lose net 0
+settle
+    settled 3 rest
+settle
+    settled 0 rest
+    user: state 7, given 0, received 0, acknowledged 0, dropped 0
+    net: state 7, given 0, received 0, acknowledged 0, dropped 0
+
+# the network is busy, and the user asks until the bound is reached
+establish user
+    U>N SAPI 0 TEI 64 C SABME P=1
+settle
+    settled 2 rest
+busy net on
+    N>U SAPI 0 TEI 64 R RNR N(R)=0 F=0
+deliver user
+give user 0801
+settle
+    settled 40
+    user: state 8, given 1, received 0, acknowledged 0, dropped 0
+    net: state 7, given 0, received 0, acknowledged 0, dropped 0";
 
 #[test]
 fn plays_scripts(rt: HostRuntime) -> Result<(), Fail> {
@@ -282,6 +309,38 @@ deliver net
 fn plays_scripts_with_last_message(rt: HostRuntime) -> Result<(), Fail> {
     let params = params(3, 512)?.with_recovery(Recovery::LastMessage);
     plays_all(rt.alloc(), WITH_LAST_MESSAGE, params)
+}
+
+/// A window of three frames.
+const THREE_LOST: &str = "\
+# three I frames are lost, and the line settles
+establish user
+    U>N SAPI 0 TEI 64 C SABME P=1
+deliver net
+    N>U SAPI 0 TEI 64 R UA F=1
+    net established
+deliver user
+    user confirmed
+give user 01
+    U>N SAPI 0 TEI 64 C I N(S)=0 N(R)=0 P=0 info=01
+give user 02
+    U>N SAPI 0 TEI 64 C I N(S)=1 N(R)=0 P=0 info=02
+give user 03
+    U>N SAPI 0 TEI 64 C I N(S)=2 N(R)=0 P=0 info=03
+lose net 0
+lose net 0
+lose net 0
+settle
+    settled 9 rest
+    user: state 7, given 3, received 0, acknowledged 3, dropped 0
+    net: state 7, given 0, received 3, acknowledged 0, dropped 0";
+
+#[test]
+fn plays_what_settles(rt: HostRuntime) -> Result<(), Fail> {
+    let enquiry = params(3, 512)?;
+    plays_so(rt.alloc(), THREE_LOST, enquiry)?;
+    let last = enquiry.with_recovery(Recovery::LastMessage);
+    plays_so(rt.alloc(), THREE_LOST, last)
 }
 
 fn plays_all(alloc: Global, plays: &str, params: Params) -> Result<(), Fail> {
@@ -341,7 +400,12 @@ const BAD_LINES: &[&str] = &[
     "unit net 0g",
     "restart",
     "restart user net",
-    "settle",
+    "settle ",
+    " settle",
+    "settle user",
+    "settle 9",
+    "settles",
+    "Settle",
     "state",
     "frame user 00817f",
 ];
@@ -390,13 +454,14 @@ fn plays_while_there_is_memory(rt: HostRuntime) -> Result<(), Fail> {
     let params = Params::new(1, 3, 512).unwrap();
     let mut script = MESSAGE;
     let ended = pair(rt.alloc(), &mut script, &mut printed, params, params);
-    let ends = [0, 30, 73, 88, 138];
+    let ends = [0, 30, 73, 88, 138, 186];
     let holds = keeps_whole_lines(ended, printed.as_slice(), MESSAGE_PLAYED, &ends);
     wants(holds, "memory", "the fault, or the text")
 }
 
-const MESSAGE: &[u8] = b"establish user\ndeliver net\ndeliver user\ngive user 0801\ndeliver net\n";
+const MESSAGE: &[u8] =
+    b"establish user\ndeliver net\ndeliver user\ngive user 0801\ndeliver net\nlose user 0\nsettle\n";
 
 /// What they call for, and the two lines at the end.
 const MESSAGE_PLAYED: &[u8] =
-    b"U>N SAPI 0 TEI 64 C SABME P=1\nN>U SAPI 0 TEI 64 R UA F=1\nnet established\nuser confirmed\nU>N SAPI 0 TEI 64 C I N(S)=0 N(R)=0 P=0 info=0801\nnet data 0801\nN>U SAPI 0 TEI 64 R RR N(R)=1 F=0\nuser: state 7, given 1, received 0, acknowledged 0, dropped 0\nnet: state 7, given 0, received 1, acknowledged 0, dropped 0\n";
+    b"U>N SAPI 0 TEI 64 C SABME P=1\nN>U SAPI 0 TEI 64 R UA F=1\nnet established\nuser confirmed\nU>N SAPI 0 TEI 64 C I N(S)=0 N(R)=0 P=0 info=0801\nnet data 0801\nN>U SAPI 0 TEI 64 R RR N(R)=1 F=0\nsettled 3 rest\nuser: state 7, given 1, received 0, acknowledged 1, dropped 0\nnet: state 7, given 0, received 1, acknowledged 0, dropped 0\n";

@@ -1,78 +1,36 @@
 //! 10,000 drawn moves, for each recovery at each side. After each move it is looked at slowly that what a side received
 //! is what the other was given: in order and once each, and without a gap within an establishment.
 
+use crate::draws::Draws;
+use crate::made::params;
 use crate::wants::wants;
 use lapd_frame::Side;
-use lapd_link::{Params, Recovery};
-use lapd_pair::{Ending, Fate, Move, Pair, PairFault, Received};
-use rand_core::{Rng, SeedableRng};
-use rand_pcg::Pcg32;
+use lapd_link::Recovery;
+use lapd_pair::{Ending, Fate, Pair, PairFault, Received};
 use std::alloc::Global;
 use std::test::Fail;
 
 /// How many moves are drawn.
 const MOVES: u32 = 10_000;
 
-/// Two ends, the moves that are drawn for them, and how many messages were given.
+/// Two ends, and the moves that are drawn for them.
 #[derive(Drop)]
 struct Schedule {
-    alloc: Global,
     pair: Pair,
-    random: Pcg32,
-    messages: u32,
+    draws: Draws,
 }
 
 impl Schedule {
     fn new(alloc: Global, user: Recovery, network: Recovery) -> Result<Schedule, Fail> {
-        let params = Params::new(7, 3, 64).ok_or("the numbers are in range")?;
+        let params = params(7, 64)?;
         Ok(Schedule {
-            alloc,
             pair: Pair::new(
                 alloc,
                 params.with_recovery(user),
                 params.with_recovery(network),
             )?,
-            random: Pcg32::seed_from_u64(921),
-            messages: 0,
+            draws: Draws::new(alloc),
         })
-    }
-
-    /// A number below this one.
-    fn below(&mut self, limit: u32) -> u32 {
-        self.random.next_u32().checked_rem(limit).unwrap_or(0)
-    }
-
-    /// One of the two sides.
-    fn side(&mut self) -> Side {
-        if self.below(2) == 0 {
-            Side::User
-        } else {
-            Side::Network
-        }
-    }
-
-    /// A move of one of the sides. A message has its own number as its octets.
-    fn draw(&mut self) -> Result<Move, Fail> {
-        let side = self.side();
-        Ok(match self.below(1000) {
-            0..180 => self.message(side)?,
-            180..680 => Move::Deliver(side),
-            680..740 => Move::Lose(side, self.below(4) as usize),
-            740..920 => Move::Expire200(side),
-            920..940 => Move::Expire203(side),
-            940..975 => Move::Busy(side, self.below(4) == 0),
-            975..985 => Move::Unit(side, [0xff; 3].to_vec(self.alloc)?),
-            985..993 => Move::Establish(side),
-            993..996 => Move::Release(side),
-            _ => Move::Restart(side),
-        })
-    }
-
-    /// The next message, given by this side.
-    fn message(&mut self, side: Side) -> Result<Move, Fail> {
-        let octets = self.messages.to_be_bytes();
-        self.messages = self.messages.wrapping_add(1);
-        Ok(Move::Give(side, octets.to_vec(self.alloc)?))
     }
 
     /// Makes all moves, and looks at whether enough happened.
@@ -86,7 +44,7 @@ impl Schedule {
 
     /// Makes a drawn move, and looks at what both sides received.
     fn turn(&mut self) -> Result<bool, Fail> {
-        let deed = self.draw()?;
+        let deed = self.draws.draw()?;
         if self.pair.apply(&deed).err() == Some(PairFault::Memory) {
             return Ok(false);
         }
@@ -95,7 +53,7 @@ impl Schedule {
 }
 
 /// Whether what a side received is safe, of what the other side was given, and the other side's messages are counted.
-fn is_safe(pair: &Pair, receiver: Side) -> bool {
+pub(crate) fn is_safe(pair: &Pair, receiver: Side) -> bool {
     let sender = receiver.other();
     let mut walk = Walk::new(pair.received(receiver));
     let (given, fates) = (pair.given(sender), pair.fates(sender));

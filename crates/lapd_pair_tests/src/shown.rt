@@ -30,6 +30,7 @@ fn state_name(state: u8) -> &'static str {
     match state {
         4 => "state 4",
         7 => "state 7",
+        8 => "state 8",
         _ => "another state",
     }
 }

@@ -10,7 +10,7 @@ use crate::wants::wants;
 use arrayvec::ArrayVec;
 use lapd_frame::Side;
 use lapd_link::{Out, Params};
-use lapd_pair::{Move, Pair, PairFault};
+use lapd_pair::{Move, Pair, PairFault, Settled};
 use std::alloc::{AllocError, Global};
 use std::test::Fail;
 
@@ -59,11 +59,21 @@ fn push_step(
     match words {
         "user shows" => Ok(push_shown(alloc, pair, Side::User, text)?),
         "net shows" => Ok(push_shown(alloc, pair, Side::Network, text)?),
+        "settle" => push_settled(alloc, pair, text),
         _ => {
             let deed = move_of(alloc, words).ok_or("no move")?;
             push_move(alloc, pair, &deed, tells, text)
         }
     }
+}
+
+/// Lets the line settle, and adds what that comes to.
+fn push_settled(alloc: Global, pair: &mut Pair, text: &mut String) -> Result<(), Fail> {
+    let Ok(Settled { moves, rest }) = pair.settle() else {
+        return Err(Fail::new("no memory"));
+    };
+    text.push_str(moves.to_string(alloc)?.as_str())?;
+    Ok(text.push_str(if rest { " moves, at rest" } else { " moves" })?)
 }
 
 /// Makes a move, and adds what it comes to.
