@@ -47,7 +47,7 @@ pub const RECOVERY_NET: &str =
 pub const PROGRAM: &str = "\
 `lapd` alone is `lapd answer --side net`. `lapd answer --help`, `lapd pair --help`, `lapd bus --help`,
 `lapd net --help`, `lapd user --help` and `lapd decode --help` list the lines of a script, and what is
-printed for them. The lines of `lapd loop` are those of `lapd pair`.
+printed for them. The lines of `lapd loop` are those of `lapd pair`, without `settle`.
 
 Scripts:
   A script comes on standard input. Each line is answered on standard output before the next one is
@@ -265,8 +265,8 @@ states, the error codes and the refusals L1 to L5.
 
 There are two ends, the user side and the network side, with SAPI 0 and TEI 64, and a line between
 them, which keeps frames in order in each direction. Nothing happens but by a line of the script,
-which makes one move. A frame stays on the line until a move delivers or loses it. SIDE is user or
-net, and --k, --n200 and --room hold for both sides.
+which makes one move, or by `settle` several. A frame stays on the line until a move delivers or
+loses it. SIDE is user or net, and --k, --n200 and --room hold for both sides.
 
 Lines of the script:
   establish SIDE     its layer 3 asks for the link to be established (DL-ESTABLISH request)
@@ -281,6 +281,9 @@ Lines of the script:
   busy SIDE off      it is able again
   restart SIDE       it begins anew in state 4; its I queue is dropped, and the line is empty in both
                      directions
+  settle             moves are made, each the first possible of deliver net, deliver user, expire200
+                     user and expire200 net, until none is possible: at most 8 for each message that
+                     is neither acknowledged nor dropped, and 32 more
 
 What is printed for a line: nothing, or in this form each thing that it leads to, in order:
   U>N SAPI 0 TEI 64 C SABME P=1
@@ -298,6 +301,8 @@ What is printed for a line: nothing, or in this form each thing that it leads to
   SIDE report X      management gets error code X (MDL-ERROR indication)
   refused P1 NothingThere
                      the move is refused, and changes nothing
+  settled N rest     `settle` made N moves, of which nothing is printed, and no further is possible
+  settled N          it made N, as many as it makes at most, and a further one is possible
 Timers are not printed.
 
 Refusals:
@@ -337,8 +342,14 @@ A message is lost, and T200 recovers it, `lapd pair`:
   > N>U SAPI 0 TEI 64 R RR N(R)=1 F=0
   < deliver user
   > user acknowledged 1
-  > user: state 7, given 1, received 0, acknowledged 1, dropped 0
-  > net: state 7, given 0, received 1, acknowledged 0, dropped 0
+  < # another message is lost, and the same moves recover it
+  < give user 0807
+  > U>N SAPI 0 TEI 64 C I N(S)=1 N(R)=0 P=0 info=0807
+  < lose net 0
+  < settle
+  > settled 5 rest
+  > user: state 7, given 2, received 0, acknowledged 2, dropped 0
+  > net: state 7, given 0, received 2, acknowledged 0, dropped 0
 
 The network side begins anew while the user side is still in state 7, `lapd pair`:
   < establish user
@@ -363,7 +374,7 @@ The network side begins anew while the user side is still in state 7, `lapd pair
 /// What `loop` does otherwise than `pair`.
 pub const LOOP: &str = "\
 `lapd --help` tells what scripts and HEX are, and has the exit status. `lapd pair --help` has the lines
-of the script, what is printed for them, and the refusals: they are the same here.
+of the script, what is printed for them, and the refusals: they are the same here, without `settle`.
 
 Before the script is read, the program connects to itself by TCP, at 127.0.0.1 and a port that the
 system chooses. Each frame that a line of the script puts on the line between the ends goes over this
