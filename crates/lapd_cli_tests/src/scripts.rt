@@ -70,7 +70,7 @@ const ROWS: &[Row] = &[
         1,
         Recovery::Enquiry,
         Recovery::Enquiry,
-        "establish user\ndeliver net\nsettle\ndeliver user\n",
+        "establish user\ndeliver net\nstate\ndeliver user\n",
     ),
 ];
 
@@ -146,6 +146,27 @@ fn prints_what_pair_prints(rt: HostRuntime) -> Result<(), Fail> {
         wants(alike, row.0, "it ends otherwise")?;
     }
     Ok(())
+}
+
+/// `settle` is a line of `pair` alone.
+#[test]
+fn settle_is_a_bad_line(rt: HostRuntime) -> Result<(), Fail> {
+    let row = (MESSAGE.0, 1, MESSAGE.2, MESSAGE.3, "establish user\nsettle\n");
+    let bad = is_bad_behind_a_frame(rt.alloc(), &row, &ends_of(&row)?);
+    wants(bad, "settle", "`loop` takes it, or prints something for it")
+}
+
+/// Whether the second line is bad, and what the first one calls for is printed.
+fn is_bad_behind_a_frame(alloc: Global, row: &Row, ends: &Ends) -> bool {
+    let mut printed = Vec::new(alloc);
+    let Ok(()) = printed.extend_from_slice(b"U>N SAPI 0 TEI 64 C SABME P=1\n") else {
+        return false;
+    };
+    let wanted = Ended {
+        result: Err(ScriptFault::BadLine(2)),
+        printed,
+    };
+    loops_so(alloc, row, ends, &wanted)
 }
 
 /// What the worked script prints.
