@@ -9,7 +9,7 @@ has_bit octet worth = octet / worth % 2 == 1
 -- the rejected control field, V(S) * 2, V(R) * 2 + C/R, and the bits Z, Y, X, W
 abbrev pub frmr_info : List ℕ → FrmrInfo
 frmr_info info = record {
-  rejected_field = slice_index info 0 ∷ slice_index info 1 ∷ [];
+  rejected = slice_index info 0 ∷ slice_index info 1 ∷ [];
   vs = slice_index info 2 / 2;
   vr = slice_index info 3 / 2;
   cr = has_bit (slice_index info 3) 1;

@@ -7,7 +7,7 @@ use lapd_field::Number;
 #[derive(Clone, Copy, Debug, PartialEq, Eq)]
 pub struct FrmrInfo {
     /// The control field of the rejected frame; that of a U frame stands in the first octet.
-    pub rejected_field: [u8; 2],
+    pub rejected: [u8; 2],
     /// V(S) of the end that rejects.
     pub vs: Number,
     /// V(R) of the end that rejects.
@@ -31,7 +31,7 @@ impl FrmrInfo {
     {
         let [first, second, vs, vr, reasons] = *info;
         FrmrInfo {
-            rejected_field: [first, second],
+            rejected: [first, second],
             vs: Number::new(vs / 2).unwrap(),
             vr: Number::new(vr / 2).unwrap(),
             cr: vr % 2 == 1,

@@ -32,7 +32,7 @@ fn information_of_a_frame_reject() -> Result<(), Fail> {
             "a SABME with an undefined control field",
             [0x7f, 0x00, 0x02, 0x04, 0x01],
             FrmrInfo {
-                rejected_field: [0x7f, 0x00],
+                rejected: [0x7f, 0x00],
                 vs: one,
                 vr: two,
                 cr: false,
@@ -46,7 +46,7 @@ fn information_of_a_frame_reject() -> Result<(), Fail> {
             "a response with an N(R) that is not valid",
             [0x01, 0x14, 0xfe, 0x01, 0x08],
             FrmrInfo {
-                rejected_field: [0x01, 0x14],
+                rejected: [0x01, 0x14],
                 vs: last,
                 vr: zero,
                 cr: true,
@@ -60,7 +60,7 @@ fn information_of_a_frame_reject() -> Result<(), Fail> {
             "other bits are not looked at",
             [0x00, 0x02, 0x01, 0xfe, 0xf6],
             FrmrInfo {
-                rejected_field: [0x00, 0x02],
+                rejected: [0x00, 0x02],
                 vs: zero,
                 vr: last,
                 cr: false,
