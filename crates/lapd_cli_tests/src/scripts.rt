@@ -151,7 +151,13 @@ fn prints_what_pair_prints(rt: HostRuntime) -> Result<(), Fail> {
 /// `settle` is a line of `pair` alone.
 #[test]
 fn settle_is_a_bad_line(rt: HostRuntime) -> Result<(), Fail> {
-    let row = (MESSAGE.0, 1, MESSAGE.2, MESSAGE.3, "establish user\nsettle\n");
+    let row = (
+        MESSAGE.0,
+        1,
+        MESSAGE.2,
+        MESSAGE.3,
+        "establish user\nsettle\n",
+    );
     let bad = is_bad_behind_a_frame(rt.alloc(), &row, &ends_of(&row)?);
     wants(bad, "settle", "`loop` takes it, or prints something for it")
 }

@@ -6,10 +6,7 @@ use lapd_sides::{Assigner, LinkId, LinkTable, Sapi, Tei, Terminal, TimerSet};
 
 /// All that its readers show, as one number.
 pub(crate) fn digest(side: &AnySide) -> u64 {
-    let all = with_timers(
-        with_management(side.discarded(), side),
-        timers(side, None),
-    );
+    let all = with_timers(with_management(side.discarded(), side), timers(side, None));
     let mut all = with_links(all, side, Sapi::Call);
     all = with_links(all, side, Sapi::Packet);
     all
