@@ -4,8 +4,9 @@
 usage: tools/beside.py RT WORD..    RT is the path of rt, and the words are those of its command
 
 rt lets one run work in a crate and in all crates below it, so that of several most wait. tools/prove takes these locks itself,
-for all crates, and starts a command for a crate when all below it are built. So no run writes what another reads, and
-the command is run here without taking the locks again.
+for all crates, and starts a command for a crate when all below it are built. So no run writes what another reads, and the
+command is run here without taking the locks again. Where the environment has LAPD_ALONE, rt takes nothing that other
+checkouts on this machine built, and offers them nothing.
 """
 
 import importlib.machinery
@@ -14,6 +15,7 @@ import os
 import sys
 
 sys.dont_write_bytecode = True
+ALONE = "LAPD_ALONE"
 
 
 def loaded(path):
@@ -30,6 +32,8 @@ def loaded(path):
 def main(path, *words):
     rt = loaded(path)
     rt.rtlib.lock = lambda crates: []
+    if ALONE in os.environ:
+        rt.share_work = lambda is_alone: None
     return rt.main(list(words))
 
 
