@@ -1,7 +1,7 @@
 #!/usr/bin/env python3
 """Runs a command of rt beside others of its kind, as `rt lib` in one crate beside `rt lib` in another.
 
-usage: tools/beside.py RT WORD..    RT is the path of rt, and the words are those of its command
+usage: tools/proving/beside.py RT WORD..    RT is the path of rt, and the words are those of its command
 
 rt lets one run work in a crate and in all crates below it, so that of several most wait. tools/prove takes these locks itself,
 for all crates, and starts a command for a crate when all below it are built. So no run writes what another reads, and the
