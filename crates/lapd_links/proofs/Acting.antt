@@ -31,11 +31,11 @@ use Rattle.lapd_links.specs.declared.primitive.Primitive.{Primitive}
 use Rattle.lapd_links.specs.declared.side_fault.SideKind.TheVariants as kind
 use Rattle.lapd_links.specs.Effects.{Effects, effects_of_link, sent_by, what_of, timed, stopped}
 use Rattle.lapd_links.specs.Links.{Links, Linked, Acted, acted, link_acts, link_expires, in_place, where_there, in_links, with_link}
-use Rattle.lapd_links.specs.Expiries.{IsFirst, IsPast, of_links}
+use Rattle.lapd_links.specs.Expiries.{IsFirst, IsPast, Runs, of_links}
 use Rattle.lapd_links.specs.Places.{AreAtRest}
 use Rattle.lapd_links.specs.Placed.{of_places}
 use Rattle.lapd_links.specs.Shown.{timers_at, made_by, IsLinked, ShowLinks, HaveActed}
-use Rattle.lapd_links.proofs.Dues.{same_past}
+use Rattle.lapd_links.proofs.Dues.{same_past, same_runs}
 
 -- ---- No link is there.
 
@@ -255,6 +255,11 @@ runs_in_places side s links shown (Some id) its is = placed_linked (link_at s.ta
 pub first_of_links : (side : Side) (s : LinkSet) (links : Links) (now : ℕ) (first : Option Due) → ShowLinks side s links
     → IsFirst (IsPast now (of_places s.timings.places)) first → IsFirst (IsPast now (of_links links)) first
 first_of_links side s links now first shown h = same_past now (of_places s.timings.places) (of_links links) first (runs_in_links side s links shown)
+    (λ of its timer deadline is runs. runs_in_places side s links shown of its is) h
+
+pub first_of_all_links : (side : Side) (s : LinkSet) (links : Links) (first : Option Due) → ShowLinks side s links
+    → IsFirst (Runs (of_places s.timings.places)) first → IsFirst (Runs (of_links links)) first
+first_of_all_links side s links first shown h = same_runs (of_places s.timings.places) (of_links links) first (runs_in_links side s links shown)
     (λ of its timer deadline is runs. runs_in_places side s links shown of its is) h
 
 -- where no timer has changed, the links are as before

@@ -20,8 +20,8 @@ use Rattle.lapd_links.specs.declared.places.Places.{Places}
 use Rattle.lapd_links.specs.Effects.{stopped}
 use Rattle.lapd_links.specs.Links.{of_sapi}
 use Rattle.lapd_links.specs.Links.{Served}
-use Rattle.lapd_links.specs.Expiries.{IsTimerOf, Runs, IsPast, IsNoLater, IsFirst, IsDue, of_management, of_links, of_served}
-use Rattle.lapd_links.specs.Places.{AreAtRest, EndNoSooner, sooner_moment, soonest, deadline_or_last, RunsBelow, IsSooner, expiry_at}
+use Rattle.lapd_links.specs.Expiries.{IsTimerOf, Runs, IsPast, IsNoLater, IsFirst, IsDue, IsNextDeadline, of_management, of_links, of_served}
+use Rattle.lapd_links.specs.Places.{AreAtRest, EndNoSooner, sooner_moment, soonest, deadline_or_last, RunsBelow, IsSooner, expiry_at, own_expiry_at}
 use Rattle.lapd_links.specs.Placed.{placed, of_places, NoneEndsBefore}
 use Rattle.lapd_links.proofs.Order.{earlier_deadline, joined, same_first}
 
@@ -235,8 +235,20 @@ sooner_own P (Some a) (Some b) c h k (inr is) = subst (λ x. IfSome x P) (sym is
 
 -- ---- TEI management beside the links.
 
+runs_over : (A B : Option LinkId → Option Timers) (e : Expiry) → ((its : Timers) → A e.of ≡ Some its → deadline_of e.timer its ≡ Some e.deadline → B e.of ≡ Some its) → Runs A e → Runs B e
+runs_over A B e there h = record { its = h.its; there = there h.its h.there h.until; own = h.own; until = h.until }
+
 past_over : (now : ℕ) (A B : Option LinkId → Option Timers) (e : Expiry) → ((its : Timers) → A e.of ≡ Some its → deadline_of e.timer its ≡ Some e.deadline → B e.of ≡ Some its) → IsPast now A e → IsPast now B e
-past_over now A B e there h = record { runs = record { its = h.runs.its; there = there h.runs.its h.runs.there h.runs.until; own = h.runs.own; until = h.runs.until }; is_past = h.is_past }
+past_over now A B e there h = record { runs = runs_over A B e there h.runs; is_past = h.is_past }
+
+-- the same timers run, link by link
+pub same_runs : (A B : Option LinkId → Option Timers) (first : Option Expiry)
+    → ((of : Option LinkId) (its : Timers) (timer : Timer) (deadline : ℕ) → A of ≡ Some its → deadline_of timer its ≡ Some deadline → B of ≡ Some its)
+    → ((of : Option LinkId) (its : Timers) (timer : Timer) (deadline : ℕ) → B of ≡ Some its → deadline_of timer its ≡ Some deadline → A of ≡ Some its)
+    → IsFirst (Runs A) first → IsFirst (Runs B) first
+same_runs A B first there back h = same_first (Runs A) (Runs B) first
+    (λ e x. runs_over A B e (λ its is until. there e.of its e.timer e.deadline is until) x)
+    (λ e x. runs_over B A e (λ its is until. back e.of its e.timer e.deadline is until) x) h
 
 -- the same timers run, link by link
 pub same_past : (now : ℕ) (A B : Option LinkId → Option Timers) (first : Option Expiry)
@@ -264,7 +276,85 @@ first_of_served now s own link first h k sooner = joined _ _ (IsPast now (of_ser
     (λ e x. past_over now _ _ e (λ its is until. from_management s e.of its is) x)
     (λ e x. past_over now _ _ e (λ its is until. from_links s e.of its is) x) h k sooner
 
+served_runs : (s : Served) (of : Option LinkId) (e : Expiry) → e.of ≡ of → Runs (of_served s) e → Runs (of_management s.timers) e ⊎ Runs (of_links s.links) e
+served_runs s None e is h = inl (runs_over _ _ e (λ its there until. ap (of_management s.timers) is ∙ (sym (ap (of_served s) is) ∙ there)) h)
+served_runs s (Some id) e is h = inr (runs_over _ _ e (λ its there until. ap (of_links s.links) is ∙ (sym (ap (of_served s) is) ∙ there)) h)
+
+first_that_runs : (s : Served) (own link first : Option Expiry) → IsFirst (Runs (of_management s.timers)) own → IsFirst (Runs (of_links s.links)) link → IsSooner own link first → IsFirst (Runs (of_served s)) first
+first_that_runs s own link first h k sooner = joined _ _ (Runs (of_served s)) own link first (λ e x. served_runs s e.of e refl x)
+    (λ e x. runs_over _ _ e (λ its is until. from_management s e.of its is) x)
+    (λ e x. runs_over _ _ e (λ its is until. from_links s e.of its is) x) h k sooner
+
+-- the deadline of the first that runs is the next moment at which one is due
+deadline_of_first : (s : Served) (first : Option Expiry) → IsFirst (Runs (of_served s)) first → IsNextDeadline s (option_map (λ (e : Expiry). e.deadline) first)
+deadline_of_first s None h = λ now e x. h e x.runs
+deadline_of_first s (Some a) h = record {
+  before = λ now early e x. omega (arith, x.is_past, earlier_deadline a e (h.1 e x.runs));
+  expiry = a;
+  due = (record { runs = h.0; is_past = omega arith }, λ e x. h.1 e x.runs);
+}
+
+pub next_of_served : (s : Served) (own link first : Option Expiry) (deadline : Option ℕ) → IsFirst (Runs (of_management s.timers)) own → IsFirst (Runs (of_links s.links)) link
+    → IsSooner own link first → deadline ≡ option_map (λ (e : Expiry). e.deadline) first → IsNextDeadline s deadline
+next_of_served s own link first deadline h k sooner is = subst (IsNextDeadline s) (sym is) (deadline_of_first s first (first_that_runs s own link first h k sooner))
+
 -- ---- TEI management alone.
+
+-- one of its timers runs
+record RunsAs (timers : Timers) (timer : Timer) (e : Expiry) : Type 0 where
+  is_of : e.of ≡ None
+  is_timer : e.timer ≡ timer
+  until : deadline_of timer timers ≡ Some e.deadline
+
+first_of_one : (timers : Timers) (timer : Timer) (deadline : Option ℕ) → deadline_of timer timers ≡ deadline → IsFirst (RunsAs timers timer) (option_map (own_expiry_at timer) deadline)
+first_of_one timers timer None is = λ e x. let k : None ≡ Some e.deadline = sym is ∙ x.until in absurd (cc)
+first_of_one timers timer (Some deadline) is = (record { is_of = refl; is_timer = refl; until = is }, λ other x.
+    let k : Some deadline ≡ Some other.deadline = sym is ∙ x.until in
+    let same : deadline ≡ other.deadline = cc in
+    inr (same, inr (ap due.place (sym x.is_timer), tt)))
+
+-- one of two
+abbrev RunsAsEither : Timers → Timer → Timer → Expiry → Type 0
+RunsAsEither timers one other e = RunsAs timers one e ⊎ RunsAs timers other e
+
+first_of_two : (timers : Timers) (one other : Timer) (a b c : Option Expiry) → a ≡ option_map (own_expiry_at one) (deadline_of one timers) → b ≡ option_map (own_expiry_at other) (deadline_of other timers) → IsSooner a b c
+    → IsFirst (RunsAsEither timers one other) c
+first_of_two timers one other a b c first second sooner = joined (RunsAs timers one) (RunsAs timers other) (RunsAsEither timers one other) a b c (λ e x. x) (λ e x. inl x) (λ e x. inr x)
+    (subst (IsFirst (RunsAs timers one)) (sym first) (first_of_one timers one (deadline_of one timers) refl))
+    (subst (IsFirst (RunsAs timers other)) (sym second) (first_of_one timers other (deadline_of other timers) refl)) sooner
+
+runs_as : (timers : Timers) (timer : Timer) (e : Expiry) → RunsAs timers timer e → Runs (of_management timers) e
+runs_as timers timer e x = record {
+  its = timers;
+  there = ap (of_management timers) x.is_of;
+  own = subst (λ (of : Option LinkId). IsTimerOf of e.timer) (sym x.is_of) tt;
+  until = subst (λ (t : Timer). deadline_of t timers ≡ Some e.deadline) (sym x.is_timer) x.until;
+}
+
+runs_as_either : (timers : Timers) (one other : Timer) (e : Expiry) → RunsAsEither timers one other e → Runs (of_management timers) e
+runs_as_either timers one other e (inl x) = runs_as timers one e x
+runs_as_either timers one other e (inr x) = runs_as timers other e x
+
+one_of_four : (timers : Timers) (timer : Timer) (e : Expiry) → e.timer ≡ timer → e.of ≡ None → deadline_of timer timers ≡ Some e.deadline
+    → RunsAsEither timers T200 T201 e ⊎ RunsAsEither timers T202 T203 e
+one_of_four timers T200 e is of until = inl (inl (record { is_of = of; is_timer = is; until = until }))
+one_of_four timers T201 e is of until = inl (inr (record { is_of = of; is_timer = is; until = until }))
+one_of_four timers T202 e is of until = inr (inl (record { is_of = of; is_timer = is; until = until }))
+one_of_four timers T203 e is of until = inr (inr (record { is_of = of; is_timer = is; until = until }))
+
+runs_one_of_four : (timers : Timers) (of : Option LinkId) (e : Expiry) → e.of ≡ of → Runs (of_management timers) e → RunsAsEither timers T200 T201 e ⊎ RunsAsEither timers T202 T203 e
+runs_one_of_four timers None e is h =
+    let there : Some timers ≡ Some h.its = sym (ap (of_management timers) is) ∙ h.there in
+    let same : h.its ≡ timers = cc in
+    one_of_four timers e.timer e refl is (subst (λ (t : Timers). deadline_of e.timer t ≡ Some e.deadline) same h.until)
+runs_one_of_four timers (Some id) e is h = let there : None ≡ Some h.its = sym (ap (of_management timers) is) ∙ h.there in absurd (cc)
+
+pub first_of_own : (timers : Timers) (t200 t201 t202 t203 early late first : Option Expiry)
+    → t200 ≡ option_map (own_expiry_at T200) timers.t200 → t201 ≡ option_map (own_expiry_at T201) timers.t201 → t202 ≡ option_map (own_expiry_at T202) timers.t202 → t203 ≡ option_map (own_expiry_at T203) timers.t203
+    → IsSooner t200 t201 early → IsSooner t202 t203 late → IsSooner early late first → IsFirst (Runs (of_management timers)) first
+first_of_own timers t200 t201 t202 t203 early late first a b c d one other both = joined (RunsAsEither timers T200 T201) (RunsAsEither timers T202 T203) (Runs (of_management timers)) early late first
+    (λ e x. runs_one_of_four timers e.of e refl x) (runs_as_either timers T200 T201) (runs_as_either timers T202 T203)
+    (first_of_two timers T200 T201 t200 t201 early a b one) (first_of_two timers T202 T203 t202 t203 late c d other) both
 
 expired_at : (now : ℕ) (timers : Timers) (of : Option LinkId) (e : Expiry) → e.of ≡ of → IsPast now (of_management timers) e → deadline_of e.timer timers ≡ Some e.deadline
 expired_at now timers None e is h =

@@ -62,3 +62,14 @@ IsFirst Among (Some e) = Among e × ((other : Expiry) → Among other → IsNoLa
 -- what is due now on a side
 abbrev pub IsDue : ℕ → Served → Option Expiry → Type 0
 IsDue now s = IsFirst (IsPast now (of_served s))
+
+-- before this moment nothing is due on a side, and at it something is
+pub record IsNextMoment (s : Served) (moment : ℕ) : Type 0 where
+  pub before : (now : ℕ) → now < moment → IsDue now s None
+  pub expiry : Expiry
+  pub due : IsDue moment s (Some expiry)
+
+-- the next moment at which something is due, or none where nothing ever is, as long as no timer is started
+abbrev pub IsNextDeadline : Served → Option ℕ → Type 0
+IsNextDeadline s None = (now : ℕ) → IsDue now s None
+IsNextDeadline s (Some moment) = IsNextMoment s moment

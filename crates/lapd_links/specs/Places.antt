@@ -42,6 +42,10 @@ deadline_or_last (Some e) = e.deadline
 abbrev pub expiry_at : LinkId → Timer → ℕ → Expiry
 expiry_at id timer deadline = record { deadline = deadline; timer = timer; of = Some id }
 
+-- and of one of TEI management
+abbrev pub own_expiry_at : Timer → ℕ → Expiry
+own_expiry_at timer deadline = record { deadline = deadline; timer = timer; of = None }
+
 -- a timer of this link runs with this deadline
 pub record RunsFor (id : LinkId) (timers : Timers) (e : Expiry) : Type 0 where
   pub is_of : e.of ≡ Some id

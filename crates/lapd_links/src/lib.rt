@@ -19,7 +19,7 @@ mod timings;
 
 pub use acts::Acts;
 pub use config::Config;
-pub use expiring::due;
+pub use expiring::{due, next_deadline};
 pub use expiry::Expiry;
 pub use lapd_link::{Letter, LinkFault, Params, Sapi, Side, Tei};
 pub use lapd_table::{LinkId, LinkTable};

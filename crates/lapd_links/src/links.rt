@@ -15,7 +15,7 @@ ghost use Rattle.lapd_table.specs.LinkTable.{link_at, side_of, IsFor};
 ghost use Rattle.lapd_table.specs.LinkId.{setup_for};
 ghost use Rattle.lapd_links.specs.declared.primitive.Primitive.TheVariants.{Of};
 ghost use Rattle.lapd_links.specs.Effects.{timed, what_of};
-ghost use Rattle.lapd_links.specs.Expiries.{IsFirst, IsPast, IsTimerOf, of_links};
+ghost use Rattle.lapd_links.specs.Expiries.{IsFirst, IsPast, IsTimerOf, Runs, of_links};
 ghost use Rattle.lapd_links.specs.Links.{Links, IsOfLink, no_links, of_sapi, with_link, with_tei, without_tei, new_linked, parting, parting_of, told_at_parting, told_of_tei, links_of_held, in_links, link_acts, link_expires};
 
 use crate::side_fault::refused;
@@ -173,6 +173,13 @@ impl LinkSet {
             Some(_) => self.timings.get(&named),
             None => None,
         }
+    }
+
+    /// The first of the timers of links that run.
+    pub fn first(&self) -> Option<Expiry>
+        ensures { (side : Side) (links : Links) → ShowLinks side self.now links → IsFirst (Runs (of_links links)) result }
+    {
+        self.timings.first()
     }
 
     /// The first of the timers of links that are due at the moment `now`. The links stay as they are.

@@ -4,7 +4,7 @@ ghost use Rattle.std.specs.Prelude.{◌≡◌, ◌≢◌, ◌<◌, Some, option_
 ghost use Rattle.lapd_timers.specs.Due.{at_rest};
 ghost use Rattle.lapd_table.specs.declared.link_id.LinkId.{LinkId};
 ghost use Rattle.lapd_links.specs.Effects.{timed, stopped};
-ghost use Rattle.lapd_links.specs.Expiries.{IsFirst, IsPast};
+ghost use Rattle.lapd_links.specs.Expiries.{IsFirst, IsPast, Runs};
 ghost use Rattle.lapd_links.specs.Places.{AreAtRest, soonest, sooner_moment, deadline_or_last};
 ghost use Rattle.lapd_links.specs.Placed.{placed, of_places, NoneEndsBefore, NoneEndsBefore-prop};
 
@@ -77,6 +77,13 @@ impl Timings {
         ensures others { (other : LinkId) → other ≢ id.now → placed self.new.places other ≡ placed self.old.places other }
     {
         self.places.stop(id, timer);
+    }
+
+    /// The first of the timers of links that run.
+    pub fn first(&self) -> Option<Expiry>
+        ensures { IsFirst (Runs (of_places self.now.places)) result }
+    {
+        self.places.first()
     }
 
     /// The first of the timers of links that are due at the moment `now`. Where `now` comes before the moment that is kept,
