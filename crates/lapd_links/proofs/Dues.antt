@@ -308,10 +308,13 @@ record RunsAs (timers : Timers) (timer : Timer) (e : Expiry) : Type 0 where
 
 first_of_one : (timers : Timers) (timer : Timer) (deadline : Option ℕ) → deadline_of timer timers ≡ deadline → IsFirst (RunsAs timers timer) (option_map (own_expiry_at timer) deadline)
 first_of_one timers timer None is = λ e x. let k : None ≡ Some e.deadline = sym is ∙ x.until in absurd (cc)
-first_of_one timers timer (Some deadline) is = (record { is_of = refl; is_timer = refl; until = is }, λ other x.
-    let k : Some deadline ≡ Some other.deadline = sym is ∙ x.until in
-    let same : deadline ≡ other.deadline = cc in
-    inr (same, inr (ap due.place (sym x.is_timer), tt)))
+first_of_one timers timer (Some deadline) is = (
+  record { is_of = refl; is_timer = refl; until = is },
+  λ other x.
+      let k : Some deadline ≡ Some other.deadline = sym is ∙ x.until in
+      let same : deadline ≡ other.deadline = cc in
+      inr (same, inr (ap due.place (sym x.is_timer), tt)),
+)
 
 -- one of two
 abbrev RunsAsEither : Timers → Timer → Timer → Expiry → Type 0

@@ -1,6 +1,6 @@
 -- What a side gives for an event, and what the outputs of one step of a link or of TEI management come to: the frames that
 -- are sent, as octets, what the layers above are told, and which timers run until when (Q.921 4.1, 5.9).
-use Rattle.std.specs.Prelude.{ℕ, List, [], ◌∷◌, ◌++◌, map, drop, Option, Some, None, option_map}
+use Rattle.std.specs.Prelude.{ℕ, ◌≤◌, List, [], ◌∷◌, ◌++◌, length, map, drop, Option, Some, None, option_map}
 use Rattle.std.specs.List.{filter_map}
 use Rattle.lapd_timers.specs.declared.timer.Timer.{Timer}
 use Rattle.lapd_timers.specs.Due.{Timers, with_deadline, deadline_from}
@@ -26,6 +26,10 @@ use Rattle.lapd_links.specs.declared.primitive.What.TheVariants as what
 pub record Effects : Type 0 where
   pub frames : List (List ℕ)
   pub primitives : List Primitive
+
+-- a frame has two octets of address and one of control field at least (Q.921 2.2)
+abbrev pub HasLeastOctets : List ℕ → Type 0
+HasLeastOctets octets = 3 ≤ length octets
 
 abbrev pub no_effects : Effects
 no_effects = record { frames = []; primitives = [] }

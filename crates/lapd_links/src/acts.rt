@@ -1,6 +1,7 @@
 ghost use Rattle.std.specs.Prelude.{◌≡◌, ◌≤◌, ◌<◌, ◌+◌, ◌++◌, ◌∷◌, [], length, map, IfOk};
+ghost use Rattle.std.specs.List.{All};
 ghost use Rattle.lapd_frame.specs.Frame.{spelling};
-ghost use Rattle.lapd_links.specs.Effects.{no_effects};
+ghost use Rattle.lapd_links.specs.Effects.{HasLeastOctets, no_effects};
 ghost use Rattle.lapd_tei.specs.Message.{frame_of_message};
 
 use crate::Primitive;
@@ -25,14 +26,16 @@ pub struct Acts {
 
 impl Model for Acts {
     ghost use Rattle.std.specs.Prelude.{◌≤◌, map};
+    ghost use Rattle.std.specs.List.{All};
     ghost use Rattle.std.specs.Vec.{vec_capacity};
-    ghost use Rattle.lapd_links.specs.Effects.{Effects};
+    ghost use Rattle.lapd_links.specs.Effects.{Effects, HasLeastOctets};
 
     ghost Value = { Effects };
 
     ghost view = { λ a. record { frames = map (λ f. f.items) a.frames.items; primitives = a.primitives.items } };
 
-    ghost invariant = { λ a. (280 ≤ vec_capacity a.frames) × (280 ≤ vec_capacity a.primitives) };
+    ghost invariant = { λ a. (280 ≤ vec_capacity a.frames) × (280 ≤ vec_capacity a.primitives)
+        × All (λ f. HasLeastOctets f.items) a.frames.items };
 }
 
 impl Acts {
@@ -50,9 +53,10 @@ impl Acts {
         })
     }
 
-    /// The frames that are to be sent, as octets, in order.
+    /// The frames that are to be sent, as octets, in order. Each has 3 to 264 of them.
     pub fn frames(&self) -> &[ArrayVec<u8, MOST_OCTETS>]
-        ensures { map (λ f. f.items) result.now ≡ self.now.frames }
+        ensures frames { map (λ f. f.items) result.now ≡ self.now.frames }
+        ensures least { All (λ f. HasLeastOctets f.items) result.now }
     {
         self.frames.as_slice()
     }

@@ -51,8 +51,14 @@ fn deadline_of(expiry: Option<Expiry>) -> Option<u64>
 fn first_of_management(timers: &TimerSet) -> Option<Expiry>
     ensures { IsFirst (Runs (of_management timers.now)) result }
 {
-    let early = sooner(own_expiry(Timer::T200, timers), own_expiry(Timer::T201, timers));
-    let late = sooner(own_expiry(Timer::T202, timers), own_expiry(Timer::T203, timers));
+    let early = sooner(
+        own_expiry(Timer::T200, timers),
+        own_expiry(Timer::T201, timers),
+    );
+    let late = sooner(
+        own_expiry(Timer::T202, timers),
+        own_expiry(Timer::T203, timers),
+    );
     sooner(early, late)
 }
 

@@ -20,7 +20,7 @@ use Rattle.lapd_sides.specs.declared.net_side.NetSide.{NetSide}
 use Rattle.lapd_sides.specs.declared.served.LinksAndTimer.{LinksAndTimer}
 use Rattle.lapd_links.specs.declared.side_fault.SideKind.{SideKind}
 use Rattle.lapd_links.specs.Effects.{Effects, no_effects}
-use Rattle.lapd_links.specs.Expiries.{IsDue}
+use Rattle.lapd_links.specs.Expiries.{IsDue, IsNextDeadline}
 use Rattle.lapd_links.specs.Links.{Links, Acted, is_served}
 use Rattle.lapd_sides.specs.Management.{carries_message, links_with, manages, one_more}
 use Rattle.lapd_links.specs.Links.{Served}
@@ -108,6 +108,9 @@ not_to_group own config now id octets s test is fails same =
 
 pub due_so : (now : ℕ) (s : Served) (timers : Timers) (result e : Option Expiry) → timers ≡ s.timers → result ≡ e → IsDue now (record { links = s.links; timers = timers }) result → IsDue now s e
 due_so now s timers result e same is due = subst (λ (t : Timers). IsDue now (record { links = s.links; timers = t }) e) same (subst (IsDue now (record { links = s.links; timers = timers })) is due)
+
+pub next_so : (s : Served) (timers : Timers) (deadline : Option ℕ) → timers ≡ s.timers → IsNextDeadline (record { links = s.links; timers = timers }) deadline → IsNextDeadline s deadline
+next_so s timers deadline same next = subst (λ (t : Timers). IsNextDeadline (record { links = s.links; timers = t }) deadline) same next
 
 pub expired_so : (code : NetSide) (config : Config) (acts : Effects) (now : ℕ) (s : Network) (e : Expiry) (of : Option LinkId) → IsDue now s.served (Some e) → e.of ≡ of → HasDone code config acts (network_expires config now e.timer of s) → HasExpired code config acts now s
 expired_so code config acts now s e of due is done = record {

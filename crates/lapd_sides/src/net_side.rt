@@ -8,7 +8,7 @@ ghost use Rattle.lapd_tei.specs.Out.{tei_given};
 ghost use Rattle.lapd_table.specs.LinkTable.{IsFor};
 ghost use Rattle.lapd_frame.specs.Fault.{is_for_link};
 ghost use Rattle.lapd_links.specs.Effects.{no_effects};
-ghost use Rattle.lapd_links.specs.Expiries.{IsDue, of_served};
+ghost use Rattle.lapd_links.specs.Expiries.{IsDue, IsNextDeadline, of_served};
 ghost use Rattle.lapd_sides.specs.Requests.{message_of};
 ghost use Rattle.lapd_sides.specs.Shows.{ShowEnds};
 ghost use Rattle.lapd_links.specs.Links.{IsOfLink};
@@ -18,7 +18,7 @@ use crate::served::{LinksAndTimer, carries_message, one_more};
 use crate::{Acts, Config, Expiry, Request, SideFault, SideKind};
 use lapd_frame::{Address, Control, FaultKind, Frame, FrameFault, Role, Sapi, Side, Tei, read};
 use lapd_link::{Event, LinkFault};
-use lapd_links::{due, refused};
+use lapd_links::{due, next_deadline, refused};
 use lapd_table::{LinkId, LinkTable};
 use lapd_tei::{Assigner, AssignerEvent, TeiMessage};
 use lapd_timers::{Timer, TimerSet};
@@ -207,6 +207,15 @@ impl NetSide {
             Some(id) => self.expire(id, timer, now, acts),
         }
         true
+    }
+
+    /// The next moment at which [`NetSide::tick`] has something to do, in milliseconds: before it, it answers `false`. `None`
+    /// where no timer runs. It is the same until the next call of `take`, `tick` or `request`, so that a program sleeps until
+    /// then, or until octets come.
+    pub fn next_deadline(&self) -> Option<u64>
+        ensures { (config : Config) (s : Network) → ShowNetwork self.now config s → IsNextDeadline s.served result }
+    {
+        next_deadline(&self.served.timers, &self.served.links)
     }
 
     /// This timer of the link with this name has expired.

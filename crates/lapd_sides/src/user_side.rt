@@ -13,7 +13,7 @@ ghost use Rattle.lapd_frame.specs.Fault.{is_for_link};
 ghost use Rattle.lapd_links.specs.declared.primitive.Primitive.TheVariants.{Of};
 ghost use Rattle.lapd_links.specs.declared.side_fault.SideKind.TheVariants.{NoLink, Link};
 ghost use Rattle.lapd_links.specs.Effects.{no_effects};
-ghost use Rattle.lapd_links.specs.Expiries.{IsDue, of_served};
+ghost use Rattle.lapd_links.specs.Expiries.{IsDue, IsNextDeadline, of_served};
 ghost use Rattle.lapd_links.specs.Links.{IsOfLink, of_sapi};
 ghost use Rattle.lapd_sides.specs.Requests.{message_of};
 ghost use Rattle.lapd_sides.specs.Shows.{ShowEnds};
@@ -25,7 +25,7 @@ use crate::served::{LinksAndTimer, carries_message, is_unit_to_group, one_more};
 use crate::{Acts, Config, Expiry, Octets, Primitive, Request, SideFault, SideKind, What};
 use lapd_frame::{FaultKind, Frame, FrameFault, Sapi, Side, Tei, read};
 use lapd_link::{Event, LinkFault};
-use lapd_links::{due, refused};
+use lapd_links::{due, next_deadline, refused};
 use lapd_table::{LinkId, LinkTable};
 use lapd_tei::{TeiMessage, TeiOut, Terminal, TerminalEvent};
 use lapd_timers::{Timer, TimerSet};
@@ -221,6 +221,15 @@ impl UserSide {
             Some(id) => self.expire(id, timer, now, acts),
         }
         true
+    }
+
+    /// The next moment at which [`UserSide::tick`] has something to do, in milliseconds: before it, it answers `false`. `None`
+    /// where no timer runs. It is the same until the next call of `take`, `tick` or `request`, so that a program sleeps until
+    /// then, or until octets come.
+    pub fn next_deadline(&self) -> Option<u64>
+        ensures { (config : Config) (s : User) → ShowUser self.now config s → IsNextDeadline s.served result }
+    {
+        next_deadline(&self.served.timers, &self.served.links)
     }
 
     /// This timer of the link with this name has expired.
