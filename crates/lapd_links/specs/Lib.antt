@@ -4,3 +4,4 @@ pub mod Links
 pub mod Shown
 pub mod Places
 pub mod Placed
+pub mod Told

@@ -1,9 +1,12 @@
-ghost use Rattle.std.specs.Prelude.{◌≡◌, ◌≤◌, length};
+ghost use Rattle.std.specs.Prelude.{◌≡◌, ◌≤◌, length, Some};
+ghost use Rattle.hex.specs.Hex.{encode_lower};
 
 use arrayvec::ArrayVec;
+use std::fmt;
 use std::marker::Model;
 
-/// The octets of a message or of unit data that goes up to layer 3, at most 260 (N201, Q.921 5.9.3).
+/// The octets of a message or of unit data that goes up to layer 3, at most 260 (N201, Q.921 5.9.3). They print
+/// as hexadecimal digits in lower case.
 #[derive(Debug, Drop)]
 pub struct Octets {
     octets: ArrayVec<u8, 260>,
@@ -35,5 +38,16 @@ impl Octets {
         ensures { result.now ≡ self.now }
     {
         self.octets.as_slice()
+    }
+}
+
+impl fmt::Display for Octets {
+    ghost output = { λ octets. Some (encode_lower octets) };
+
+    fn fmt<W: fmt::Write>(&self, f: &mut fmt::Formatter<W>) -> fmt::Result {
+        for octet in self.as_slice() {
+            write!(f, "{octet:02x}")?;
+        }
+        Ok(())
     }
 }

@@ -6,3 +6,4 @@ pub mod Requests
 pub mod Shows
 pub mod ShowsNetwork
 pub mod ShowsUser
+pub mod Either

@@ -2,6 +2,7 @@
 //! and their timers.
 #![tactic(auto)]
 
+mod either_side;
 mod kept;
 mod laws;
 mod net_side;
@@ -10,6 +11,7 @@ mod request;
 mod served;
 mod user_side;
 
+pub use either_side::EitherSide;
 pub use lapd_links::{
     Acts, Config, Durations, Expiry, Letter, LinkFault, LinkId, LinkTable, Octets, Params,
     Primitive, Sapi, Side, SideFault, SideKind, Tei, TeiMessage, TeiOut, Timer, TimerSet, What,

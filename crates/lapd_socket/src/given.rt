@@ -1,6 +1,7 @@
 //! What the calls of a side give for one line of its script.
 
 ghost use Rattle.std.specs.Prelude.{◌≡◌, IsOkUnless};
+ghost use Rattle.lapd_links.specs.Effects.{HasLeastOctets};
 
 use crate::told::put_primitives;
 use arrayvec::ArrayVec;
@@ -9,11 +10,12 @@ use lapd_script::LineFault;
 use lapd_sides::Acts;
 use std::alloc::Global;
 
-/// A frame that is to be sent, and its trace line.
+/// A frame that is to be sent, of at least three octets, and its trace line.
 #[derive(Drop)]
 pub(crate) struct Sent {
     pub(crate) octets: ArrayVec<u8, MOST_OCTETS>,
     pub(crate) line: String,
+    ghost least: { HasLeastOctets octets.items },
 }
 
 /// The frames that are to be sent, and the text of what the layers above are told. All memory that they take is taken
@@ -64,6 +66,7 @@ impl Given {
 
     /// Adds a frame with its trace line.
     fn add(&mut self, side: Side, frame: &[u8]) -> Result<(), LineFault>
+        requires { HasLeastOctets frame.now }
         ensures err { IsOkUnless result LineFault.Memory }
     {
         let Ok(line) = lapd_trace::line(self.alloc, side, frame) else {

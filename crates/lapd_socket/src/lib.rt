@@ -9,7 +9,6 @@
 #![tactic(auto)]
 
 mod crossing;
-mod either_side;
 mod given;
 mod looper;
 mod side_lines;

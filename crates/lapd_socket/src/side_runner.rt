@@ -2,16 +2,15 @@
 
 ghost use Rattle.std.specs.Prelude.{◌≡◌, ◌+◌, IfSome};
 ghost use Rattle.lapd_script.specs.Script.{lines_of};
-ghost use Rattle.lapd_socket.specs.Sides.{side_of};
+ghost use Rattle.lapd_sides.specs.Either.{side_of};
 ghost use Rattle.lapd_socket.specs.Wishes.{SideEndsAs, moment_at};
 
-use crate::either_side::EitherSide;
 use crate::given::Given;
 use crate::side_lines::{SideLine, read_line};
 use crate::told::put_refusal;
-use lapd_port::{LEAST_OCTETS, MOST_OCTETS, Port, PortFault, Sink, Source};
+use lapd_port::{MOST_OCTETS, Port, PortFault, Sink, Source};
 use lapd_script::{Command, LineFault, ScriptFault, put_line, walk};
-use lapd_sides::{Acts, Request, SideKind};
+use lapd_sides::{Acts, EitherSide, Request, SideKind};
 use std::alloc::Global;
 use std::io::{self, Read, Write};
 
@@ -67,7 +66,7 @@ pub(crate) fn run_side<R: Read, W: Write, S: Source, K: Sink>(
 }
 
 impl<W: Write, S: Source, K: Sink> Command for SideRunner<'_, W, S, K> {
-    ghost use Rattle.lapd_socket.specs.Sides.{side_of};
+    ghost use Rattle.lapd_sides.specs.Either.{side_of};
     ghost use Rattle.lapd_socket.specs.Wishes.{Clocked, clock_step};
 
     ghost State = { Clocked };
@@ -85,7 +84,7 @@ impl<W: Write, S: Source, K: Sink> Command for SideRunner<'_, W, S, K> {
 }
 
 impl<W: Write, S: Source, K: Sink> SideRunner<'_, W, S, K> {
-    ghost use Rattle.lapd_socket.specs.Sides.{side_of};
+    ghost use Rattle.lapd_sides.specs.Either.{side_of};
     ghost use Rattle.lapd_socket.specs.Wishes.{IsGood, Moves, moment_after, wish_of};
 
     /// Does what a line asks for.
@@ -201,25 +200,13 @@ impl<W: Write, S: Source, K: Sink> SideRunner<'_, W, S, K> {
         ensures good { IsGood result }
     {
         for sent in given.frames() {
-            if let Err(fault) = self.send(sent.octets.as_slice()) {
+            if let Err(fault) = self.port.write_frame(sent.octets.as_slice()) {
                 return self.fail(fault);
             }
             put_line(sent.line.as_bytes(), &[], self.out)?;
         }
         self.out.write_all(given.told())?;
         Ok(())
-    }
-
-    /// Writes a frame to the port. A side gives none of fewer octets than a frame has.
-    fn send(&mut self, frame: &[u8]) -> Result<(), PortFault>
-        ensures side { self.new.side ≡ self.old.side }
-        ensures clock { self.new.now ≡ self.old.now }
-    {
-        if (LEAST_OCTETS..=MOST_OCTETS).contains(&frame.len()) {
-            self.port.write_frame(frame)
-        } else {
-            Err(PortFault::BadLength)
-        }
     }
 
     /// The port has failed, so the script ends. What was printed before is handed to the device.

@@ -5,11 +5,10 @@ ghost use Rattle.lapd_frame.specs.declared.Side.TheVariants as side;
 ghost use Rattle.lapd_script.specs.Script.{lines_of};
 ghost use Rattle.lapd_socket.specs.Wishes.{SideEndsAs};
 
-use crate::either_side::EitherSide;
 use crate::side_runner::run_side;
 use lapd_port::{Port, Sink, Source};
 use lapd_script::ScriptFault;
-use lapd_sides::{Config, Durations, NetSide, Params, Sapi, UserSide};
+use lapd_sides::{Config, Durations, EitherSide, NetSide, Params, Sapi, UserSide};
 use std::alloc::Global;
 use std::io::{Read, Write};
 

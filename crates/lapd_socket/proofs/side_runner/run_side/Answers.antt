@@ -1,5 +1,5 @@
 use Rattle.std.proofs.Common.{refl}
-use Rattle.lapd_socket.specs.Sides.{side_of}
+use Rattle.lapd_sides.specs.Either.{side_of}
 use Rattle.lapd_socket.specs.Wishes.{new_clock}
 use Rattle.lapd_socket.proofs.SideWalks.{ended, unsaid}
 use Rattle.lapd_socket.proofs.side_runner.run_side.Goals as goal

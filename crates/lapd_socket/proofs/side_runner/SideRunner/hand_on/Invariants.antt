@@ -1,5 +1,5 @@
 use Rattle.std.proofs.Common.{◌≡◌}
-use Rattle.lapd_socket.specs.Sides.{side_of}
+use Rattle.lapd_sides.specs.Either.{side_of}
 use Rattle.lapd_socket.proofs.side_runner.SideRunner.hand_on.Given as goal
 
 abbrev pub invariant-loop-sent : goal.invariant-loop-sent

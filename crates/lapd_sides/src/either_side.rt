@@ -1,0 +1,127 @@
+//! A side of either kind.
+
+ghost use Rattle.std.specs.Prelude.{◌≡◌, true, false, None, OnOk, OnErr, IfErr, option_copied};
+ghost use Rattle.lapd_links.specs.Effects.{no_effects};
+ghost use Rattle.lapd_sides.specs.Requests.{message_of};
+
+use crate::{Acts, NetSide, Request, SideFault, SideKind, UserSide};
+use lapd_frame::Side;
+use lapd_table::{LinkId, LinkTable};
+use lapd_timers::TimerSet;
+
+/// A network side or a user side, where a program may be either. Its calls are those of [`NetSide`] and [`UserSide`].
+#[derive(Drop)]
+pub enum EitherSide {
+    /// The network side.
+    Network(NetSide),
+    /// A user side.
+    User(UserSide),
+}
+
+impl EitherSide {
+    ghost use Rattle.lapd_sides.specs.Either.{side_of, Takes, TakesMemory, Grants, Refuses, Expires, Rests, Stays, HasNextDeadline, HasTable, HasTimers, HasDiscarded};
+
+    /// Which of the two it is.
+    pub fn side(&self) -> Side
+        ensures { result ≡ side_of self.now }
+    {
+        match self {
+            EitherSide::Network(_) => Side::Network,
+            EitherSide::User(_) => Side::User,
+        }
+    }
+
+    /// Octets come from the line at the moment `now`, in milliseconds.
+    ///
+    /// # Errors
+    ///
+    /// B3 where memory was refused for the links of a TEI. Nothing is changed, and nothing given.
+    pub fn take(&mut self, bytes: &[u8], now: u64, acts: &mut Acts) -> Result<(), SideFault>
+        ensures side { side_of self.new ≡ side_of self.old }
+        ensures ok { OnOk result (Takes bytes.now now self.old self.new acts.new) }
+        ensures err { IfErr result (λ fault. fault ≡ record { kind = SideKind.Memory; message = None }) }
+        ensures only { OnErr result (TakesMemory bytes.now self.old) }
+        ensures unchanged { OnErr result (Stays self.old self.new) }
+        ensures nothing { OnErr result (acts.new ≡ no_effects) }
+    {
+        match self {
+            EitherSide::Network(side) => side.take(bytes, now, acts),
+            EitherSide::User(side) => side.take(bytes, now, acts),
+        }
+    }
+
+    /// What is due at the moment `now`, the first alone: its timer has expired. `false` where nothing is due. Call it until
+    /// it answers `false`.
+    pub fn tick(&mut self, now: u64, acts: &mut Acts) -> bool
+        ensures side { side_of self.new ≡ side_of self.old }
+        ensures due { result ≡ true → Expires now self.old self.new acts.new }
+        ensures none { result ≡ false → Rests now self.old self.new }
+        ensures nothing { result ≡ false → acts.new ≡ no_effects }
+    {
+        match self {
+            EitherSide::Network(side) => side.tick(now, acts),
+            EitherSide::User(side) => side.tick(now, acts),
+        }
+    }
+
+    /// What is asked for at the moment `now`.
+    ///
+    /// # Errors
+    ///
+    /// B1 where the link is not there, and L1 to L5 where it refuses. What was to be sent is handed back. Nothing is
+    /// changed, and nothing given.
+    pub fn request(&mut self, request: Request, now: u64, acts: &mut Acts) -> Result<(), SideFault>
+        ensures side { side_of self.new ≡ side_of self.old }
+        ensures ok { OnOk result (Grants request now self.old self.new acts.new) }
+        ensures err { IfErr result (λ fault. Refuses request now self.old fault.kind) }
+        ensures handed_back { IfErr result (λ fault. fault.message ≡ message_of request) }
+        ensures unchanged { OnErr result (Stays self.old self.new) }
+        ensures nothing { OnErr result (acts.new ≡ no_effects) }
+    {
+        match self {
+            EitherSide::Network(side) => side.request(request, now, acts),
+            EitherSide::User(side) => side.request(request, now, acts),
+        }
+    }
+
+    /// The next moment at which [`EitherSide::tick`] has something to do, in milliseconds: before it, it answers `false`.
+    /// `None` where no timer runs.
+    pub fn next_deadline(&self) -> Option<u64>
+        ensures { HasNextDeadline self.now result }
+    {
+        match self {
+            EitherSide::Network(side) => side.next_deadline(),
+            EitherSide::User(side) => side.next_deadline(),
+        }
+    }
+
+    /// The links that are there.
+    pub fn table(&self) -> &LinkTable
+        ensures { HasTable self.now result.now }
+    {
+        match self {
+            EitherSide::Network(side) => side.table(),
+            EitherSide::User(side) => side.table(),
+        }
+    }
+
+    /// The timers of a link that is there; `None` names that of TEI management.
+    pub fn timers(&self, of: Option<LinkId>) -> Option<&TimerSet>
+        ensures { HasTimers self.now of (option_copied result) }
+    {
+        match self {
+            EitherSide::Network(side) => side.timers(of),
+            EitherSide::User(side) => side.timers(of),
+        }
+    }
+
+    /// How many frames [`EitherSide::take`] has discarded since the side was made; it stays at `u64::MAX` once it is there.
+    pub fn discarded(&self) -> u64
+        ensures { HasDiscarded self.now result }
+    {
+        match self {
+            EitherSide::Network(side) => side.discarded(),
+            EitherSide::User(side) => side.discarded(),
+        }
+    }
+}
