@@ -1,4 +1,5 @@
 pub mod Clocks
+pub mod Digits
 mod Crossed
 mod Loops
 pub mod SideWalks

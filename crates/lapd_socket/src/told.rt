@@ -3,7 +3,8 @@
 ghost use Rattle.std.specs.Prelude.{◌≡◌, IsOkUnless, OnOk};
 ghost use Rattle.std.specs.Io.KnownBytes.{Appends};
 ghost use Rattle.lapd_script.specs.Line.{text_line};
-ghost use Rattle.lapd_socket.specs.Told.{id_text, primitive_line, primitives_text, refusal_line, tei_line, what_text};
+ghost use Rattle.lapd_links.specs.Told.{id_text, what_text};
+ghost use Rattle.lapd_socket.specs.Told.{primitive_line, primitives_text, refusal_line, tei_line};
 
 use lapd_script::{LineFault, put_line, put_number, put_octets};
 use lapd_sides::{LinkId, Primitive, SideKind, TeiOut, What};
@@ -53,6 +54,7 @@ fn put_id<W: Write>(id: &LinkId, out: &mut W) -> Result<(), LineFault>
 }
 
 /// Prints what is told of a link.
+#[tactic(auto, using(crate::proofs::Digits::same_digits))]
 fn put_what<W: Write>(what: &What, out: &mut W) -> Result<(), LineFault>
     ensures ok { OnOk result (Appends (W.contents out.old) (W.contents out.new) (text_line (what_text what.now))) }
     ensures err { IsOkUnless result LineFault.Device }
