@@ -1,19 +1,7 @@
 -- What the words of the command line choose.
-use Rattle.std.specs.Prelude.{◌≡◌, ℕ, ◌≤◌, List, ◌⊎◌}
-use Rattle.std.specs.Str.Parse.{digits_value, IsNumeral}
-use Rattle.lapd_link.specs.declared.Recovery.TheVariants.{Enquiry}
-use Rattle.lapd_link.specs.Parameters.{Parameters}
+use Rattle.lapd_states.specs.declared.recovery.Recovery.TheVariants.{Enquiry}
+use Rattle.lapd_states.specs.Parameters.{Parameters}
 
 -- the window of basic access for call control, its N200, and room for 512 messages
 abbrev pub default_parameters : Parameters
 default_parameters = record { k = 1; n200 = 3; room = 512; recovery = Enquiry }
-
--- one is written in decimal digits alone, and lies from 1 to `most`
-pub record IsNumberTo (most : ℕ) (text : List ℕ) : Type 0 where
-  pub digits : IsNumeral 10 text
-  pub low : 1 ≤ digits_value 10 text
-  pub high : digits_value 10 text ≤ most
-
--- one of the three, and the last number of its range
-abbrev pub IsRangeOf : List ℕ → List ℕ → List ℕ → ℕ → List ℕ → Type 0
-IsRangeOf k n200 room most text = ((text ≡ k) × (most ≡ 127)) ⊎ ((text ≡ n200) × (most ≡ 100)) ⊎ ((text ≡ room) × (most ≡ 1024))

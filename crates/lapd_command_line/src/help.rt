@@ -1,5 +1,5 @@
 //! The texts of the help. The parser puts the usage, the commands and the options between a command's first line and
-//! the text that follows them.
+//! the text that follows them, which is short with `-h`, and whole with `--help`.
 
 /// What the program is.
 pub const ABOUT: &str = "LAPD, the data link layer of the ISDN D channel (ITU-T Q.921)";
@@ -23,12 +23,6 @@ pub const NET_ABOUT: &str = "Is the network side of an interface, over TCP, by a
 /// What the command `user` does.
 pub const USER_ABOUT: &str = "Is the user side of an interface, over TCP, by a script";
 
-/// What the address of `net` is.
-pub const LISTEN: &str = "Waits here for one connection, such as 127.0.0.1:4000";
-
-/// What the address of `user` is.
-pub const CONNECT: &str = "Connects to this address, such as 127.0.0.1:4000";
-
 /// What the command `decode` does.
 pub const DECODE_ABOUT: &str = "Prints octets as trace lines";
 
@@ -43,17 +37,36 @@ pub const RECOVERY_USER: &str =
 pub const RECOVERY_NET: &str =
     "What T200 of the network side sends in state 7: an enquiry, or the last message again";
 
+/// What the option of all commands is for.
+pub const STRICT: &str = "Ends with exit status 5 where a line of the script was refused";
+
+/// What ends the short help of the program.
+pub const SHORT_PROGRAM: &str = "\
+`lapd` alone is `lapd answer --side net`. A script comes on standard input, a line for each thing that
+happens, and is answered on standard output.
+`lapd help COMMAND` lists the lines of a command's script, with examples; `lapd --help` tells more of
+scripts, faults and the exit status.";
+
+/// What ends the short help of each command.
+pub const SHORT: &str = "\
+The script comes on standard input. `--help` lists its lines, and what is printed for them, with an example.";
+
 /// What all commands share.
 pub const PROGRAM: &str = "\
-`lapd` alone is `lapd answer --side net`. `lapd answer --help`, `lapd pair --help`, `lapd bus --help`,
-`lapd net --help`, `lapd user --help` and `lapd decode --help` list the lines of a script, and what is
-printed for them. The lines of `lapd loop` are those of `lapd pair`, without `settle`.
+`lapd` alone is `lapd answer --side net`. `lapd help answer`, or `lapd answer --help`, lists the lines
+of a script, and what is printed for them, with examples; so do those of `pair`, `bus`, `net`, `user`
+and `decode`. The lines of `lapd loop` are those of `lapd pair`, without `settle`.
 
 Scripts:
   A script comes on standard input. Each line is answered on standard output before the next one is
   waited for. A line ends with a line feed, which the last one may lack. Words are separated by one
   space. Empty lines and lines that begin with # are passed over, but counted. The program ends where
-  its script ends: at a terminal, Ctrl-D at the beginning of a line ends it.
+  its script ends.
+
+At a terminal:
+  Where standard input is a terminal, a line that is not one of the command's is told, and the next
+  one is waited for. `help` lists the lines, and `quit`, or Ctrl-D at the beginning of a line, ends
+  the script.
 
   HEX stands for octets, with two hexadecimal digits each, in upper or lower case. The octets of a
   frame are those between its flags, without the frame check sequence. If there are no octets, HEX is
@@ -80,7 +93,9 @@ Exit status:
      `lapd loop`, `net` and `user` also where no connection can be had; in `net` and `user`
      `port S3 Cut`, or another of S2 to S6, where the connection fails
   4  `out of memory`
-The text of 1 to 4 goes to standard error.";
+  5  with --strict: the script was answered to its end, and `refused` was printed for a line
+The text of 1 to 5 goes to standard error, with a second line that tells why. Nothing is said where
+standard output is a pipe that nobody reads any more.";
 
 /// The lines of `answer`.
 pub const ANSWER: &str = "\

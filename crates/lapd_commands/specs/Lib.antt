@@ -5,4 +5,3 @@ pub mod Outputs
 pub mod Pair
 pub mod Playing
 pub mod Session
-pub mod Written

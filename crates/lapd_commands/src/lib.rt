@@ -4,15 +4,13 @@
 //! calls for: begin with the definition `answer_word` in specs/Answer.antt, which has a row for each word. [`pair`] goes
 //! over a script of moves as two ends and the line between them: `move_named` in specs/Moves.antt has a row for each word, and
 //! `pair_step` in specs/Pair.antt for the word `settle`. [`Mover`] makes the moves alone.
-//! [`decode`] prints octets as trace lines. All three end as a script of `lapd_script` ends. [`params_of`] reads what a
-//! link is made with.
+//! [`decode`] prints octets as trace lines. All three end as a script of `lapd_script` ends.
 #![tactic(auto)]
 
 mod answerer;
 mod decoder;
 mod mover;
 mod moves;
-mod numbers;
 mod outputs;
 mod settler;
 mod words;
@@ -23,5 +21,4 @@ pub use lapd_link::{Link, Params, Side};
 pub use lapd_pair::Pair;
 pub use lapd_script::ScriptFault;
 pub use mover::Mover;
-pub use numbers::{number_of, params_of};
 pub use settler::pair;

@@ -2,9 +2,9 @@
 
 ghost use Rattle.std.specs.Prelude.{◌≡◌, ◌<◌, ◌^◌, SomeIff};
 ghost use Rattle.std.specs.Str.Parse.{digits_value, IsNumeral};
-ghost use Rattle.lapd_commands.specs.Written.{parameters_written, AreWritten};
+ghost use Rattle.lapd_options.specs.Written.{parameters_written, AreWritten};
 
-use lapd_link::Params;
+use lapd_states::Params;
 
 /// The parameters of a link that these texts write in decimal digits alone: its window, 1 to 127 I frames, its N200, 1
 /// to 100 times, and the room of its I queue, 1 to 1,024 messages. `None` where a text is not written so, or its number

@@ -1,5 +1,5 @@
 use Rattle.std.proofs.Common.{rules}
-use Rattle.lapd_commands.proofs.numbers.params_of.Goals as goal
+use Rattle.lapd_options.proofs.numbers.params_of.Goals as goal
 
 pub returns : goal.returns
 returns c = search rules

@@ -1,8 +1,8 @@
 -- The numbers of a link, written as text.
 use Rattle.std.specs.Prelude.{ℕ, List}
 use Rattle.std.specs.Str.Parse.{digits_value, IsNumeral}
-use Rattle.lapd_link.specs.declared.Recovery.TheVariants.{Enquiry}
-use Rattle.lapd_link.specs.Parameters.{Parameters, AreInRange}
+use Rattle.lapd_states.specs.declared.recovery.Recovery.TheVariants.{Enquiry}
+use Rattle.lapd_states.specs.Parameters.{Parameters, AreInRange}
 
 -- the parameters with the numbers that these texts, which are decimal digits, write
 abbrev pub parameters_written : List ℕ → List ℕ → List ℕ → Parameters

@@ -1,0 +1,48 @@
+ghost use Rattle.std.specs.Prelude.{◌≡◌, false};
+ghost use Rattle.lapd_command_line.specs.CommandLine.{default_parameters};
+
+use lapd_options::{Params, Sapi, Side};
+
+/// What the program's words choose.
+#[derive(Clone, Copy, Debug, PartialEq, Eq)]
+pub struct Chosen<'a> {
+    /// What the program is to do.
+    pub job: Job<'a>,
+    /// Whether the exit status is to tell that a line of the script was refused.
+    pub strict: bool,
+}
+
+/// What the program is to do.
+#[derive(Clone, Copy, Debug, PartialEq, Eq)]
+pub enum Job<'a> {
+    /// Answers a script as one link of this side, made with these parameters.
+    Answer { side: Side, params: Params },
+    /// Goes over a script as a bus of so many terminals, 1 to 127.
+    Bus { terminals: u8 },
+    /// Makes the moves of a script on two ends, made with these parameters, and the line between them.
+    Pair { user: Params, network: Params },
+    /// As `Pair`, where each frame crosses a connection of the process to itself.
+    Loop { user: Params, network: Params },
+    /// Goes over a script as the network side, over the first connection that comes to this address and port.
+    Net { listen: &'a str },
+    /// Goes over a script as the user side, over a connection to this address and port.
+    User { connect: &'a str },
+    /// Prints octets as trace lines.
+    Decode,
+}
+
+impl Chosen<'_> {
+    /// What the program does that is called with no word.
+    pub(crate) fn by_no_word() -> Chosen<'static>
+        ensures { result ≡ record { job = Job.Answer Side.Network default_parameters; strict = false } }
+    {
+        let params = Params::basic(Sapi::Call);
+        Chosen {
+            job: Job::Answer {
+                side: Side::Network,
+                params,
+            },
+            strict: false,
+        }
+    }
+}
