@@ -22,11 +22,13 @@ pub(crate) fn job_of<'a>(name: &str, given: &ArgMatches<'a>) -> Result<Job<'a>, 
 }
 
 fn answer_given<'a>(given: &ArgMatches<'a>) -> Result<Job<'a>, Unchosen<'a>> {
-    let params = params_given(given)?;
-    Ok(Job::Answer {
-        side: side_given(given),
-        params: params.with_recovery(recovery_given(given, "recovery")),
-    })
+    match params_given(given) {
+        Ok(params) => Ok(Job::Answer {
+            side: side_given(given),
+            params: params.with_recovery(recovery_given(given, "recovery")),
+        }),
+        Err(fault) => Err(Unchosen::OutOfRange(fault)),
+    }
 }
 
 fn bus_given<'a>(given: &ArgMatches<'a>) -> Result<Job<'a>, Unchosen<'a>> {
@@ -55,12 +57,14 @@ fn user_given<'a>(given: &ArgMatches<'a>) -> Result<Job<'a>, Unchosen<'a>> {
 }
 
 // What the user side and the network side of `pair` or `loop` are made with.
-fn ends_given<'a>(given: &ArgMatches<'a>) -> Result<(Params, Params), OutOfRange<'a>> {
-    let params = params_given(given)?;
-    Ok((
-        params.with_recovery(recovery_given(given, "recovery-user")),
-        params.with_recovery(recovery_given(given, "recovery-net")),
-    ))
+fn ends_given<'a>(given: &ArgMatches<'a>) -> Result<(Params, Params), Unchosen<'a>> {
+    match params_given(given) {
+        Ok(params) => Ok((
+            params.with_recovery(recovery_given(given, "recovery-user")),
+            params.with_recovery(recovery_given(given, "recovery-net")),
+        )),
+        Err(fault) => Err(Unchosen::OutOfRange(fault)),
+    }
 }
 
 fn params_given<'a>(given: &ArgMatches<'a>) -> Result<Params, OutOfRange<'a>> {

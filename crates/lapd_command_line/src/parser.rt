@@ -30,9 +30,10 @@ pub(crate) fn unknown_command<'a>(
     program: &mut Command<'a>,
     word: &str,
 ) -> Unchosen<'a> {
-    match unknown_error(alloc, program, word) {
-        Ok(error) => told(alloc, &error),
-        Err(AllocError) => Unchosen::Memory,
+    let error = unknown_error(alloc, program, word);
+    match &error {
+        Ok(error) => told(alloc, error),
+        Err(_) => Unchosen::Memory,
     }
 }
 
