@@ -1,0 +1,117 @@
+//! A reader that keeps the lines that were read last.
+
+use arrayvec::ArrayVec;
+use memchr::{memchr, memchr_iter, memrchr};
+use std::io::{self, ErrorKind, Read};
+
+/// How many octets of a read are kept: as many as a walk over a script reads at a time.
+const PART: usize = 8192;
+
+/// How many octets are kept of a line that an earlier read began.
+const HEAD: usize = 4096;
+
+/// A reader that hands on what another reader gives, and keeps the lines that were read last. What it keeps does not grow
+/// with what is read: the last 8,192 octets or fewer, and 4,096 at most of the line that goes on in them.
+#[derive(Drop)]
+pub struct KeptLines<R> {
+    reader: R,
+    // How many lines ended before that of `head`.
+    ended: u64,
+    // The front of the line that goes on in `part`, with what `part` has of it.
+    head: ArrayVec<u8, HEAD>,
+    // What was read last.
+    part: ArrayVec<u8, PART>,
+    fault: Option<ErrorKind>,
+}
+
+impl<R: Read> KeptLines<R> {
+    /// Keeps what this reader gives from now on.
+    pub fn new(reader: R) -> KeptLines<R> {
+        KeptLines {
+            reader,
+            ended: 0,
+            head: ArrayVec::new(),
+            part: ArrayVec::new(),
+            fault: None,
+        }
+    }
+
+    /// The line of this number, counted from 1, without its line feed. A line that an earlier read began is cut to 4,096
+    /// octets, and of the last line there is as much as was read. `None` where the line is not kept.
+    pub fn line(&self, number: u64) -> Option<&[u8]> {
+        let place = number.checked_sub(1)?.checked_sub(self.ended)?;
+        if place == 0 {
+            Some(self.head.as_slice())
+        } else {
+            line_at(self.part.as_slice(), place)
+        }
+    }
+
+    /// How the last read failed that failed otherwise than by an interruption. `None` where none did.
+    pub fn fault(&self) -> Option<ErrorKind> {
+        self.fault
+    }
+
+    /// Keeps octets that were read.
+    fn keep(&mut self, octets: &[u8]) {
+        for part in octets.chunks(PART) {
+            self.let_go();
+            let _ = self.part.try_extend_from_slice(part);
+            lengthen(&mut self.head, first_line(part));
+        }
+    }
+
+    /// Lets go of the lines that ended in what was read last.
+    fn let_go(&mut self) {
+        let part = self.part.as_slice();
+        if let Some(end) = memrchr(b'\n', part) {
+            let ended = memchr_iter(b'\n', part).count();
+            self.ended = self.ended.saturating_add(ended as u64);
+            self.head.clear();
+            lengthen(&mut self.head, &part[end + 1..]);
+        }
+        self.part.clear();
+    }
+}
+
+impl<R: Read> Read for KeptLines<R> {
+    ghost remaining = { λ kept. R.remaining kept.reader };
+
+    fn read(&mut self, octets: &mut [u8]) -> io::Result<usize> {
+        match self.reader.read(octets) {
+            Ok(count) => {
+                self.keep(&octets[..count]);
+                Ok(count)
+            }
+            Err(error) => {
+                if error.kind() != ErrorKind::Interrupted {
+                    self.fault = Some(error.kind());
+                }
+                Err(error)
+            }
+        }
+    }
+}
+
+/// Puts behind the front of a line as many of these octets as are kept of it.
+fn lengthen(head: &mut ArrayVec<u8, HEAD>, octets: &[u8]) {
+    let room = head.remaining_capacity();
+    let _ = head.try_extend_from_slice(&octets[..octets.len().min(room)]);
+}
+
+/// The octets before the first line feed, all where there is none.
+fn first_line(octets: &[u8]) -> &[u8] {
+    match memchr(b'\n', octets) {
+        Some(end) => &octets[..end],
+        None => octets,
+    }
+}
+
+/// The line behind so many line feeds.
+fn line_at(octets: &[u8], feeds: u64) -> Option<&[u8]> {
+    let mut rest = octets;
+    for _feed in 0..feeds {
+        rest = &rest[memchr(b'\n', rest)? + 1..];
+    }
+    Some(first_line(rest))
+}

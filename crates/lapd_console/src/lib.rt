@@ -1,0 +1,27 @@
+//! What the program `lapd` says to people about its script and its standard streams.
+//!
+//! [`reason`] says in one line of text what is wrong with a line of a command's script, and [`forms`] which lines a command
+//! has. [`KeptLines`] reads a script and keeps the lines that were read last, so that the line of a number can be shown.
+//! [`Watched`] is a writer that remembers how a write failed, and [`Refusals`] one that notes the first line that begins
+//! with `refused`. [`Session`] reads lines that are typed, and hands on those that are right by their form.
+#![tactic(auto)]
+
+mod complaint;
+mod form;
+mod judge;
+mod kept_lines;
+mod line_forms;
+mod refusals;
+mod script;
+mod session;
+mod shown;
+mod watched;
+
+pub use form::{Argument, Form};
+pub use judge::reason;
+pub use kept_lines::KeptLines;
+pub use line_forms::forms;
+pub use refusals::Refusals;
+pub use script::Script;
+pub use session::Session;
+pub use watched::Watched;

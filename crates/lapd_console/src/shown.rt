@@ -1,0 +1,21 @@
+//! What a person typed, as it is shown.
+
+use std::fmt;
+
+/// How many octets of a word are shown at most.
+const MOST_SHOWN: usize = 32;
+
+/// A word between quotes. Of a long one the front is shown, and three dots. Octets that are not printed are escaped.
+#[derive(Clone, Copy, Debug)]
+pub(crate) struct Shown<'a>(pub(crate) &'a [u8]);
+
+impl fmt::Display for Shown<'_> {
+    fn fmt<W: fmt::Write>(&self, f: &mut fmt::Formatter<W>) -> fmt::Result {
+        let word = self.0;
+        if word.len() <= MOST_SHOWN {
+            write!(f, "'{}'", word.escape_ascii())
+        } else {
+            write!(f, "'{}..'", word[..MOST_SHOWN].escape_ascii())
+        }
+    }
+}
