@@ -1,4 +1,5 @@
-//! The TCP connections of the program.
+//! The TCP connections of the program, and what is told of them on standard error. What standard error does not take is given
+//! up.
 
 use std::io::{self, ErrorKind};
 use std::net::{TcpListener, TcpStream};
@@ -20,25 +21,47 @@ pub fn to_itself(rt: &HostRuntime) -> io::Result<(TcpStream, TcpStream)> {
     Ok((near, far))
 }
 
-/// The connection that comes first to this address, which is listened on.
+/// The connection that comes first to this address, which is listened on. Told are the address, with the port that is listened
+/// on, and from where the connection came.
 ///
 /// # Errors
 ///
 /// Those of the system.
 pub fn accepted(rt: &HostRuntime, address: &str) -> io::Result<TcpStream> {
     let listener = TcpListener::bind(rt, address)?;
-    let (stream, _from) = listener.accept()?;
+    let own = listener.local_addr()?;
+    let _ = eprintln!(rt; "listening on {own}");
+    let (stream, from) = listener.accept()?;
+    let _ = eprintln!(rt; "connected by {from}");
     stream.set_nodelay(true)?;
     Ok(stream)
 }
 
-/// A connection to this address.
+/// A connection to this address, which is told.
 ///
 /// # Errors
 ///
 /// Those of the system.
 pub fn made(rt: &HostRuntime, address: &str) -> io::Result<TcpStream> {
     let stream = TcpStream::connect(rt, address)?;
+    let peer = stream.peer_addr()?;
+    let _ = eprintln!(rt; "connected to {peer}");
     stream.set_nodelay(true)?;
     Ok(stream)
+}
+
+/// Tells that the other side has closed the connection, where it has and nothing is left to be read.
+pub fn tell_closed(rt: &HostRuntime, stream: &TcpStream) {
+    if is_closed(stream) {
+        let _ = eprintln!(rt; "the other side has closed the connection");
+    }
+}
+
+// Whether nothing comes any more. What comes is left to be read, and is not waited for.
+fn is_closed(stream: &TcpStream) -> bool {
+    let mut octet = [0u8];
+    match stream.set_nonblocking(true) {
+        Ok(()) => matches!(stream.peek(&mut octet), Ok(0)),
+        Err(_) => false,
+    }
 }

@@ -1,0 +1,196 @@
+//! How the program ends: its exit status, and what it says on standard error. The first line names the fault, and the second
+//! one tells why. What standard error does not take is given up.
+
+ghost use Rattle.std.specs.Prelude.{◌≡◌, ◌&&◌, IfNone, IfSome, if◌then◌else◌};
+ghost use Rattle.lapd_script.specs.Script.{status_of as status_of_fault};
+
+use crate::job::script_of;
+use crate::reason::Reason;
+use lapd_command_line::{Job, Unchosen, WordsFault};
+use lapd_console::reason;
+use lapd_script::{PortFault, ScriptFault};
+use std::io::{self, ErrorKind};
+use std::process::ExitCode;
+
+/// The exit status after a fault of the command line.
+const COMMAND_LINE: u8 = 2;
+
+/// The exit status after a script of which a line was refused, where that is to be told.
+const REFUSED: u8 = 5;
+
+/// Why a script was not done to its end.
+#[derive(Debug, Drop)]
+pub enum Stop {
+    /// There is no connection.
+    NoConnection(io::Error),
+    /// The command ended by this fault.
+    Script(ScriptFault),
+}
+
+impl Stop {
+    /// The fault that the first line names.
+    fn fault(&self) -> ScriptFault {
+        match self {
+            Stop::NoConnection(_) => ScriptFault::Device,
+            Stop::Script(fault) => *fault,
+        }
+    }
+}
+
+/// What is known when a script has ended.
+#[derive(Clone, Copy)]
+pub struct Ending<'a> {
+    /// What was done.
+    pub job: Job<'a>,
+    /// Whether the exit status tells of a line that was refused.
+    pub strict: bool,
+    /// The line that is bad, where one is and it is still known.
+    pub line: Option<&'a [u8]>,
+    /// What was printed for the first line that was refused.
+    pub refusal: Option<&'a [u8]>,
+    /// How the last read of the script failed.
+    pub input: Option<ErrorKind>,
+    /// How the last write failed.
+    pub output: Option<ErrorKind>,
+}
+
+/// Says how a script ended.
+pub fn say_ending(rt: &HostRuntime, ending: &Ending<'_>, ended: &Result<(), Stop>) -> ExitCode {
+    match ended {
+        Ok(()) => say_refusal(rt, ending),
+        Err(stop) => say_stop(rt, ending, stop),
+    }
+    let fault = ended.as_ref().err().map(Stop::fault);
+    ExitCode::from(status_of(fault, ending.strict, ending.refusal.is_some()))
+}
+
+// The exit status after a script that ended by this fault, where it ended by one, of which a line was refused, where one was.
+fn status_of(fault: Option<ScriptFault>, strict: bool, is_refused: bool) -> u8
+    ensures done { IfNone fault (result ≡ (if strict && is_refused then 5 else 0)) }
+    ensures fault { IfSome fault (λ fault. result ≡ status_of_fault fault) }
+{
+    match fault {
+        Some(fault) => fault.status(),
+        None if strict && is_refused => REFUSED,
+        None => 0,
+    }
+}
+
+// Says which line was refused first, where that is to be told.
+fn say_refusal(rt: &HostRuntime, ending: &Ending<'_>) {
+    if !ending.strict {
+        return;
+    }
+    if let Some(line) = ending.refusal {
+        let _ = eprintln!(rt; "a line was refused");
+        let _ = eprintln!(rt; "the first: {}", text_of(line));
+    }
+}
+
+// Says why a script was not done to its end. Where nobody reads what is printed any more, nothing is said.
+fn say_stop(rt: &HostRuntime, ending: &Ending<'_>, stop: &Stop) {
+    let fault = stop.fault();
+    if fault == ScriptFault::Device && ending.output == Some(ErrorKind::BrokenPipe) {
+        return;
+    }
+    let _ = eprintln!(rt; "{fault}");
+    match stop {
+        Stop::NoConnection(error) => say_no_connection(rt, &ending.job, error),
+        Stop::Script(ScriptFault::BadLine(_)) => say_bad_line(rt, ending),
+        Stop::Script(ScriptFault::Device) => say_device(rt, ending),
+        Stop::Script(ScriptFault::Port(fault)) => {
+            let _ = eprintln!(rt; "{}", words_of(*fault));
+        }
+        Stop::Script(ScriptFault::Memory) => {}
+    }
+}
+
+// Says why there is no connection.
+fn say_no_connection(rt: &HostRuntime, job: &Job<'_>, error: &io::Error) {
+    let reason = Reason(error);
+    let _ = match job {
+        Job::Net { listen } => eprintln!(rt; "cannot listen on {listen}: {reason}"),
+        Job::User { connect } => eprintln!(rt; "cannot connect to {connect}: {reason}"),
+        _ => eprintln!(rt; "cannot connect to itself: {reason}"),
+    };
+}
+
+// Says what is wrong with a line. A line that is right by its form is a `tick` beyond the clock's end.
+fn say_bad_line(rt: &HostRuntime, ending: &Ending<'_>) {
+    let Some(line) = ending.line else {
+        return;
+    };
+    let _ = match reason(rt.alloc(), script_of(&ending.job), line) {
+        Ok(Some(reason)) => eprintln!(rt; "{reason}"),
+        Ok(None) => eprintln!(rt; "the clock ends at 1,000,000,000,000,000 ms"),
+        Err(_) => Ok(()),
+    };
+}
+
+// Says which device failed, and how.
+fn say_device(rt: &HostRuntime, ending: &Ending<'_>) {
+    let _ = match (ending.input, ending.output, ending.job) {
+        (Some(kind), _, _) => eprintln!(rt; "standard input: {kind}"),
+        (None, Some(kind), _) => eprintln!(rt; "standard output: {kind}"),
+        (None, None, Job::Loop { .. }) => eprintln!(rt;
+            "a frame did not come back over the connection to itself, or 1,000,000 reads did not reach the script's end"
+        ),
+        (None, None, _) => eprintln!(rt; "1,000,000 reads did not reach the script's end"),
+    };
+}
+
+// A fault of a port, in words.
+fn words_of(fault: PortFault) -> &'static str {
+    match fault {
+        PortFault::End => "the other side has closed the connection",
+        PortFault::BadLength => "a length that is not from 3 to 264 came over the connection",
+        PortFault::Cut => "the other side closed the connection inside a frame",
+        PortFault::Device => "the connection failed",
+        PortFault::TooManyTurns => "4,096 reads or writes did not move a whole frame",
+        PortFault::Failed => "the connection failed before",
+    }
+}
+
+// What was printed for a line, which is text.
+fn text_of(line: &[u8]) -> &str {
+    str::from_utf8(line).unwrap_or("")
+}
+
+/// Says that memory ran out before a script could be begun.
+pub fn say_memory(rt: &HostRuntime) -> ExitCode {
+    let _ = eprintln!(rt; "{}", ScriptFault::Memory);
+    ExitCode::from(ScriptFault::Memory.status())
+}
+
+/// Says why the program's words could not be read.
+pub fn say_words_fault(rt: &HostRuntime, fault: WordsFault) -> ExitCode {
+    if fault == WordsFault::Memory {
+        return say_memory(rt);
+    }
+    let _ = eprintln!(rt; "{fault}");
+    ExitCode::from(COMMAND_LINE)
+}
+
+/// Prints the text that the program's words ask for, or says what is wrong with them.
+pub fn say_unchosen(rt: &HostRuntime, unchosen: &Unchosen<'_>) -> ExitCode {
+    match unchosen {
+        Unchosen::Shown(text) => show(rt, text.as_str()),
+        Unchosen::Memory => say_memory(rt),
+        _ => {
+            let _ = eprint!(rt; "{unchosen}");
+            ExitCode::from(COMMAND_LINE)
+        }
+    }
+}
+
+// Prints a text on standard output.
+fn show(rt: &HostRuntime, text: &str) -> ExitCode {
+    let Err(error) = print!(rt; "{text}") else {
+        return ExitCode::SUCCESS;
+    };
+    if error.kind() != ErrorKind::BrokenPipe {
+        let _ = eprintln!(rt; "{}", ScriptFault::Device);
+        let _ = eprintln!(rt; "standard output: {}", error.kind());
+    }
+    ExitCode::from(ScriptFault::Device.status())
+}

@@ -1,0 +1,31 @@
+use std::io::{self, Read, Write};
+
+/// A reader of lines that are typed, which greets before its first read. What the writer of errors does not take is given up.
+#[derive(Drop)]
+pub struct Greeting<R, E> {
+    reader: R,
+    errors: E,
+    is_said: bool,
+}
+
+impl<R: Read, E: Write> Greeting<R, E> {
+    /// Nothing is said yet.
+    pub fn new(reader: R, errors: E) -> Greeting<R, E> {
+        Greeting {
+            reader,
+            errors,
+            is_said: false,
+        }
+    }
+}
+
+impl<R: Read, E: Write> Read for Greeting<R, E> {
+    fn read(&mut self, octets: &mut [u8]) -> io::Result<usize> {
+        if !self.is_said {
+            self.is_said = true;
+            let greeting = b"lines are awaited: help lists them, and quit ends the script\n";
+            let _ = self.errors.write_all(greeting);
+        }
+        self.reader.read(octets)
+    }
+}
