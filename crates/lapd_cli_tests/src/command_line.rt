@@ -3,10 +3,8 @@
 use crate::devices::{SOUND, port_of};
 use crate::dialogues::{BOTH_NET, BOTH_USER, MOST, Row, octets_of, play};
 use crate::wants::{are_same, is_said, wants};
-use clap::Error;
-use clap::error::ErrorKind;
 use lapd_bus::bus;
-use lapd_command_line::{Chosen, Unchosen, WordsFault, address, choose, help, words};
+use lapd_command_line::{Chosen, Job, Unchosen, WordsFault, choose, help, words};
 use lapd_commands::{answer, decode, pair};
 use lapd_frame::{Sapi, Side};
 use lapd_link::{Params, Recovery};
@@ -27,8 +25,8 @@ enum Wanted {
     Pair(Numbers, Recovery, Recovery),
     Loop(Numbers, Recovery, Recovery),
     Bus(u8),
-    Net,
-    User,
+    Net(&'static str),
+    User(&'static str),
     Decode,
 }
 
@@ -157,6 +155,16 @@ const CHOICES: &[(&str, &[&str], Wanted)] = &[
         ],
         Wanted::Loop((7, 2, 9), ENQUIRY, LAST),
     ),
+    (
+        "the network side",
+        &["lapd", "net", "--listen", "127.0.0.1:7000"],
+        Wanted::Net("127.0.0.1:7000"),
+    ),
+    (
+        "the user side, to a name, which the system looks up",
+        &["lapd", "user", "--connect=no address:65535"],
+        Wanted::User("no address:65535"),
+    ),
 ];
 
 // The parameters of these numbers, where they are in range.
@@ -165,74 +173,69 @@ fn params(numbers: Numbers, recovery: Recovery) -> Option<Params> {
     Some(params.with_recovery(recovery))
 }
 
-// The choice that is wanted, where its numbers are in range.
-fn chosen(wanted: Wanted) -> Option<Chosen> {
+// What is to be done, where its numbers are in range.
+fn job(wanted: Wanted) -> Option<Job<'static>> {
     match wanted {
-        Wanted::Answer(side, numbers, recovery) => Some(Chosen::Answer {
+        Wanted::Answer(side, numbers, recovery) => Some(Job::Answer {
             side,
             params: params(numbers, recovery)?,
         }),
-        Wanted::Pair(numbers, user, network) => Some(Chosen::Pair {
+        Wanted::Pair(numbers, user, network) => Some(Job::Pair {
             user: params(numbers, user)?,
             network: params(numbers, network)?,
         }),
-        Wanted::Loop(numbers, user, network) => Some(Chosen::Loop {
+        Wanted::Loop(numbers, user, network) => Some(Job::Loop {
             user: params(numbers, user)?,
             network: params(numbers, network)?,
         }),
-        Wanted::Bus(terminals) => Some(Chosen::Bus { terminals }),
-        Wanted::Net => Some(Chosen::Net),
-        Wanted::User => Some(Chosen::User),
-        Wanted::Decode => Some(Chosen::Decode),
+        Wanted::Bus(terminals) => Some(Job::Bus { terminals }),
+        Wanted::Net(listen) => Some(Job::Net { listen }),
+        Wanted::User(connect) => Some(Job::User { connect }),
+        Wanted::Decode => Some(Job::Decode),
     }
 }
 
 // Whether the words choose this.
-fn chooses(alloc: Global, words: &[&str], wanted: Wanted) -> bool {
-    let wanted = chosen(wanted);
-    wanted.is_some() && choose(alloc, words).ok() == wanted
+fn chooses(alloc: Global, words: &[&str], wanted: Wanted, strict: bool) -> bool {
+    match (choose(alloc, words), job(wanted)) {
+        (Ok(chosen), Some(job)) => chosen == Chosen { job, strict },
+        _ => false,
+    }
 }
 
 #[test]
 fn words_choose(rt: HostRuntime) -> Result<(), Fail> {
     for (row, words, wanted) in CHOICES {
-        let chosen = chooses(rt.alloc(), words, *wanted);
+        let chosen = chooses(rt.alloc(), words, *wanted, false);
         wants(chosen, row, "another choice")?;
     }
     Ok(())
 }
 
-// Words that choose a side, over a connection at an address, which is taken as it stands.
-const SIDES: &[(&str, &[&str], Wanted, &str)] = &[
+// Words by which the exit status tells of lines that were refused.
+const STRICT: &[(&str, &[&str], Wanted)] = &[
     (
-        "the network side",
-        &["lapd", "net", "--listen", "127.0.0.1:7000"],
-        Wanted::Net,
-        "127.0.0.1:7000",
+        "answer, strictly",
+        &["lapd", "answer", "--strict", "--side", "user"],
+        Wanted::Answer(Side::User, BASIC, ENQUIRY),
     ),
     (
-        "the user side",
-        &["lapd", "user", "--connect=no address"],
-        Wanted::User,
-        "no address",
+        "the network side, strictly",
+        &["lapd", "net", "--listen=[::1]:0", "--strict"],
+        Wanted::Net("[::1]:0"),
+    ),
+    (
+        "octets, strictly",
+        &["lapd", "decode", "--strict"],
+        Wanted::Decode,
     ),
 ];
 
-// Whether the side that the words choose has this address.
-fn is_at(alloc: Global, words: &[&str], wanted: &str) -> bool {
-    let found = address(alloc, words);
-    match &found {
-        Ok(at) => *at == wanted,
-        Err(_) => false,
-    }
-}
-
 #[test]
-fn words_choose_sides(rt: HostRuntime) -> Result<(), Fail> {
-    for (row, words, side, at) in SIDES {
-        let chosen = chooses(rt.alloc(), words, *side);
-        let found = chosen && is_at(rt.alloc(), words, at);
-        wants(found, row, "another choice, or another address")?;
+fn words_choose_strictly(rt: HostRuntime) -> Result<(), Fail> {
+    for (row, words, wanted) in STRICT {
+        let chosen = chooses(rt.alloc(), words, *wanted, true);
+        wants(chosen, row, "another choice")?;
     }
     Ok(())
 }
@@ -274,7 +277,9 @@ const FAULTS: &[&[&str]] = &[
     &["lapd", "bus", "--terminals"],
     &["lapd", "bus", "--terminals", "3", "--terminals", "3"],
     &["lapd", "other"],
-    &["lapd", "help"],
+    &["lapd", "help", "other"],
+    &["lapd", "--strict"],
+    &["lapd", "pair", "--strict", "--strict"],
     &["lapd", "answer", "--k"],
     &["lapd", "answer", "--k", "--side", "user"],
     &["lapd", "answer", "--k", "3", "--k", "3"],
@@ -282,13 +287,10 @@ const FAULTS: &[&[&str]] = &[
     &["lapd", "answer", "--room", "2", "--room", "2"],
 ];
 
-// Whether the parser told a text that goes to standard error, and has this status.
-fn is_told(alloc: Global, words: &[&str], on_error: bool, status: i32) -> bool {
+// Whether the parser does not take the words, and has a text for it.
+fn is_refused(alloc: Global, words: &[&str]) -> bool {
     let chosen = choose(alloc, words);
-    match &chosen {
-        Err(Unchosen::Told(error)) => is_text(error, on_error, status),
-        _ => false,
-    }
+    matches!(&chosen, Err(Unchosen::Refused(_)))
 }
 
 // The last of these words, which names a row.
@@ -299,41 +301,69 @@ fn last<'a>(words: &'a [&'a str]) -> &'a str {
     }
 }
 
-// Whether this text goes to standard error, and has this status.
-fn is_text(error: &Error, on_error: bool, status: i32) -> bool {
-    let goes = error.use_stderr() == on_error && error.exit_code() == status;
-    goes && error.kind() != ErrorKind::OutOfMemory
-}
-
 #[test]
 fn parser_refuses(rt: HostRuntime) -> Result<(), Fail> {
     for words in FAULTS {
-        let refused = is_told(rt.alloc(), words, true, 2);
+        let refused = is_refused(rt.alloc(), words);
         wants(refused, last(words), "words are not refused")?;
     }
     Ok(())
 }
 
-// Words that ask for a text.
-const ASKED: &[&[&str]] = &[
-    &["lapd", "--help"],
-    &["lapd", "-h"],
-    &["lapd", "answer", "--help"],
-    &["lapd", "bus", "--help"],
-    &["lapd", "pair", "--help"],
-    &["lapd", "loop", "--help"],
-    &["lapd", "net", "--help"],
-    &["lapd", "user", "--help"],
-    &["lapd", "decode", "--help"],
-    &["lapd", "--version"],
-    &["lapd", "-V"],
+// Words that ask for a text, and whether it is the short help of a command.
+const ASKED: &[(&[&str], bool)] = &[
+    (&["lapd", "--help"], false),
+    (&["lapd", "-h"], false),
+    (&["lapd", "help"], false),
+    (&["lapd", "help", "net"], false),
+    (&["lapd", "answer", "--help"], false),
+    (&["lapd", "answer", "-h"], true),
+    (&["lapd", "bus", "--help"], false),
+    (&["lapd", "pair", "--help"], false),
+    (&["lapd", "loop", "--help"], false),
+    (&["lapd", "net", "--help"], false),
+    (&["lapd", "net", "-h"], true),
+    (&["lapd", "user", "--help"], false),
+    (&["lapd", "decode", "--help"], false),
+    (&["lapd", "--version"], false),
+    (&["lapd", "-V"], false),
 ];
+
+// Whether a text is shown, which is the short help of a command, or is not.
+fn is_shown(alloc: Global, words: &[&str], is_short: bool) -> bool {
+    let chosen = choose(alloc, words);
+    match &chosen {
+        Err(Unchosen::Shown(text)) => is_short == text.as_str().trim_end().ends_with(help::SHORT),
+        _ => false,
+    }
+}
 
 #[test]
 fn help_and_version_are_shown(rt: HostRuntime) -> Result<(), Fail> {
-    for words in ASKED {
-        let shown = is_told(rt.alloc(), words, false, 0);
-        wants(shown, last(words), "a text is not shown")?;
+    for (words, is_short) in ASKED {
+        let shown = is_shown(rt.alloc(), words, *is_short);
+        wants(shown, last(words), "a text is not shown, or another one")?;
+    }
+    Ok(())
+}
+
+// Words in the place of a command, and what is said.
+const UNKNOWN: &[(&[&str], &str)] = &[
+    (
+        &["lapd", "foo", "--side"],
+        "error: unrecognized subcommand 'foo'\n\nUsage: lapd [COMMAND]\n\nFor more information, try '--help'.\n",
+    ),
+    (
+        &["lapd", "anwser"],
+        "error: unrecognized subcommand 'anwser'\n\n  tip: a similar subcommand exists: 'answer'\n\n\
+         Usage: lapd [COMMAND]\n\nFor more information, try '--help'.\n",
+    ),
+];
+
+#[test]
+fn commands_that_are_none(rt: HostRuntime) -> Result<(), Fail> {
+    for (words, text) in UNKNOWN {
+        wants(says(rt.alloc(), words, text), last(words), "another text")?;
     }
     Ok(())
 }
@@ -342,86 +372,118 @@ fn help_and_version_are_shown(rt: HostRuntime) -> Result<(), Fail> {
 const NUMBERS: &[(&[&str], &str)] = &[
     (
         &["lapd", "answer", "--k", "0"],
-        "error: invalid value '0' for '--k <FRAMES>': not a number from 1 to 127 in decimal digits",
+        "error: invalid value '0' for '--k <FRAMES>': not a number from 1 to 127 in decimal digits\n",
     ),
     (
         &["lapd", "pair", "--k", "128"],
-        "error: invalid value '128' for '--k <FRAMES>': not a number from 1 to 127 in decimal digits",
+        "error: invalid value '128' for '--k <FRAMES>': not a number from 1 to 127 in decimal digits\n",
     ),
     (
         &["lapd", "answer", "--k", "128"],
-        "error: invalid value '128' for '--k <FRAMES>': not a number from 1 to 127 in decimal digits",
+        "error: invalid value '128' for '--k <FRAMES>': not a number from 1 to 127 in decimal digits\n",
     ),
     (
         &["lapd", "answer", "--k", "257"],
-        "error: invalid value '257' for '--k <FRAMES>': not a number from 1 to 127 in decimal digits",
+        "error: invalid value '257' for '--k <FRAMES>': not a number from 1 to 127 in decimal digits\n",
     ),
     (
         &["lapd", "answer", "--k", ""],
-        "error: invalid value '' for '--k <FRAMES>': not a number from 1 to 127 in decimal digits",
+        "error: invalid value '' for '--k <FRAMES>': not a number from 1 to 127 in decimal digits\n",
     ),
     (
         &["lapd", "answer", "--k", "+3"],
-        "error: invalid value '+3' for '--k <FRAMES>': not a number from 1 to 127 in decimal digits",
+        "error: invalid value '+3' for '--k <FRAMES>': not a number from 1 to 127 in decimal digits\n",
     ),
     (
         &["lapd", "answer", "--k", "-3"],
-        "error: invalid value '-3' for '--k <FRAMES>': not a number from 1 to 127 in decimal digits",
+        "error: invalid value '-3' for '--k <FRAMES>': not a number from 1 to 127 in decimal digits\n",
     ),
     (
         &["lapd", "answer", "--k=three\n"],
-        "error: invalid value 'three\\n' for '--k <FRAMES>': not a number from 1 to 127 in decimal digits",
+        "error: invalid value 'three\\n' for '--k <FRAMES>': not a number from 1 to 127 in decimal digits\n",
     ),
     (
         &["lapd", "answer", "--n200", "0"],
-        "error: invalid value '0' for '--n200 <TIMES>': not a number from 1 to 100 in decimal digits",
+        "error: invalid value '0' for '--n200 <TIMES>': not a number from 1 to 100 in decimal digits\n",
     ),
     (
         &["lapd", "answer", "--n200", "101", "--k", "127"],
-        "error: invalid value '101' for '--n200 <TIMES>': not a number from 1 to 100 in decimal digits",
+        "error: invalid value '101' for '--n200 <TIMES>': not a number from 1 to 100 in decimal digits\n",
     ),
     (
         &["lapd", "answer", "--room", "0"],
-        "error: invalid value '0' for '--room <MESSAGES>': not a number from 1 to 1024 in decimal digits",
+        "error: invalid value '0' for '--room <MESSAGES>': not a number from 1 to 1024 in decimal digits\n",
     ),
     (
         &["lapd", "answer", "--room", "1025", "--n200", "100"],
-        "error: invalid value '1025' for '--room <MESSAGES>': not a number from 1 to 1024 in decimal digits",
+        "error: invalid value '1025' for '--room <MESSAGES>': not a number from 1 to 1024 in decimal digits\n",
     ),
     (
         &["lapd", "answer", "--room", "1,024"],
-        "error: invalid value '1,024' for '--room <MESSAGES>': not a number from 1 to 1024 in decimal digits",
+        "error: invalid value '1,024' for '--room <MESSAGES>': not a number from 1 to 1024 in decimal digits\n",
     ),
     (
         &["lapd", "answer", "--room", "18446744073709551617"],
-        "error: invalid value '18446744073709551617' for '--room <MESSAGES>': not a number from 1 to 1024 in decimal digits",
+        "error: invalid value '18446744073709551617' for '--room <MESSAGES>': not a number from 1 to 1024 in decimal digits\n",
     ),
     (
         &["lapd", "loop", "--n200", "101"],
-        "error: invalid value '101' for '--n200 <TIMES>': not a number from 1 to 100 in decimal digits",
+        "error: invalid value '101' for '--n200 <TIMES>': not a number from 1 to 100 in decimal digits\n",
     ),
     (
         &["lapd", "bus", "--terminals", "0"],
-        "error: invalid value '0' for '--terminals <TERMINALS>': not a number from 1 to 127 in decimal digits",
+        "error: invalid value '0' for '--terminals <TERMINALS>': not a number from 1 to 127 in decimal digits\n",
     ),
     (
         &["lapd", "bus", "--terminals", "128"],
-        "error: invalid value '128' for '--terminals <TERMINALS>': not a number from 1 to 127 in decimal digits",
+        "error: invalid value '128' for '--terminals <TERMINALS>': not a number from 1 to 127 in decimal digits\n",
     ),
 ];
 
-// Whether the words have a number that is out of its range, of which this is said.
+// Whether this is said of the words, which choose nothing.
 fn says(alloc: Global, words: &[&str], text: &str) -> bool {
     let chosen = choose(alloc, words);
     match &chosen {
-        Err(Unchosen::OutOfRange(fault)) => is_said(alloc, fault, text),
-        _ => false,
+        Err(unchosen) => is_said(alloc, unchosen, text),
+        Ok(_) => false,
     }
 }
 
 #[test]
 fn numbers_out_of_range(rt: HostRuntime) -> Result<(), Fail> {
     for (words, text) in NUMBERS {
+        wants(says(rt.alloc(), words, text), text, "another text is told")?;
+    }
+    Ok(())
+}
+
+// Words with something in the place of an address, and what is said.
+const ADDRESSES: &[(&[&str], &str)] = &[
+    (
+        &["lapd", "net", "--listen", "foo"],
+        "error: invalid value 'foo' for '--listen <ADDRESS>': ADDRESS is an address and a port, as 127.0.0.1:4000\n",
+    ),
+    (
+        &["lapd", "net", "--listen", "127.0.0.1"],
+        "error: invalid value '127.0.0.1' for '--listen <ADDRESS>': ADDRESS is an address and a port, as 127.0.0.1:4000\n",
+    ),
+    (
+        &["lapd", "user", "--connect=127.0.0.1:65536"],
+        "error: invalid value '127.0.0.1:65536' for '--connect <ADDRESS>': ADDRESS is an address and a port, as 127.0.0.1:4000\n",
+    ),
+    (
+        &["lapd", "user", "--connect", ":80"],
+        "error: invalid value ':80' for '--connect <ADDRESS>': ADDRESS is an address and a port, as 127.0.0.1:4000\n",
+    ),
+    (
+        &["lapd", "user", "--connect=no address"],
+        "error: invalid value 'no address' for '--connect <ADDRESS>': ADDRESS is an address and a port, as 127.0.0.1:4000\n",
+    ),
+];
+
+#[test]
+fn addresses_that_are_none(rt: HostRuntime) -> Result<(), Fail> {
+    for (words, text) in ADDRESSES {
         wants(says(rt.alloc(), words, text), text, "another text is told")?;
     }
     Ok(())
