@@ -1,5 +1,10 @@
 //! A reader that keeps the lines that were read last.
 
+ghost use Rattle.std.specs.Prelude.{◌≡◌, None};
+ghost use Rattle.std.specs.Io.{ReadsAtMost};
+ghost use Rattle.std.specs.Io.KnownBytes.{ReadConsumes};
+ghost use Rattle.lapd_console.specs.Fault.{Remembers};
+
 use arrayvec::ArrayVec;
 use memchr::{memchr, memchr_iter, memrchr};
 use std::io::{self, ErrorKind, Read};
@@ -26,7 +31,10 @@ pub struct KeptLines<R> {
 
 impl<R: Read> KeptLines<R> {
     /// Keeps what this reader gives from now on.
-    pub fn new(reader: R) -> KeptLines<R> {
+    pub fn new(reader: R) -> KeptLines<R>
+        ensures reader { result.reader ≡ reader }
+        ensures fault { result.fault ≡ None }
+    {
         KeptLines {
             reader,
             ended: 0,
@@ -48,12 +56,17 @@ impl<R: Read> KeptLines<R> {
     }
 
     /// How the last read failed that failed otherwise than by an interruption. `None` where none did.
-    pub fn fault(&self) -> Option<ErrorKind> {
+    pub fn fault(&self) -> Option<ErrorKind>
+        ensures { result ≡ self.now.fault }
+    {
         self.fault
     }
 
     /// Keeps octets that were read.
-    fn keep(&mut self, octets: &[u8]) {
+    fn keep(&mut self, octets: &[u8])
+        ensures reader { self.new.reader ≡ self.old.reader }
+        ensures fault { self.new.fault ≡ self.old.fault }
+    {
         for part in octets.chunks(PART) {
             self.let_go();
             let _ = self.part.try_extend_from_slice(part);
@@ -62,7 +75,10 @@ impl<R: Read> KeptLines<R> {
     }
 
     /// Lets go of the lines that ended in what was read last.
-    fn let_go(&mut self) {
+    fn let_go(&mut self)
+        ensures reader { self.new.reader ≡ self.old.reader }
+        ensures fault { self.new.fault ≡ self.old.fault }
+    {
         let part = self.part.as_slice();
         if let Some(end) = memrchr(b'\n', part) {
             let ended = memchr_iter(b'\n', part).count();
@@ -77,7 +93,11 @@ impl<R: Read> KeptLines<R> {
 impl<R: Read> Read for KeptLines<R> {
     ghost remaining = { λ kept. R.remaining kept.reader };
 
-    fn read(&mut self, octets: &mut [u8]) -> io::Result<usize> {
+    fn read(&mut self, octets: &mut [u8]) -> io::Result<usize>
+        ensures bound { ReadsAtMost result octets.new }
+        ensures bytes { ReadConsumes (R.remaining self.old.reader) (R.remaining self.new.reader) result octets.new }
+        ensures fault { Remembers self.old.fault self.new.fault result }
+    {
         match self.reader.read(octets) {
             Ok(count) => {
                 self.keep(&octets[..count]);
@@ -99,6 +119,12 @@ fn lengthen(head: &mut ArrayVec<u8, HEAD>, octets: &[u8]) {
     let _ = head.try_extend_from_slice(&octets[..octets.len().min(room)]);
 }
 
+/// The octets behind the first line feed.
+fn behind_feed(octets: &[u8]) -> Option<&[u8]> {
+    let end = memchr(b'\n', octets)?;
+    Some(&octets[end + 1..])
+}
+
 /// The octets before the first line feed, all where there is none.
 fn first_line(octets: &[u8]) -> &[u8] {
     match memchr(b'\n', octets) {
@@ -111,7 +137,7 @@ fn first_line(octets: &[u8]) -> &[u8] {
 fn line_at(octets: &[u8], feeds: u64) -> Option<&[u8]> {
     let mut rest = octets;
     for _feed in 0..feeds {
-        rest = &rest[memchr(b'\n', rest)? + 1..];
+        rest = behind_feed(rest)?;
     }
     Some(first_line(rest))
 }

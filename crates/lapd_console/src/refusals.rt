@@ -1,7 +1,8 @@
 //! A writer that notes the first refusal.
 
+ghost use Rattle.std.specs.Prelude.{◌≡◌};
+
 use arrayvec::ArrayVec;
-use memchr::memchr;
 use std::io::{self, Write};
 
 /// What a line begins with that tells of a refusal.
@@ -14,66 +15,30 @@ const NOTED: usize = 256;
 #[derive(Drop)]
 pub struct Refusals<W> {
     writer: W,
-    // The front of the line that is being written; once there is a refusal, that one.
-    line: ArrayVec<u8, NOTED>,
-    is_refused: bool,
+    noted: Noted,
 }
 
 impl<W: Write> Refusals<W> {
     /// Hands on to this writer.
-    pub fn new(writer: W) -> Refusals<W> {
+    pub fn new(writer: W) -> Refusals<W>
+        ensures { result.writer ≡ writer }
+    {
         Refusals {
             writer,
-            line: ArrayVec::new(),
-            is_refused: false,
+            noted: Noted::new(),
         }
     }
 
     /// The first line that was written whole and begins with `refused `, without its line feed and cut to 256 octets.
     pub fn first(&self) -> Option<&[u8]> {
-        if self.is_refused {
-            Some(self.line.as_slice())
-        } else {
-            None
-        }
+        self.noted.refusal()
     }
 
     /// The writer.
-    pub fn into_inner(self) -> W {
+    pub fn into_inner(self) -> W
+        ensures { result ≡ self.writer }
+    {
         self.writer
-    }
-
-    /// Looks through what was written, up to the first refusal.
-    fn note(&mut self, octets: &[u8]) {
-        let mut rest = octets;
-        while !self.is_refused {
-            match memchr(b'\n', rest) {
-                Some(end) => {
-                    self.lengthen(&rest[..end]);
-                    self.end_line();
-                    rest = &rest[end + 1..];
-                }
-                None => {
-                    self.lengthen(rest);
-                    return;
-                }
-            }
-        }
-    }
-
-    /// Puts behind the front of the line as many of these octets as are noted of it.
-    fn lengthen(&mut self, octets: &[u8]) {
-        let room = self.line.remaining_capacity();
-        let front = &octets[..octets.len().min(room)];
-        let _ = self.line.try_extend_from_slice(front);
-    }
-
-    /// Ends the line, which stays where it is a refusal.
-    fn end_line(&mut self) {
-        self.is_refused = self.line.as_slice().starts_with(REFUSED);
-        if !self.is_refused {
-            self.line.clear();
-        }
     }
 }
 
@@ -82,11 +47,68 @@ impl<W: Write> Write for Refusals<W> {
 
     fn write(&mut self, octets: &[u8]) -> io::Result<usize> {
         let count = self.writer.write(octets)?;
-        self.note(&octets[..count]);
+        self.noted.note(&octets[..count]);
         Ok(count)
     }
 
     fn flush(&mut self) -> io::Result<()> {
         self.writer.flush()
+    }
+}
+
+/// What is noted of text that comes in parts.
+#[derive(Drop)]
+struct Noted {
+    // The front of the line that goes on; once there is a refusal, that one.
+    line: ArrayVec<u8, NOTED>,
+    is_refused: bool,
+}
+
+impl Noted {
+    /// Nothing has come.
+    fn new() -> Noted {
+        Noted {
+            line: ArrayVec::new(),
+            is_refused: false,
+        }
+    }
+
+    /// The first line that has ended and is a refusal.
+    fn refusal(&self) -> Option<&[u8]> {
+        if self.is_refused {
+            Some(self.line.as_slice())
+        } else {
+            None
+        }
+    }
+
+    /// Looks through text up to the first refusal.
+    fn note(&mut self, octets: &[u8]) {
+        let mut lines = octets.split(|octet| *octet == b'\n');
+        if let Some(line) = lines.next() {
+            self.lengthen(line);
+        }
+        for line in lines {
+            self.end_line();
+            self.lengthen(line);
+        }
+    }
+
+    /// Puts behind the front of the line as many of these octets as are noted of it, unless there is a refusal.
+    fn lengthen(&mut self, octets: &[u8]) {
+        if !self.is_refused {
+            let room = self.line.remaining_capacity();
+            let front = &octets[..octets.len().min(room)];
+            let _ = self.line.try_extend_from_slice(front);
+        }
+    }
+
+    /// Ends the line, which stays where it is the first refusal.
+    fn end_line(&mut self) {
+        if self.line.as_slice().starts_with(REFUSED) {
+            self.is_refused = true;
+        } else {
+            self.line.clear();
+        }
     }
 }

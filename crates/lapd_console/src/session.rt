@@ -1,5 +1,7 @@
 //! Lines that are typed.
 
+ghost use Rattle.std.specs.Prelude.{◌≤◌, length, vec_len};
+
 use crate::judge::reason;
 use crate::line_forms::forms;
 use crate::script::Script;
@@ -20,6 +22,7 @@ pub struct Session<R, E> {
     given: usize,
     is_ended: bool,
     fault: Option<ErrorKind>,
+    ghost given_in_line: { given ≤ vec_len line },
 }
 
 /// What becomes of a line that was typed.
@@ -93,7 +96,9 @@ impl<R: BufRead, E: Write> Session<R, E> {
     }
 
     /// Gives as much of the line as there is room for.
-    fn give(&mut self, octets: &mut [u8]) -> usize {
+    fn give(&mut self, octets: &mut [u8]) -> usize
+        ensures { result ≤ length octets.new }
+    {
         let rest = &self.line.as_slice()[self.given..];
         let count = rest.len().min(octets.len());
         octets[..count].copy_from_slice(&rest[..count]);

@@ -11,11 +11,8 @@ pub(crate) struct Shown<'a>(pub(crate) &'a [u8]);
 
 impl fmt::Display for Shown<'_> {
     fn fmt<W: fmt::Write>(&self, f: &mut fmt::Formatter<W>) -> fmt::Result {
-        let word = self.0;
-        if word.len() <= MOST_SHOWN {
-            write!(f, "'{}'", word.escape_ascii())
-        } else {
-            write!(f, "'{}..'", word[..MOST_SHOWN].escape_ascii())
-        }
+        let front = &self.0[..self.0.len().min(MOST_SHOWN)];
+        let end = if front.len() < self.0.len() { ".." } else { "" };
+        write!(f, "'{}{end}'", front.escape_ascii())
     }
 }

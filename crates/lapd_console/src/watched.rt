@@ -1,5 +1,10 @@
 //! A writer that remembers how a write failed.
 
+ghost use Rattle.std.specs.Prelude.{◌≡◌, None, OnOk};
+ghost use Rattle.std.specs.Io.{WritesAtMost};
+ghost use Rattle.std.specs.Io.KnownBytes.{Appends, Keeps, WriteAppends};
+ghost use Rattle.lapd_console.specs.Fault.{Remembers};
+
 use std::io::{self, ErrorKind, Write};
 
 /// A writer that hands on to another writer, and remembers how a write or a flush failed.
@@ -11,7 +16,9 @@ pub struct Watched<W> {
 
 impl<W: Write> Watched<W> {
     /// Hands on to this writer.
-    pub fn new(writer: W) -> Watched<W> {
+    pub fn new(writer: W) -> Watched<W>
+        ensures { result ≡ record { writer = writer; fault = None } }
+    {
         Watched {
             writer,
             fault: None,
@@ -19,19 +26,33 @@ impl<W: Write> Watched<W> {
     }
 
     /// How the last write or flush failed that failed otherwise than by an interruption. `None` where none did.
-    pub fn fault(&self) -> Option<ErrorKind> {
+    pub fn fault(&self) -> Option<ErrorKind>
+        ensures { result ≡ self.now.fault }
+    {
         self.fault
     }
 
     /// The writer.
-    pub fn into_inner(self) -> W {
+    pub fn into_inner(self) -> W
+        ensures { result ≡ self.writer }
+    {
         self.writer
     }
 
     /// Remembers how a call failed.
-    fn watch(&mut self, error: &io::Error) {
-        if error.kind() != ErrorKind::Interrupted {
-            self.fault = Some(error.kind());
+    fn watch<T>(&mut self, answered: io::Result<T>) -> io::Result<T>
+        ensures same { result ≡ answered }
+        ensures writer { self.new.writer ≡ self.old.writer }
+        ensures fault { Remembers self.old.fault self.new.fault result }
+    {
+        match answered {
+            Ok(value) => Ok(value),
+            Err(error) => {
+                if error.kind() != ErrorKind::Interrupted {
+                    self.fault = Some(error.kind());
+                }
+                Err(error)
+            }
         }
     }
 }
@@ -39,27 +60,28 @@ impl<W: Write> Watched<W> {
 impl<W: Write> Write for Watched<W> {
     ghost contents = { λ watched. W.contents watched.writer };
 
-    fn write(&mut self, octets: &[u8]) -> io::Result<usize> {
+    fn write(&mut self, octets: &[u8]) -> io::Result<usize>
+        ensures bound { WritesAtMost result octets.now }
+        ensures bytes { WriteAppends (W.contents self.old.writer) (W.contents self.new.writer) result octets.now }
+        ensures fault { Remembers self.old.fault self.new.fault result }
+    {
         let written = self.writer.write(octets);
-        if let Err(error) = &written {
-            self.watch(error);
-        }
-        written
+        self.watch(written)
     }
 
-    fn write_all(&mut self, octets: &[u8]) -> io::Result<()> {
+    fn write_all(&mut self, octets: &[u8]) -> io::Result<()>
+        ensures bytes { OnOk result (Appends (W.contents self.old.writer) (W.contents self.new.writer) octets.now) }
+        ensures fault { Remembers self.old.fault self.new.fault result }
+    {
         let written = self.writer.write_all(octets);
-        if let Err(error) = &written {
-            self.watch(error);
-        }
-        written
+        self.watch(written)
     }
 
-    fn flush(&mut self) -> io::Result<()> {
+    fn flush(&mut self) -> io::Result<()>
+        ensures bytes { Keeps (W.contents self.old.writer) (W.contents self.new.writer) }
+        ensures fault { Remembers self.old.fault self.new.fault result }
+    {
         let flushed = self.writer.flush();
-        if let Err(error) = &flushed {
-            self.watch(error);
-        }
-        flushed
+        self.watch(flushed)
     }
 }
