@@ -44,15 +44,15 @@ impl<R: Read> KeptLines<R> {
         }
     }
 
-    /// The line of this number, counted from 1, without its line feed. A line that an earlier read began is cut to 4,096
-    /// octets, and of the last line there is as much as was read. `None` where the line is not kept.
+    /// The line of this number, counted from 1, without its line feed and cut to 4,096 octets. Of the last line there is as
+    /// much as was read. `None` where the line is not kept.
     pub fn line(&self, number: u64) -> Option<&[u8]> {
         let place = number.checked_sub(1)?.checked_sub(self.ended)?;
         if place == 0 {
-            Some(self.head.as_slice())
-        } else {
-            line_at(self.part.as_slice(), place)
+            return Some(self.head.as_slice());
         }
+        let line = line_at(self.part.as_slice(), place)?;
+        Some(&line[..line.len().min(HEAD)])
     }
 
     /// How the last read failed that failed otherwise than by an interruption. `None` where none did.
