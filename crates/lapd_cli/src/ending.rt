@@ -4,10 +4,9 @@
 ghost use Rattle.std.specs.Prelude.{◌≡◌, ◌&&◌, IfNone, IfSome, if◌then◌else◌};
 ghost use Rattle.lapd_script.specs.Script.{status_of as status_of_fault};
 
-use crate::job::script_of;
 use crate::reason::Reason;
-use lapd_command_line::{Job, Unchosen, WordsFault};
-use lapd_console::reason;
+use lapd_command_line::{Unchosen, WordsFault};
+use lapd_console::{Script, reason};
 use lapd_script::{PortFault, ScriptFault};
 use std::io::{self, ErrorKind};
 use std::process::ExitCode;
@@ -40,8 +39,10 @@ impl Stop {
 /// What is known when a script has ended.
 #[derive(Clone, Copy)]
 pub struct Ending<'a> {
-    /// What was done.
-    pub job: Job<'a>,
+    /// The command whose script it was.
+    pub script: Script,
+    /// The address of `net` or `user`. Of another command it is empty.
+    pub address: &'a str,
     /// Whether the exit status tells of a line that was refused.
     pub strict: bool,
     /// The line that is bad, where one is and it is still known.
@@ -95,7 +96,7 @@ fn say_stop(rt: &HostRuntime, ending: &Ending<'_>, stop: &Stop) {
     }
     let _ = eprintln!(rt; "{fault}");
     match stop {
-        Stop::NoConnection(error) => say_no_connection(rt, &ending.job, error),
+        Stop::NoConnection(error) => say_no_connection(rt, ending, error),
         Stop::Script(ScriptFault::BadLine(_)) => say_bad_line(rt, ending),
         Stop::Script(ScriptFault::Device) => say_device(rt, ending),
         Stop::Script(ScriptFault::Port(fault)) => {
@@ -106,11 +107,12 @@ fn say_stop(rt: &HostRuntime, ending: &Ending<'_>, stop: &Stop) {
 }
 
 // Says why there is no connection.
-fn say_no_connection(rt: &HostRuntime, job: &Job<'_>, error: &io::Error) {
+fn say_no_connection(rt: &HostRuntime, ending: &Ending<'_>, error: &io::Error) {
+    let address = ending.address;
     let reason = Reason(error);
-    let _ = match job {
-        Job::Net { listen } => eprintln!(rt; "cannot listen on {listen}: {reason}"),
-        Job::User { connect } => eprintln!(rt; "cannot connect to {connect}: {reason}"),
+    let _ = match ending.script {
+        Script::Net => eprintln!(rt; "cannot listen on {address}: {reason}"),
+        Script::User => eprintln!(rt; "cannot connect to {address}: {reason}"),
         _ => eprintln!(rt; "cannot connect to itself: {reason}"),
     };
 }
@@ -120,7 +122,7 @@ fn say_bad_line(rt: &HostRuntime, ending: &Ending<'_>) {
     let Some(line) = ending.line else {
         return;
     };
-    let _ = match reason(rt.alloc(), script_of(&ending.job), line) {
+    let _ = match reason(rt.alloc(), ending.script, line) {
         Ok(Some(reason)) => eprintln!(rt; "{reason}"),
         Ok(None) => eprintln!(rt; "the clock ends at 1,000,000,000,000,000 ms"),
         Err(_) => Ok(()),
@@ -129,10 +131,10 @@ fn say_bad_line(rt: &HostRuntime, ending: &Ending<'_>) {
 
 // Says which device failed, and how.
 fn say_device(rt: &HostRuntime, ending: &Ending<'_>) {
-    let _ = match (ending.input, ending.output, ending.job) {
+    let _ = match (ending.input, ending.output, ending.script) {
         (Some(kind), _, _) => eprintln!(rt; "standard input: {kind}"),
         (None, Some(kind), _) => eprintln!(rt; "standard output: {kind}"),
-        (None, None, Job::Loop { .. }) => eprintln!(rt;
+        (None, None, Script::Loop) => eprintln!(rt;
             "a frame did not come back over the connection to itself, or 1,000,000 reads did not reach the script's end"
         ),
         (None, None, _) => eprintln!(rt; "1,000,000 reads did not reach the script's end"),

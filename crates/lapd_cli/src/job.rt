@@ -22,6 +22,15 @@ pub fn script_of(job: &Job<'_>) -> Script {
     }
 }
 
+/// The address of `net` or `user`. Of another command it is empty.
+pub fn address_of<'a>(job: &Job<'a>) -> &'a str {
+    match job {
+        Job::Net { listen } => listen,
+        Job::User { connect } => connect,
+        _ => "",
+    }
+}
+
 /// Does a script.
 ///
 /// # Errors

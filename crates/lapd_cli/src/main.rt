@@ -15,7 +15,7 @@ mod reason;
 
 use ending::{Ending, Stop, say_ending, say_memory, say_unchosen, say_words_fault};
 use greeting::Greeting;
-use job::{do_job, script_of};
+use job::{address_of, do_job, script_of};
 use lapd_command_line::{Chosen, choose, words};
 use lapd_console::{KeptLines, Refusals, Session, Watched};
 use lapd_script::ScriptFault;
@@ -27,15 +27,14 @@ fn main(rt: HostRuntime) -> ExitCode {
         Ok(words) => words,
         Err(fault) => return say_words_fault(&rt, fault),
     };
-    let chosen = choose(rt.alloc(), words.as_slice());
-    match &chosen {
+    match choose(rt.alloc(), words.as_slice()) {
         Ok(chosen) => do_chosen(&rt, chosen),
-        Err(unchosen) => say_unchosen(&rt, unchosen),
+        Err(unchosen) => say_unchosen(&rt, &unchosen),
     }
 }
 
 // Does what the words chose, over standard input and output. At a terminal a bad line is told, and the next one awaited.
-fn do_chosen(rt: &HostRuntime, chosen: &Chosen<'_>) -> ExitCode {
+fn do_chosen(rt: &HostRuntime, chosen: Chosen<'_>) -> ExitCode {
     if rt.stdin().is_terminal() {
         let script = script_of(&chosen.job);
         let session = Session::new(rt.alloc(), script, rt.reader(), rt.stderr());
@@ -46,32 +45,35 @@ fn do_chosen(rt: &HostRuntime, chosen: &Chosen<'_>) -> ExitCode {
 }
 
 // Does what the words chose, over a script that comes from this reader, and says how it ended.
-fn do_script<R: Read + Drop>(rt: &HostRuntime, chosen: &Chosen<'_>, reader: R) -> ExitCode {
-    let mut script = KeptLines::new(reader);
+fn do_script<R: Read + Drop>(rt: &HostRuntime, chosen: Chosen<'_>, reader: R) -> ExitCode {
+    let Chosen { job, strict } = chosen;
+    let (script, address) = (script_of(&job), address_of(&job));
+    let mut lines = KeptLines::new(reader);
     let watched = Watched::new(Refusals::new(rt.stdout()));
     let Ok(mut out) = BufWriter::new(rt.alloc(), watched) else {
         return say_memory(rt);
     };
-    let ended = do_job(rt, chosen.job, &mut script, &mut out);
+    let ended = do_job(rt, job, &mut lines, &mut out);
     // What a device that failed did not take is given up.
     let (watched, _left) = out.into_parts();
     let output = watched.fault();
     let refusals = watched.into_inner();
     let ending = Ending {
-        job: chosen.job,
-        strict: chosen.strict,
-        line: bad_line(&script, &ended),
+        script,
+        address,
+        strict,
+        line: bad_line(&lines, &ended),
         refusal: refusals.first(),
-        input: script.fault(),
+        input: lines.fault(),
         output,
     };
     say_ending(rt, &ending, &ended)
 }
 
 // The line that is bad, where one is and it is still kept.
-fn bad_line<'a, R: Read>(script: &'a KeptLines<R>, ended: &Result<(), Stop>) -> Option<&'a [u8]> {
+fn bad_line<'a, R: Read>(lines: &'a KeptLines<R>, ended: &Result<(), Stop>) -> Option<&'a [u8]> {
     match ended {
-        Err(Stop::Script(ScriptFault::BadLine(number))) => script.line(*number),
+        Err(Stop::Script(ScriptFault::BadLine(number))) => lines.line(*number),
         _ => None,
     }
 }

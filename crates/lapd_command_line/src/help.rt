@@ -94,8 +94,8 @@ Exit status:
      `port S3 Cut`, or another of S2 to S6, where the connection fails
   4  `out of memory`
   5  with --strict: the script was answered to its end, and `refused` was printed for a line
-The text of 1 to 5 goes to standard error, with a second line that tells why. Nothing is said where
-standard output is a pipe that nobody reads any more.";
+The text goes to standard error; of 1, 3 and 5 a second line tells why. Nothing is said where standard
+output is a pipe that nobody reads any more.";
 
 /// The lines of `answer`.
 pub const ANSWER: &str = "\
@@ -425,8 +425,9 @@ pub const NET: &str = "\
 `lapd --help` tells what scripts and HEX are, and has the faults F1 to F7 and the exit status.
 `lapd answer --help` has the states, the error codes and the refusals L1 to L5.
 
-The program waits for one connection, and then does the script. Behind the connection are user sides,
-such as `lapd user`. No TEI is known at first: one is assigned to each terminal that asks, from 64 on,
+The program waits for one connection, and then does the script. It tells on standard error where it
+listens, with the port that the system chose where 0 is given, who connected, and that the other side
+has closed the connection. Behind the connection are user sides, such as `lapd user`. No TEI is known at first: one is assigned to each terminal that asks, from 64 on,
 and its links with SAPI 0 and 16 are there from then on. The clock begins at 0, and goes on only by
 `tick`: T200 takes 1000 ms, T201 1000 ms, T203 10000 ms.
 
@@ -493,7 +494,8 @@ pub const USER: &str = "\
 `lapd --help` tells what scripts and HEX are, and has the faults F1 to F7 and the exit status.
 `lapd answer --help` has the states, the error codes and the refusals L1 to L5.
 
-The program connects, and then does the script. Behind the connection is a network side, such as
+The program connects, and then does the script. It tells on standard error that it is connected, and
+that the other side has closed the connection. Behind the connection is a network side, such as
 `lapd net`. This side is one terminal without a TEI: it asks for one by `ask`, or by `establish`, which
 is kept until it has one. The clock begins at 0, and goes on only by `tick`: T200 takes 1000 ms, T202
 2000 ms, T203 10000 ms.
