@@ -10,35 +10,27 @@ use lapd_socket::{FromRead, FromWrite, Port, loop_over, net, user};
 use std::io::{Read, Write};
 
 /// The command whose script this is.
-pub fn script_of(job: &Job<'_>) -> Script {
+pub fn script_of(job: &Job) -> Script {
     match job {
         Job::Answer { .. } => Script::Answer,
         Job::Bus { .. } => Script::Bus,
         Job::Pair { .. } => Script::Pair,
         Job::Loop { .. } => Script::Loop,
-        Job::Net { .. } => Script::Net,
-        Job::User { .. } => Script::User,
+        Job::Net => Script::Net,
+        Job::User => Script::User,
         Job::Decode => Script::Decode,
     }
 }
 
-/// The address of `net` or `user`. Of another command it is empty.
-pub fn address_of<'a>(job: &Job<'a>) -> &'a str {
-    match job {
-        Job::Net { listen } => listen,
-        Job::User { connect } => connect,
-        _ => "",
-    }
-}
-
-/// Does a script.
+/// Does a script, of `net` or `user` with this address.
 ///
 /// # Errors
 ///
 /// `NoConnection`, where `loop`, `net` or `user` has none, and the command's own.
 pub fn do_job<R: Read, W: Write>(
     rt: &HostRuntime,
-    job: Job<'_>,
+    job: Job,
+    address: &str,
     script: &mut R,
     out: &mut W,
 ) -> Result<(), Stop> {
@@ -47,8 +39,8 @@ pub fn do_job<R: Read, W: Write>(
         Job::Bus { terminals } => bus(rt.alloc(), script, out, terminals),
         Job::Pair { user, network } => pair(rt.alloc(), script, out, user, network),
         Job::Loop { user, network } => return do_loop(rt, script, out, user, network),
-        Job::Net { listen } => return do_net(rt, script, out, listen),
-        Job::User { connect } => return do_user(rt, script, out, connect),
+        Job::Net => return do_net(rt, script, out, address),
+        Job::User => return do_user(rt, script, out, address),
         Job::Decode => decode(rt.alloc(), script, out),
     };
     ended.map_err(Stop::Script)

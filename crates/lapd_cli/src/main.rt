@@ -15,8 +15,8 @@ mod reason;
 
 use ending::{Ending, Stop, say_ending, say_memory, say_unchosen, say_words_fault};
 use greeting::Greeting;
-use job::{address_of, do_job, script_of};
-use lapd_command_line::{Chosen, choose, words};
+use job::{do_job, script_of};
+use lapd_command_line::{Chosen, Job, choose, words};
 use lapd_console::{KeptLines, Refusals, Session, Watched};
 use lapd_script::ScriptFault;
 use std::io::{BufWriter, IsTerminal, Read};
@@ -28,32 +28,43 @@ fn main(rt: HostRuntime) -> ExitCode {
         Err(fault) => return say_words_fault(&rt, fault),
     };
     match choose(rt.alloc(), words.as_slice()) {
-        Ok(chosen) => do_chosen(&rt, chosen),
+        Ok(
+            Chosen {
+                job,
+                address,
+                strict,
+            },
+        ) => do_chosen(&rt, job, address.unwrap_or(""), strict),
         Err(unchosen) => say_unchosen(&rt, &unchosen),
     }
 }
 
 // Does what the words chose, over standard input and output. At a terminal a bad line is told, and the next one awaited.
-fn do_chosen(rt: &HostRuntime, chosen: Chosen<'_>) -> ExitCode {
+fn do_chosen(rt: &HostRuntime, job: Job, address: &str, strict: bool) -> ExitCode {
     if rt.stdin().is_terminal() {
-        let script = script_of(&chosen.job);
-        let session = Session::new(rt.alloc(), script, rt.reader(), rt.stderr());
-        do_script(rt, chosen, Greeting::new(session, rt.stderr()))
+        let session = Session::new(rt.alloc(), script_of(&job), rt.reader(), rt.stderr());
+        let lines = Greeting::new(session, rt.stderr());
+        do_script(rt, job, address, strict, lines)
     } else {
-        do_script(rt, chosen, rt.stdin())
+        do_script(rt, job, address, strict, rt.stdin())
     }
 }
 
 // Does what the words chose, over a script that comes from this reader, and says how it ended.
-fn do_script<R: Read + Drop>(rt: &HostRuntime, chosen: Chosen<'_>, reader: R) -> ExitCode {
-    let Chosen { job, strict } = chosen;
-    let (script, address) = (script_of(&job), address_of(&job));
+fn do_script<R: Read + Drop>(
+    rt: &HostRuntime,
+    job: Job,
+    address: &str,
+    strict: bool,
+    reader: R,
+) -> ExitCode {
+    let script = script_of(&job);
     let mut lines = KeptLines::new(reader);
     let watched = Watched::new(Refusals::new(rt.stdout()));
     let Ok(mut out) = BufWriter::new(rt.alloc(), watched) else {
         return say_memory(rt);
     };
-    let ended = do_job(rt, job, &mut lines, &mut out);
+    let ended = do_job(rt, job, address, &mut lines, &mut out);
     // What a device that failed did not take is given up.
     let (watched, _left) = out.into_parts();
     let output = watched.fault();

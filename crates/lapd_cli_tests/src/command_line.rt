@@ -174,7 +174,7 @@ fn params(numbers: Numbers, recovery: Recovery) -> Option<Params> {
 }
 
 // What is to be done, where its numbers are in range.
-fn job(wanted: Wanted) -> Option<Job<'static>> {
+fn job(wanted: Wanted) -> Option<Job> {
     match wanted {
         Wanted::Answer(side, numbers, recovery) => Some(Job::Answer {
             side,
@@ -189,16 +189,32 @@ fn job(wanted: Wanted) -> Option<Job<'static>> {
             network: params(numbers, network)?,
         }),
         Wanted::Bus(terminals) => Some(Job::Bus { terminals }),
-        Wanted::Net(listen) => Some(Job::Net { listen }),
-        Wanted::User(connect) => Some(Job::User { connect }),
+        Wanted::Net(_) => Some(Job::Net),
+        Wanted::User(_) => Some(Job::User),
         Wanted::Decode => Some(Job::Decode),
+    }
+}
+
+// The address, where there is to be one.
+fn address(wanted: Wanted) -> Option<&'static str> {
+    match wanted {
+        Wanted::Net(address) | Wanted::User(address) => Some(address),
+        _ => None,
     }
 }
 
 // Whether the words choose this.
 fn chooses(alloc: Global, words: &[&str], wanted: Wanted, strict: bool) -> bool {
     match (choose(alloc, words), job(wanted)) {
-        (Ok(chosen), Some(job)) => chosen == Chosen { job, strict },
+        (Ok(chosen), Some(job)) => {
+            let address = address(wanted);
+            chosen
+                == Chosen {
+                    job,
+                    address,
+                    strict,
+                }
+        }
         _ => false,
     }
 }

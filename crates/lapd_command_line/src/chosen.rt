@@ -1,4 +1,4 @@
-ghost use Rattle.std.specs.Prelude.{◌≡◌, false};
+ghost use Rattle.std.specs.Prelude.{◌≡◌, false, None};
 ghost use Rattle.lapd_command_line.specs.CommandLine.{default_parameters};
 
 use lapd_options::{Params, Sapi, Side};
@@ -7,14 +7,16 @@ use lapd_options::{Params, Sapi, Side};
 #[derive(Clone, Copy, Debug, PartialEq, Eq)]
 pub struct Chosen<'a> {
     /// What the program is to do.
-    pub job: Job<'a>,
+    pub job: Job,
+    /// The address and port that were written for `net` or `user`, as they stand.
+    pub address: Option<&'a str>,
     /// Whether the exit status is to tell that a line of the script was refused.
     pub strict: bool,
 }
 
 /// What the program is to do.
 #[derive(Clone, Copy, Debug, PartialEq, Eq)]
-pub enum Job<'a> {
+pub enum Job {
     /// Answers a script as one link of this side, made with these parameters.
     Answer { side: Side, params: Params },
     /// Goes over a script as a bus of so many terminals, 1 to 127.
@@ -23,10 +25,10 @@ pub enum Job<'a> {
     Pair { user: Params, network: Params },
     /// As `Pair`, where each frame crosses a connection of the process to itself.
     Loop { user: Params, network: Params },
-    /// Goes over a script as the network side, over the first connection that comes to this address and port.
-    Net { listen: &'a str },
-    /// Goes over a script as the user side, over a connection to this address and port.
-    User { connect: &'a str },
+    /// Goes over a script as the network side, over the first connection that comes to the address.
+    Net,
+    /// Goes over a script as the user side, over a connection to the address.
+    User,
     /// Prints octets as trace lines.
     Decode,
 }
@@ -34,7 +36,7 @@ pub enum Job<'a> {
 impl Chosen<'_> {
     /// What the program does that is called with no word.
     pub(crate) fn by_no_word() -> Chosen<'static>
-        ensures { result ≡ record { job = Job.Answer Side.Network default_parameters; strict = false } }
+        ensures { result ≡ record { job = Job.Answer Side.Network default_parameters; address = None; strict = false } }
     {
         let params = Params::basic(Sapi::Call);
         Chosen {
@@ -42,6 +44,7 @@ impl Chosen<'_> {
                 side: Side::Network,
                 params,
             },
+            address: None,
             strict: false,
         }
     }

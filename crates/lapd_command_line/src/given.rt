@@ -9,19 +9,19 @@ use lapd_options::{
 };
 
 /// What the command of this name chooses, with its options.
-pub(crate) fn job_of<'a>(name: &str, given: &ArgMatches<'a>) -> Result<Job<'a>, Unchosen<'a>> {
+pub(crate) fn job_of<'a>(name: &str, given: &ArgMatches<'a>) -> Result<Job, Unchosen<'a>> {
     match name {
         "answer" => answer_given(given),
         "bus" => bus_given(given),
         "pair" => pair_given(given),
         "loop" => loop_given(given),
-        "net" => net_given(given),
-        "user" => user_given(given),
+        "net" => Ok(Job::Net),
+        "user" => Ok(Job::User),
         _ => Ok(Job::Decode),
     }
 }
 
-fn answer_given<'a>(given: &ArgMatches<'a>) -> Result<Job<'a>, Unchosen<'a>> {
+fn answer_given<'a>(given: &ArgMatches<'a>) -> Result<Job, Unchosen<'a>> {
     match params_given(given) {
         Ok(params) => Ok(Job::Answer {
             side: side_given(given),
@@ -31,29 +31,19 @@ fn answer_given<'a>(given: &ArgMatches<'a>) -> Result<Job<'a>, Unchosen<'a>> {
     }
 }
 
-fn bus_given<'a>(given: &ArgMatches<'a>) -> Result<Job<'a>, Unchosen<'a>> {
+fn bus_given<'a>(given: &ArgMatches<'a>) -> Result<Job, Unchosen<'a>> {
     let terminals = terminals_written(number_given(given, TERMINALS))?;
     Ok(Job::Bus { terminals })
 }
 
-fn pair_given<'a>(given: &ArgMatches<'a>) -> Result<Job<'a>, Unchosen<'a>> {
+fn pair_given<'a>(given: &ArgMatches<'a>) -> Result<Job, Unchosen<'a>> {
     let (user, network) = ends_given(given)?;
     Ok(Job::Pair { user, network })
 }
 
-fn loop_given<'a>(given: &ArgMatches<'a>) -> Result<Job<'a>, Unchosen<'a>> {
+fn loop_given<'a>(given: &ArgMatches<'a>) -> Result<Job, Unchosen<'a>> {
     let (user, network) = ends_given(given)?;
     Ok(Job::Loop { user, network })
-}
-
-fn net_given<'a>(given: &ArgMatches<'a>) -> Result<Job<'a>, Unchosen<'a>> {
-    let listen = LISTEN.address(address_given(given, LISTEN))?;
-    Ok(Job::Net { listen })
-}
-
-fn user_given<'a>(given: &ArgMatches<'a>) -> Result<Job<'a>, Unchosen<'a>> {
-    let connect = CONNECT.address(address_given(given, CONNECT))?;
-    Ok(Job::User { connect })
 }
 
 // What the user side and the network side of `pair` or `loop` are made with.
@@ -80,9 +70,27 @@ fn number_given<'a>(given: &ArgMatches<'a>, option: NumberOption) -> &'a str {
     given.get_str(option.name).unwrap_or(option.default)
 }
 
-// What was written for this option, which the parser requires.
-fn address_given<'a>(given: &ArgMatches<'a>, option: AddressOption) -> &'a str {
-    given.get_str(option.name).unwrap_or("")
+/// The address that was written for the command of this name, where it takes one.
+pub(crate) fn address_of<'a>(
+    name: &str,
+    given: &ArgMatches<'a>,
+) -> Result<Option<&'a str>, Unchosen<'a>> {
+    match name {
+        "net" => address_given(given, LISTEN),
+        "user" => address_given(given, CONNECT),
+        _ => Ok(None),
+    }
+}
+
+// The address that was written for this option, which the parser requires.
+fn address_given<'a>(
+    given: &ArgMatches<'a>,
+    option: AddressOption,
+) -> Result<Option<&'a str>, Unchosen<'a>> {
+    match option.address(given.get_str(option.name).unwrap_or("")) {
+        Ok(address) => Ok(Some(address)),
+        Err(fault) => Err(Unchosen::NoAddress(fault)),
+    }
 }
 
 fn side_given(given: &ArgMatches<'_>) -> Side {

@@ -4,7 +4,7 @@
 //! read here alone. Begin with [`words`] and [`choose`].
 #![tactic(auto)]
 
-ghost use Rattle.std.specs.Prelude.{◌≡◌, ◌<◌, length, Ok, false};
+ghost use Rattle.std.specs.Prelude.{◌≡◌, ◌<◌, length, Ok, None, false};
 ghost use Rattle.lapd_command_line.specs.CommandLine.{default_parameters};
 
 mod chosen;
@@ -16,7 +16,7 @@ mod unchosen;
 
 pub use chosen::{Chosen, Job};
 use clap::{ArgMatches, Command};
-use given::job_of;
+use given::{address_of, job_of};
 pub use lapd_options::{NoAddress, OutOfRange, Params, Recovery, Side};
 pub use parser::VERSION;
 use parser::{is_command, is_strict, program, unknown_command};
@@ -35,7 +35,7 @@ use unchosen::told;
 /// `Memory`.
 pub fn choose<'a, S: AsStr>(alloc: Global, words: &'a [S]) -> Result<Chosen<'a>, Unchosen<'a>>
     ensures { length words.now < 2
-        → result ≡ Ok (record { job = Job.Answer Side.Network default_parameters; strict = false }) }
+        → result ≡ Ok (record { job = Job.Answer Side.Network default_parameters; address = None; strict = false }) }
 {
     if words.len() < 2 {
         return Ok(Chosen::by_no_word());
@@ -67,8 +67,10 @@ fn chosen_by<'a>(
     match matches.subcommand() {
         Some((name, given)) if is_command(name) => {
             let job = job_of(name, given)?;
+            let address = address_of(name, given)?;
             Ok(Chosen {
                 job,
+                address,
                 strict: is_strict(given),
             })
         }
