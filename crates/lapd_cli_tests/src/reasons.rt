@@ -270,6 +270,15 @@ fn good_lines(rt: HostRuntime) -> Result<(), Fail> {
     Ok(())
 }
 
+/// The line of this row of the good ones.
+fn good_line(row: usize) -> &'static str {
+    let row = GOOD.lines().nth(row).unwrap_or("answer: state");
+    match row.split_once(": ") {
+        Some((_, line)) => line,
+        None => row,
+    }
+}
+
 /// Draws lines.
 #[derive(Drop)]
 struct Lines {
@@ -299,32 +308,36 @@ impl Lines {
     /// A line of one to five words.
     fn of_words(&mut self) {
         self.line.clear();
-        for place in 0..self.below(5) + 1 {
-            if place > 0 {
-                self.put(b" ");
-            }
-            let word = self.below(64);
-            self.put(WORDS.split('|').nth(word).unwrap_or("net").as_bytes());
+        let behind = self.below(5);
+        self.put_word();
+        for _word in 0..behind {
+            self.put(b" ");
+            self.put_word();
         }
+    }
+
+    /// Puts a word behind the line.
+    fn put_word(&mut self) {
+        let place = self.below(64);
+        let word = WORDS.split('|').nth(place).unwrap_or("net");
+        self.put(word.as_bytes());
     }
 
     /// A good line of any command, of which an octet is changed, left out or put in.
     fn of_good_line(&mut self) {
         self.line.clear();
-        let place = self.below(64);
-        if let Some((_, line)) = GOOD.lines().nth(place).and_then(|row| row.split_once(": ")) {
-            self.put(line.as_bytes());
-        }
-        let place = self.below(self.line.len() + 1);
+        let row = self.below(64);
+        self.put(good_line(row).as_bytes());
+        let length = self.line.len();
+        let place = self.below(length.max(1));
         if self.below(3) > 0 {
             let _ = self.line.pop_at(place);
         }
         if self.below(3) > 0 {
-            let octet = self.below(OCTETS.len());
-            let _ = self.line.try_insert(
-                place.min(self.line.len()),
-                OCTETS.get(octet).copied().unwrap_or(0),
-            );
+            let drawn = self.below(OCTETS.len());
+            let octet = OCTETS.get(drawn).copied().unwrap_or(0);
+            let place = place.min(self.line.len());
+            let _ = self.line.try_insert(place, octet);
         }
     }
 }

@@ -52,10 +52,24 @@ impl Write for Shut {
 fn has_last_lines(kept: &KeptLines<Parts<'_>>, front: &[u8], part: usize) -> bool {
     let feeds = front.iter().filter(|octet| **octet == b'\n').count() as u64;
     let mut lines = front.rsplit(|octet| *octet == b'\n');
-    let last = kept.line(feeds.saturating_add(1)) == lines.next();
+    let last = kept.line(feeds.saturating_add(1));
+    let before = kept.line(feeds);
     let part = front.get(front.len().saturating_sub(part)..).unwrap_or(&[]);
-    let before = !part.contains(&b'\n') || kept.line(feeds) == lines.next();
-    last && before && kept.line(feeds.saturating_add(2)).is_none() && kept.line(0).is_none()
+    let is_before_kept = part.contains(&b'\n');
+    let behind = kept.line(feeds.saturating_add(2));
+    let none = kept.line(0);
+    is_line(last, lines.next())
+        && (!is_before_kept || is_line(before, lines.next()))
+        && behind.is_none()
+        && none.is_none()
+}
+
+/// Whether a line is kept, and it is this one.
+fn is_line(kept: Option<&[u8]>, line: Option<&[u8]>) -> bool {
+    match (kept, line) {
+        (Some(kept), Some(line)) => are_same(kept, line),
+        _ => false,
+    }
 }
 
 /// Whether all that is read in such parts is handed on, and kept as long as it should be.
@@ -76,7 +90,9 @@ fn keeps(text: &[u8], most: usize) -> bool {
         }
         let end = read.saturating_add(count);
         let front = text.get(..end).unwrap_or(&[]);
-        if text.get(read..end) != Some(&part[..count]) || !has_last_lines(&kept, front, count) {
+        if !is_line(text.get(read..end), Some(&part[..count]))
+            || !has_last_lines(&kept, front, count)
+        {
             return false;
         }
         read = end;
@@ -126,16 +142,12 @@ fn long_lines_are_cut(rt: HostRuntime) -> Result<(), Fail> {
         "a long line",
         "it is not bad",
     )?;
-    wants(
-        kept.line(1) == text.get(..4096),
-        "a long line",
-        "another line is kept",
-    )?;
-    wants(
-        kept.line(2) == Some(b"state".as_slice()),
-        "the next line",
-        "it is not kept",
-    )
+    let line = kept.line(1);
+    let is_so = is_line(line, text.get(..4096));
+    wants(is_so, "a long line", "another line is kept")?;
+    let line = kept.line(2);
+    let is_so = is_line(line, Some(b"state".as_slice()));
+    wants(is_so, "the next line", "it is not kept")
 }
 
 fn answer_to<R: Read, W: Write>(
@@ -186,7 +198,10 @@ fn refuses(text: &[u8], most: usize, first: Option<&[u8]>) -> bool {
             return false;
         }
     }
-    out.first() == first
+    match (out.first(), first) {
+        (None, None) => true,
+        (noted, first) => is_line(noted, first),
+    }
 }
 
 #[test]
@@ -263,12 +278,9 @@ fn typed_lines(rt: HostRuntime) -> Result<(), Fail> {
 fn a_line_a_read(rt: HostRuntime) -> Result<(), Fail> {
     let mut session = Session::new(rt.alloc(), Script::Answer, TYPED, io::sink());
     let mut part = [0u8; 64];
-    let first = session.read(&mut part)?;
-    wants(
-        part.get(..first) == Some(b"state\n".as_slice()),
-        "the first read",
-        "it is not the first line",
-    )
+    let count = session.read(&mut part)?;
+    let is_so = is_line(part.get(..count), Some(b"state\n".as_slice()));
+    wants(is_so, "the first read", "it is not the first line")
 }
 
 #[test]

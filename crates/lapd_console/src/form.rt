@@ -28,6 +28,9 @@ pub enum Argument {
 }
 
 impl Argument {
+    ghost use Rattle.std.specs.Prelude.{◌≡◌};
+    ghost use Rattle.lapd_console.specs.Forms.{is_left_out};
+
     /// The name that stands for the word in a form.
     pub fn name(self) -> &'static str {
         match self {
@@ -42,6 +45,13 @@ impl Argument {
             Argument::Tei => "TEI",
             Argument::Terminal => "T",
         }
+    }
+
+    /// Whether the word may be left out.
+    pub fn may_be_left_out(self) -> bool
+        ensures { result ≡ is_left_out self }
+    {
+        matches!(self, Argument::Hex)
     }
 
     /// What the word has to be.

@@ -1,5 +1,8 @@
 //! The forms of each command's lines.
 
+ghost use Rattle.std.specs.Prelude.{◌≡◌, map};
+ghost use Rattle.lapd_console.specs.Forms.{shape_of, shapes_of};
+
 use crate::form::Argument::{
     Hex, Message, Milliseconds, OnOff, Place, Reference, Sapi, Side, Tei, Terminal,
 };
@@ -8,7 +11,9 @@ use crate::script::Script;
 
 /// The forms of a command's lines. A line of any of them is a line of the command, and no other is, but for those that are
 /// passed over. A form of `net` and `user` may still ask for what its clock can't do.
-pub fn forms(script: Script) -> &'static [Form] {
+pub fn forms(script: Script) -> &'static [Form]
+    ensures { map shape_of result.now ≡ shapes_of script }
+{
     match script {
         Script::Answer => ANSWER,
         Script::Bus => BUS,

@@ -1,0 +1,2 @@
+mod AnswerLines
+mod Shapes
