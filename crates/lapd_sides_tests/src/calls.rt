@@ -5,8 +5,8 @@ ghost use Rattle.std.specs.Prelude.{◌≡◌, ◌<◌};
 use lapd_link::LinkFault;
 use lapd_script::put_hex;
 use lapd_sides::{
-    Acts, Config, Durations, LinkId, NetSide, Params, Primitive, Request, Sapi, SideFault,
-    SideKind, Tei, TeiOut, UserSide, What,
+    Acts, Config, Durations, LinkId, NetSide, Params, Request, Sapi, SideFault, SideKind, Tei,
+    UserSide,
 };
 use std::alloc::Global;
 use std::io;
@@ -127,6 +127,14 @@ impl AnySide {
         }
     }
 
+    /// The next moment at which something is due.
+    pub(crate) fn next_deadline(&self) -> Option<u64> {
+        match self {
+            AnySide::Network(side) => side.next_deadline(),
+            AnySide::User(side) => side.next_deadline(),
+        }
+    }
+
     /// Octets come. A refusal is written.
     fn take(
         &mut self,
@@ -142,13 +150,17 @@ impl AnySide {
         put_end(&done, text)
     }
 
-    /// What is due first is done. `none` is written where nothing is.
-    fn tick(&mut self, now: u64, acts: &mut Acts, text: &mut Vec<u8>) -> io::Result<()> {
-        let done = match self {
+    /// What is due first is done, where something is.
+    pub(crate) fn does_due(&mut self, now: u64, acts: &mut Acts) -> bool {
+        match self {
             AnySide::Network(side) => side.tick(now, acts),
             AnySide::User(side) => side.tick(now, acts),
-        };
-        if done {
+        }
+    }
+
+    /// What is due first is done. `none` is written where nothing is.
+    fn tick(&mut self, now: u64, acts: &mut Acts, text: &mut Vec<u8>) -> io::Result<()> {
+        if self.does_due(now, acts) {
             Ok(())
         } else {
             text.write_all(b"none;")
@@ -226,73 +238,12 @@ fn put_frames(acts: &Acts, text: &mut Vec<u8>) -> io::Result<()> {
     Ok(())
 }
 
-/// Writes the primitives.
+/// Writes the primitives, as they print.
 fn put_primitives(acts: &Acts, text: &mut Vec<u8>) -> io::Result<()> {
     for primitive in acts.primitives() {
-        match primitive {
-            Primitive::Of(id, what) => put_told(*id, what, text)?,
-            Primitive::Management(output) => put_outcome(output, text)?,
-        }
-        text.write_all(b";")?;
+        write!(text, "{primitive};")?;
     }
     Ok(())
-}
-
-/// Writes the SAPI and the TEI of a link, and what is told of it.
-fn put_told(id: LinkId, what: &What, text: &mut Vec<u8>) -> io::Result<()> {
-    let (sapi, tei) = (id.sapi, id.tei);
-    write!(text, "{sapi} {tei} ")?;
-    text.write_all(name_of(what).as_bytes())?;
-    put_rest(what, text)
-}
-
-/// What is told of a link, without octets and numbers.
-fn name_of(what: &What) -> &'static str {
-    match what {
-        What::Up(_) => "data ",
-        What::UnitUp(_) => "unit ",
-        What::Established => "established",
-        What::Confirmed => "confirmed",
-        What::Released => "released",
-        What::ReleaseConfirm => "release-confirmed",
-        What::Acknowledged(_) => "acknowledged ",
-        What::Dropped(_) => "dropped ",
-        What::Report(_) => "report ",
-    }
-}
-
-/// Writes the octets, the number or the letter that is told of a link.
-fn put_rest(what: &What, text: &mut Vec<u8>) -> io::Result<()> {
-    match what {
-        What::Up(octets) | What::UnitUp(octets) => put_hex(octets.as_slice(), text),
-        What::Acknowledged(number) | What::Dropped(number) => write!(text, "{number}"),
-        What::Report(letter) => text.write_all(letter.name().as_bytes()),
-        What::Established | What::Confirmed | What::Released | What::ReleaseConfirm => Ok(()),
-    }
-}
-
-/// Writes what became of a TEI.
-fn put_outcome(output: &TeiOut, text: &mut Vec<u8>) -> io::Result<()> {
-    let (name, tei) = outcome(output);
-    text.write_all(name.as_bytes())?;
-    match tei {
-        Some(tei) => write!(text, "{tei}"),
-        None => Ok(()),
-    }
-}
-
-/// What became of a TEI, and of which.
-fn outcome(output: &TeiOut) -> (&'static str, Option<Tei>) {
-    match output {
-        TeiOut::Given(tei) => ("given ", Some(*tei)),
-        TeiOut::Got(tei) => ("got ", Some(*tei)),
-        TeiOut::Gone(tei) => ("gone ", Some(*tei)),
-        TeiOut::Failed => ("failed", None),
-        TeiOut::Free(tei) => ("free ", Some(*tei)),
-        TeiOut::InUse(tei) => ("in-use ", Some(*tei)),
-        TeiOut::Doubled(tei) => ("doubled ", Some(*tei)),
-        TeiOut::Send(_) | TeiOut::Start(_) | TeiOut::Stop(_) => ("no outcome", None),
-    }
 }
 
 /// Writes a refusal, where there is one.

@@ -9,6 +9,8 @@
 #[cfg(test)]
 mod calls;
 #[cfg(test)]
+mod deadlines;
+#[cfg(test)]
 mod dialogues;
 #[cfg(test)]
 mod follow;
