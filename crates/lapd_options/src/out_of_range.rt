@@ -31,7 +31,7 @@ pub fn params_written<'a>(
     ensures { MatchResult result
         (λ params. AreWritten k.now n200.now room.now × (params ≡ parameters_written k.now n200.now room.now))
         (λ fault. IsRangeOf k.now n200.now room.now fault.option.most fault.written.now
-            × (¬ IsNumberTo fault.option.most fault.written.now)) }
+        × (¬ IsNumberTo fault.option.most fault.written.now)) }
 {
     match params_of(k, n200, room) {
         Some(params) => Ok(params),
