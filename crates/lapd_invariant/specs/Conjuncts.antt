@@ -239,7 +239,8 @@ abbrev pub NoneBehindAsk : List Kind → Type 0
 NoneBehindAsk [] = Unit {0}
 NoneBehindAsk (k ∷ ks) = (0 < ask_of k → numbers ks ≡ []) × NoneBehindAsk ks
 
--- of the speaker's SABME and DISC and the answers to them at most one is on its way; while an answer is, no N(R) is
+-- of the speaker's SABME and DISC and the answers to them at most one is on its way; while an answer is, no N(R) of
+-- the speaker is
 pub record IsExchange (most : ℕ) (out back : List Kind) : Type 0 where
   pub one : tally ask_of out + tally answer_of back ≤ most
   pub behind : NoneBehindAsk out

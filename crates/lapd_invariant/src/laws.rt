@@ -49,7 +49,8 @@ pub fn each_side_asks_one_at_a_time()
         → (moves : List Move) → AskOneAtATime (run r moves (new_world user network)) }
 {}
 
-/// All this holds with a weaker premise on T200 too. In the moves above it does not expire while any command with P=1 of its
+/// Histories are safe, reports are expected, what is heard is due, and messages are fresh with a weaker premise on T200 too.
+/// In the moves above it does not expire while any command with P=1 of its
 /// side, or any response with F=1 to it, is on the line. Here only what it guards and the answer hold it back: in states 5
 /// and 6 SABME, DISC, UA and DM, in state 8 commands that poll and supervisory responses with F=1, and in state 7 nothing.
 pub fn every_eager_run_is_safe()
