@@ -3,7 +3,9 @@
 use crate::calls::{config, id_of, tei};
 use crate::wants::wants;
 use lapd_link::Timer;
-use lapd_sides::{Acts, LinkId, LinkTable, NetSide, Request, Terminal, TimerSet, UserSide};
+use lapd_sides::{
+    Acts, EitherSide, LinkId, LinkTable, NetSide, Request, Side, Terminal, TimerSet, UserSide,
+};
 use std::test::Fail;
 
 /// When this timer expires: `None` where there are no timers, or it does not run.
@@ -136,4 +138,53 @@ fn a_user_side_shows_its_terminal(rt: HostRuntime) -> Result<(), Fail> {
     let mut acts = Acts::new(alloc)?;
     let mut side = UserSide::new(alloc, config(false), None)?;
     terminal_is_shown(&mut side, &mut acts)
+}
+
+/// Whether a SABME is answered at 0.
+fn answers(side: &mut EitherSide, sabme: &[u8], acts: &mut Acts) -> bool {
+    side.take(sabme, 0, acts).is_ok() && acts.frames().len() == 1
+}
+
+/// Whether the link is established, and T203 is all that runs.
+fn shows_link(side: &EitherSide, call: LinkId) -> bool {
+    let t203 = deadline(side.timers(Some(call)), Timer::T203) == Some(10_000);
+    let next = side.next_deadline() == Some(10_000);
+    t203 && next && state(side.table(), call) == Some(7) && side.discarded() == 0
+}
+
+/// Whether T203 expires at its moment, and not before.
+fn expires(side: &mut EitherSide, acts: &mut Acts) -> bool {
+    !side.tick(9_999, acts) && side.tick(10_000, acts) && acts.frames().len() == 1
+}
+
+/// Whether the link is asked to be released, and not refused.
+fn releases(side: &mut EitherSide, call: LinkId, acts: &mut Acts) -> bool {
+    side.request(Request::Release(call), 10_000, acts).is_ok()
+}
+
+/// The link of SAPI 0, TEI 64, is established by the other side, and enquires; then it is released.
+fn either_is_shown(side: &mut EitherSide, sabme: &[u8], acts: &mut Acts) -> Result<(), Fail> {
+    let call = id_of(0, 64)?;
+    wants(answers(side, sabme, acts), "a SABME", "no answer")?;
+    wants(shows_link(side, call), "the link", "it is another")?;
+    wants(expires(side, acts), "T203", "another moment")?;
+    wants(releases(side, call, acts), "a release", "refused")
+}
+
+#[test]
+fn either_side_shows_its_link(rt: HostRuntime) -> Result<(), Fail> {
+    let alloc = rt.alloc();
+    let mut acts = Acts::new(alloc)?;
+    let mut side = EitherSide::Network(NetSide::new(alloc, config(false), &[tei(64)])?);
+    wants(side.side() == Side::Network, "its kind", "a user side")?;
+    either_is_shown(&mut side, &[0x00, 0x81, 0x7f], &mut acts)
+}
+
+#[test]
+fn either_side_shows_a_users_link(rt: HostRuntime) -> Result<(), Fail> {
+    let alloc = rt.alloc();
+    let mut acts = Acts::new(alloc)?;
+    let mut side = EitherSide::User(UserSide::new(alloc, config(false), Some(tei(64)))?);
+    wants(side.side() == Side::User, "its kind", "a network side")?;
+    either_is_shown(&mut side, &[0x02, 0x81, 0x7f], &mut acts)
 }
