@@ -40,7 +40,7 @@ SECONDS = {
     "lapd_commands": 88,
     "lapd_socket": 103,
     "lapd_command_line": 122,
-    "lapd_cli": 60,
+    "lapd_cli": 82,
 }
 OTHER = 50
 

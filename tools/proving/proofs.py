@@ -14,7 +14,7 @@ from proving.report import about, clock
 
 # What a crate's proof said, in its out/.
 LOG = "prove.log"
-# A crate is checked by this many jobs. Two take as much processor time as one, and four take half as much again.
+# A crate is checked by at most this many jobs. Two take up to a tenth more processor time than one, and four half as much again.
 JOBS = 2
 # How much faster these are than one.
 GAIN = 1.5
@@ -39,14 +39,19 @@ class Proofs:
 
     def start_ready(self, is_alone):
         """Starts crates whose crates below are done, longest chain first; fewer, with one job each, beside a first answer."""
-        lanes, jobs = (self.lanes, min(JOBS, self.processors)) if is_alone else (max(self.lanes // 2, 1), 1)
+        lanes = self.lanes if is_alone else max(self.lanes // 2, 1)
         waiting = [it for it in self.left if it not in self.running]
         ready = [it for it in waiting if all(low in self.done for low in self.plan.below[it])]
         for name in sorted(ready, key=lambda it: -self.order[it])[: max(lanes - len(self.running), 0)]:
             change = self.plan.change_of(self.made_of)
             if change:
                 raise Unbuilt(f"{change} was changed meanwhile; what is proved is kept, so start again")
-            self.start(name, jobs)
+            self.start(name, self.jobs(name, {*ready, *self.running}) if is_alone else 1)
+
+    def jobs(self, name, others):
+        """How many jobs check this crate: more than one where no other has a longer chain above it, or few can go on."""
+        is_first = all(self.order[it] <= self.order[name] for it in others)
+        return min(JOBS, self.processors) if is_first or len(others) <= self.lanes // 2 else 1
 
     def start(self, name, jobs):
         folder = f"{TOP}/crates/{name}"
