@@ -54,14 +54,20 @@ fn has_last_lines(kept: &KeptLines<Parts<'_>>, front: &[u8], part: usize) -> boo
     let mut lines = front.rsplit(|octet| *octet == b'\n');
     let last = kept.line(feeds.saturating_add(1));
     let before = kept.line(feeds);
-    let part = front.get(front.len().saturating_sub(part)..).unwrap_or(&[]);
-    let is_before_kept = part.contains(&b'\n');
+    let is_before_kept = end_of(front, part).contains(&b'\n');
     let behind = kept.line(feeds.saturating_add(2));
     let none = kept.line(0);
-    is_line(last, lines.next())
-        && (!is_before_kept || is_line(before, lines.next()))
+    let last_line = lines.next();
+    let line_before = lines.next();
+    is_line(last, last_line)
+        && (!is_before_kept || is_line(before, line_before))
         && behind.is_none()
         && none.is_none()
+}
+
+/// The last octets, so many.
+fn end_of(octets: &[u8], count: usize) -> &[u8] {
+    &octets[octets.len().saturating_sub(count)..]
 }
 
 /// Whether a line is kept, and it is this one.
@@ -89,7 +95,7 @@ fn keeps(text: &[u8], most: usize) -> bool {
             return read == text.len();
         }
         let end = read.saturating_add(count);
-        let front = text.get(..end).unwrap_or(&[]);
+        let front = &text[..end.min(text.len())];
         if !is_line(text.get(read..end), Some(&part[..count]))
             || !has_last_lines(&kept, front, count)
         {
