@@ -69,12 +69,13 @@ fn do_script<R: Read + Drop>(
     let (watched, _left) = out.into_parts();
     let output = watched.fault();
     let refusals = watched.into_inner();
+    let (line, refusal) = (bad_line(&lines, &ended), refusals.first());
     let ending = Ending {
         script,
         address,
         strict,
-        line: bad_line(&lines, &ended),
-        refusal: refusals.first(),
+        line,
+        refusal,
         input: lines.fault(),
         output,
     };
