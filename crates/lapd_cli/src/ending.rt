@@ -45,10 +45,10 @@ pub struct Ending<'a> {
     pub address: &'a str,
     /// Whether the exit status tells of a line that was refused.
     pub strict: bool,
-    /// The line that is bad, where one is and it is still known.
-    pub line: Option<&'a [u8]>,
-    /// What was printed for the first line that was refused.
-    pub refusal: Option<&'a [u8]>,
+    /// The line that is bad. It is empty where none is, and where it is not known any more.
+    pub line: &'a [u8],
+    /// What was printed for the first line that was refused. It is empty where none was.
+    pub refusal: &'a [u8],
     /// How the last read of the script failed.
     pub input: Option<ErrorKind>,
     /// How the last write failed.
@@ -62,7 +62,7 @@ pub fn say_ending(rt: &HostRuntime, ending: &Ending<'_>, ended: &Result<(), Stop
         Err(stop) => say_stop(rt, ending, stop),
     }
     let fault = ended.as_ref().err().map(Stop::fault);
-    ExitCode::from(status_of(fault, ending.strict, ending.refusal.is_some()))
+    ExitCode::from(status_of(fault, ending.strict, !ending.refusal.is_empty()))
 }
 
 // The exit status after a script that ended by this fault, where it ended by one, of which a line was refused, where one was.
@@ -79,12 +79,9 @@ fn status_of(fault: Option<ScriptFault>, strict: bool, is_refused: bool) -> u8
 
 // Says which line was refused first, where that is to be told.
 fn say_refusal(rt: &HostRuntime, ending: &Ending<'_>) {
-    if !ending.strict {
-        return;
-    }
-    if let Some(line) = ending.refusal {
+    if ending.strict && !ending.refusal.is_empty() {
         let _ = eprintln!(rt; "a line was refused");
-        let _ = eprintln!(rt; "the first: {}", text_of(line));
+        let _ = eprintln!(rt; "the first: {}", text_of(ending.refusal));
     }
 }
 
@@ -119,10 +116,10 @@ fn say_no_connection(rt: &HostRuntime, ending: &Ending<'_>, error: &io::Error) {
 
 // Says what is wrong with a line. A line that is right by its form is a `tick` beyond the clock's end.
 fn say_bad_line(rt: &HostRuntime, ending: &Ending<'_>) {
-    let Some(line) = ending.line else {
+    if ending.line.is_empty() {
         return;
-    };
-    let _ = match reason(rt.alloc(), ending.script, line) {
+    }
+    let _ = match reason(rt.alloc(), ending.script, ending.line) {
         Ok(Some(reason)) => eprintln!(rt; "{reason}"),
         Ok(None) => eprintln!(rt; "the clock ends at 1,000,000,000,000,000 ms"),
         Err(_) => Ok(()),

@@ -69,7 +69,8 @@ fn do_script<R: Read + Drop>(
     let (watched, _left) = out.into_parts();
     let output = watched.fault();
     let refusals = watched.into_inner();
-    let (line, refusal) = (bad_line(&lines, &ended), refusals.first());
+    let line = bad_line(&lines, &ended);
+    let refusal = refusals.first().unwrap_or(&[]);
     let ending = Ending {
         script,
         address,
@@ -82,10 +83,10 @@ fn do_script<R: Read + Drop>(
     say_ending(rt, &ending, &ended)
 }
 
-// The line that is bad, where one is and it is still kept.
-fn bad_line<'a, R: Read>(lines: &'a KeptLines<R>, ended: &Result<(), Stop>) -> Option<&'a [u8]> {
+// The line that is bad. It is empty where none is, and where it is no longer kept.
+fn bad_line<'a, R: Read>(lines: &'a KeptLines<R>, ended: &Result<(), Stop>) -> &'a [u8] {
     match ended {
-        Err(Stop::Script(ScriptFault::BadLine(number))) => lines.line(*number),
-        _ => None,
+        Err(Stop::Script(ScriptFault::BadLine(number))) => lines.line(*number).unwrap_or(&[]),
+        _ => &[],
     }
 }
