@@ -203,19 +203,22 @@ fn address(wanted: Wanted) -> Option<&'static str> {
     }
 }
 
+// Whether this is what is wanted.
+fn is_wanted(chosen: &Chosen<'_>, wanted: Wanted, strict: bool) -> bool {
+    match job(wanted) {
+        Some(job) => {
+            chosen.job == job && chosen.address == address(wanted) && chosen.strict == strict
+        }
+        None => false,
+    }
+}
+
 // Whether the words choose this.
 fn chooses(alloc: Global, words: &[&str], wanted: Wanted, strict: bool) -> bool {
-    match (choose(alloc, words), job(wanted)) {
-        (Ok(chosen), Some(job)) => {
-            let address = address(wanted);
-            chosen
-                == Chosen {
-                    job,
-                    address,
-                    strict,
-                }
-        }
-        _ => false,
+    let chosen = choose(alloc, words);
+    match &chosen {
+        Ok(chosen) => is_wanted(chosen, wanted, strict),
+        Err(_) => false,
     }
 }
 
