@@ -114,15 +114,17 @@ fn say_no_connection(rt: &HostRuntime, ending: &Ending<'_>, error: &io::Error) {
     };
 }
 
-// Says what is wrong with a line. A line that is right by its form is a `tick` beyond the clock's end.
+// Says what is wrong with a line. A `tick` that is right by its form takes the clock past its end.
 fn say_bad_line(rt: &HostRuntime, ending: &Ending<'_>) {
     if ending.line.is_empty() {
         return;
     }
     let _ = match reason(rt.alloc(), ending.script, ending.line) {
         Ok(Some(reason)) => eprintln!(rt; "{reason}"),
-        Ok(None) => eprintln!(rt; "the clock ends at 1,000,000,000,000,000 ms"),
-        Err(_) => Ok(()),
+        Ok(None) if ending.line.starts_with(b"tick ") => eprintln!(rt;
+            "the clock ends at 1,000,000,000,000,000 ms"
+        ),
+        _ => Ok(()),
     };
 }
 
