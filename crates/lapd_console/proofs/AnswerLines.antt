@@ -1,11 +1,12 @@
 -- For a line that is not passed over, `answer` has a step just where the line has a form of its lines.
 use Rattle.std.proofs.Common.{◌≡◌, ℕ, List, [], ◌∷◌, Bool, true, false, refl, cond, Some, None, length, sym, ap, ◌∙◌, subst, codes, ◌&&◌, ◌||◌, ◌==◌}
-use Rattle.std.proofs.lemmas.Bool.{eqb-false, ne_eqb}
-use Rattle.std.specs.Prelude.{Option, option_map, is_some, if◌then◌else◌, ⊤}
+use Rattle.std.proofs.lemmas.Bool.{eqb-false}
+use Rattle.std.specs.Prelude.{Option, option_map, is_some}
 use Rattle.std.specs.List.{AllByRecursion}
 use Rattle.std.specs.Str.{bytes_eq}
-use Rattle.lapd_script.specs.Line.{words_of, HasNoSpace, nothing_of, octets_behind, octets_of}
+use Rattle.lapd_script.specs.Line.{words_of, HasNoSpace, octets_behind}
 use Rattle.lapd_script.specs.Script.{with_first, outcome_of, is_passed_over, Outcome}
+use Rattle.lapd_script.proofs.WordsOf.{one_word}
 use Rattle.lapd_commands.specs.Answer.{Session, alone, answer_step, answer_word, answer_words, busy, hear, link_step, state_line, with_octets}
 use Rattle.lapd_link.specs.Input.{Expiry, Establish, Release, BusyOn, BusyOff, UnitData, Give}
 use Rattle.lapd_link.specs.declared.Timer.TheVariants.{T200, T203}
@@ -13,7 +14,7 @@ use Rattle.lapd_console.specs.declared.form.Argument.{Argument}
 use Rattle.lapd_console.specs.declared.form.Argument.TheVariants.{Hex, OnOff}
 use Rattle.lapd_console.specs.declared.script.Script.{Script}
 use Rattle.lapd_console.specs.declared.script.Script.TheVariants.{Answer}
-use Rattle.lapd_console.specs.Forms.{Shape, are_said, are_words_of, fits, is_line_of, is_said, shape_named}
+use Rattle.lapd_console.specs.Forms.{Shape, are_said, are_words_of, fits, is_line_of, shape_named}
 
 -- ---- No word of a line has a space.
 
@@ -33,10 +34,6 @@ words_have_no_space (octet ∷ line) =
       | true ↦ λ e. (tt, rest)
       | false ↦ λ e. with_octet octet (words_of line) (eqb-false octet 32 e) rest
     ] refl
-
-one_word : (word : List ℕ) → HasNoSpace word → words_of word ≡ word ∷ []
-one_word [] h = refl
-one_word (octet ∷ word) h = rw (ne_eqb _ _ h.0, one_word word h.1) refl
 
 -- ---- The words behind the first.
 
