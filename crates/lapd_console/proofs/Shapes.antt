@@ -3,7 +3,7 @@ use Rattle.std.proofs.Common.{◌≡◌, ℕ, List, [], ◌∷◌, map, true, fa
 use Rattle.std.specs.Prelude.{option_map, find}
 use Rattle.std.specs.Str.{bytes_eq}
 use Rattle.lapd_console.specs.declared.form.Form.{Form}
-use Rattle.lapd_console.specs.Forms.{Shape, shape_of}
+use Rattle.lapd_console.specs.Forms.{shape_of}
 
 pub shape_found : (word : List ℕ) (forms : List Form) → option_map shape_of (find (λ form. bytes_eq word form.word.now) forms) ≡ find (λ shape. bytes_eq word shape.0) (map shape_of forms)
 shape_found word [] = refl
