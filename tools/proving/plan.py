@@ -39,6 +39,8 @@ SECONDS = {
     "lapd_pair": 75,
     "lapd_commands": 88,
     "lapd_socket": 103,
+    "lapd_console": 70,
+    "lapd_options": 25,
     "lapd_command_line": 122,
     "lapd_cli": 82,
 }
