@@ -145,11 +145,15 @@ fn answers(side: &mut EitherSide, sabme: &[u8], acts: &mut Acts) -> bool {
     side.take(sabme, 0, acts).is_ok() && acts.frames().len() == 1
 }
 
-/// Whether the link is established, and T203 is all that runs.
-fn shows_link(side: &EitherSide, call: LinkId) -> bool {
-    let t203 = deadline(side.timers(Some(call)), Timer::T203) == Some(10_000);
-    let next = side.next_deadline() == Some(10_000);
-    t203 && next && state(side.table(), call) == Some(7) && side.discarded() == 0
+/// Whether T203 of this link is all that runs.
+fn runs_t203(side: &EitherSide, call: LinkId) -> bool {
+    let t203 = deadline(side.timers(Some(call)), Timer::T203);
+    t203 == Some(10_000) && side.next_deadline() == Some(10_000)
+}
+
+/// Whether this link is established, and nothing was discarded.
+fn is_established(side: &EitherSide, call: LinkId) -> bool {
+    state(side.table(), call) == Some(7) && side.discarded() == 0
 }
 
 /// Whether T203 expires at its moment, and not before.
@@ -164,11 +168,14 @@ fn releases(side: &mut EitherSide, call: LinkId, acts: &mut Acts) -> bool {
 
 /// The link of SAPI 0, TEI 64, is established by the other side, and enquires; then it is released.
 fn either_is_shown(side: &mut EitherSide, sabme: &[u8], acts: &mut Acts) -> Result<(), Fail> {
-    let call = id_of(0, 64)?;
     wants(answers(side, sabme, acts), "a SABME", "no answer")?;
-    wants(shows_link(side, call), "the link", "it is another")?;
+    let established = is_established(side, id_of(0, 64)?);
+    wants(established, "the link", "it is another")?;
+    let runs = runs_t203(side, id_of(0, 64)?);
+    wants(runs, "T203", "it does not run, or not alone")?;
     wants(expires(side, acts), "T203", "another moment")?;
-    wants(releases(side, call, acts), "a release", "refused")
+    let released = releases(side, id_of(0, 64)?, acts);
+    wants(released, "a release", "refused")
 }
 
 #[test]
