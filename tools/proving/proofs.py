@@ -14,10 +14,9 @@ from proving.report import about, clock
 
 # What a crate's proof said, in its out/.
 LOG = "prove.log"
-# A crate is checked by at most this many jobs. Two take up to a tenth more processor time than one, and four half as much again.
-JOBS = 2
-# How much faster these are than one.
-GAIN = 1.5
+# The crates that two jobs check. Each job reads the libraries below: low on the chain two take 0.75 of the time of one and hardly
+# more of processor, and higher up no less time, and half as much again of processor.
+BY_TWO = ("lapd_field", "lapd_machine")
 
 
 class Unbuilt(Exception):
@@ -38,7 +37,7 @@ class Proofs:
         self.begun, self.used = time.monotonic(), 0.0
 
     def start_ready(self, is_alone):
-        """Starts crates whose crates below are done, longest chain first; fewer, with one job each, beside a first answer."""
+        """Starts crates whose crates below are done, longest chain first; fewer beside a first answer."""
         lanes = self.lanes if is_alone else max(self.lanes // 2, 1)
         waiting = [it for it in self.left if it not in self.running]
         ready = [it for it in waiting if all(low in self.done for low in self.plan.below[it])]
@@ -46,12 +45,7 @@ class Proofs:
             change = self.plan.change_of(self.made_of)
             if change:
                 raise Unbuilt(f"{change} was changed meanwhile; what is proved is kept, so start again")
-            self.start(name, self.jobs(name, {*ready, *self.running}) if is_alone else 1)
-
-    def jobs(self, name, others):
-        """How many jobs check this crate: more than one where no other has a longer chain above it, or few can go on."""
-        is_first = all(self.order[it] <= self.order[name] for it in others)
-        return min(JOBS, self.processors) if is_first or len(others) <= self.lanes // 2 else 1
+            self.start(name, 2 if is_alone and name in BY_TWO and self.processors > 1 else 1)
 
     def start(self, name, jobs):
         folder = f"{TOP}/crates/{name}"
@@ -101,13 +95,13 @@ class Proofs:
         past = self.rest(self.whole) - rest
         slower = elapsed / past if past > 15 else 1
         for name, (_, start) in self.running.items():
-            rest -= min((time.monotonic() - start) / slower, 0.9 * self.left[name] / GAIN) / len(self.running)
+            rest -= min((time.monotonic() - start) / slower, 0.9 * self.left[name]) / len(self.running)
         return rest * slower
 
     def rest(self, left):
         """The seconds that these crates take, side by side, where nothing else runs."""
         longest = max(self.plan.chain(left).values(), default=0)
-        return max(longest / GAIN, sum(left.values()) / min(self.processors, GAIN * self.lanes))
+        return max(longest, sum(left.values()) / min(self.processors, self.lanes))
 
     def times(self):
         return f"{clock(time.monotonic() - self.begun)} so far, {about(self.still())} still"
