@@ -12,6 +12,7 @@ use crate::{
     Assigner, AssignerEvent, BusFault, BusMove, TeiMessage, TeiOuts, Terminal, TerminalEvent,
 };
 use std::alloc::{AllocError, Global};
+use std::collections::VecDeque;
 use std::marker::Model;
 
 /// Several terminals without a fixed TEI, the assigner of the network side, and the messages on their way between them.
@@ -20,8 +21,8 @@ pub struct Bus {
     alloc: Global,
     terminals: Vec<Terminal>,
     assigner: Assigner,
-    down: Vec<Broadcast>,
-    up: Vec<TeiMessage>,
+    down: VecDeque<Broadcast>,
+    up: VecDeque<TeiMessage>,
 }
 
 impl Model for Bus {
@@ -47,8 +48,8 @@ impl Bus {
             alloc,
             terminals: all,
             assigner: Assigner::new(&[]),
-            down: vec![in alloc]?,
-            up: vec![in alloc]?,
+            down: VecDeque::new(alloc),
+            up: VecDeque::new(alloc),
         })
     }
 
@@ -145,7 +146,7 @@ impl Bus {
         ensures memory { IfErr result (λ f. f ≡ fault.Memory) }
         ensures unchanged { OnErr result (self.new ≡ self.old) }
     {
-        match self.up.extend_from_slice(sent(outs).as_slice()) {
+        match put_behind(&mut self.up, sent(outs).as_slice()) {
             Ok(()) => Ok(()),
             Err(_) => Err(BusFault::Memory),
         }
@@ -196,11 +197,10 @@ impl Bus {
         ensures refused { IfErr result (λ f. drop_down self.old i ≡ Err f) }
         ensures unchanged { OnErr result (self.new ≡ self.old) }
     {
-        if i >= self.down.len() {
-            return Err(BusFault::NothingThere);
+        match self.down.remove(i) {
+            Some(_) => Ok(no_outs()),
+            None => Err(BusFault::NothingThere),
         }
-        self.down.remove(i);
-        Ok(no_outs())
     }
 
     /// A message of a terminal is lost.
@@ -210,11 +210,10 @@ impl Bus {
         ensures refused { IfErr result (λ f. drop_up self.old i ≡ Err f) }
         ensures unchanged { OnErr result (self.new ≡ self.old) }
     {
-        if i >= self.up.len() {
-            return Err(BusFault::NothingThere);
+        match self.up.remove(i) {
+            Some(_) => Ok(no_outs()),
+            None => Err(BusFault::NothingThere),
         }
-        self.up.remove(i);
-        Ok(no_outs())
     }
 
     /// The assigner hears a message of a terminal.
@@ -284,12 +283,24 @@ fn broadcasts(
     alloc: Global,
     terminals: usize,
     messages: &[TeiMessage],
-) -> Result<Vec<Broadcast>, AllocError>
+) -> Result<VecDeque<Broadcast>, AllocError>
     ensures { IfOk result (λ all. all.items ≡ map (broadcast terminals) messages.now) }
 {
-    let mut all = vec![in alloc]?;
+    let mut all = VecDeque::new(alloc);
     for message in messages {
-        all.push(Broadcast::new(alloc, terminals, *message)?)?;
+        all.push_back(Broadcast::new(alloc, terminals, *message)?)?;
     }
     Ok(all)
+}
+
+/// Puts these messages behind the others, or none of them where memory is refused.
+fn put_behind(up: &mut VecDeque<TeiMessage>, messages: &[TeiMessage]) -> Result<(), AllocError>
+    ensures done { OnOk result (up.new.items ≡ up.old.items ++ messages.now) }
+    ensures unchanged { OnErr result (up.new.items ≡ up.old.items) }
+{
+    up.reserve(messages.len())?;
+    for message in messages {
+        up.push_back_reserved(*message);
+    }
+    Ok(())
 }
