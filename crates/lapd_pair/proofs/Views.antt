@@ -78,6 +78,27 @@ shows_view old new inward outward outward_new (Ok outs) h = tt
 shows_view old new inward outward outward_new (Err fault) h = λ side v shown.
     record { station = h.station side v.station shown.station; incoming = shown.incoming; outgoing = h.line side v.outgoing shown.outgoing }
 
+-- ---- From what a side sees once it has looked at the line.
+
+-- it sees the same, where each line shows the same of its sender
+pub seen_alike : (side own other : Side) (s : Station) (inward inward_seen outward outward_seen : Line) (v : View) → own ≡ side → other_side side ≡ other
+    → (IsOn other inward v.incoming → IsOn other inward_seen v.incoming) → (IsOn own outward v.outgoing → IsOn own outward_seen v.outgoing) → IsView side s inward outward v → IsView side s inward_seen outward_seen v
+seen_alike side own other s inward inward_seen outward outward_seen v mine theirs comes goes shown = record {
+  station = shown.station;
+  incoming = subst (λ (x : Side). IsOn x inward_seen v.incoming) (sym theirs) (comes (subst (λ (x : Side). IsOn x inward v.incoming) theirs shown.incoming));
+  outgoing = subst (λ (x : Side). IsOn x outward_seen v.outgoing) mine (goes (subst (λ (x : Side). IsOn x outward v.outgoing) (sym mine) shown.outgoing));
+}
+
+pub acts_as_seen : (deed : Deed) (old new : Station) (inward inward_seen inward_new outward outward_seen outward_new : Line) (r : Result (ArrayVec Out) PairFault) → ShowsViewAsBefore old inward outward old inward_seen outward_seen
+    → IfOk r (ActsInView old inward_seen outward_seen new inward_new outward_new deed) → IfOk r (ActsInView old inward outward new inward_new outward_new deed)
+acts_as_seen deed old new inward inward_seen inward_new outward outward_seen outward_new (Err fault) seen h = tt
+acts_as_seen deed old new inward inward_seen inward_new outward outward_seen outward_new (Ok outs) seen h = λ side v kept shown. h side v kept (seen side v shown)
+
+pub shows_as_seen : (old new : Station) (inward inward_seen inward_new outward outward_seen outward_new : Line) (r : Result (ArrayVec Out) PairFault) → ShowsViewAsBefore old inward outward old inward_seen outward_seen
+    → OnErr r (ShowsViewAsBefore old inward_seen outward_seen new inward_new outward_new) → OnErr r (ShowsViewAsBefore old inward outward new inward_new outward_new)
+shows_as_seen old new inward inward_seen inward_new outward outward_seen outward_new (Ok outs) seen h = tt
+shows_as_seen old new inward inward_seen inward_new outward outward_seen outward_new (Err fault) seen h = λ side v shown. h side v (seen side v shown)
+
 -- ---- A deed that comes to another, where the side shows what it does.
 
 pub acts_as : (these those : Deed) (old new : Station) (outward outward_new : Line) (r : Result (ArrayVec Out) PairFault) → ((side : Side) (v : View) → IsStation side old v.station → those side v ≡ these side v)

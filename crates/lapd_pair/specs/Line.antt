@@ -1,12 +1,13 @@
 -- One direction of the line, as octets: what is on it, and how it shows the frames on their way.
-use Rattle.std.specs.Prelude.{◌≡◌, ◌+◌, ◌≤◌, ℕ, List, [], ◌∷◌, map, take, drop}
+use Rattle.std.specs.Prelude.{◌≡◌, ◌+◌, ◌-◌, ◌≤◌, ℕ, List, [], ◌∷◌, map, take, drop}
+use Rattle.std.specs.List.{position_or_len}
 use Rattle.std.specs.Vec.{vec_capacity}
 use Rattle.lapd_frame.specs.declared.Side.{Side}
 use Rattle.lapd_frame.specs.declared.Role.{Role}
 use Rattle.lapd_frame.specs.declared.Sapi.TheVariants.{Call}
 use Rattle.lapd_frame.specs.declared.Address.{Address}
 use Rattle.lapd_frame.specs.Frame.{Fields, IsFrame, spelling}
-use Rattle.lapd_world.specs.Line.{Flight}
+use Rattle.lapd_world.specs.Line.{Flight, is_poll, is_final}
 use Rattle.lapd_pair.specs.declared.line.Line.{Line}
 
 -- the address of the one data link: SAPI 0, TEI 64
@@ -26,10 +27,20 @@ AreFrames (frame ∷ frames) = IsFrame (fields_of frame) × AreFrames frames
 abbrev pub octets_on : Line → List (List ℕ)
 octets_on line = map (λ frame. frame.items) (drop line.first (take line.end line.frames.items))
 
--- what is on the line are the frames on their way, spelled as this side sends them
+-- how many at the front were passed over in search of a command with P=1, and of a response with F=1
+abbrev pub polls_passed : Line → ℕ
+polls_passed line = line.poll_from - line.first
+
+abbrev pub finals_passed : Line → ℕ
+finals_passed line = line.final_from - line.first
+
+-- What is on the line are the frames on their way, spelled as this side sends them, and none that was passed over is one
+-- that was looked for.
 pub record IsOn (from : Side) (line : Line) (frames : List Flight) : Type 0 where
   pub octets : octets_on line ≡ map (λ frame. spelling from (fields_of frame)) frames
   pub grammar : AreFrames frames
+  pub polls : polls_passed line ≤ position_or_len is_poll frames
+  pub finals : finals_passed line ≤ position_or_len is_final frames
 
 -- so many more frames have room without more memory
 abbrev pub HasRoomFor : ℕ → Line → Type 0

@@ -182,13 +182,17 @@ impl Station {
     /// T200 expires, where it runs and nothing that it waits for is on its way.
     fn expire_200(
         &mut self,
-        inward: &Line,
+        inward: &mut Line,
         outward: &mut Line,
         outs: &mut Outs,
     ) -> Result<(), PairFault>
-        ensures ok { IfOk (with_outs result outs.new) (ActsInView self.old inward.now outward.old self.new inward.now outward.new (λ side v. expires_200 Tagged side v)) }
-        ensures err { IfErr (with_outs result outs.new) (RefusesInView self.old inward.now outward.old (λ side v. expires_200 Tagged side v)) }
-        ensures unchanged { OnErr (with_outs result outs.new) (ShowsViewAsBefore self.old inward.now outward.old self.new inward.now outward.new) }
+        ensures ok { IfOk (with_outs result outs.new)
+            (ActsInView self.old inward.old outward.old self.new inward.new outward.new
+            (λ side v. expires_200 Tagged side v)) }
+        ensures err { IfErr (with_outs result outs.new)
+            (RefusesInView self.old inward.old outward.old (λ side v. expires_200 Tagged side v)) }
+        ensures unchanged { OnErr (with_outs result outs.new)
+            (ShowsViewAsBefore self.old inward.old outward.old self.new inward.new outward.new) }
     {
         if !self.link.running(Timer::T200) {
             return Err(PairFault::NotRunning);

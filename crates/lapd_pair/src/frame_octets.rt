@@ -1,6 +1,6 @@
-ghost use Rattle.std.specs.Prelude.{◌≡◌};
+ghost use Rattle.std.specs.Prelude.{◌≡◌, map};
 ghost use Rattle.lapd_frame.specs.Reading.{frame_at};
-ghost use Rattle.lapd_pair.specs.Marked.{is_read_marked};
+ghost use Rattle.lapd_pair.specs.Marked.{is_read_marked, place_of_marked};
 
 use arrayvec::ArrayVec;
 use lapd_frame::{MOST_OCTETS, Role, Side, read};
@@ -21,4 +21,15 @@ pub fn is_marked(octets: &[u8], from: Side, role: Role) -> bool
         }
         _ => false,
     }
+}
+
+/// The place of the first of these frames that is of this role with its P or F bit set, or else that behind the last. It is
+/// counted from 0. `from` sent them.
+pub fn marked_place(frames: &[FrameOctets], from: Side, role: Role) -> usize
+    ensures { result ≡ place_of_marked role from (map (λ frame. frame.items) frames.now) }
+{
+    frames
+        .iter()
+        .position(|frame| is_marked(frame.as_slice(), from, role))
+        .unwrap_or(frames.len())
 }

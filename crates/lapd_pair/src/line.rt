@@ -1,7 +1,9 @@
-ghost use Rattle.std.specs.Prelude.{◌≡◌, ◌≤◌, ◌+◌, length, take, drop};
+ghost use Rattle.std.specs.Prelude.{◌≡◌, ◌<◌, ◌≤◌, ◌+◌, ◌-◌, length, take, drop};
+ghost use Rattle.std.specs.List.{remove};
 ghost use Rattle.std.specs.Vec.{vec_len};
+ghost use Rattle.lapd_pair.specs.Marked.{left_of};
 
-use crate::frame_octets::{FrameOctets, is_marked};
+use crate::frame_octets::{FrameOctets, marked_place};
 use lapd_frame::{Frame, Role, Side, write_over};
 use std::alloc::{AllocError, Global};
 
@@ -12,7 +14,10 @@ const MANY: usize = 32;
 ///
 /// Frames that are taken stay at the front until all are taken, or many and three times as many as are on their way. Then
 /// these go to the front, and the places of the others are written again. So, in the mean, a frame costs the same however
-/// many are on their way.
+/// many are on their way. Where one is lost, those before it or those behind it move, whichever are fewer.
+///
+/// A search for the first frame that asks for an answer, or gives one, goes on from where the one before ended. So each of
+/// the two reads a frame once, and again only where it stops at it.
 #[derive(Drop)]
 pub struct Line {
     frames: Vec<FrameOctets>,
@@ -20,18 +25,23 @@ pub struct Line {
     first: usize,
     /// The place behind the last. Those from there on are free.
     end: usize,
+    /// The place from which on a command with P=1 is looked for. Of those on their way, none stands before it.
+    poll_from: usize,
+    /// The same of a response with F=1.
+    final_from: usize,
     ghost taken: { first ≤ end },
     ghost within: { end ≤ vec_len frames },
+    ghost poll_within: { poll_from ≤ end },
+    ghost final_within: { final_from ≤ end },
 }
 
 impl Line {
-    ghost use Rattle.std.specs.Prelude.{◌≡◌, ◌<◌, ◌+◌, ℕ, nat_lt, true, false, List, [], ◌∷◌, ◌++◌, length, map, drop, IfNone, IfSome, OnOk};
-    ghost use Rattle.std.specs.List.{position, remove};
+    ghost use Rattle.std.specs.Prelude.{◌≡◌, ◌<◌, ◌≤◌, ◌+◌, ℕ, nat_lt, if◌then◌else◌, true, false, List, [], ◌∷◌, ◌++◌, length, map, drop, IfNone, IfSome, OnOk};
+    ghost use Rattle.std.specs.List.{remove};
     ghost use Rattle.lapd_frame.specs.Frame.{spelling};
-    ghost use Rattle.lapd_frame.specs.Reading.{frame_at};
     ghost use Rattle.lapd_world.specs.Line.{Flight, sent_behind, without_lost, first_poll, first_final};
-    ghost use Rattle.lapd_pair.specs.Line.{octets_on, fields_of, IsOn, IsFirst, HasRoomFor};
-    ghost use Rattle.lapd_pair.specs.Marked.{is_read_marked};
+    ghost use Rattle.lapd_pair.specs.Line.{octets_on, polls_passed, finals_passed, fields_of, IsOn, IsFirst, HasRoomFor};
+    ghost use Rattle.lapd_pair.specs.Marked.{place_of_marked, left_of};
 
     /// A line with nothing on it. It takes no memory.
     pub fn new(alloc: Global) -> Line
@@ -41,6 +51,8 @@ impl Line {
             frames: Vec::new(alloc),
             first: 0,
             end: 0,
+            poll_from: 0,
+            final_from: 0,
         }
     }
 
@@ -82,6 +94,8 @@ impl Line {
         ensures there { self.new.end < vec_len self.new.frames }
         ensures octets { octets_on self.new ≡ octets_on self.old }
         ensures end { self.new.end ≡ self.old.end }
+        ensures polls { polls_passed self.new ≡ polls_passed self.old }
+        ensures finals { finals_passed self.new ≡ finals_passed self.old }
         ensures room { (n : ℕ) → HasRoomFor n self.old → HasRoomFor n self.new }
     {
         if self.end == self.frames.len() {
@@ -110,14 +124,17 @@ impl Line {
 
     /// The frames on their way change places with those that are taken, where many are and three times as many.
     fn forget_taken(&mut self)
-        ensures { octets_on self.new ≡ octets_on self.old }
+        ensures octets { octets_on self.new ≡ octets_on self.old }
+        ensures polls { polls_passed self.new ≡ polls_passed self.old }
+        ensures finals { finals_passed self.new ≡ finals_passed self.old }
     {
         let left = self.end - self.first;
         if left == 0 {
-            self.first = 0;
-            self.end = 0;
+            self.clear();
         } else if self.first >= MANY && self.first / 3 >= left {
             to_front(&mut self.frames, self.first, left);
+            self.poll_from = self.poll_from.saturating_sub(self.first);
+            self.final_from = self.final_from.saturating_sub(self.first);
             self.first = 0;
             self.end = left;
         }
@@ -130,45 +147,145 @@ impl Line {
         ensures unchanged { result ≡ false → self.new ≡ self.old }
     {
         if place < self.frames().len() {
-            self.frames.remove(self.first + place);
-            self.end -= 1;
+            self.take_out(place);
             true
         } else {
             false
         }
     }
 
+    /// Takes off the frame at this place, counted from 0. Those before it move, or those behind it, whichever are fewer.
+    fn take_out(&mut self, place: usize)
+        requires { self.old.first + place < self.old.end }
+        ensures octets { octets_on self.new ≡ remove (octets_on self.old) place }
+        ensures polls { polls_passed self.new ≡ left_of place (polls_passed self.old) }
+        ensures finals { finals_passed self.new ≡ left_of place (finals_passed self.old) }
+    {
+        if place < self.end - self.first - place {
+            self.close_up(place);
+        } else {
+            self.close_down(place);
+        }
+    }
+
+    /// Takes off the frame at this place, counted from 0. Those before it move up by one.
+    fn close_up(&mut self, place: usize)
+        requires { self.old.first + place < self.old.end }
+        ensures octets { octets_on self.new ≡ remove (octets_on self.old) place }
+        ensures polls { polls_passed self.new ≡ left_of place (polls_passed self.old) }
+        ensures finals { finals_passed self.new ≡ left_of place (finals_passed self.old) }
+    {
+        let polls = left_of(place, self.poll_from.saturating_sub(self.first));
+        let finals = left_of(place, self.final_from.saturating_sub(self.first));
+        to_first(&mut self.frames, self.first, place);
+        let first = self.first + 1;
+        self.first = first;
+        self.poll_from = first + polls;
+        self.final_from = first + finals;
+        self.forget_taken();
+    }
+
+    /// Takes off the frame at this place, counted from 0. Those behind it move down by one.
+    fn close_down(&mut self, place: usize)
+        requires { self.old.first + place < self.old.end }
+        ensures octets { octets_on self.new ≡ remove (octets_on self.old) place }
+        ensures polls { polls_passed self.new ≡ left_of place (polls_passed self.old) }
+        ensures finals { finals_passed self.new ≡ left_of place (finals_passed self.old) }
+    {
+        let polls = left_of(place, self.poll_from.saturating_sub(self.first));
+        let finals = left_of(place, self.final_from.saturating_sub(self.first));
+        to_last(&mut self.frames, self.first + place, self.end);
+        self.end -= 1;
+        self.poll_from = self.first + polls;
+        self.final_from = self.first + finals;
+    }
+
     /// Takes all frames off, and keeps the memory.
     pub fn clear(&mut self)
         ensures shows { (from : Side) → IsOn from self.new [] }
+        ensures octets { octets_on self.new ≡ [] }
+        ensures polls { polls_passed self.new ≡ 0 }
+        ensures finals { finals_passed self.new ≡ 0 }
         ensures room { (n : ℕ) → HasRoomFor n self.old → HasRoomFor n self.new }
     {
         self.first = 0;
         self.end = 0;
+        self.poll_from = 0;
+        self.final_from = 0;
     }
 
     /// The place of the first command with P=1, counted from 0, where there is one. `from` sends on this line.
-    pub fn first_poll(&self, from: Side) -> Option<usize>
-        ensures { (frames : List Flight) → IsOn from self.now frames → result ≡ first_poll frames }
+    pub fn first_poll(&mut self, from: Side) -> Option<usize>
+        ensures place { (frames : List Flight) → IsOn from self.old frames
+            → result ≡ first_poll frames }
+        ensures shows { (frames : List Flight) → IsOn from self.old frames
+            → IsOn from self.new frames }
     {
-        self.first_marked(from, Role::Command)
+        let passed = self.poll_from.saturating_sub(self.first);
+        let place = self.marked_behind(passed, from, Role::Command);
+        self.poll_from = self.first + place;
+        self.there(place)
     }
 
     /// The place of the first response with F=1, counted from 0, where there is one. `from` sends on this line.
-    pub fn first_final(&self, from: Side) -> Option<usize>
-        ensures { (frames : List Flight) → IsOn from self.now frames → result ≡ first_final frames }
+    pub fn first_final(&mut self, from: Side) -> Option<usize>
+        ensures place { (frames : List Flight) → IsOn from self.old frames
+            → result ≡ first_final frames }
+        ensures shows { (frames : List Flight) → IsOn from self.old frames
+            → IsOn from self.new frames }
     {
-        self.first_marked(from, Role::Answer)
+        let passed = self.final_from.saturating_sub(self.first);
+        let place = self.marked_behind(passed, from, Role::Answer);
+        self.final_from = self.first + place;
+        self.there(place)
     }
 
-    /// The place of the first frame of this role with its P or F bit set, counted from 0, where there is one.
-    fn first_marked(&self, from: Side, role: Role) -> Option<usize>
-        ensures { result ≡ position (λ octets. is_read_marked role (frame_at from octets)) (octets_on self.now) }
+    /// The place of the first frame of this role with its P or F bit set, behind so many that are passed over, or else that
+    /// behind the last. It is counted from 0.
+    fn marked_behind(&self, passed: usize, from: Side, role: Role) -> usize
+        requires { self.now.first + passed ≤ self.now.end }
+        ensures place { let rest = drop passed (octets_on self.now) in
+            result ≡ passed + place_of_marked role from rest }
+        ensures within { self.now.first + result ≤ self.now.end }
     {
-        self.frames()
-            .iter()
-            .position(|frame| is_marked(frame.as_slice(), from, role))
+        passed + marked_place(&self.frames()[passed..], from, role)
     }
+
+    /// This place, where a frame stands there. It is counted from 0.
+    fn there(&self, place: usize) -> Option<usize>
+        ensures { let count = length (octets_on self.now) in
+            result ≡ (if nat_lt place count then Some place else None) }
+    {
+        if place < self.frames().len() {
+            Some(place)
+        } else {
+            None
+        }
+    }
+}
+
+/// How many are left of the first `count` frames, where the one at this place is lost.
+fn left_of(place: usize, count: usize) -> usize
+    ensures { result ≡ left_of place count }
+{
+    if place < count { count - 1 } else { count }
+}
+
+/// The frame at this place behind `first` goes there, and those before it move up by one.
+fn to_first(frames: &mut [FrameOctets], first: usize, place: usize)
+    requires { first + place < length frames.old }
+    ensures { drop (first + 1) frames.new ≡ remove (drop first frames.old) place }
+{
+    frames[first..first + place + 1].rotate_right(1);
+}
+
+/// The frame at this place goes to the last before `end`, and those behind it move down by one.
+fn to_last(frames: &mut [FrameOctets], at: usize, end: usize)
+    requires before { at < end }
+    requires within { end ≤ length frames.old }
+    ensures { take (end - 1) frames.new ≡ remove (take end frames.old) at }
+{
+    frames[at..end].rotate_left(1);
 }
 
 /// The frames from this place on, so many, change places with as many at the front.

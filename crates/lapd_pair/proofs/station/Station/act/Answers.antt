@@ -92,7 +92,7 @@ pub returns-in-Lose-clause-err : goal.returns-in-Lose-clause-err
 returns-in-Lose-clause-err c = refuses_as_in_view (λ side v. loses c.in-Lose.place v) (λ side v. acts Tagged side (move_of c.args.deed.now).deed v) c.args.self.now c.args.inward.now c.args.outward.now (with_outs c.lose.result c.lose.new.outs) (λ side v shown. lose_is c.args.deed.now c.in-Lose.field-0 c.in-Lose.place c.in-Lose.is side v) c.lose.ensures.err
 
 pub returns-in-Expire200-clause-ok : goal.returns-in-Expire200-clause-ok
-returns-in-Expire200-clause-ok c = acts_as_in_view (λ side v. expires_200 Tagged side v) (λ side v. acts Tagged side (move_of c.args.deed.now).deed v) c.args.self.now c.expire_200.new.self c.args.inward.now c.args.outward.now c.args.inward.now c.expire_200.new.outward (with_outs c.expire_200.result c.expire_200.new.outs) (λ side v shown. expire_200_is c.args.deed.now c.in-Expire200.field-0 c.in-Expire200.is side v) c.expire_200.ensures.ok
+returns-in-Expire200-clause-ok c = acts_as_in_view (λ side v. expires_200 Tagged side v) (λ side v. acts Tagged side (move_of c.args.deed.now).deed v) c.args.self.now c.expire_200.new.self c.args.inward.now c.args.outward.now c.expire_200.new.inward c.expire_200.new.outward (with_outs c.expire_200.result c.expire_200.new.outs) (λ side v shown. expire_200_is c.args.deed.now c.in-Expire200.field-0 c.in-Expire200.is side v) c.expire_200.ensures.ok
 
 pub returns-in-Expire200-clause-err : goal.returns-in-Expire200-clause-err
 returns-in-Expire200-clause-err c = refuses_as_in_view (λ side v. expires_200 Tagged side v) (λ side v. acts Tagged side (move_of c.args.deed.now).deed v) c.args.self.now c.args.inward.now c.args.outward.now (with_outs c.expire_200.result c.expire_200.new.outs) (λ side v shown. expire_200_is c.args.deed.now c.in-Expire200.field-0 c.in-Expire200.is side v) c.expire_200.ensures.err
