@@ -11,7 +11,7 @@ use thiserror::Error;
 #[derive(Clone, Copy, Debug, Error)]
 pub enum BenchFault {
     /// The words ask for nothing that is done.
-    #[error("usage: lapd_bench [MESSAGES], lapd_bench pair MESSAGES, lapd_bench line FRAMES MOVES, lapd_bench table|side|tick LINKS TIMES, lapd_bench port FRAMES OCTETS, or lapd_bench due|terminal|check|request TIMES")]
+    #[error("usage: lapd_bench [MESSAGES], lapd_bench pair MESSAGES, lapd_bench line FRAMES MOVES, lapd_bench table|side|tick|expire LINKS TIMES, lapd_bench port FRAMES OCTETS, or lapd_bench due|terminal|check|request TIMES")]
     CommandLine,
     /// Memory ran out.
     #[error("out of memory")]

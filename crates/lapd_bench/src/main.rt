@@ -7,10 +7,11 @@
 //! passes them over a pair of `lapd_pair`, which keeps what became of each. `line FRAMES MOVES` puts so many frames on
 //! the line of a pair, and then sends and delivers so many more. `table LINKS FRAMES` hands in so many enquiries, one
 //! after another to each link of a table of `lapd_table`, and writes the answers; `side LINKS FRAMES` hands in I frames to
-//! the links of a side of `lapd_sides`, and `tick LINKS TIMES` asks what is due. It prints how many messages were given,
-//! received and acknowledged. `port FRAMES OCTETS` writes frames to a port in memory and reads them back. `due`, `terminal`,
-//! `check` and `request`, each with TIMES behind it, look for due timers and make steps of TEI management, and print how many
-//! timers were due or how many outputs there were. Begin with `run`.
+//! the links of a side of `lapd_sides`, `tick LINKS TIMES` asks what is due, and `expire LINKS TIMES` lets the timers of all
+//! links be due at once. It prints how many messages were given, received and acknowledged; of `tick` and `expire` how many
+//! times it was done and how many timers were due. `port FRAMES OCTETS` writes frames to a port in memory and reads them back.
+//! `due`, `terminal`, `check` and `request`, each with TIMES behind it, look for due timers and make steps of TEI management,
+//! and print how many timers were due or how many outputs there were. Begin with `run`.
 #![tactic(auto)]
 
 mod bench_fault;
@@ -63,6 +64,7 @@ fn done(rt: &HostRuntime) -> Result<Done, BenchFault> {
         Work::Table(links, frames) => Ok(Done::Messages(over_table::answer(alloc, links, frames)?)),
         Work::Side(links, frames) => Ok(Done::Messages(over_side::take(alloc, links, frames)?)),
         Work::Tick(links, times) => Ok(Done::Messages(over_side::tick(alloc, links, times)?)),
+        Work::Expire(links, rounds) => Ok(Done::Messages(over_side::expire(alloc, links, rounds)?)),
         Work::Port(frames, octets) => Ok(Done::Frames(over_port::pass(alloc, frames, octets)?)),
         Work::Due(times) => Ok(Done::Outputs(over_tei::due(times))),
         Work::Terminal(times) => Ok(Done::Outputs(over_tei::terminal(times))),

@@ -1,4 +1,5 @@
-//! Frames that come for the links of a [`NetSide`], with what it gives for them, and moments at which nothing is due.
+//! Frames that come for the links of a [`NetSide`], with what it gives for them, moments at which nothing is due, and moments at
+//! which the timers of all links are.
 
 ghost use Rattle.std.specs.Prelude.{◌<◌, IfOk, IfSome};
 ghost use Rattle.std.specs.List.{All};
@@ -12,6 +13,9 @@ use std::alloc::Global;
 /// The moment at which all is done, in milliseconds: before the first T203 of a link expires.
 const MOMENT: u64 = 1;
 
+/// How far the clock goes on until the timers of all links are due, in milliseconds: T203 runs so long, and T200 shorter.
+const ROUND: u64 = 10_000;
+
 /// The octets of an I frame, in which N(S) is counted on.
 type Message = [u8; 4 + OCTETS];
 
@@ -22,6 +26,8 @@ enum Deed {
     Take(u32),
     /// It is asked so many times what is due.
     Tick(u32),
+    /// So many times the timers of all links are due.
+    Expire(u32),
 }
 
 /// Hands in so many I frames, one after another to each of so many established links, and counts the messages that went
@@ -41,6 +47,16 @@ pub fn take(alloc: Global, links: u32, frames: u32) -> Result<Counts, BenchFault
 /// As [`take`].
 pub fn tick(alloc: Global, links: u32, times: u32) -> Result<Counts, BenchFault> {
     with_messages(alloc, links, Deed::Tick(times))
+}
+
+/// Lets the timers of all of so many established links be due at one moment, and does one after another, so many times; the
+/// peers are silent. T203 is the first, then T200 until N200 is reached, twice.
+///
+/// # Errors
+///
+/// As [`take`].
+pub fn expire(alloc: Global, links: u32, rounds: u32) -> Result<Counts, BenchFault> {
+    with_messages(alloc, links, Deed::Expire(rounds))
 }
 
 /// Does a deed over a side with so many links, and has room for the messages that are to come for them.
@@ -98,6 +114,7 @@ fn establish_and_do(
     match deed {
         Deed::Take(frames) => take_each(side, frames, messages.as_mut_slice(), acts),
         Deed::Tick(times) => Ok(tick_each(side, times, acts)),
+        Deed::Expire(rounds) => Ok(expire_each(side, rounds, acts)),
     }
 }
 
@@ -144,6 +161,30 @@ fn tick_each(side: &mut NetSide, times: u32, acts: &mut Acts) -> Counts {
         received: due,
         acknowledged: 0,
     }
+}
+
+/// The clock goes on so many times, and what is then due is done.
+fn expire_each(side: &mut NetSide, rounds: u32, acts: &mut Acts) -> Counts {
+    let mut due: u64 = 0;
+    for round in 0..rounds {
+        let now = (u64::from(round) + 1) * ROUND;
+        due = due.wrapping_add(due_at(side, now, acts));
+    }
+    Counts {
+        given: u64::from(rounds),
+        received: due,
+        acknowledged: 0,
+    }
+}
+
+/// Does what is due at this moment, one timer after another: how many were.
+fn due_at(side: &mut NetSide, now: u64, acts: &mut Acts) -> u64 {
+    for due in 0..u64::MAX {
+        if !side.tick(now, acts) {
+            return due;
+        }
+    }
+    u64::MAX
 }
 
 /// How many messages go up.

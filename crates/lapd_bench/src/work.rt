@@ -18,6 +18,8 @@ pub enum Work {
     Side(u32, u32),
     /// A side of so many links is asked so many times what is due, where nothing is.
     Tick(u32, u32),
+    /// The timers of so many links of a side are due at one moment, so many times.
+    Expire(u32, u32),
     /// So many frames of so many octets are written to a port and read back.
     Port(u32, u32),
     /// So many times the timer that is due is started anew.
@@ -92,6 +94,7 @@ fn of_two(word: &str, count: u32, times: u32) -> Result<Work, BenchFault> {
         "table" => Ok(Work::Table(count, times)),
         "side" => Ok(Work::Side(count, times)),
         "tick" => Ok(Work::Tick(count, times)),
+        "expire" => Ok(Work::Expire(count, times)),
         "port" => Ok(Work::Port(count, times)),
         _ => Err(BenchFault::CommandLine),
     }

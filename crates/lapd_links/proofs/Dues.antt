@@ -1,4 +1,4 @@
--- The timers of links that run, the moment before which none is due, and which is due.
+-- The timers of links that run, the bound that none of them comes before, and which is due.
 use Rattle.std.proofs.Common.{◌≡◌, ◌≢◌, ℕ, ◌<◌, ◌≤◌, List, length, replicate, Bool, true, false, Option, Some, None, option_map, inl, inr, refl, sym, ap, subst, ◌∙◌, arith, rules, ◌⊎◌}
 use Rattle.std.specs.Prelude.{slice_get, IfSome, All}
 use Rattle.std.specs.Cmp.Rules.{comparing}
@@ -18,12 +18,11 @@ use Rattle.lapd_table.proofs.Ids.{same_id_eq}
 use Rattle.lapd_links.specs.declared.expiry.Expiry.{Expiry}
 use Rattle.lapd_links.specs.declared.places.Places.{Places}
 use Rattle.lapd_links.specs.Effects.{stopped}
-use Rattle.lapd_links.specs.Links.{of_sapi}
-use Rattle.lapd_links.specs.Links.{Served}
-use Rattle.lapd_links.specs.Expiries.{IsTimerOf, Runs, IsPast, IsNoLater, IsFirst, IsDue, IsNextDeadline, of_management, of_links, of_served}
-use Rattle.lapd_links.specs.Places.{AreAtRest, EndNoSooner, sooner_moment, soonest, deadline_or_last, RunsBelow, IsSooner, expiry_at, own_expiry_at}
-use Rattle.lapd_links.specs.Placed.{placed, of_places, NoneEndsBefore}
-use Rattle.lapd_links.proofs.Order.{earlier_deadline, joined, same_first}
+use Rattle.lapd_links.specs.Links.{Served, IsOfLink, of_sapi}
+use Rattle.lapd_links.specs.Expiries.{IsTimerOf, Runs, IsPast, IsNoLaterLink, IsNoLater, IsFirst, IsDue, IsNextDeadline, of_management, of_links, of_served}
+use Rattle.lapd_links.specs.Places.{AreAtRest, RunsFor, RunsBelow, IsSooner, IsOneOf, IsAlike, expiry_at, own_expiry_at, expiry_or_last}
+use Rattle.lapd_links.specs.Placed.{placed, of_places, NoneIsBefore}
+use Rattle.lapd_links.proofs.Order.{no_later_self, link_no_later_self, no_later_decided, no_later_chained, same_place, earlier_deadline, joined, same_first}
 
 false_is_true : false ≡ true → ⊥
 false_is_true h = absurd (cc)
@@ -32,105 +31,178 @@ false_is_true h = absurd (cc)
 id_eq_self : (a : LinkId) → id_eq a a ≡ true
 id_eq_self a = search (comparing, rules)
 
--- ---- No timer of these ends before a moment.
+-- ---- Of the timers of a link none comes before a bound.
 
-at_rest_ends : (moment : ℕ) (durations : Lengths) → EndNoSooner moment (at_rest durations)
-at_rest_ends moment durations T200 deadline own runs = absurd (cc)
-at_rest_ends moment durations T201 deadline own runs = absurd (cc)
-at_rest_ends moment durations T202 deadline own runs = absurd (cc)
-at_rest_ends moment durations T203 deadline own runs = absurd (cc)
+abbrev NoneOfLinkIsBefore : Expiry → LinkId → Timers → Type 0
+NoneOfLinkIsBefore bound id timers = (timer : Timer) (deadline : ℕ) → IsOfLink timer → deadline_of timer timers ≡ Some deadline
+    → IsNoLater bound (expiry_at id timer deadline)
 
--- one that is stopped does not run
-stopped_ends : (moment : ℕ) (timers : Timers) (which : Timer) → EndNoSooner moment timers → EndNoSooner moment (stopped which timers)
-stopped_ends moment timers T200 h T200 deadline own runs = absurd (cc)
-stopped_ends moment timers T201 h T201 deadline own runs = absurd (cc)
-stopped_ends moment timers T202 h T202 deadline own runs = absurd (cc)
-stopped_ends moment timers T203 h T203 deadline own runs = absurd (cc)
-stopped_ends moment timers T200 h T201 deadline own runs = h T201 deadline own runs
-stopped_ends moment timers T200 h T202 deadline own runs = h T202 deadline own runs
-stopped_ends moment timers T200 h T203 deadline own runs = h T203 deadline own runs
-stopped_ends moment timers T201 h T200 deadline own runs = h T200 deadline own runs
-stopped_ends moment timers T201 h T202 deadline own runs = h T202 deadline own runs
-stopped_ends moment timers T201 h T203 deadline own runs = h T203 deadline own runs
-stopped_ends moment timers T202 h T200 deadline own runs = h T200 deadline own runs
-stopped_ends moment timers T202 h T201 deadline own runs = h T201 deadline own runs
-stopped_ends moment timers T202 h T203 deadline own runs = h T203 deadline own runs
-stopped_ends moment timers T203 h T200 deadline own runs = h T200 deadline own runs
-stopped_ends moment timers T203 h T201 deadline own runs = h T201 deadline own runs
-stopped_ends moment timers T203 h T202 deadline own runs = h T202 deadline own runs
+at_rest_behind : (bound : Expiry) (id : LinkId) (durations : Lengths) → NoneOfLinkIsBefore bound id (at_rest durations)
+at_rest_behind bound id durations T200 deadline own runs = absurd (cc)
+at_rest_behind bound id durations T201 deadline own runs = absurd (cc)
+at_rest_behind bound id durations T202 deadline own runs = absurd (cc)
+at_rest_behind bound id durations T203 deadline own runs = absurd (cc)
 
--- the moment is lowered to the deadlines of these
-sooner_low : (moment : ℕ) (deadline : Option ℕ) → sooner_moment moment deadline ≤ moment
-sooner_low moment None = omega arith
-sooner_low moment (Some deadline) = omega arith
+-- one that runs after another was stopped ran before
+ran : (which timer : Timer) (timers : Timers) (deadline : ℕ) → deadline_of timer (stopped which timers) ≡ Some deadline → deadline_of timer timers ≡ Some deadline
+ran T200 T200 timers deadline runs = absurd (cc)
+ran T201 T201 timers deadline runs = absurd (cc)
+ran T202 T202 timers deadline runs = absurd (cc)
+ran T203 T203 timers deadline runs = absurd (cc)
+ran T200 T201 timers deadline runs = runs
+ran T200 T202 timers deadline runs = runs
+ran T200 T203 timers deadline runs = runs
+ran T201 T200 timers deadline runs = runs
+ran T201 T202 timers deadline runs = runs
+ran T201 T203 timers deadline runs = runs
+ran T202 T200 timers deadline runs = runs
+ran T202 T201 timers deadline runs = runs
+ran T202 T203 timers deadline runs = runs
+ran T203 T200 timers deadline runs = runs
+ran T203 T201 timers deadline runs = runs
+ran T203 T202 timers deadline runs = runs
 
-sooner_ends : (moment : ℕ) (of : Option ℕ) (deadline : ℕ) → of ≡ Some deadline → sooner_moment moment of ≤ deadline
-sooner_ends moment None deadline is = absurd (cc)
-sooner_ends moment (Some other) deadline is = let same : other ≡ deadline = cc in omega arith
+stopped_behind : (bound : Expiry) (id : LinkId) (timers : Timers) (which : Timer) → NoneOfLinkIsBefore bound id timers → NoneOfLinkIsBefore bound id (stopped which timers)
+stopped_behind bound id timers which h = λ timer deadline own runs. h timer deadline own (ran which timer timers deadline runs)
 
-both_end : (moment : ℕ) (timers : Timers) → EndNoSooner (sooner_moment (sooner_moment moment timers.t200) timers.t203) timers
-both_end moment timers T200 deadline own runs = omega (arith, sooner_low (sooner_moment moment timers.t200) timers.t203, sooner_ends moment timers.t200 deadline runs)
-both_end moment timers T201 deadline own runs = absurd own
-both_end moment timers T202 deadline own runs = absurd own
-both_end moment timers T203 deadline own runs = sooner_ends (sooner_moment moment timers.t200) timers.t203 deadline runs
+-- the first of a bound and of these
+lowered_behind : (bound first : Expiry) (id : LinkId) (found : Option Timers) (timers : Timers) → found ≡ Some timers → IsFirst (IsOneOf bound id found) (Some first) → NoneOfLinkIsBefore first id timers
+lowered_behind bound first id None timers is h = absurd (cc)
+lowered_behind bound first id (Some found) timers is h =
+    let same : found ≡ timers = cc in
+    subst (NoneOfLinkIsBefore first id) same (λ timer deadline own runs. h.1 (expiry_at id timer deadline) (inr (record { is_of = refl; own = own; until = runs })))
 
-soonest_low : (moment : ℕ) (found : Option Timers) → soonest moment found ≤ moment
-soonest_low moment None = omega arith
-soonest_low moment (Some timers) = omega (arith, sooner_low (sooner_moment moment timers.t200) timers.t203, sooner_low moment timers.t200)
+lowered_low : (bound first : Expiry) (id : LinkId) (found : Option Timers) → IsFirst (IsOneOf bound id found) (Some first) → IsNoLater first bound
+lowered_low bound first id None h = h.1 bound refl
+lowered_low bound first id (Some timers) h = h.1 bound (inl refl)
 
-soonest_ends : (moment : ℕ) (found : Option Timers) (timers : Timers) → found ≡ Some timers → EndNoSooner (soonest moment found) timers
-soonest_ends moment None timers is = absurd (cc)
-soonest_ends moment (Some found) timers is = let same : found ≡ timers = cc in subst (EndNoSooner (soonest moment (Some found))) same (both_end moment found)
+-- ---- The same of all places.
+
+bounded : (s : Places) (bound e : Expiry) → NoneIsBefore bound s → Runs (of_places s) e → IsNoLater bound e
+unfolding NoneIsBefore
+bounded s bound e h x = elim (no_later_decided bound e) [ inl low ↦ low | inr before ↦ absurd (h e x before) ]
+
+behind_at : (bound : Expiry) (s : Places) (id : LinkId) (timers : Timers) → NoneIsBefore bound s → placed s id ≡ Some timers → NoneOfLinkIsBefore bound id timers
+behind_at bound s id timers h there = λ timer deadline own runs.
+    bounded s bound (expiry_at id timer deadline) h (record { its = timers; there = there; own = own; until = runs })
+
+at_place_of : (bound : Expiry) (s : Places) (of : Option LinkId) (e : Expiry) → e.of ≡ of → ((id : LinkId) (timers : Timers) → placed s id ≡ Some timers → NoneOfLinkIsBefore bound id timers)
+    → Runs (of_places s) e → IsNoLater bound e
+at_place_of bound s None e is h x = let there : None ≡ Some x.its = sym (ap (of_places s) is) ∙ x.there in absurd (cc)
+at_place_of bound s (Some id) e is h x = subst (λ (of : Option LinkId). IsNoLater bound (record { deadline = e.deadline; timer = e.timer; of = of })) (sym is)
+    (h id x.its (sym (ap (of_places s) is) ∙ x.there) e.timer e.deadline (subst (λ (of : Option LinkId). IsTimerOf of e.timer) is x.own) x.until)
+
+none_before : (bound : Expiry) (s : Places) → ((id : LinkId) (timers : Timers) → placed s id ≡ Some timers → NoneOfLinkIsBefore bound id timers) → NoneIsBefore bound s
+unfolding NoneIsBefore
+none_before bound s h = λ e x before. before (at_place_of bound s e.of e refl h x)
 
 -- ---- The places of a side, of which one is changed.
 
-earlier : (early late : ℕ) (timers : Timers) → early ≤ late → EndNoSooner late timers → EndNoSooner early timers
-earlier early late timers low h = λ timer deadline own runs. omega (arith, h timer deadline own runs)
+earlier : (early late : Expiry) (id : LinkId) (timers : Timers) → IsNoLater early late → NoneOfLinkIsBefore late id timers → NoneOfLinkIsBefore early id timers
+earlier early late id timers low h = λ timer deadline own runs. no_later_chained early late (expiry_at id timer deadline) low (h timer deadline own runs)
 
-changed_at : (early late : ℕ) (old new : Places) (id other : LinkId) (timers : Timers) (test : Bool) → id_eq other id ≡ test → early ≤ late
-    → ((t : Timers) → placed new id ≡ Some t → EndNoSooner early t) → ((k : LinkId) → k ≢ id → placed new k ≡ placed old k)
-    → NoneEndsBefore late old → placed new other ≡ Some timers → EndNoSooner early timers
-unfolding NoneEndsBefore
-changed_at early late old new id other timers true is low own others h there = own timers (subst (λ (k : LinkId). placed new k ≡ Some timers) (same_id_eq other id is) there)
+changed_at : (early late : Expiry) (old new : Places) (id other : LinkId) (timers : Timers) (test : Bool) → id_eq other id ≡ test → IsNoLater early late
+    → ((t : Timers) → placed new id ≡ Some t → NoneOfLinkIsBefore early id t) → ((k : LinkId) → k ≢ id → placed new k ≡ placed old k)
+    → NoneIsBefore late old → placed new other ≡ Some timers → NoneOfLinkIsBefore early other timers
+changed_at early late old new id other timers true is low own others h there =
+    let same : other ≡ id = same_id_eq other id is in
+    subst (λ (k : LinkId). NoneOfLinkIsBefore early k timers) (sym same) (own timers (subst (λ (k : LinkId). placed new k ≡ Some timers) same there))
 changed_at early late old new id other timers false is low own others h there =
     let differ : other ≢ id = λ same. absurd (false_is_true (sym is ∙ (ap (λ (k : LinkId). id_eq k id) same ∙ id_eq_self id))) in
-    earlier early late timers low (h other timers (sym (others other differ) ∙ there))
+    earlier early late other timers low (behind_at late old other timers h (sym (others other differ) ∙ there))
 
-changed : (early late : ℕ) (old new : Places) (id : LinkId) → early ≤ late → ((t : Timers) → placed new id ≡ Some t → EndNoSooner early t)
-    → ((k : LinkId) → k ≢ id → placed new k ≡ placed old k) → NoneEndsBefore late old → NoneEndsBefore early new
-unfolding NoneEndsBefore
-changed early late old new id low own others h = λ other timers there. changed_at early late old new id other timers (id_eq other id) refl low own others h there
+changed : (early late : Expiry) (old new : Places) (id : LinkId) → IsNoLater early late → ((t : Timers) → placed new id ≡ Some t → NoneOfLinkIsBefore early id t)
+    → ((k : LinkId) → k ≢ id → placed new k ≡ placed old k) → NoneIsBefore late old → NoneIsBefore early new
+changed early late old new id low own others h = none_before early new (λ other timers there. changed_at early late old new id other timers (id_eq other id) refl low own others h there)
 
 mapped : (P : Timers → Type 0) (f : Timers → Timers) (found : Option Timers) (timers : Timers) → ((t : Timers) → found ≡ Some t → P (f t)) → option_map f found ≡ Some timers → P timers
 mapped P f None timers h is = absurd (cc)
 mapped P f (Some t) timers h is = let same : f t ≡ timers = cc in subst P same (h t refl)
 
-pub timed_places : (moment : ℕ) (old new : Places) (id : LinkId) (found : Option Timers) → found ≡ placed new id → ((k : LinkId) → k ≢ id → placed new k ≡ placed old k)
-    → NoneEndsBefore moment old → NoneEndsBefore (soonest moment found) new
-timed_places moment old new id found is others h = changed (soonest moment found) moment old new id (soonest_low moment found) (λ t there. soonest_ends moment found t (is ∙ there)) others h
+pub timed_places : (bound first : Expiry) (old new : Places) (id : LinkId) (found : Option Timers) → found ≡ placed new id → IsFirst (IsOneOf bound id found) (Some first)
+    → ((k : LinkId) → k ≢ id → placed new k ≡ placed old k) → NoneIsBefore bound old → NoneIsBefore first new
+timed_places bound first old new id found is low others h = changed first bound old new id (lowered_low bound first id found low)
+    (λ t there. lowered_behind bound first id found t (is ∙ there) low) others h
 
-pub rested_places : (moment : ℕ) (old new : Places) (id : LinkId) (rest : Timers → Lengths) → placed new id ≡ option_map (λ (t : Timers). at_rest (rest t)) (placed old id)
-    → ((k : LinkId) → k ≢ id → placed new k ≡ placed old k) → NoneEndsBefore moment old → NoneEndsBefore moment new
-rested_places moment old new id rest is others h = changed moment moment old new id (omega arith)
-    (λ t there. mapped (EndNoSooner moment) (λ (u : Timers). at_rest (rest u)) (placed old id) t (λ u was. at_rest_ends moment (rest u)) (sym is ∙ there)) others h
+pub rested_places : (bound : Expiry) (old new : Places) (id : LinkId) (rest : Timers → Lengths) → placed new id ≡ option_map (λ (t : Timers). at_rest (rest t)) (placed old id)
+    → ((k : LinkId) → k ≢ id → placed new k ≡ placed old k) → NoneIsBefore bound old → NoneIsBefore bound new
+rested_places bound old new id rest is others h = changed bound bound old new id (no_later_self bound)
+    (λ t there. mapped (NoneOfLinkIsBefore bound id) (λ (u : Timers). at_rest (rest u)) (placed old id) t (λ u was. at_rest_behind bound id (rest u)) (sym is ∙ there)) others h
 
-pub stopped_places : (moment : ℕ) (old new : Places) (id : LinkId) (which : Timer) → placed new id ≡ option_map (stopped which) (placed old id)
-    → ((k : LinkId) → k ≢ id → placed new k ≡ placed old k) → NoneEndsBefore moment old → NoneEndsBefore moment new
-unfolding NoneEndsBefore
-stopped_places moment old new id which is others h = changed moment moment old new id (omega arith)
-    (λ t there. mapped (EndNoSooner moment) (stopped which) (placed old id) t (λ u was. stopped_ends moment u which (h id u was)) (sym is ∙ there)) others h
+pub stopped_places : (bound : Expiry) (old new : Places) (id : LinkId) (which : Timer) → placed new id ≡ option_map (stopped which) (placed old id)
+    → ((k : LinkId) → k ≢ id → placed new k ≡ placed old k) → NoneIsBefore bound old → NoneIsBefore bound new
+stopped_places bound old new id which is others h = changed bound bound old new id (no_later_self bound)
+    (λ t there. mapped (NoneOfLinkIsBefore bound id) (stopped which) (placed old id) t (λ u was. stopped_behind bound id u which (behind_at bound old id u h was)) (sym is ∙ there)) others h
 
 -- none runs
-resting_ends : (moment : ℕ) (found : Option Timers) (timers : Timers) → IfSome found AreAtRest → found ≡ Some timers → EndNoSooner moment timers
-resting_ends moment None timers h is = absurd (cc)
-resting_ends moment (Some t) timers h is = λ timer deadline own runs.
+resting_behind : (bound : Expiry) (id : LinkId) (found : Option Timers) (timers : Timers) → IfSome found AreAtRest → found ≡ Some timers → NoneOfLinkIsBefore bound id timers
+resting_behind bound id None timers h is = absurd (cc)
+resting_behind bound id (Some t) timers h is = λ timer deadline own runs.
     let same : t ≡ timers = cc in
     let still : deadline_of timer timers ≡ None = subst AreAtRest same h timer in
     let k : None ≡ Some deadline = sym still ∙ runs in absurd (cc)
 
-pub new_places : (moment : ℕ) (s : Places) → ((id : LinkId) → IfSome (placed s id) AreAtRest) → NoneEndsBefore moment s
-unfolding NoneEndsBefore
-new_places moment s h = λ id timers is. resting_ends moment (placed s id) timers (h id) is
+pub new_places : (bound : Expiry) (s : Places) → ((id : LinkId) → IfSome (placed s id) AreAtRest) → NoneIsBefore bound s
+new_places bound s h = none_before bound s (λ id timers is. resting_behind bound id (placed s id) timers (h id) is)
+
+-- ---- A bound that is lowered to the timers of a link.
+
+-- the expiries of one timer of a link
+record RunsAsOf (id : LinkId) (timers : Timers) (timer : Timer) (e : Expiry) : Type 0 where
+  is_of : e.of ≡ Some id
+  is_timer : e.timer ≡ timer
+  until : deadline_of timer timers ≡ Some e.deadline
+
+first_of_timer : (id : LinkId) (timers : Timers) (timer : Timer) (deadline : Option ℕ) → deadline_of timer timers ≡ deadline → IsFirst (RunsAsOf id timers timer) (option_map (expiry_at id timer) deadline)
+first_of_timer id timers timer None is = λ e x. let k : None ≡ Some e.deadline = sym is ∙ x.until in absurd (cc)
+first_of_timer id timers timer (Some deadline) is = (
+  record { is_of = refl; is_timer = refl; until = is },
+  λ other x.
+      let k : Some deadline ≡ Some other.deadline = sym is ∙ x.until in
+      let same : deadline ≡ other.deadline = cc in
+      inr (same, inr (ap due.place (sym x.is_timer), subst (IsNoLaterLink (Some id)) (sym x.is_of) (link_no_later_self (Some id)))),
+)
+
+-- the bound, or T200
+abbrev IsBoundOrT200 : Expiry → LinkId → Timers → Expiry → Type 0
+IsBoundOrT200 bound id timers e = (e ≡ bound) ⊎ RunsAsOf id timers T200 e
+
+bound_alone : (bound : Expiry) → IsFirst (λ (e : Expiry). e ≡ bound) (Some bound)
+bound_alone bound = (refl, λ other same. subst (IsNoLater bound) (sym same) (no_later_self bound))
+
+t200_or_t203 : (id : LinkId) (timers : Timers) (timer : Timer) (e : Expiry) → e.timer ≡ timer → RunsFor id timers e → RunsAsOf id timers T200 e ⊎ RunsAsOf id timers T203 e
+t200_or_t203 id timers T200 e is x = inl (record { is_of = x.is_of; is_timer = is; until = subst (λ (t : Timer). deadline_of t timers ≡ Some e.deadline) is x.until })
+t200_or_t203 id timers T201 e is x = absurd (subst IsOfLink is x.own)
+t200_or_t203 id timers T202 e is x = absurd (subst IsOfLink is x.own)
+t200_or_t203 id timers T203 e is x = inr (record { is_of = x.is_of; is_timer = is; until = subst (λ (t : Timer). deadline_of t timers ≡ Some e.deadline) is x.until })
+
+runs_as_of : (id : LinkId) (timers : Timers) (timer : Timer) (e : Expiry) → IsOfLink timer → RunsAsOf id timers timer e → RunsFor id timers e
+runs_as_of id timers timer e own x = record {
+  is_of = x.is_of;
+  own = subst IsOfLink (sym x.is_timer) own;
+  until = subst (λ (t : Timer). deadline_of t timers ≡ Some e.deadline) (sym x.is_timer) x.until;
+}
+
+one_of_three : (bound : Expiry) (id : LinkId) (timers : Timers) (e : Expiry) → IsOneOf bound id (Some timers) e → IsBoundOrT200 bound id timers e ⊎ RunsAsOf id timers T203 e
+one_of_three bound id timers e (inl same) = inl (inl same)
+one_of_three bound id timers e (inr x) = elim (t200_or_t203 id timers e.timer e refl x) [ inl y ↦ inl (inr y) | inr y ↦ inr y ]
+
+bound_or_t200 : (bound : Expiry) (id : LinkId) (timers : Timers) (e : Expiry) → IsBoundOrT200 bound id timers e → IsOneOf bound id (Some timers) e
+bound_or_t200 bound id timers e (inl same) = inl same
+bound_or_t200 bound id timers e (inr x) = inr (runs_as_of id timers T200 e tt x)
+
+pub lowered_twice : (bound middle first : Expiry) (id : LinkId) (timers : Timers) → IsSooner (Some bound) (option_map (expiry_at id T200) timers.t200) (Some middle)
+    → IsSooner (Some middle) (option_map (expiry_at id T203) timers.t203) (Some first) → IsFirst (IsOneOf bound id (Some timers)) (Some first)
+lowered_twice bound middle first id timers one other = joined (IsBoundOrT200 bound id timers) (RunsAsOf id timers T203) (IsOneOf bound id (Some timers)) (Some middle) (option_map (expiry_at id T203) timers.t203) (Some first)
+    (one_of_three bound id timers) (bound_or_t200 bound id timers) (λ e x. inr (runs_as_of id timers T203 e tt x))
+    (joined (λ (e : Expiry). e ≡ bound) (RunsAsOf id timers T200) (IsBoundOrT200 bound id timers) (Some bound) (option_map (expiry_at id T200) timers.t200) (Some middle)
+    (λ e x. x) (λ e x. inl x) (λ e x. inr x) (bound_alone bound) (first_of_timer id timers T200 timers.t200 refl) one)
+    (first_of_timer id timers T203 timers.t203 refl) other
+
+pub not_lowered : (bound : Expiry) (id : LinkId) → IsFirst (IsOneOf bound id None) (Some bound)
+not_lowered bound id = bound_alone bound
+
+-- ---- Timers at rest.
 
 pub rests : (durations : Lengths) → AreAtRest (at_rest durations)
 rests durations T200 = refl
@@ -196,32 +268,83 @@ pub first_of_places : (s : Places) (call packet first : Option Expiry) → IsFir
 first_of_places s call packet first h k sooner = joined _ _ (Runs (of_places s)) call packet first
     (λ e x. runs_somewhere s e.of e refl x) (λ e x. runs_call s _ e x) (λ e x. runs_packet s _ e x) h k sooner
 
--- ---- The moment, and what is due.
+-- ---- From the place of a bound on.
 
-least_deadline : (A : Expiry → Type 0) (first : Option Expiry) → IsFirst A first → (e : Expiry) → A e → deadline_or_last first ≤ e.deadline
-least_deadline A None h e x = absurd (h e x)
-least_deadline A (Some a) h e x = earlier_deadline a e (h.1 e x)
+-- two that are the same timer as the bound with the same deadline come in the order of their links
+alike_by_link : (A B : Expiry → Type 0) (bound a b : Expiry) → IsAlike bound A a → IsAlike bound B b → IsNoLaterLink a.of b.of → IsNoLater a b
+alike_by_link A B bound a b x y link = inr (x.deadline ∙ sym y.deadline, inr (ap due.place (x.timer ∙ sym y.timer), link))
 
--- it is the least deadline
-pub moment_found : (s : Places) (first : Option Expiry) → IsFirst (Runs (of_places s)) first → NoneEndsBefore (deadline_or_last first) s
-unfolding NoneEndsBefore
-moment_found s first h = λ id timers is timer deadline own runs. least_deadline (Runs (of_places s)) first h (expiry_at id timer deadline) (record { its = timers; there = is; own = own; until = runs })
+alike_over : (A B : Expiry → Type 0) (bound e : Expiry) → (A e → B e) → IsAlike bound A e → IsAlike bound B e
+alike_over A B bound e over x = record { among = over x.among; deadline = x.deadline; timer = x.timer; link = x.link }
 
-no_sooner : (s : Places) (moment : ℕ) (of : Option LinkId) (e : Expiry) → NoneEndsBefore moment s → e.of ≡ of → Runs (of_places s) e → moment ≤ e.deadline
-unfolding NoneEndsBefore
-no_sooner s moment None e h is x = let there : None ≡ Some x.its = sym (ap (of_places s) is) ∙ x.there in absurd (cc)
-no_sooner s moment (Some id) e h is x = h id x.its (sym (ap (of_places s) is) ∙ x.there) e.timer e.deadline (subst (λ (of : Option LinkId). IsTimerOf of e.timer) is x.own) x.until
+call_before_packet : (m n : ℕ) → IsNoLaterLink (Some (of_sapi Call m)) (Some (of_sapi Packet n))
+call_before_packet m n = inl (omega arith)
 
--- before the moment none is due
-pub none_due_before : (s : Places) (moment now : ℕ) → NoneEndsBefore moment s → now < moment → IsFirst (IsPast now (of_places s)) None
-none_due_before s moment now h early e x = omega (arith, x.is_past, no_sooner s moment e.of e h refl x.runs)
+call_before : (a b : Expiry) (m n : ℕ) → a.of ≡ Some (of_sapi Call m) → b.of ≡ Some (of_sapi Packet n) → IsNoLaterLink a.of b.of
+call_before a b m n call packet = subst (λ (of : Option LinkId). IsNoLaterLink of b.of) (sym call) (subst (IsNoLaterLink (Some (of_sapi Call m))) (sym packet) (call_before_packet m n))
 
-pub first_is_past : (now : ℕ) (timers : Option LinkId → Option Timers) (first : Option Expiry) → IsFirst (Runs timers) first → deadline_or_last first ≤ now → IsFirst (IsPast now timers) first
+pub alike_of_call : (s : Places) (bound a : Expiry) → IsFirst (IsAlike bound (RunsBelow Call s.call.items (length s.call.items))) (Some a) → IsFirst (IsAlike bound (Runs (of_places s))) (Some a)
+alike_of_call s bound a h = (
+  alike_over _ _ bound a (runs_call s _ a) h.0,
+  λ e x. elim (runs_somewhere s e.of e refl x.among) [
+    | inl y ↦ h.1 e (alike_over _ _ bound e (λ _. y) x)
+    | inr y ↦ alike_by_link _ _ bound a e h.0 x (call_before a e h.0.among.tei y.tei h.0.among.runs.is_of y.runs.is_of)
+  ],
+)
+
+alike_somewhere : (s : Places) (bound e : Expiry) → IsAlike bound (Runs (of_places s)) e
+    → IsAlike bound (RunsBelow Call s.call.items (length s.call.items)) e ⊎ IsAlike bound (RunsBelow Packet s.packet.items (length s.packet.items)) e
+alike_somewhere s bound e x = elim (runs_somewhere s e.of e refl x.among) [
+  | inl y ↦ inl (alike_over _ _ bound e (λ _. y) x)
+  | inr y ↦ inr (alike_over _ _ bound e (λ _. y) x)
+]
+
+pub alike_of_packet : (s : Places) (bound : Expiry) (first : Option Expiry) → IsFirst (IsAlike bound (RunsBelow Call s.call.items (length s.call.items))) None
+    → IsFirst (IsAlike bound (RunsBelow Packet s.packet.items (length s.packet.items))) first → IsFirst (IsAlike bound (Runs (of_places s))) first
+alike_of_packet s bound first h k = joined _ _ (IsAlike bound (Runs (of_places s))) None first first (alike_somewhere s bound)
+    (λ e x. alike_over _ _ bound e (runs_call s _ e) x) (λ e x. alike_over _ _ bound e (runs_packet s _ e) x) h k refl
+
+own_of_link : (s : Places) (of : Option LinkId) (e : Expiry) → e.of ≡ of → Runs (of_places s) e → IsOfLink e.timer
+own_of_link s None e is x = let there : None ≡ Some x.its = sym (ap (of_places s) is) ∙ x.there in absurd (cc)
+own_of_link s (Some id) e is x = subst (λ (of : Option LinkId). IsTimerOf of e.timer) is x.own
+
+-- what no link has is no timer of a link
+pub none_alike : (s : Places) (bound : Expiry) → (IsOfLink bound.timer → ⊥) → IsFirst (IsAlike bound (Runs (of_places s))) None
+none_alike s bound none = λ e x. none (subst IsOfLink x.timer (own_of_link s e.of e refl x.among))
+
+-- what comes no earlier than the bound comes behind the first that is alike
+behind_alike : (A : Expiry → Type 0) (bound a e : Expiry) → IsAlike bound A a → IsNoLater bound e → (IsAlike bound A e → IsNoLater a e) → A e → IsNoLater a e
+behind_alike A bound a e x (inl less) rest y = inl (omega (arith, x.deadline, less))
+behind_alike A bound a e x (inr same) rest y = elim (same.1) [
+  | inl less ↦ inr (x.deadline ∙ same.0, inl (subst (λ (t : Timer). due.place t < due.place e.timer) (sym x.timer) less))
+  | inr link ↦ rest (record { among = y; deadline = sym same.0; timer = same_place e.timer bound.timer (sym link.0); link = link.1 })
+]
+
+pub alike_is_first : (s : Places) (bound a : Expiry) → NoneIsBefore bound s → IsFirst (IsAlike bound (Runs (of_places s))) (Some a) → IsFirst (Runs (of_places s)) (Some a)
+alike_is_first s bound a h k = (k.0.among, λ e x. behind_alike (Runs (of_places s)) bound a e k.0 (bounded s bound e h x) (k.1 e) x)
+
+-- ---- The bound, and what is due.
+
+earliest : (A : Expiry → Type 0) (first : Option Expiry) → IsFirst A first → (e : Expiry) → A e → (expiry_or_last first).deadline ≤ e.deadline
+earliest A None h e x = absurd (h e x)
+earliest A (Some a) h e x = earlier_deadline a e (h.1 e x)
+
+-- the first that runs is a bound
+pub first_is_bound : (s : Places) (first : Option Expiry) → IsFirst (Runs (of_places s)) first → NoneIsBefore (expiry_or_last first) s
+unfolding NoneIsBefore
+first_is_bound s None h = λ e x before. h e x
+first_is_bound s (Some a) h = λ e x before. before (h.1 e x)
+
+-- before the deadline of the bound none is due
+pub none_due_before : (s : Places) (bound : Expiry) (now : ℕ) → NoneIsBefore bound s → now < bound.deadline → IsFirst (IsPast now (of_places s)) None
+none_due_before s bound now h early e x = omega (arith, x.is_past, early, earlier_deadline bound e (bounded s bound e h x.runs))
+
+pub first_is_past : (now : ℕ) (timers : Option LinkId → Option Timers) (first : Option Expiry) → IsFirst (Runs timers) first → (expiry_or_last first).deadline ≤ now → IsFirst (IsPast now timers) first
 first_is_past now timers None h past = λ e x. h e x.runs
 first_is_past now timers (Some a) h past = (record { runs = h.0; is_past = past }, λ e x. h.1 e x.runs)
 
-pub none_is_past : (now : ℕ) (timers : Option LinkId → Option Timers) (first : Option Expiry) → IsFirst (Runs timers) first → now < deadline_or_last first → IsFirst (IsPast now timers) None
-none_is_past now timers first h later = λ e x. omega (arith, x.is_past, least_deadline (Runs timers) first h e x.runs)
+pub none_is_past : (now : ℕ) (timers : Option LinkId → Option Timers) (first : Option Expiry) → IsFirst (Runs timers) first → now < (expiry_or_last first).deadline → IsFirst (IsPast now timers) None
+none_is_past now timers first h later = λ e x. omega (arith, x.is_past, earliest (Runs timers) first h e x.runs)
 
 pub own_timer : (now : ℕ) (timers : Option LinkId → Option Timers) (first : Option Expiry) → IsFirst (IsPast now timers) first → IfSome first (λ e. IsTimerOf e.of e.timer)
 own_timer now timers None h = tt

@@ -1,15 +1,18 @@
--- The order of expiries, and the first of several.
-use Rattle.std.proofs.Common.{◌≡◌, ℕ, ◌+◌, ◌<◌, ◌≤◌, List, Option, Some, None, inl, inr, sym, ap, subst, ◌∙◌, arith, ◌⊎◌}
+-- The order of expiries, the first of several, and those that are the same timer with the same deadline.
+use Rattle.std.proofs.Common.{◌≡◌, ℕ, zero, suc, ◌+◌, ◌<◌, ◌≤◌, List, length, Option, Some, None, inl, inr, refl, sym, ap, subst, ◌∙◌, arith, ◌⊎◌}
 use Rattle.std.proofs.lemmas.Bool.{cases_lt}
+use Rattle.std.proofs.lemmas.Option.{slice_get_within}
 use Rattle.std.specs.Prelude.{slice_get}
-use Rattle.lapd_timers.specs.Due.{Timers, place}
+use Rattle.lapd_timers.specs.declared.timer.Timer.{Timer}
+use Rattle.lapd_timers.specs.declared.timer.Timer.TheVariants.{T200, T201, T202, T203}
+use Rattle.lapd_timers.specs.Due.{Timers, deadline_of, place}
 use Rattle.lapd_frame.specs.declared.Sapi.{Sapi}
 use Rattle.lapd_frame.specs.Address.{sapi_value}
 use Rattle.lapd_table.specs.declared.link_id.LinkId.{LinkId}
 use Rattle.lapd_links.specs.declared.expiry.Expiry.{Expiry}
-use Rattle.lapd_links.specs.Links.{of_sapi}
+use Rattle.lapd_links.specs.Links.{IsOfLink, of_sapi}
 use Rattle.lapd_links.specs.Expiries.{IsNoLaterLink, IsNoLater, IsFirst}
-use Rattle.lapd_links.specs.Places.{RunsFor, RunsBelow, IsSooner}
+use Rattle.lapd_links.specs.Places.{RunsFor, RunsBelow, IsAlike, IsSooner, expiry_at}
 
 -- ---- The order.
 
@@ -32,8 +35,63 @@ link_chained (Some x) None z h k = absurd h
 link_chained (Some x) (Some y) None h k = absurd k
 link_chained (Some x) (Some y) (Some z) h k = chained (sapi_value x.sapi) (sapi_value y.sapi) (sapi_value z.sapi) _ _ _ (tei_chained x.tei y.tei z.tei) h k
 
-no_later_chained : (a b c : Expiry) → IsNoLater a b → IsNoLater b c → IsNoLater a c
+pub no_later_chained : (a b c : Expiry) → IsNoLater a b → IsNoLater b c → IsNoLater a c
 no_later_chained a b c h k = chained a.deadline b.deadline c.deadline _ _ _ (chained (place a.timer) (place b.timer) (place c.timer) _ _ _ (link_chained a.of b.of c.of)) h k
+
+-- each comes no later than itself
+pub link_no_later_self : (a : Option LinkId) → IsNoLaterLink a a
+link_no_later_self None = tt
+link_no_later_self (Some a) = inr (refl, omega arith)
+
+pub no_later_self : (a : Expiry) → IsNoLater a a
+no_later_self a = inr (refl, inr (refl, link_no_later_self a.of))
+
+-- of two it is settled whether the one comes no later
+abbrev IsSettled : Type 0 → Type 0
+IsSettled P = P ⊎ (P → ⊥)
+
+settled_behind : (m n : ℕ) (Then : Type 0) → n ≤ m → IsSettled Then → IsSettled (Lexicographic m n Then)
+settled_behind m n Then low (inr none) = inr (λ h. elim h [ inl less ↦ omega (arith, low, less) | inr same ↦ none same.1 ])
+settled_behind m n Then low (inl rest) = elim (cases_lt n m) [
+  | inl more ↦ inr (λ h. elim h [ inl less ↦ omega (arith, more, less) | inr same ↦ omega (arith, more, same.0) ])
+  | inr other ↦ inl (inr (omega (arith, low, other), rest))
+]
+
+settled : (m n : ℕ) (Then : Type 0) → IsSettled Then → IsSettled (Lexicographic m n Then)
+settled m n Then h = elim (cases_lt m n) [
+  | inl less ↦ inl (inl less)
+  | inr low ↦ settled_behind m n Then low h
+]
+
+tei_settled : (a b : ℕ) → IsSettled (a ≤ b)
+tei_settled a b = elim (cases_lt b a) [
+  | inl less ↦ inr (λ h. omega (arith, less, h))
+  | inr low ↦ inl low
+]
+
+link_settled : (x y : Option LinkId) → IsSettled (IsNoLaterLink x y)
+link_settled None y = inl tt
+link_settled (Some x) None = inr (λ h. h)
+link_settled (Some x) (Some y) = settled (sapi_value x.sapi) (sapi_value y.sapi) (x.tei ≤ y.tei) (tei_settled x.tei y.tei)
+
+pub no_later_decided : (a b : Expiry) → IsSettled (IsNoLater a b)
+no_later_decided a b = settled a.deadline b.deadline _ (settled (place a.timer) (place b.timer) _ (link_settled a.of b.of))
+
+timer_at : ℕ → Timer
+timer_at zero = T200
+timer_at (suc zero) = T201
+timer_at (suc (suc zero)) = T202
+timer_at (suc (suc (suc n))) = T203
+
+timer_again : (t : Timer) → timer_at (place t) ≡ t
+unfolding timer_at
+timer_again T200 = refl
+timer_again T201 = refl
+timer_again T202 = refl
+timer_again T203 = refl
+
+pub same_place : (a b : Timer) → place a ≡ place b → a ≡ b
+same_place a b same = sym (timer_again a) ∙ (ap timer_at same ∙ timer_again b)
 
 pub earlier_deadline : (a b : Expiry) → IsNoLater a b → a.deadline ≤ b.deadline
 earlier_deadline a b (inl less) = omega arith
@@ -72,3 +130,57 @@ one_place_more sapi places n timers a b c is h k sooner = joined (RunsBelow sapi
     (λ e x. record { tei = x.tei; below = omega (arith, x.below); timers = x.timers; there = x.there; runs = x.runs })
     (λ e x. record { tei = n; below = omega arith; timers = timers; there = is; runs = x })
     h k sooner
+
+-- ---- Those of a SAPI that are the same timer as a bound with the same deadline, from its link on.
+
+-- below the least TEI that does not come before the link of the bound there is none
+pub none_alike_below : (bound : Expiry) (sapi : Sapi) (places : List Timers) (least : ℕ) → length places ≤ 128
+    → ((tei : ℕ) → tei < 128 → IsNoLaterLink bound.of (Some (of_sapi sapi tei)) → least ≤ tei) → IsFirst (IsAlike bound (RunsBelow sapi places least)) None
+none_alike_below bound sapi places least room all = λ e x.
+    let within = slice_get_within places x.among.tei x.among.timers x.among.there in
+    let low = all x.among.tei (omega (arith, room, within)) (subst (IsNoLaterLink bound.of) x.among.runs.is_of x.link) in
+    omega (arith, low, x.among.below)
+
+among_fewer : (bound : Expiry) (sapi : Sapi) (places : List Timers) (m n : ℕ) (e : Expiry) → (x : IsAlike bound (RunsBelow sapi places m) e) → x.among.tei < n → IsAlike bound (RunsBelow sapi places n) e
+among_fewer bound sapi places m n e x less = record {
+  among = record { tei = x.among.tei; below = less; timers = x.among.timers; there = x.among.there; runs = x.among.runs };
+  deadline = x.deadline;
+  timer = x.timer;
+  link = x.link;
+}
+
+pub none_alike_among_fewer : (bound : Expiry) (sapi : Sapi) (places : List Timers) (m n : ℕ) → m ≤ n → IsFirst (IsAlike bound (RunsBelow sapi places n)) None → IsFirst (IsAlike bound (RunsBelow sapi places m)) None
+none_alike_among_fewer bound sapi places m n few h = λ e x. h e (among_fewer bound sapi places m n e x (omega (arith, few, x.among.below)))
+
+-- at this place runs the same timer with the same deadline
+abbrev RunsAlike : Expiry → Timers → Type 0
+RunsAlike bound timers = deadline_of bound.timer timers ≡ Some bound.deadline
+
+alike_at_place : (bound : Expiry) (sapi : Sapi) (places : List Timers) (n : ℕ) (timers : Timers) → slice_get places n ≡ Some timers → (e : Expiry) → (x : IsAlike bound (RunsBelow sapi places (n + 1)) e)
+    → x.among.tei ≡ n → RunsAlike bound timers
+alike_at_place bound sapi places n timers is e x same =
+    let runs = at_place sapi places n timers is e x.among same in
+    ap (λ (t : Timer). deadline_of t timers) (sym x.timer) ∙ (runs.until ∙ ap (λ (d : ℕ). Some d) x.deadline)
+
+pub none_alike_more : (bound : Expiry) (sapi : Sapi) (places : List Timers) (n : ℕ) (timers : Timers) → slice_get places n ≡ Some timers → (RunsAlike bound timers → ⊥)
+    → IsFirst (IsAlike bound (RunsBelow sapi places n)) None → IsFirst (IsAlike bound (RunsBelow sapi places (n + 1))) None
+none_alike_more bound sapi places n timers is none h = λ e x. elim (cases_lt x.among.tei n) [
+  | inl less ↦ h e (among_fewer bound sapi places (n + 1) n e x less)
+  | inr low ↦ none (alike_at_place bound sapi places n timers is e x (omega (arith, low, x.among.below)))
+]
+
+pub alike_found : (bound : Expiry) (sapi : Sapi) (places : List Timers) (n : ℕ) (timers : Timers) → slice_get places n ≡ Some timers → IsOfLink bound.timer → RunsAlike bound timers
+    → IsNoLaterLink bound.of (Some (of_sapi sapi n)) → IsFirst (IsAlike bound (RunsBelow sapi places n)) None
+    → IsFirst (IsAlike bound (RunsBelow sapi places (length places))) (Some (expiry_at (of_sapi sapi n) bound.timer bound.deadline))
+alike_found bound sapi places n timers is own runs link h = (
+  record {
+    among = record { tei = n; below = slice_get_within places n timers is; timers = timers; there = is; runs = record { is_of = refl; own = own; until = runs } };
+    deadline = refl;
+    timer = refl;
+    link = link;
+  },
+  λ e x. elim (cases_lt x.among.tei n) [
+    | inl less ↦ absurd (h e (among_fewer bound sapi places (length places) n e x less))
+    | inr low ↦ inr (sym x.deadline, inr (ap place (sym x.timer), subst (IsNoLaterLink (Some (of_sapi sapi n))) (sym x.among.runs.is_of) (inr (refl, low))))
+  ],
+)

@@ -1,12 +1,13 @@
--- Where the timers of links stand, and from when on one of them may be due.
-use Rattle.std.specs.Prelude.{◌≡◌, ℕ, ◌<◌, ◌≤◌, List, length, Option, Some, None, min, slice_get, ◌⊎◌}
+-- Where the timers of links stand, and a bound that none of them comes before.
+use Rattle.std.specs.Prelude.{◌≡◌, ℕ, ◌<◌, List, length, Option, Some, None, slice_get, ◌⊎◌}
 use Rattle.lapd_timers.specs.declared.timer.Timer.{Timer}
+use Rattle.lapd_timers.specs.declared.timer.Timer.TheVariants.{T203}
 use Rattle.lapd_timers.specs.Due.{Timers, deadline_of, last_moment}
 use Rattle.lapd_frame.specs.declared.Sapi.{Sapi}
 use Rattle.lapd_table.specs.declared.link_id.LinkId.{LinkId}
 use Rattle.lapd_links.specs.declared.expiry.Expiry.{Expiry}
 use Rattle.lapd_links.specs.Links.{IsOfLink, of_sapi}
-use Rattle.lapd_links.specs.Expiries.{IsNoLater}
+use Rattle.lapd_links.specs.Expiries.{IsNoLater, IsNoLaterLink}
 
 -- a place for each TEI of 0 to 126 (Q.921 3.3.4), in SAPI 0 and in SAPI 16
 pub record HasPlaces (call packet : List Timers) : Type 0 where
@@ -16,25 +17,6 @@ pub record HasPlaces (call packet : List Timers) : Type 0 where
 -- none of these runs
 abbrev pub AreAtRest : Timers → Type 0
 AreAtRest timers = (timer : Timer) → deadline_of timer timers ≡ None
-
--- ---- The moment before which no timer of a link is due.
-
-abbrev pub EndNoSooner : ℕ → Timers → Type 0
-EndNoSooner moment timers = (timer : Timer) (deadline : ℕ) → IsOfLink timer → deadline_of timer timers ≡ Some deadline → moment ≤ deadline
-
--- the lesser of a moment and a deadline, and the least of a moment and both deadlines of a link
-abbrev pub sooner_moment : ℕ → Option ℕ → ℕ
-sooner_moment moment None = moment
-sooner_moment moment (Some deadline) = min moment deadline
-
-abbrev pub soonest : ℕ → Option Timers → ℕ
-soonest moment None = moment
-soonest moment (Some timers) = sooner_moment (sooner_moment moment timers.t200) timers.t203
-
--- the deadline of the first timer that runs, and the last moment that can be told where none runs
-abbrev pub deadline_or_last : Option Expiry → ℕ
-deadline_or_last None = last_moment
-deadline_or_last (Some e) = e.deadline
 
 -- ---- The timers that run.
 
@@ -65,3 +47,30 @@ abbrev pub IsSooner : Option Expiry → Option Expiry → Option Expiry → Type
 IsSooner None b c = c ≡ b
 IsSooner (Some a) None c = c ≡ Some a
 IsSooner (Some a) (Some b) c = ((c ≡ Some a) × IsNoLater a b) ⊎ ((c ≡ Some b) × IsNoLater b a)
+
+-- ---- The bound: an expiry that none of links comes before.
+
+-- the one comes before the other, which is not as soon
+abbrev pub IsBefore : Expiry → Expiry → Type 0
+IsBefore e bound = IsNoLater bound e → ⊥
+
+-- the bound itself, or a timer of this link that runs; there may be no place for it
+abbrev pub IsOneOf : Expiry → LinkId → Option Timers → Expiry → Type 0
+IsOneOf bound id None e = e ≡ bound
+IsOneOf bound id (Some timers) e = (e ≡ bound) ⊎ RunsFor id timers e
+
+-- one at the last moment that can be told
+abbrev pub last_expiry : Expiry
+last_expiry = record { deadline = last_moment; timer = T203; of = None }
+
+-- the first timer that runs, or that where none runs
+abbrev pub expiry_or_last : Option Expiry → Expiry
+expiry_or_last None = last_expiry
+expiry_or_last (Some e) = e
+
+-- one of these that is the same timer as the bound with the same deadline, of its link or of one behind it
+pub record IsAlike (bound : Expiry) (Among : Expiry → Type 0) (e : Expiry) : Type 0 where
+  pub among : Among e
+  pub deadline : e.deadline ≡ bound.deadline
+  pub timer : e.timer ≡ bound.timer
+  pub link : IsNoLaterLink bound.of e.of

@@ -39,7 +39,7 @@ pub fn sooner(one: Option<Expiry>, other: Option<Expiry>) -> Option<Expiry>
 
 /// Whether the one comes first: by deadline, then by timer, then by link.
 #[inline(always)]
-fn is_no_later(one: &Expiry, other: &Expiry) -> bool
+pub fn is_no_later(one: &Expiry, other: &Expiry) -> bool
     ensures { MatchBool result (IsNoLater one.now other.now) (IsNoLater other.now one.now) }
 {
     if one.deadline < other.deadline {

@@ -5,11 +5,12 @@ ghost use Rattle.lapd_timers.specs.Due.{at_rest};
 ghost use Rattle.lapd_table.specs.declared.link_id.LinkId.{LinkId};
 ghost use Rattle.lapd_links.specs.Effects.{timed, stopped};
 ghost use Rattle.lapd_links.specs.Expiries.{IsFirst, Runs};
-ghost use Rattle.lapd_links.specs.Places.{HasPlaces, AreAtRest};
+ghost use Rattle.lapd_links.specs.Links.{IsOfLink};
+ghost use Rattle.lapd_links.specs.Places.{HasPlaces, AreAtRest, IsAlike};
 
 use crate::Expiry;
 use crate::expiry::sooner;
-use crate::firsts::first_in;
+use crate::firsts::{first_alike_in, first_in};
 use crate::telling::time;
 use lapd_link::{Out, Sapi};
 use lapd_table::LinkId;
@@ -26,7 +27,7 @@ pub struct Places {
 
 #[tactic(auto, unfolding(crate::specs::Placed::placed))]
 impl Places {
-    ghost use Rattle.lapd_links.specs.Placed.{placed, of_places};
+    ghost use Rattle.lapd_links.specs.Placed.{placed, of_places, NoneIsBefore};
 
     /// No timer runs. The room for all is taken here. How long they run is said for each link by [`Places::rest`].
     ///
@@ -115,6 +116,40 @@ impl Places {
         let call = first_in(Sapi::Call, &self.call);
         let packet = first_in(Sapi::Packet, &self.packet);
         sooner(call, packet)
+    }
+
+    /// The first of all T200 and T203 that run, where none of them comes before this bound. It is looked for from the place of
+    /// the bound on, and then among all.
+    pub fn first_from(&self, bound: &Expiry) -> Option<Expiry>
+        requires { NoneIsBefore bound.now self.now }
+        ensures { IsFirst (Runs (of_places self.now)) result }
+    {
+        match self.first_alike(bound) {
+            Some(found) => Some(found),
+            None => self.first(),
+        }
+    }
+
+    /// The first that is the same timer as the bound with the same deadline, of its link or of one behind it. What is no
+    /// timer of a link has none.
+    fn first_alike(&self, bound: &Expiry) -> Option<Expiry>
+        ensures { IsFirst (IsAlike bound.now (Runs (of_places self.now))) result }
+    {
+        match bound.timer {
+            Timer::T200 | Timer::T203 => self.first_alike_of_links(bound),
+            Timer::T201 | Timer::T202 => None,
+        }
+    }
+
+    /// The same, of a bound that is T200 or T203.
+    fn first_alike_of_links(&self, bound: &Expiry) -> Option<Expiry>
+        requires { IsOfLink bound.now.timer }
+        ensures { IsFirst (IsAlike bound.now (Runs (of_places self.now))) result }
+    {
+        match first_alike_in(Sapi::Call, &self.call, bound) {
+            Some(found) => Some(found),
+            None => first_alike_in(Sapi::Packet, &self.packet, bound),
+        }
     }
 }
 

@@ -1,27 +1,29 @@
 //! The timers of the links of a side.
 
 ghost use Rattle.std.specs.Prelude.{◌≡◌, ◌≢◌, ◌<◌, Some, option_map, option_copied, IfOk, IfSome};
-ghost use Rattle.lapd_timers.specs.Due.{at_rest};
+ghost use Rattle.lapd_timers.specs.Due.{at_rest, deadline_of};
 ghost use Rattle.lapd_table.specs.declared.link_id.LinkId.{LinkId};
 ghost use Rattle.lapd_links.specs.Effects.{timed, stopped};
 ghost use Rattle.lapd_links.specs.Expiries.{IsFirst, IsPast, Runs};
-ghost use Rattle.lapd_links.specs.Places.{AreAtRest, soonest, sooner_moment, deadline_or_last};
-ghost use Rattle.lapd_links.specs.Placed.{placed, of_places, NoneEndsBefore, NoneEndsBefore-prop};
+ghost use Rattle.lapd_links.specs.Places.{AreAtRest, IsOneOf, IsSooner, expiry_at, last_expiry, expiry_or_last};
+ghost use Rattle.lapd_links.specs.Placed.{placed, of_places, NoneIsBefore, NoneIsBefore-prop};
 
 use crate::Expiry;
+use crate::expiry::is_no_later;
+use crate::firsts::expiry;
 use crate::places::Places;
 use lapd_link::{Out, Sapi};
 use lapd_table::LinkId;
 use lapd_timers::{Durations, Timer, TimerSet};
 use std::alloc::{AllocError, Global};
 
-/// The timers of the links of a side, and the moment before which none of them is due.
+/// The timers of the links of a side, and an expiry that none of them comes before.
 #[derive(Drop)]
 pub struct Timings {
     places: Places,
-    /// In milliseconds. No T200 and no T203 that runs has a deadline before it.
-    moment: u64,
-    ghost ends: { NoneEndsBefore moment places } by { NoneEndsBefore-prop moment places },
+    /// No T200 and no T203 that runs comes before it: by deadline, then by timer, then by link. It need not run.
+    bound: Expiry,
+    ghost bounded: { NoneIsBefore bound places } by { NoneIsBefore-prop bound places },
 }
 
 impl Timings {
@@ -35,7 +37,7 @@ impl Timings {
     {
         Ok(Timings {
             places: Places::new(alloc)?,
-            moment: u64::MAX,
+            bound: last_expiry(),
         })
     }
 
@@ -68,7 +70,7 @@ impl Timings {
         ensures others { (other : LinkId) → other ≢ id.now → placed self.new.places other ≡ placed self.old.places other }
     {
         self.places.time(id, outs, now);
-        self.moment = sooner_of(self.moment, self.places.get(id));
+        lower(&mut self.bound, id, self.places.get(id));
     }
 
     /// Stops a timer of one link.
@@ -86,49 +88,70 @@ impl Timings {
         self.places.first()
     }
 
-    /// The first of the timers of links that are due at the moment `now`. Where `now` comes before the moment that is kept,
-    /// there is none; else all are looked at, and the least deadline is kept as that moment.
+    /// The first of the timers of links that are due at the moment `now`. Where `now` comes before the bound that is kept,
+    /// there is none. Else the first that runs is looked for from the bound on, and kept as the bound: so of timers that are
+    /// due with the same deadline each is found from the place of the one before.
     pub fn due(&mut self, now: u64) -> Option<Expiry>
         ensures first { IsFirst (IsPast now (of_places self.old.places)) result }
         ensures same { self.new.places ≡ self.old.places }
     {
-        if now < self.moment {
+        if now < self.bound.deadline {
             return None;
         }
-        let first = self.places.first();
+        let first = self.places.first_from(&self.bound);
         let found = first;
-        self.moment = deadline_or_last(first);
-        if self.moment <= now { found } else { None }
+        self.bound = expiry_or_last(first);
+        if self.bound.deadline <= now {
+            found
+        } else {
+            None
+        }
     }
 }
 
-/// The least of a moment and the deadlines of T200 and T203 of a link.
-fn sooner_of(moment: u64, timers: Option<&TimerSet>) -> u64
-    ensures { result ≡ soonest moment (option_copied timers.entry) }
+/// Lowers a bound to the timers of the link with this name, where one of them runs and comes before it.
+#[inline(always)]
+fn lower(bound: &mut Expiry, id: &LinkId, timers: Option<&TimerSet>)
+    ensures { IsFirst (IsOneOf bound.old id.now (option_copied timers.entry)) (Some bound.new) }
 {
     let Some(timers) = timers else {
-        return moment;
+        return;
     };
-    let moment = sooner_moment(moment, timers.deadline(Timer::T200));
-    sooner_moment(moment, timers.deadline(Timer::T203))
+    lower_to(bound, id, Timer::T200, timers);
+    lower_to(bound, id, Timer::T203, timers);
 }
 
-/// The lesser of a moment and a deadline.
-fn sooner_moment(moment: u64, deadline: Option<u64>) -> u64
-    ensures { result ≡ sooner_moment moment deadline }
+/// Lowers a bound to a timer of the link with this name, where it runs and comes before it.
+#[inline(always)]
+fn lower_to(bound: &mut Expiry, id: &LinkId, timer: Timer, timers: &TimerSet)
+    ensures { IsSooner (Some bound.old)
+        (option_map (expiry_at id.now timer) (deadline_of timer timers.now)) (Some bound.new) }
 {
-    match deadline {
-        Some(deadline) => moment.min(deadline),
-        None => moment,
+    let Some(expiry) = expiry(id, timer, timers) else {
+        return;
+    };
+    if !is_no_later(bound, &expiry) {
+        *bound = expiry;
     }
 }
 
-/// When the first timer expires; the last moment where none runs.
-fn deadline_or_last(first: Option<Expiry>) -> u64
-    ensures { result ≡ deadline_or_last first }
+/// The first timer that runs; where none runs, one at the last moment that can be told.
+fn expiry_or_last(first: Option<Expiry>) -> Expiry
+    ensures { result ≡ expiry_or_last first }
 {
     match first {
-        Some(expiry) => expiry.deadline,
-        None => u64::MAX,
+        Some(expiry) => expiry,
+        None => last_expiry(),
+    }
+}
+
+/// One at the last moment that can be told, the bound where no timer runs.
+fn last_expiry() -> Expiry
+    ensures { result ≡ last_expiry }
+{
+    Expiry {
+        deadline: u64::MAX,
+        timer: Timer::T203,
+        of: None,
     }
 }

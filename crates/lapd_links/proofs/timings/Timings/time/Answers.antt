@@ -1,12 +1,11 @@
-use Rattle.std.proofs.Common.{ℕ, option_copied, sym, subst, rules}
-use Rattle.lapd_links.specs.Placed.{NoneEndsBefore}
+use Rattle.std.proofs.Common.{option_copied, rules}
 use Rattle.lapd_links.proofs.Dues.{timed_places}
 use Rattle.lapd_links.proofs.timings.Timings.time.Goals as goal
 
 pub invariant_of-self : goal.invariant_of-self
 invariant_of-self c = record {
-  ends = subst (λ (m : ℕ). NoneEndsBefore m c.time.new.self) (sym c.sooner_of-self.ensures)
-      (timed_places c.args.self.now.moment c.args.self.now.places c.time.new.self c.args.id.now (option_copied c.get.result) c.get.ensures c.time.ensures.others c.args.self.now.ends);
+  bounded = timed_places c.args.self.now.bound c.lower.new.bound c.args.self.now.places c.time.new.self c.args.id.now
+      (option_copied c.get.result) c.get.ensures c.lower.ensures c.time.ensures.others c.args.self.now.bounded;
 }
 
 pub returns-clause-own : goal.returns-clause-own
