@@ -9,6 +9,7 @@
 
 mod answerer;
 mod decoder;
+mod move_lines;
 mod mover;
 mod moves;
 mod outputs;

@@ -1,31 +1,31 @@
 //! Two ends and the line between them, on which a script makes the moves.
 
-ghost use Rattle.std.specs.Prelude.{◌≡◌, ◌∷◌, ◌++◌, IsOkUnless, OnOk};
+ghost use Rattle.std.specs.Prelude.{◌≡◌, IsOkUnless, OnOk};
 ghost use Rattle.std.specs.Io.KnownBytes.{Appends};
 ghost use Rattle.lapd_commands.specs.Playing.{IsMover};
-ghost use Rattle.lapd_commands.specs.Pair.{figures_line, not_admitted, settled_line, side_line, side_name as name_of, unit_of as unit_data_of};
-ghost use Rattle.lapd_frame.specs.Frame.{spelling};
+ghost use Rattle.lapd_commands.specs.Pair.{figures_line, not_admitted, settled_line, side_name as name_of, unit_of as unit_data_of};
 ghost use Rattle.lapd_pair.specs.Moves.{move_of};
-ghost use Rattle.lapd_script.specs.Line.{text_line};
-ghost use Rattle.lapd_commands.specs.Outputs.{primitive_line};
-ghost use Rattle.lapd_trace.specs.Trace.{trace_line};
 ghost use Rattle.lapd_world.specs.Move.{NotYet};
 ghost use Rattle.lapd_world.specs.World.{World, new_world};
 
+use crate::move_lines::write_lines;
 use crate::moves::read_move;
-use crate::outputs::{put_primitive, put_refusal};
-use lapd_frame::{Frame, MOST_OCTETS, Side, write};
-use lapd_link::{Out, Params};
+use crate::outputs::put_refusal;
+use lapd_frame::Side;
+use lapd_link::{Outs, Params};
 use lapd_pair::{Move, Pair, PairFault, Settled};
 use lapd_script::{Command, LineFault, ScriptFault, put_line, put_number};
 use std::alloc::{AllocError, Global};
 use std::io::Write;
 
-/// Two ends of a link and the line between them, which make the moves of a script, a line each, by [`Command::run`].
+/// Two ends of a link and the line between them, which make the moves of a script, a line each, by [`Command::run`]. It has
+/// room for the outputs and the text of one move, which is used again for the next.
 #[derive(Drop)]
 pub struct Mover {
     alloc: Global,
     pair: Pair,
+    outs: Outs,
+    text: Vec<u8>,
 }
 
 impl Mover {
@@ -41,7 +41,14 @@ impl Mover {
         ensures { IfOk result (λ mover. IsMover mover (new_world user network)) }
     {
         let pair = Pair::new(alloc, user, network)?;
-        Ok(Mover { alloc, pair })
+        let outs = Outs::new();
+        let text = Vec::new(alloc);
+        Ok(Mover {
+            alloc,
+            pair,
+            outs,
+            text,
+        })
     }
 
     /// The two ends and their line.
@@ -68,9 +75,8 @@ impl Command for Mover {
 }
 
 impl Mover {
-    ghost use Rattle.std.specs.Prelude.{IfOk, Some};
-    ghost use Rattle.lapd_commands.specs.Pair.{closing_line, closing_lines, figures_of, move_made, octets_for, settle_made};
-    ghost use Rattle.lapd_commands.specs.Playing.{made_told_line, made_told_lines};
+    ghost use Rattle.std.specs.Prelude.{Some};
+    ghost use Rattle.lapd_commands.specs.Pair.{closing_line, closing_lines, figures_of, move_made, settle_made};
     ghost use Rattle.lapd_script.specs.Script.{LineEndsAs};
     ghost use Rattle.lapd_world.specs.World.{view_of};
 
@@ -79,10 +85,17 @@ impl Mover {
         ensures { (w : World) → IsMover self.old w
             → LineEndsAs IsMover (Some (move_made w (move_of deed.now))) result self.new (W.contents out.old) (W.contents out.new) }
     {
-        match self.pair.apply(deed) {
-            Ok(outs) => {
-                let text = self.told(deed.side(), unit_of(deed), outs.as_slice())?;
-                out.write_all(text.as_slice())?;
+        match self.pair.apply_into(deed, &mut self.outs) {
+            Ok(()) => {
+                write_lines(
+                    self.alloc,
+                    &self.pair,
+                    deed.side(),
+                    unit_of(deed),
+                    self.outs.as_slice(),
+                    &mut self.text,
+                )?;
+                out.write_all(self.text.as_slice())?;
                 Ok(())
             }
             Err(PairFault::NothingThere) => put_line(b"refused P1 NothingThere", &[], out),
@@ -102,55 +115,6 @@ impl Mover {
         match self.pair.settle() {
             Ok(settled) => put_settled(settled, out),
             Err(_) => Err(LineFault::Memory),
-        }
-    }
-
-    /// The lines of the outputs of a move of this side, which is done.
-    fn told(&self, side: Side, unit: &[u8], outs: &[Out]) -> Result<Vec<u8>, LineFault>
-        ensures ok { (w : World) → IsMover self.now w
-            → IfOk result (λ text. text.items ≡ made_told_lines side (view_of side w).station unit.now outs.now) }
-        ensures err { IsOkUnless result LineFault.Memory }
-    {
-        let mut text = Vec::new(self.alloc);
-        for given in outs {
-            self.tell(side, unit, given, &mut text)?;
-        }
-        Ok(text)
-    }
-
-    /// Adds the line of an output of this side, where it has one.
-    fn tell(
-        &self,
-        side: Side,
-        unit: &[u8],
-        given: &Out,
-        text: &mut Vec<u8>,
-    ) -> Result<(), LineFault>
-        ensures ok { (w : World) → IsMover self.now w
-            → OnOk result (text.new.items ≡ text.old.items ++ made_told_line side (view_of side w).station unit.now given.now) }
-        ensures err { IsOkUnless result LineFault.Memory }
-    {
-        let octets = self.octets_for(side, unit, given);
-        match self.pair.link(side).frame(given, octets) {
-            Some(frame) => push_frame(self.alloc, side, &frame, text),
-            None => push_side_line(side, octets, given, text),
-        }
-    }
-
-    /// The octets that an output speaks of: those last received, or the unit data that is sent.
-    fn octets_for<'a>(&'a self, side: Side, unit: &'a [u8], given: &Out) -> &'a [u8]
-        ensures { (w : World) → IsMover self.now w → result.now ≡ octets_for (view_of side w).station.history unit.now given.now }
-    {
-        match given {
-            Out::Up => match self.pair.received(side).last() {
-                Some(message) => message.octets.as_slice(),
-                None => &[],
-            },
-            Out::UnitUp => match self.pair.units(side).last() {
-                Some(octets) => octets.as_slice(),
-                None => &[],
-            },
-            _ => unit,
         }
     }
 
@@ -272,74 +236,4 @@ fn put_not_yet<W: Write>(to: Side, place: usize, out: &mut W) -> Result<(), Line
         Side::User => put_number(b"refused P3 NotYet user ", place as u64, out),
         Side::Network => put_number(b"refused P3 NotYet net ", place as u64, out),
     }
-}
-
-/// Adds a frame that this side sends, as a trace line.
-fn push_frame(
-    alloc: Global,
-    side: Side,
-    frame: &Frame<'_>,
-    text: &mut Vec<u8>,
-) -> Result<(), LineFault>
-    ensures ok { OnOk result (text.new.items ≡ text.old.items ++ text_line (trace_line side (spelling side frame.now))) }
-    ensures err { IsOkUnless result LineFault.Memory }
-{
-    let mut octets = [0; MOST_OCTETS];
-    let len = write(frame, side, &mut octets);
-    let Ok(line) = lapd_trace::line(alloc, side, &octets[..len]) else {
-        return Err(LineFault::Memory);
-    };
-    let Ok(()) = put_line(line.as_bytes(), &[], text) else {
-        return Err(LineFault::Memory);
-    };
-    Ok(())
-}
-
-/// Adds a primitive or a report of this side. Timers are not told.
-fn push_side_line(
-    side: Side,
-    octets: &[u8],
-    given: &Out,
-    text: &mut Vec<u8>,
-) -> Result<(), LineFault>
-    ensures ok { OnOk result (text.new.items ≡ text.old.items ++ side_line side octets.now given.now) }
-    ensures err { IsOkUnless result LineFault.Memory }
-{
-    match given {
-        Out::Send(..) | Out::SendMessage(..) | Out::SendUnit | Out::Start(_) | Out::Stop(_) => Ok(
-            (),
-        ),
-        Out::Up
-        | Out::UnitUp
-        | Out::Established
-        | Out::Confirmed
-        | Out::Released
-        | Out::ReleaseConfirm
-        | Out::Acknowledged(_)
-        | Out::Dropped(_)
-        | Out::Report(_) => push_primitive(side, octets, given, text),
-    }
-}
-
-/// Adds the name of the side, a space and the primitive or report.
-fn push_primitive(
-    side: Side,
-    octets: &[u8],
-    given: &Out,
-    text: &mut Vec<u8>,
-) -> Result<(), LineFault>
-    ensures ok { OnOk result (text.new.items ≡ text.old.items ++ name_of side ++ (32 ∷ primitive_line octets.now given.now)) }
-    ensures err { IsOkUnless result LineFault.Memory }
-{
-    let front = match side {
-        Side::User => b"user ".as_slice(),
-        Side::Network => b"net ".as_slice(),
-    };
-    let Ok(()) = text.extend_from_slice(front) else {
-        return Err(LineFault::Memory);
-    };
-    let Ok(()) = put_primitive(octets, given, text) else {
-        return Err(LineFault::Memory);
-    };
-    Ok(())
 }

@@ -8,8 +8,8 @@ use Rattle.lapd_commands.proofs.mover.Mover.make.Goals as goal
 pub returns-in_ok-write_all-in-Ok : goal.returns-in_ok-write_all-in-Ok
 returns-in_ok-write_all-in-Ok g c = λ w stands.
     let h = c.in-Ok.ensures.ok w stands in
-    move_written w (move_of c.args.deed.now) h.happened c.apply.new.self c.side.result c.unit_of.result.now c.as_slice.result.now c.in_ok-text-in-Ok.text.items c.as_slice-in-Ok.result.now _ _
-    stands.kept h.is (h.same ∙ sym c.as_slice.ensures.value) h.stands c.side.ensures c.unit_of.ensures (c.in_ok-text-in-Ok.ensures.ok h.happened.world h.stands) c.as_slice-in-Ok.ensures.value c.in_ok-write_all-in-Ok.ensures.bytes
+    move_written w (move_of c.args.deed.now) h.happened c.apply_into.new.self c.side.result c.unit_of.result.now c.as_slice.result.now c.write_lines.new.text.items c.as_slice-in-Ok.result.now _ _
+    stands.kept h.is (h.same ∙ sym c.as_slice.ensures.value) h.stands c.side.ensures c.unit_of.ensures (c.in_ok-write_lines-in-Ok.ensures.ok h.happened.world h.stands) c.as_slice-in-Ok.ensures.value c.in_ok-write_all-in-Ok.ensures.bytes
 
 pub returns-in-Err-NothingThere : goal.returns-in-Err-NothingThere
 returns-in-Err-NothingThere g c = λ w stands.
