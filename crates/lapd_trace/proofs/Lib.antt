@@ -1,1 +1,2 @@
+pub mod FrameLines
 pub mod LastOf

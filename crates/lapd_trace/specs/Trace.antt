@@ -57,6 +57,10 @@ octets_text words (octet ∷ octets) = words ++ encode_lower (octet ∷ octets)
 abbrev pub frame_text : Fields → List ℕ
 frame_text f = address_text f.address ++ (control_text f.address.role f.control ++ octets_text (codes " info=") f.info)
 
+-- the line of a frame that this side sends
+abbrev pub frame_line : Side → Fields → List ℕ
+frame_line from f = direction_text from ++ frame_text f
+
 -- a frame, or the first fault of these octets
 abbrev pub text_of : List ℕ → Result Fields FrameFault → List ℕ
 text_of octets (Ok frame) = frame_text frame

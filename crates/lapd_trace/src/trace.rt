@@ -1,7 +1,8 @@
 ghost use Rattle.std.specs.Prelude.{◌≡◌, ◌++◌, IfOk, OnOk};
 ghost use Rattle.std.specs.Fmt.{decimal};
 ghost use Rattle.std.specs.String.{string_bytes};
-ghost use Rattle.lapd_trace.specs.Trace.{trace_line, frame_text, direction_text, role_text, poll_text, address_text, control_text, octets_text};
+ghost use Rattle.lapd_frame.specs.Frame.{IsFrame, spelling};
+ghost use Rattle.lapd_trace.specs.Trace.{trace_line, frame_line, frame_text, direction_text, role_text, poll_text, address_text, control_text, octets_text};
 
 use lapd_frame::{Address, Control, Frame, Number, Role, Side};
 use std::alloc::{AllocError, Global};
@@ -9,6 +10,9 @@ use std::alloc::{AllocError, Global};
 /// The greatest length of a line, in octets of text, beside two digits for each octet of the frame. An I frame with
 /// information, SAPI 16 or 63 and numbers of three digits has it.
 const MOST_BESIDE_DIGITS: usize = 43;
+
+/// How many octets of address and control field a frame has at most.
+const MOST_FIELD_OCTETS: usize = 4;
 
 /// The line of text for `bytes`, which `from` sent: a frame by the names and values of its fields, or the first fault
 /// and the octets. For the user's frames it begins with `U>N`, for the network's with `N>U`.
@@ -27,9 +31,7 @@ const MOST_BESIDE_DIGITS: usize = 43;
 pub fn line(alloc: Global, from: Side, bytes: &[u8]) -> Result<String, AllocError>
     ensures { IfOk result (λ s. string_bytes s ≡ trace_line from bytes.now) }
 {
-    let digits = bytes.len().saturating_mul(2);
-    let mut text = String::with_capacity(alloc, digits.saturating_add(MOST_BESIDE_DIGITS))?;
-    text.push_str(direction_name(from))?;
+    let mut text = begun_line(alloc, from, bytes.len())?;
     match lapd_frame::read(bytes, from) {
         Ok(frame) => push_frame(alloc, &mut text, &frame)?,
         Err(fault) => {
@@ -37,6 +39,36 @@ pub fn line(alloc: Global, from: Side, bytes: &[u8]) -> Result<String, AllocErro
             push_octets(alloc, &mut text, " ", bytes)?;
         }
     }
+    Ok(text)
+}
+
+/// The line of text for a frame that `from` sends: that of the frame's octets, which need not be there.
+///
+/// It takes the room of the line once.
+///
+/// # Errors
+///
+/// `AllocError` where there was no memory for the line.
+pub fn line_of(alloc: Global, from: Side, frame: &Frame<'_>) -> Result<String, AllocError>
+    ensures line { IfOk result (λ s. string_bytes s ≡ frame_line from frame.now) }
+
+    // It is the line of the octets that the frame is written as.
+    ensures spelled { IsFrame frame.now
+        → IfOk result (λ s. string_bytes s ≡ trace_line from (spelling from frame.now)) }
+{
+    let octets = frame.info().len().saturating_add(MOST_FIELD_OCTETS);
+    let mut text = begun_line(alloc, from, octets)?;
+    push_frame(alloc, &mut text, frame)?;
+    Ok(text)
+}
+
+/// Who sent a frame, with room for a line that has the digits of so many octets.
+fn begun_line(alloc: Global, from: Side, octets: usize) -> Result<String, AllocError>
+    ensures { IfOk result (λ s. string_bytes s ≡ direction_text from) }
+{
+    let digits = octets.saturating_mul(2);
+    let mut text = String::with_capacity(alloc, digits.saturating_add(MOST_BESIDE_DIGITS))?;
+    text.push_str(direction_name(from))?;
     Ok(text)
 }
 
