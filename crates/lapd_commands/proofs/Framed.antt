@@ -1,12 +1,19 @@
 -- What is made of the outputs of a step is what is printed of it: each that is sent has its frame.
-use Rattle.std.proofs.Common.{◌≡◌, ◌≤◌, ℕ, List, [], ◌∷◌, ◌++◌, length, Option, Result, Ok, Err, refl, sym, ap, subst, ◌∙◌, arith}
+use Rattle.std.specs.Prelude.{⊤}
+use Rattle.std.proofs.Common.{◌≡◌, ◌≤◌, ℕ, List, [], ◌∷◌, ◌++◌, length, slice_get, false, Option, Some, None, Result, Ok, Err, refl, sym, ap, subst, ◌∙◌, arith}
 use Rattle.std.proofs.lemmas.List.Elements.{All-head, All-tail}
 use Rattle.std.specs.Io.KnownBytes.{Appends}
 use Rattle.std.specs.List.{All}
+use Rattle.std.specs.Result.{result_ok}
+use Rattle.lapd_frame.specs.declared.Address.{Address}
+use Rattle.lapd_frame.specs.declared.Control.{Control}
+use Rattle.lapd_frame.specs.declared.Control.TheVariants.{Ui}
+use Rattle.lapd_frame.specs.declared.fault_kind.FaultKind.{FaultKind}
+use Rattle.lapd_frame.specs.declared.Role.TheVariants.{Command}
 use Rattle.lapd_frame.specs.declared.Side.{Side}
-use Rattle.lapd_frame.specs.Frame.{n201}
+use Rattle.lapd_frame.specs.Frame.{Fields, content_fault, frame_of, n201}
 use Rattle.lapd_link.specs.Link.{Setup}
-use Rattle.lapd_link.specs.SentFrame.{made_frame, sent_frame, HaveFrames, HasFramesOf}
+use Rattle.lapd_link.specs.SentFrame.{link_address, made_frame, message_frame, sent_frame, HaveFrames, HasFramesOf}
 use Rattle.lapd_link.specs.declared.link.Link.{Link}
 use Rattle.lapd_link.proofs.Frames.{short_unit}
 use Rattle.lapd_mod128.specs.Counting.{Tagged}
@@ -21,13 +28,15 @@ use Rattle.lapd_states.specs.End.{End, StepState}
 use Rattle.lapd_states.specs.Input as input
 use Rattle.lapd_states.specs.Input.{Input}
 use Rattle.lapd_states.specs.Table.{step}
+use Rattle.lapd_script.specs.Line.{text_line}
+use Rattle.lapd_trace.proofs.FrameLines.{line_of_spelling}
 use Rattle.lapd_world.specs.Kept.{IsKeptWorld}
 use Rattle.lapd_world.specs.Move.{Deed, UnitData, Move, Refusal, Station, View, stepped, takes, acts}
 use Rattle.lapd_world.specs.World.{World, Happened, view_of, in_world, happens}
 use Rattle.lapd_commands.specs.Answer.{Session, IsSession, messages_of}
 use Rattle.lapd_commands.specs.Outputs.{frame_or_primitive, out_line, outs_text}
 use Rattle.lapd_commands.specs.Pair.{frame_or_side_line, move_made, move_told, told_line, told_lines, unit_of}
-use Rattle.lapd_commands.specs.Playing.{made_told_line, made_told_lines}
+use Rattle.lapd_commands.specs.Playing.{made_side_line, made_told_line, made_told_lines}
 use Rattle.lapd_commands.specs.Session.{IsHandedWith, made_text}
 
 -- the frame that is made of an output is the one that is sent
@@ -52,12 +61,44 @@ pub fits_with : (input : Input) (handed : List ℕ) (e : End) (s : StepState) �
 fits_with (input.UnitData len) handed e s same done = subst (λ (n : ℕ). n ≤ n201) same (short_unit len e s done)
 fits_with input handed e s fits done = fits
 
+-- ---- A frame that is made.
+
+-- the control table has it, where there is one
+abbrev HasContent : Option Fields → Type 0
+HasContent None = ⊤
+HasContent (Some f) = content_fault f.address.role f.control (length f.info) ≡ None
+
+frame_has_content : (a : Address) (c : Control) (info : List ℕ) (fault : Option FaultKind) → content_fault a.role c (length info) ≡ fault → HasContent (result_ok (frame_of a c info fault))
+frame_has_content a c info None h = h
+frame_has_content a c info (Some fault) h = tt
+
+message_has_content : (setup : Setup) (control : Control) (message : Option (List ℕ)) → HasContent (message_frame setup control message)
+message_has_content setup control None = tt
+message_has_content setup control (Some message) = frame_has_content (link_address setup Command) control message _ refl
+
+made_has_content : (setup : Setup) (messages : List (List ℕ)) (handed : List ℕ) (output : Out) → HasContent (made_frame setup messages handed output)
+made_has_content setup messages handed (Send role control) = frame_has_content (link_address setup role) control [] _ refl
+made_has_content setup messages handed (SendMessage place control) = message_has_content setup control (slice_get messages place)
+made_has_content setup messages handed SendUnit = frame_has_content (link_address setup Command) (Ui false) handed _ refl
+made_has_content setup messages handed output = tt
+
+-- its line is that of its octets
+line_of_made : (side : Side) (made : Option Fields) (octets : List ℕ) (output : Out) → HasContent made → made_side_line side made octets output ≡ frame_or_side_line side made octets output
+line_of_made side None octets output h = refl
+line_of_made side (Some f) octets output h = ap (λ (t : List ℕ). text_line t) (sym (line_of_spelling side f h))
+
 -- ---- A pair.
 
+line_of_sent : (side : Side) (s : Station) (unit : List ℕ) (output : Out) → IsSent (setup_for side) (messages_of s.end) unit output
+    → made_side_line side (made_frame (setup_for side) (messages_of s.end) unit output) unit output ≡ frame_or_side_line side (sent_frame (setup_for side) (messages_of s.end) unit output) unit output
+line_of_sent side s unit output h =
+    line_of_made side _ unit output (made_has_content (setup_for side) (messages_of s.end) unit output)
+    ∙ ap (λ (f : Option Fields). frame_or_side_line side f unit output) h
+
 same_told_line : (side : Side) (s : Station) (unit : List ℕ) (output : Out) → IsSent (setup_for side) (messages_of s.end) unit output → made_told_line side s unit output ≡ told_line side s unit output
-same_told_line side s unit (Send role control) h = ap (λ (f : _). frame_or_side_line side f unit (Send role control)) h
-same_told_line side s unit (SendMessage place control) h = ap (λ (f : _). frame_or_side_line side f unit (SendMessage place control)) h
-same_told_line side s unit SendUnit h = ap (λ (f : _). frame_or_side_line side f unit SendUnit) h
+same_told_line side s unit (Send role control) h = line_of_sent side s unit (Send role control) h
+same_told_line side s unit (SendMessage place control) h = line_of_sent side s unit (SendMessage place control) h
+same_told_line side s unit SendUnit h = line_of_sent side s unit SendUnit h
 same_told_line side s unit Up h = refl
 same_told_line side s unit UnitUp h = refl
 same_told_line side s unit output h = refl

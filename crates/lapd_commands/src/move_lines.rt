@@ -4,14 +4,13 @@ ghost use Rattle.std.specs.Prelude.{◌≡◌, ◌∷◌, ◌++◌, IsOkUnless, 
 ghost use Rattle.lapd_commands.specs.Outputs.{primitive_line};
 ghost use Rattle.lapd_commands.specs.Pair.{octets_for, side_line, side_name as name_of};
 ghost use Rattle.lapd_commands.specs.Playing.{made_told_line, made_told_lines};
-ghost use Rattle.lapd_frame.specs.Frame.{spelling};
 ghost use Rattle.lapd_pair.specs.Runs.{PairStandsFor};
 ghost use Rattle.lapd_script.specs.Line.{text_line};
-ghost use Rattle.lapd_trace.specs.Trace.{trace_line};
+ghost use Rattle.lapd_trace.specs.Trace.{frame_line};
 ghost use Rattle.lapd_world.specs.World.{World, view_of};
 
 use crate::outputs::put_primitive;
-use lapd_frame::{Frame, MOST_OCTETS, Side, write};
+use lapd_frame::{Frame, Side};
 use lapd_link::Out;
 use lapd_pair::Pair;
 use lapd_script::{LineFault, put_line};
@@ -87,12 +86,11 @@ fn push_frame(
     frame: &Frame<'_>,
     text: &mut Vec<u8>,
 ) -> Result<(), LineFault>
-    ensures ok { OnOk result (text.new.items ≡ text.old.items ++ text_line (trace_line side (spelling side frame.now))) }
+    ensures ok { OnOk result
+        (text.new.items ≡ text.old.items ++ text_line (frame_line side frame.now)) }
     ensures err { IsOkUnless result LineFault.Memory }
 {
-    let mut octets = [0; MOST_OCTETS];
-    let len = write(frame, side, &mut octets);
-    let Ok(line) = lapd_trace::line(alloc, side, &octets[..len]) else {
+    let Ok(line) = lapd_trace::line_of(alloc, side, frame) else {
         return Err(LineFault::Memory);
     };
     let Ok(()) = put_line(line.as_bytes(), &[], text) else {
