@@ -1,20 +1,23 @@
 //! What the calls of a side give for one line of its script.
 
-ghost use Rattle.std.specs.Prelude.{◌≡◌, IsOkUnless};
+ghost use Rattle.std.specs.Prelude.{◌≡◌, [], ◌++◌, IsOkUnless, OnOk};
 ghost use Rattle.lapd_links.specs.Effects.{HasLeastOctets};
+ghost use Rattle.lapd_socket.specs.Told.{primitives_text};
 
 use crate::told::put_primitives;
 use arrayvec::ArrayVec;
 use lapd_frame::{MOST_OCTETS, Side};
-use lapd_script::LineFault;
+use lapd_port::{Port, PortFault, Sink, Source};
+use lapd_script::{LineFault, put_line};
 use lapd_sides::Acts;
 use std::alloc::Global;
+use std::io::Write;
 
 /// A frame that is to be sent, of at least three octets, and its trace line.
 #[derive(Drop)]
-pub(crate) struct Sent {
-    pub(crate) octets: ArrayVec<u8, MOST_OCTETS>,
-    pub(crate) line: String,
+struct Sent {
+    octets: ArrayVec<u8, MOST_OCTETS>,
+    line: String,
     ghost least: { HasLeastOctets octets.items },
 }
 
@@ -37,14 +40,13 @@ impl Given {
         }
     }
 
-    /// The frames that are to be sent, in order.
-    pub(crate) fn frames(&self) -> &[Sent] {
-        self.frames.as_slice()
-    }
-
-    /// The lines of what the layers above are told.
-    pub(crate) fn told(&self) -> &[u8] {
-        self.told.as_slice()
+    /// Forgets all, and keeps the room for it.
+    pub(crate) fn clear(&mut self)
+        ensures frames { self.new.frames.items ≡ [] }
+        ensures told { self.new.told.items ≡ [] }
+    {
+        self.frames.clear();
+        self.told.clear();
     }
 
     /// Puts what a call of this side gave behind all that came before.
@@ -53,6 +55,8 @@ impl Given {
     ///
     /// `Memory`.
     pub(crate) fn gather(&mut self, side: Side, acts: &Acts) -> Result<(), LineFault>
+        ensures told { OnOk result
+            (self.new.told.items ≡ self.old.told.items ++ primitives_text acts.now.primitives) }
         ensures err { IsOkUnless result LineFault.Memory }
     {
         for frame in acts.frames() {
@@ -64,9 +68,33 @@ impl Given {
         }
     }
 
+    /// Sends the frames, each in one write, and prints each once it is sent; then prints what the layers above are told. Where
+    /// the port fails, nothing more is sent or printed, and how it failed is handed back.
+    ///
+    /// # Errors
+    ///
+    /// `Device`, where the writer fails.
+    pub(crate) fn hand_on<W: Write, S: Source, K: Sink>(
+        &self,
+        port: &mut Port<S, K>,
+        out: &mut W,
+    ) -> Result<Option<PortFault>, LineFault>
+        ensures err { IsOkUnless result LineFault.Device }
+    {
+        for sent in self.frames.as_slice() {
+            if let Err(fault) = port.write_frame(sent.octets.as_slice()) {
+                return Ok(Some(fault));
+            }
+            put_line(sent.line.as_bytes(), &[], out)?;
+        }
+        out.write_all(self.told.as_slice())?;
+        Ok(None)
+    }
+
     /// Adds a frame with its trace line.
     fn add(&mut self, side: Side, frame: &[u8]) -> Result<(), LineFault>
         requires { HasLeastOctets frame.now }
+        ensures told { self.new.told ≡ self.old.told }
         ensures err { IsOkUnless result LineFault.Memory }
     {
         let Ok(line) = lapd_trace::line(self.alloc, side, frame) else {

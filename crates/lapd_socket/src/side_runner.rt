@@ -17,13 +17,15 @@ use std::io::{self, Read, Write};
 /// The last moment of the clock, in milliseconds.
 const LAST_MOMENT: u64 = 1_000_000_000_000_000;
 
-/// A side, its clock, and what it is given and gives: a port and a writer.
+/// A side, its clock, and what it is given and gives: a port and a writer. It has room for what a line gives, which is used
+/// again for the next.
 #[derive(Drop)]
 struct SideRunner<'o, W, S, K> {
     alloc: Global,
     side: EitherSide,
     now: u64,
     acts: Acts,
+    given: Given,
     out: &'o mut W,
     port: Port<S, K>,
     /// How the port failed.
@@ -53,6 +55,7 @@ pub(crate) fn run_side<R: Read, W: Write, S: Source, K: Sink>(
         side,
         now: 0,
         acts,
+        given: Given::new(alloc),
         out,
         port,
         fault: None,
@@ -126,10 +129,10 @@ impl<W: Write, S: Source, K: Sink> SideRunner<'_, W, S, K> {
         let Ok(()) = self.side.take(frame, self.now, &mut self.acts) else {
             return Err(LineFault::Memory);
         };
-        let mut given = Given::new(self.alloc);
-        given.gather(side, &self.acts)?;
+        self.given.clear();
+        self.given.gather(side, &self.acts)?;
         put_line(line.as_bytes(), &[], self.out)?;
-        self.hand_on(&given)
+        self.hand_on()
     }
 
     /// The clock goes on, and all that is due then is done.
@@ -154,14 +157,14 @@ impl<W: Write, S: Source, K: Sink> SideRunner<'_, W, S, K> {
         ensures good { IsGood result }
     {
         let side = self.side.side();
-        let mut given = Given::new(self.alloc);
+        self.given.clear();
         for _tick in 0..u64::MAX {
             if !self.side.tick(self.now, &mut self.acts) {
                 break;
             }
-            given.gather(side, &self.acts)?;
+            self.given.gather(side, &self.acts)?;
         }
-        self.hand_on(&given)
+        self.hand_on()
     }
 
     /// The side is asked for something.
@@ -173,9 +176,9 @@ impl<W: Write, S: Source, K: Sink> SideRunner<'_, W, S, K> {
         let side = self.side.side();
         match self.side.request(request, self.now, &mut self.acts) {
             Ok(()) => {
-                let mut given = Given::new(self.alloc);
-                given.gather(side, &self.acts)?;
-                self.hand_on(&given)
+                self.given.clear();
+                self.given.gather(side, &self.acts)?;
+                self.hand_on()
             }
             Err(fault) => self.refuse(fault.kind),
         }
@@ -193,20 +196,16 @@ impl<W: Write, S: Source, K: Sink> SideRunner<'_, W, S, K> {
         }
     }
 
-    /// Sends the frames, each in one write, and prints each once it is sent; then prints what the layers above are told.
-    fn hand_on(&mut self, given: &Given) -> Result<(), LineFault>
+    /// Sends and prints what the line gave.
+    fn hand_on(&mut self) -> Result<(), LineFault>
         ensures side { side_of self.new.side ≡ side_of self.old.side }
         ensures clock { self.new.now ≡ self.old.now }
         ensures good { IsGood result }
     {
-        for sent in given.frames() {
-            if let Err(fault) = self.port.write_frame(sent.octets.as_slice()) {
-                return self.fail(fault);
-            }
-            put_line(sent.line.as_bytes(), &[], self.out)?;
+        match self.given.hand_on(&mut self.port, self.out)? {
+            Some(fault) => self.fail(fault),
+            None => Ok(()),
         }
-        self.out.write_all(given.told())?;
-        Ok(())
     }
 
     /// The port has failed, so the script ends. What was printed before is handed to the device.
