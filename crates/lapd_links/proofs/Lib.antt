@@ -5,4 +5,3 @@ pub mod Units
 pub mod Order
 pub mod Dues
 pub mod Outcomes
-pub mod Digits

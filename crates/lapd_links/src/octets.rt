@@ -5,11 +5,14 @@ use arrayvec::ArrayVec;
 use std::fmt;
 use std::marker::Model;
 
+/// How many octets there are at most (N201, Q.921 5.9.3).
+const MOST: usize = 260;
+
 /// The octets of a message or of unit data that goes up to layer 3, at most 260 (N201, Q.921 5.9.3). They print
 /// as hexadecimal digits in lower case.
 #[derive(Debug, Drop)]
 pub struct Octets {
-    octets: ArrayVec<u8, 260>,
+    octets: ArrayVec<u8, MOST>,
 }
 
 impl Model for Octets {
@@ -45,9 +48,14 @@ impl fmt::Display for Octets {
     ghost output = { λ octets. Some (encode_lower octets) };
 
     fn fmt<W: fmt::Write>(&self, f: &mut fmt::Formatter<W>) -> fmt::Result {
-        for octet in self.as_slice() {
-            write!(f, "{octet:02x}")?;
-        }
-        Ok(())
+        let mut room = [0u8; 2 * MOST];
+        let digits = &mut room[..2 * self.octets.len()];
+        let Ok(()) = hex::encode_to_slice(self.octets.as_slice(), digits) else {
+            unreachable!()
+        };
+        let Ok(text) = str::from_utf8(digits) else {
+            unreachable!()
+        };
+        f.write_str(text)
     }
 }
