@@ -1,8 +1,9 @@
 //! A writer that notes the first refusal.
 
-ghost use Rattle.std.specs.Prelude.{◌≡◌};
+ghost use Rattle.std.specs.Prelude.{◌≡◌, ◌<◌, length, IfSome};
 
 use arrayvec::ArrayVec;
+use memchr::memchr;
 use std::io::{self, Write};
 
 /// What a line begins with that tells of a refusal.
@@ -84,14 +85,13 @@ impl Noted {
 
     /// Looks through text up to the first refusal.
     fn note(&mut self, octets: &[u8]) {
-        let mut lines = octets.split(|octet| *octet == b'\n');
-        if let Some(line) = lines.next() {
+        let mut rest = octets;
+        while let Some((line, left)) = first_line(rest) {
             self.lengthen(line);
-        }
-        for line in lines {
             self.end_line();
-            self.lengthen(line);
+            rest = left;
         }
+        self.lengthen(rest);
     }
 
     /// Puts behind the front of the line as many of these octets as are noted of it, unless there is a refusal.
@@ -111,4 +111,12 @@ impl Noted {
             self.line.clear();
         }
     }
+}
+
+/// The octets before the first line feed, and those behind it.
+fn first_line(octets: &[u8]) -> Option<(&[u8], &[u8])>
+    ensures { IfSome result (λ parts. length parts.1.now < length octets.now) }
+{
+    let end = memchr(b'\n', octets)?;
+    Some((&octets[..end], &octets[end + 1..]))
 }
