@@ -1,23 +1,20 @@
 -- A side of either kind. What its calls do is what those of a network side or of a user side do.
-use Rattle.std.specs.Prelude.{◌≡◌, ℕ, List, Option, None, Err, IsSome}
+use Rattle.std.specs.Prelude.{◌≡◌, ℕ, List, Option, IsSome}
 use Rattle.lapd_timers.specs.Due.{Timers}
 use Rattle.lapd_frame.specs.declared.Side.{Side}
 use Rattle.lapd_frame.specs.declared.Side.TheVariants as side
 use Rattle.lapd_table.specs.declared.link_id.LinkId.{LinkId}
 use Rattle.lapd_table.specs.declared.link_table.LinkTable.{LinkTable}
-use Rattle.lapd_links.specs.declared.config.Config.{Config}
 use Rattle.lapd_links.specs.declared.side_fault.SideKind.{SideKind}
 use Rattle.lapd_links.specs.Effects.{Effects}
-use Rattle.lapd_links.specs.Expiries.{IsDue, IsNextDeadline, of_served}
+use Rattle.lapd_links.specs.Expiries.{IsNextDeadline, of_served}
 use Rattle.lapd_sides.specs.declared.request.Request.{Request}
 use Rattle.lapd_sides.specs.declared.either_side.EitherSide.{EitherSide}
 use Rattle.lapd_sides.specs.declared.either_side.EitherSide.TheVariants as either
-use Rattle.lapd_sides.specs.Network.{Network, network_takes, network_requested, given_for}
-use Rattle.lapd_sides.specs.User.{User, user_takes, user_requested, got_for}
+use Rattle.lapd_sides.specs.Network.{network_takes, network_requested, given_for}
+use Rattle.lapd_sides.specs.User.{user_takes, user_requested, got_for}
 use Rattle.lapd_sides.specs.Shows.{ShowEnds}
-use Rattle.lapd_sides.specs.ShowsNetwork.{ShowNetwork}
 use Rattle.lapd_sides.specs.ShowsNetwork as network
-use Rattle.lapd_sides.specs.ShowsUser.{ShowUser}
 use Rattle.lapd_sides.specs.ShowsUser as user
 
 -- which of the two it is
@@ -30,69 +27,48 @@ side_of (either.User s) = side.User
 -- octets come
 abbrev pub Takes : List ℕ → ℕ → EitherSide → EitherSide → Effects → Type 0
 Takes octets now (either.Network old) (either.Network new) acts =
-    (config : Config) (s : Network) → ShowNetwork old config s
-    → network.HasDone new config acts (network_takes config octets now s)
+    network.Does old new acts (λ config. network_takes config octets now)
 Takes octets now (either.User old) (either.User new) acts =
-    (config : Config) (s : User) → ShowUser old config s
-    → user.HasDone new config acts (user_takes config octets now s)
+    user.Does old new acts (λ config. user_takes config octets now)
 Takes octets now old new acts = ⊥
 
 -- a TEI is given or got because of them, so that memory is taken
 abbrev pub TakesMemory : List ℕ → EitherSide → Type 0
 TakesMemory octets (either.Network old) =
-    (config : Config) (s : Network) → ShowNetwork old config s
-    → IsSome (given_for s.assigner octets)
-TakesMemory octets (either.User old) =
-    (config : Config) (s : User) → ShowUser old config s
-    → IsSome (got_for s octets)
+    network.EachShown old (λ s. IsSome (given_for s.assigner octets))
+TakesMemory octets (either.User old) = user.EachShown old (λ s. IsSome (got_for s octets))
 
 -- something is asked for, and granted
 abbrev pub Grants : Request → ℕ → EitherSide → EitherSide → Effects → Type 0
 Grants request now (either.Network old) (either.Network new) acts =
-    (config : Config) (s : Network) → ShowNetwork old config s
-    → network.HasGranted new config acts (network_requested config request now s)
+    network.Grants old new acts (λ config. network_requested config request now)
 Grants request now (either.User old) (either.User new) acts =
-    (config : Config) (s : User) → ShowUser old config s
-    → user.HasGranted new config acts (user_requested config request now s)
+    user.Grants old new acts (λ config. user_requested config request now)
 Grants request now old new acts = ⊥
 
 -- or refused, for this reason
 abbrev pub Refuses : Request → ℕ → EitherSide → SideKind → Type 0
 Refuses request now (either.Network old) kind =
-    (config : Config) (s : Network) → ShowNetwork old config s
-    → network_requested config request now s ≡ Err kind
+    network.RefusesAs old kind (λ config. network_requested config request now)
 Refuses request now (either.User old) kind =
-    (config : Config) (s : User) → ShowUser old config s
-    → user_requested config request now s ≡ Err kind
+    user.RefusesAs old kind (λ config. user_requested config request now)
 
 -- the first timer that is due has expired
 abbrev pub Expires : ℕ → EitherSide → EitherSide → Effects → Type 0
-Expires now (either.Network old) (either.Network new) acts =
-    (config : Config) (s : Network) → ShowNetwork old config s
-    → network.HasExpired new config acts now s
-Expires now (either.User old) (either.User new) acts =
-    (config : Config) (s : User) → ShowUser old config s
-    → user.HasExpired new config acts now s
+Expires now (either.Network old) (either.Network new) acts = network.Expires old new acts now
+Expires now (either.User old) (either.User new) acts = user.Expires old new acts now
 Expires now old new acts = ⊥
 
 -- nothing is due, and it shows what it showed
 abbrev pub Rests : ℕ → EitherSide → EitherSide → Type 0
-Rests now (either.Network old) (either.Network new) =
-    (config : Config) (s : Network) → ShowNetwork old config s
-    → IsDue now s.served None × ShowNetwork new config s
-Rests now (either.User old) (either.User new) =
-    (config : Config) (s : User) → ShowUser old config s
-    → IsDue now s.served None × ShowUser new config s
+Rests now (either.Network old) (either.Network new) = network.Rests old new now
+Rests now (either.User old) (either.User new) = user.Rests old new now
 Rests now old new = ⊥
 
 -- it shows what it showed
 abbrev pub Stays : EitherSide → EitherSide → Type 0
-Stays (either.Network old) (either.Network new) =
-    (config : Config) (s : Network) → ShowNetwork old config s
-    → ShowNetwork new config s
-Stays (either.User old) (either.User new) =
-    (config : Config) (s : User) → ShowUser old config s
-    → ShowUser new config s
+Stays (either.Network old) (either.Network new) = network.ShowsAsBefore old new
+Stays (either.User old) (either.User new) = user.ShowsAsBefore old new
 Stays old new = ⊥
 
 -- ---- What is read off it.
@@ -100,35 +76,24 @@ Stays old new = ⊥
 -- the next moment at which something is due
 abbrev pub HasNextDeadline : EitherSide → Option ℕ → Type 0
 HasNextDeadline (either.Network code) deadline =
-    (config : Config) (s : Network) → ShowNetwork code config s
-    → IsNextDeadline s.served deadline
+    network.EachShown code (λ s. IsNextDeadline s.served deadline)
 HasNextDeadline (either.User code) deadline =
-    (config : Config) (s : User) → ShowUser code config s
-    → IsNextDeadline s.served deadline
+    user.EachShown code (λ s. IsNextDeadline s.served deadline)
 
 -- the links
 abbrev pub HasTable : EitherSide → LinkTable → Type 0
 HasTable (either.Network code) table =
-    (config : Config) (s : Network) → ShowNetwork code config s
-    → ShowEnds side.Network table s.served.links
+    network.EachShown code (λ s. ShowEnds side.Network table s.served.links)
 HasTable (either.User code) table =
-    (config : Config) (s : User) → ShowUser code config s
-    → ShowEnds side.User table s.served.links
+    user.EachShown code (λ s. ShowEnds side.User table s.served.links)
 
 -- the timers of a link or of TEI management
 abbrev pub HasTimers : EitherSide → Option LinkId → Option Timers → Type 0
 HasTimers (either.Network code) of timers =
-    (config : Config) (s : Network) → ShowNetwork code config s
-    → timers ≡ of_served s.served of
-HasTimers (either.User code) of timers =
-    (config : Config) (s : User) → ShowUser code config s
-    → timers ≡ of_served s.served of
+    network.EachShown code (λ s. timers ≡ of_served s.served of)
+HasTimers (either.User code) of timers = user.EachShown code (λ s. timers ≡ of_served s.served of)
 
 -- how many frames it has discarded
 abbrev pub HasDiscarded : EitherSide → ℕ → Type 0
-HasDiscarded (either.Network code) count =
-    (config : Config) (s : Network) → ShowNetwork code config s
-    → count ≡ s.discarded
-HasDiscarded (either.User code) count =
-    (config : Config) (s : User) → ShowUser code config s
-    → count ≡ s.discarded
+HasDiscarded (either.Network code) count = network.EachShown code (λ s. count ≡ s.discarded)
+HasDiscarded (either.User code) count = user.EachShown code (λ s. count ≡ s.discarded)

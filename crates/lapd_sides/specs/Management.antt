@@ -1,4 +1,5 @@
--- TEI management within a side: the links come and go with the TEIs, and T201 or T202 runs beside theirs (Q.921 5.3).
+-- TEI management within a side: the links come and go with the TEIs, and T201 or T202 runs beside
+-- theirs (Q.921 5.3).
 use Rattle.std.specs.Prelude.{ℕ, ◌+◌, ◌-◌, ◌^◌, ◌==◌, ◌&&◌, min, Bool, true, false, List, [], ◌++◌, Option, Some, None}
 use Rattle.lapd_frame.specs.declared.Sapi.{Sapi}
 use Rattle.lapd_frame.specs.declared.Sapi.TheVariants as sapi
@@ -55,8 +56,13 @@ with_partings partings e = record e { primitives = e.primitives ++ partings }
 -- A step gives at most one TEI and frees at most one.
 unfoldable pub manages : Side → Config → ℕ → List TeiOut → Served → Acted Served
 manages side config now outs s = record {
-  after = record { links = links_without (tei_freed outs) (links_with config (tei_given outs) s.links); timers = managed now outs s.timers };
-  effects = with_partings (told_without (tei_freed outs) (links_with config (tei_given outs) s.links)) (effects_of_management side outs);
+  after = record {
+    links = links_without (tei_freed outs) (links_with config (tei_given outs) s.links);
+    timers = managed now outs s.timers;
+  };
+  effects = with_partings
+      (told_without (tei_freed outs) (links_with config (tei_given outs) s.links))
+      (effects_of_management side outs);
 }
 
 -- one frame more is discarded; the count stays at the greatest number of 64 bits

@@ -1,4 +1,5 @@
--- The network side: its links and the assigner of TEIs, and what a frame, a timer or a request comes to.
+-- The network side: its links and the assigner of TEIs, and what a frame, a timer or a request
+-- comes to.
 use Rattle.std.specs.Prelude.{ℕ, ◌==◌, ◌&&◌, nat_lt, if◌then◌else◌, false, List, [], ◌∷◌, length, Option, Some, None, Result, Ok, Err}
 use Rattle.lapd_timers.specs.declared.timer.Timer.{Timer}
 use Rattle.lapd_timers.specs.Due.{at_rest}
@@ -41,7 +42,10 @@ pub record Network : Type 0 where
 -- as it is made: the TEIs that are known are held, and have their links
 abbrev pub new_network : Config → List ℕ → Network
 new_network config known = record {
-  served = record { links = links_of_held config (known_held known).held; timers = at_rest config.durations };
+  served = record {
+    links = links_of_held config (known_held known).held;
+    timers = at_rest config.durations;
+  };
   assigner = known_held known;
   discarded = 0;
 }
@@ -58,7 +62,10 @@ discards s = record { after = record s { discarded = one_more s.discarded }; eff
 
 abbrev pub assigned : Config → ℕ → AssignerStep → Network → Acted Network
 assigned config now step s = record {
-  after = record s { served = (manages side.Network config now step.outs s.served).after; assigner = step.now };
+  after = record s {
+    served = (manages side.Network config now step.outs s.served).after;
+    assigner = step.now;
+  };
   effects = (manages side.Network config now step.outs s.served).effects;
 }
 
@@ -73,14 +80,19 @@ message_heard config now (Err fault) s = unmoved s
 -- ---- A link.
 
 abbrev pub with_links : Network → Acted Links → Acted Network
-with_links s a = record { after = record s { served = record { links = a.after; timers = s.served.timers } }; effects = a.effects }
+with_links s a = record {
+  after = record s { served = record { links = a.after; timers = s.served.timers } };
+  effects = a.effects;
+}
 
 abbrev pub among_links : Network → Result (Acted Links) SideKind → Result (Acted Network) SideKind
 among_links s (Ok a) = Ok (with_links s a)
 among_links s (Err kind) = Err kind
 
-unfoldable pub link_of_network : ℕ → LinkId → Input → List ℕ → Network → Result (Acted Network) SideKind
-link_of_network now id input octets s = among_links s (in_links id (link_acts side.Network id now input octets) s.served.links)
+unfoldable pub link_of_network : ℕ → LinkId → Input → List ℕ → Network
+    → Result (Acted Network) SideKind
+link_of_network now id input octets s =
+    among_links s (in_links id (link_acts side.Network id now input octets) s.served.links)
 
 -- what is for no link is discarded
 abbrev pub or_discarded : Network → Result (Acted Network) SideKind → Acted Network
@@ -98,12 +110,14 @@ or_unmoved s (Err kind) = unmoved s
 abbrev pub frame_heard : Config → ℕ → Fields → Network → Acted Network
 frame_heard config now frame s =
     if carries_message frame then message_heard config now (message_at frame.info) s
-    else or_discarded s (link_of_network now (id_of_address frame.address) (Heard frame.control frame.address.role) frame.info s)
+    else or_discarded s (link_of_network now (id_of_address frame.address)
+    (Heard frame.control frame.address.role) frame.info s)
 
 -- a fault of a frame for a link (F4 to F7), or of octets for none (F1 to F3)
 abbrev pub fault_heard : ℕ → FaultKind → Option Address → Network → Acted Network
 fault_heard now kind None s = discards s
-fault_heard now kind (Some address) s = or_discarded s (link_of_network now (id_of_address address) (Faulty kind) [] s)
+fault_heard now kind (Some address) s =
+    or_discarded s (link_of_network now (id_of_address address) (Faulty kind) [] s)
 
 abbrev pub heard : Config → ℕ → Result Fields FrameFault → Network → Acted Network
 heard config now (Ok frame) s = frame_heard config now frame s
@@ -112,13 +126,15 @@ heard config now (Err fault) s = fault_heard now fault.kind fault.address s
 unfoldable pub network_takes : Config → List ℕ → ℕ → Network → Acted Network
 network_takes config octets now s = heard config now (frame_at side.User octets) s
 
--- The TEI that is given because of these octets, where one is: its links are added, and nothing else takes memory.
+-- The TEI that is given because of these octets, where one is: its links are added, and nothing
+-- else takes memory.
 abbrev pub given_for_message : AssignerState → Result TeiMessage TeiFault → Option ℕ
 given_for_message a (Ok message) = tei_given (assigner_step a (event.Heard message)).outs
 given_for_message a (Err fault) = None
 
 abbrev pub given_for_frame : AssignerState → Result Fields FrameFault → Option ℕ
-given_for_frame a (Ok frame) = if carries_message frame then given_for_message a (message_at frame.info) else None
+given_for_frame a (Ok frame) =
+    if carries_message frame then given_for_message a (message_at frame.info) else None
 given_for_frame a (Err fault) = None
 
 unfoldable pub given_for : AssignerState → List ℕ → Option ℕ
@@ -127,22 +143,32 @@ given_for a octets = given_for_frame a (frame_at side.User octets)
 -- ---- A timer expires.
 
 abbrev pub management_expires : Config → ℕ → Timer → Network → Acted Network
-management_expires config now timer s = assigner_acts config now event.T201 (record s { served = record { links = s.served.links; timers = stopped timer s.served.timers } })
+management_expires config now timer s = assigner_acts config now event.T201 (record s {
+  served = record { links = s.served.links; timers = stopped timer s.served.timers };
+})
 
 unfoldable pub network_expires : Config → ℕ → Timer → Option LinkId → Network → Acted Network
 network_expires config now timer None s = management_expires config now timer s
-network_expires config now timer (Some id) s = or_unmoved s (among_links s (in_links id (link_expires side.Network id now timer) s.served.links))
+network_expires config now timer (Some id) s = or_unmoved s
+    (among_links s (in_links id (link_expires side.Network id now timer) s.served.links))
 
 -- ---- Requests.
 
 -- unit data to all terminals of a SAPI that is served (Q.921 5.2)
 abbrev pub group_frame : Sapi → List ℕ → Fields
-group_frame sapi octets = record { address = record { sapi = sapi; tei = group_tei; role = Command }; control = Ui false; info = octets }
+group_frame sapi octets = record {
+  address = record { sapi = sapi; tei = group_tei; role = Command };
+  control = Ui false;
+  info = octets;
+}
 
 abbrev pub unit_to_group : Sapi → List ℕ → Network → Result (Acted Network) SideKind
 unit_to_group sapi octets s =
     if nat_lt n201 (length octets) then Err (Link TooLong)
-    else Ok (record { after = s; effects = record no_effects { frames = spelling side.Network (group_frame sapi octets) ∷ [] } })
+    else Ok (record {
+      after = s;
+      effects = record no_effects { frames = spelling side.Network (group_frame sapi octets) ∷ [] };
+    })
 
 abbrev pub unit_requested : Config → ℕ → LinkId → List ℕ → Network → Result (Acted Network) SideKind
 unit_requested config now id octets s =
@@ -152,8 +178,11 @@ unit_requested config now id octets s =
 unfoldable pub network_requested : Config → Request → ℕ → Network → Result (Acted Network) SideKind
 network_requested config (request.Establish id) now s = link_of_network now id Establish [] s
 network_requested config (request.Release id) now s = link_of_network now id Release [] s
-network_requested config (request.Unit id octets) now s = unit_requested config now id octets.items s
-network_requested config (request.Give id message) now s = link_of_network now id (Give message.items) [] s
+network_requested config (request.Unit id octets) now s =
+    unit_requested config now id octets.items s
+network_requested config (request.Give id message) now s =
+    link_of_network now id (Give message.items) [] s
 network_requested config (request.Busy id on) now s = link_of_network now id (busy_input on) [] s
 network_requested config request.AskTei now s = Ok (unmoved s)
-network_requested config (request.Check tei) now s = Ok (assigner_acts config now (event.Check tei) s)
+network_requested config (request.Check tei) now s =
+    Ok (assigner_acts config now (event.Check tei) s)

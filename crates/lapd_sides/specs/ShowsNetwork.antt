@@ -1,5 +1,5 @@
 -- How a network side in code shows that of the definition, and how its calls are stated.
-use Rattle.std.specs.Prelude.{◌≡◌, ℕ, Some, Result, Ok}
+use Rattle.std.specs.Prelude.{◌≡◌, ℕ, Some, None, Result, Ok, Err}
 use Rattle.lapd_frame.specs.declared.Side.TheVariants as side
 use Rattle.lapd_links.specs.declared.config.Config.{Config}
 use Rattle.lapd_sides.specs.declared.net_side.NetSide.{NetSide}
@@ -9,7 +9,7 @@ use Rattle.lapd_links.specs.declared.expiry.Expiry.{Expiry}
 use Rattle.lapd_links.specs.Expiries.{IsDue}
 use Rattle.lapd_links.specs.Links.{Acted}
 use Rattle.lapd_sides.specs.Network.{Network, network_expires}
-use Rattle.lapd_sides.specs.Shows.{ShowServed}
+use Rattle.lapd_sides.specs.Shows.{ShowServed, Step, Outcome}
 
 -- with what it was made, its links, its assigner, and how many frames it has discarded
 pub record ShowNetwork (code : NetSide) (config : Config) (s : Network) : Type 0 where
@@ -19,18 +19,60 @@ pub record ShowNetwork (code : NetSide) (config : Config) (s : Network) : Type 0
   pub discarded : code.discarded ≡ s.discarded
 
 -- a step has been done: the side shows what it leaves, and what it gives is there
-pub record HasDone (code : NetSide) (config : Config) (acts : Effects) (a : Acted Network) : Type 0 where
+pub record HasDone (code : NetSide) (config : Config) (acts : Effects)
+    (a : Acted Network) : Type 0 where
   pub shown : ShowNetwork code config a.after
   pub given : acts ≡ a.effects
 
 -- what was asked for has been done, and not refused
-pub record HasGranted (code : NetSide) (config : Config) (acts : Effects) (outcome : Result (Acted Network) SideKind) : Type 0 where
+pub record HasGranted (code : NetSide) (config : Config) (acts : Effects)
+    (outcome : Result (Acted Network) SideKind) : Type 0 where
   pub acted : Acted Network
   pub is : outcome ≡ Ok acted
   pub done : HasDone code config acts acted
 
 -- the first of its timers that is due has expired
-pub record HasExpired (code : NetSide) (config : Config) (acts : Effects) (now : ℕ) (s : Network) : Type 0 where
+pub record HasExpired (code : NetSide) (config : Config) (acts : Effects)
+    (now : ℕ) (s : Network) : Type 0 where
   pub expiry : Expiry
   pub due : IsDue now s.served (Some expiry)
   pub done : HasDone code config acts (network_expires config now expiry.timer expiry.of s)
+
+-- ---- How calls are stated, whatever side of the definition was shown before.
+
+-- each that is shown is so
+abbrev pub EachShown : NetSide → (Network → Type 0) → Type 0
+EachShown code IsSo = (config : Config) (s : Network) → ShowNetwork code config s → IsSo s
+
+-- a call shows what it showed before
+abbrev pub ShowsAsBefore : NetSide → NetSide → Type 0
+ShowsAsBefore old new =
+    (config : Config) (s : Network) → ShowNetwork old config s → ShowNetwork new config s
+
+-- it does this step
+abbrev pub Does : NetSide → NetSide → Effects → Step Network → Type 0
+Does old new acts step =
+    (config : Config) (s : Network) → ShowNetwork old config s
+    → HasDone new config acts (step config s)
+
+-- it grants what is asked for
+abbrev pub Grants : NetSide → NetSide → Effects → Outcome Network → Type 0
+Grants old new acts outcome =
+    (config : Config) (s : Network) → ShowNetwork old config s
+    → HasGranted new config acts (outcome config s)
+
+-- or refuses it, for this reason
+abbrev pub RefusesAs : NetSide → SideKind → Outcome Network → Type 0
+RefusesAs old kind outcome =
+    (config : Config) (s : Network) → ShowNetwork old config s → outcome config s ≡ Err kind
+
+-- the first of its timers that is due expires
+abbrev pub Expires : NetSide → NetSide → Effects → ℕ → Type 0
+Expires old new acts now =
+    (config : Config) (s : Network) → ShowNetwork old config s → HasExpired new config acts now s
+
+-- nothing is due, and it shows what it showed before
+abbrev pub Rests : NetSide → NetSide → ℕ → Type 0
+Rests old new now =
+    (config : Config) (s : Network) → ShowNetwork old config s
+    → IsDue now s.served None × ShowNetwork new config s

@@ -1,8 +1,9 @@
 -- How a user side in code shows that of the definition, and how its calls are stated.
-use Rattle.std.specs.Prelude.{◌≡◌, ℕ, Some, Result, Ok}
+use Rattle.std.specs.Prelude.{◌≡◌, ℕ, List, Some, None, Result, Ok, Err}
 use Rattle.rand_pcg.specs.Lcg.{Lcg}
 use Rattle.rand_pcg.specs.Pcg.{pcg32}
 use Rattle.lapd_frame.specs.declared.Side.TheVariants as side
+use Rattle.lapd_tei.specs.declared.out.TeiOut.{TeiOut}
 use Rattle.lapd_tei.specs.Out.{tei_given}
 use Rattle.lapd_tei.specs.Terminal.{TerminalStep}
 use Rattle.lapd_links.specs.declared.config.Config.{Config}
@@ -14,16 +15,16 @@ use Rattle.lapd_links.specs.declared.expiry.Expiry.{Expiry}
 use Rattle.lapd_links.specs.Expiries.{IsDue}
 use Rattle.lapd_links.specs.Links.{Acted}
 use Rattle.lapd_sides.specs.Management.{links_with}
-use Rattle.lapd_sides.specs.User.{User, next_reference, advanced, user_expires}
-use Rattle.lapd_sides.specs.Shows.{ShowServed}
+use Rattle.lapd_sides.specs.User.{User, next_reference, advanced, assigned, user_expires}
+use Rattle.lapd_sides.specs.Shows.{ShowServed, Step, Outcome}
 
 -- The first reference was read off the generator, and what is left gives those after it.
 pub record ShowReferences (code : References) (random : Lcg) : Type 0 where
   pub next : code.next ≡ next_reference random
   pub rest : code.rest ≡ advanced (pcg32 random)
 
--- with what it was made, its links, its terminal, the establishments that it keeps, its references, and how many frames it
--- has discarded
+-- with what it was made, its links, its terminal, the establishments that it keeps, its
+-- references, and how many frames it has discarded
 pub record ShowUser (code : UserSide) (config : Config) (s : User) : Type 0 where
   pub configured : code.config ≡ config
   pub served : ShowServed side.User code.served s.served
@@ -33,12 +34,15 @@ pub record ShowUser (code : UserSide) (config : Config) (s : User) : Type 0 wher
   pub discarded : code.discarded ≡ s.discarded
 
 -- a step has been done: the side shows what it leaves, and what it gives is there
-pub record HasDone (code : UserSide) (config : Config) (acts : Effects) (a : Acted User) : Type 0 where
+pub record HasDone (code : UserSide) (config : Config) (acts : Effects)
+    (a : Acted User) : Type 0 where
   pub shown : ShowUser code config a.after
   pub given : acts ≡ a.effects
 
--- A step has been done after others: the side shows what it leaves, and what it gives stands behind what they gave.
-pub record HasFollowed (code : UserSide) (config : Config) (before after : Effects) (a : Acted User) : Type 0 where
+-- A step has been done after others: the side shows what it leaves, and what it gives stands
+-- behind what they gave.
+pub record HasFollowed (code : UserSide) (config : Config) (before after : Effects)
+    (a : Acted User) : Type 0 where
   pub shown : ShowUser code config a.after
   pub given : after ≡ and_then before a.effects
 
@@ -50,13 +54,66 @@ admitted config step s = record s {
 }
 
 -- what was asked for has been done, and not refused
-pub record HasGranted (code : UserSide) (config : Config) (acts : Effects) (outcome : Result (Acted User) SideKind) : Type 0 where
+pub record HasGranted (code : UserSide) (config : Config) (acts : Effects)
+    (outcome : Result (Acted User) SideKind) : Type 0 where
   pub acted : Acted User
   pub is : outcome ≡ Ok acted
   pub done : HasDone code config acts acted
 
 -- the first of its timers that is due has expired
-pub record HasExpired (code : UserSide) (config : Config) (acts : Effects) (now : ℕ) (s : User) : Type 0 where
+pub record HasExpired (code : UserSide) (config : Config) (acts : Effects)
+    (now : ℕ) (s : User) : Type 0 where
   pub expiry : Expiry
   pub due : IsDue now s.served (Some expiry)
   pub done : HasDone code config acts (user_expires config now expiry.timer expiry.of s)
+
+-- ---- How calls are stated, whatever side of the definition was shown before.
+
+-- each that is shown is so
+abbrev pub EachShown : UserSide → (User → Type 0) → Type 0
+EachShown code IsSo = (config : Config) (s : User) → ShowUser code config s → IsSo s
+
+-- a call shows what it showed before
+abbrev pub ShowsAsBefore : UserSide → UserSide → Type 0
+ShowsAsBefore old new =
+    (config : Config) (s : User) → ShowUser old config s → ShowUser new config s
+
+-- it does this step
+abbrev pub Does : UserSide → UserSide → Effects → Step User → Type 0
+Does old new acts step =
+    (config : Config) (s : User) → ShowUser old config s → HasDone new config acts (step config s)
+
+-- it does it after others, which gave what stood there before
+abbrev pub Follows : UserSide → UserSide → Effects → Effects → Step User → Type 0
+Follows old new before after step =
+    (config : Config) (s : User) → ShowUser old config s
+    → HasFollowed new config before after (step config s)
+
+-- it does what a step of the terminal with these outputs is yet to come to
+abbrev pub CarriesOut : UserSide → UserSide → Effects → ℕ → List TeiOut → Type 0
+CarriesOut old new acts now outs =
+    (config : Config) (s : User) (step : TerminalStep) → step.outs ≡ outs
+    → ShowUser old config (admitted config step s)
+    → HasDone new config acts (assigned config now step s)
+
+-- it grants what is asked for
+abbrev pub Grants : UserSide → UserSide → Effects → Outcome User → Type 0
+Grants old new acts outcome =
+    (config : Config) (s : User) → ShowUser old config s
+    → HasGranted new config acts (outcome config s)
+
+-- or refuses it, for this reason
+abbrev pub RefusesAs : UserSide → SideKind → Outcome User → Type 0
+RefusesAs old kind outcome =
+    (config : Config) (s : User) → ShowUser old config s → outcome config s ≡ Err kind
+
+-- the first of its timers that is due expires
+abbrev pub Expires : UserSide → UserSide → Effects → ℕ → Type 0
+Expires old new acts now =
+    (config : Config) (s : User) → ShowUser old config s → HasExpired new config acts now s
+
+-- nothing is due, and it shows what it showed before
+abbrev pub Rests : UserSide → UserSide → ℕ → Type 0
+Rests old new now =
+    (config : Config) (s : User) → ShowUser old config s
+    → IsDue now s.served None × ShowUser new config s

@@ -1,4 +1,5 @@
--- The user side: a terminal with the links of its own TEI, and what a frame, a timer or a request comes to.
+-- The user side: a terminal with the links of its own TEI, and what a frame, a timer or a request
+-- comes to.
 use Rattle.std.specs.Prelude.{ℕ, ◌&&◌, ◌%◌, ◌^◌, if◌then◌else◌, Bool, true, false, List, [], ◌∷◌, ◌++◌, length, Option, Some, None, Result, Ok, Err}
 use Rattle.rand_pcg.specs.Lcg.{Lcg}
 use Rattle.rand_core.specs.Pcg32Seed.{pcg32_seed}
@@ -106,14 +107,18 @@ drawn outs random = if sends_message outs then advanced (pcg32 random) else rand
 -- ---- A link.
 
 abbrev pub with_links : User → Acted Links → Acted User
-with_links s a = record { after = record s { served = record { links = a.after; timers = s.served.timers } }; effects = a.effects }
+with_links s a = record {
+  after = record s { served = record { links = a.after; timers = s.served.timers } };
+  effects = a.effects;
+}
 
 abbrev pub among_links : User → Result (Acted Links) SideKind → Result (Acted User) SideKind
 among_links s (Ok a) = Ok (with_links s a)
 among_links s (Err kind) = Err kind
 
 unfoldable pub link_of_user : ℕ → LinkId → Input → List ℕ → User → Result (Acted User) SideKind
-link_of_user now id input octets s = among_links s (in_links id (link_acts side.User id now input octets) s.served.links)
+link_of_user now id input octets s =
+    among_links s (in_links id (link_acts side.User id now input octets) s.served.links)
 
 -- a frame that is for no link is discarded
 abbrev pub or_discarded : User → Result (Acted User) SideKind → Acted User
@@ -129,7 +134,10 @@ or_unmoved s (Err kind) = unmoved s
 
 -- one step after another
 abbrev pub next : Acted User → (User → Acted User) → Acted User
-next a does = record { after = (does a.after).after; effects = and_then a.effects (does a.after).effects }
+next a does = record {
+  after = (does a.after).after;
+  effects = and_then a.effects (does a.after).effects;
+}
 
 -- a kept establishment is done
 abbrev pub establishes : Bool → ℕ → LinkId → User → Acted User
@@ -143,15 +151,22 @@ establishes_kept now own s =
     (establishes s.kept.packet now (of_sapi sapi.Packet own))
 
 -- what layer 3 is told of a SAPI without TEI names the group TEI
+abbrev pub told_of_group : Sapi → What → List Primitive
+told_of_group sapi w = Of (of_sapi sapi group_tei) w ∷ []
+
+-- where its establishment was kept
 abbrev pub told_of_sapi : Bool → Sapi → What → List Primitive
-told_of_sapi true sapi w = Of (of_sapi sapi group_tei) w ∷ []
+told_of_sapi true sapi w = told_of_group sapi w
 told_of_sapi false sapi w = []
 
 -- Where no TEI was got, each is released.
 abbrev pub gives_up_kept : User → Acted User
 gives_up_kept s = record {
   after = record s { kept = nothing_kept };
-  effects = record no_effects { primitives = told_of_sapi s.kept.call sapi.Call what.Released ++ told_of_sapi s.kept.packet sapi.Packet what.Released };
+  effects = record no_effects {
+    primitives = told_of_sapi s.kept.call sapi.Call what.Released
+        ++ told_of_sapi s.kept.packet sapi.Packet what.Released;
+  };
 }
 
 abbrev pub kept_after : ℕ → List TeiOut → User → Acted User
@@ -163,14 +178,19 @@ kept_after now (output ∷ outs) s = kept_after now outs s
 abbrev pub assigned : Config → ℕ → TerminalStep → User → Acted User
 assigned config now step s =
     next (record {
-      after = record s { served = (manages side.User config now step.outs s.served).after; terminal = step.now; random = drawn step.outs s.random };
+      after = record s {
+        served = (manages side.User config now step.outs s.served).after;
+        terminal = step.now;
+        random = drawn step.outs s.random;
+      };
       effects = (manages side.User config now step.outs s.served).effects;
     })
     (kept_after now step.outs)
 
 -- an event of the terminal, with the reference that is sent where one is
 unfoldable pub terminal_acts : Config → ℕ → (ℕ → TerminalEvent) → User → Acted User
-terminal_acts config now event s = assigned config now (terminal_step s.terminal (event (next_reference s.random))) s
+terminal_acts config now event s =
+    assigned config now (terminal_step s.terminal (event (next_reference s.random))) s
 
 abbrev pub message_heard : Config → ℕ → Result TeiMessage TeiFault → User → Acted User
 message_heard config now (Ok message) s = terminal_acts config now (event.Heard message) s
@@ -180,7 +200,10 @@ message_heard config now (Err fault) s = unmoved s
 
 -- unit data to all terminals, of a SAPI that is served (5.2)
 abbrev pub unit_from_group : Sapi → List ℕ → User → Acted User
-unit_from_group sapi octets s = record { after = s; effects = record no_effects { primitives = Of (of_sapi sapi group_tei) (what.UnitUp octets) ∷ [] } }
+unit_from_group sapi octets s = record {
+  after = s;
+  effects = record no_effects { primitives = told_of_group sapi (what.UnitUp octets) };
+}
 
 -- a frame that is no message: unit data to all terminals, or a frame for the link that it names
 abbrev pub for_layer_3 : Config → Fields → Bool
@@ -189,14 +212,18 @@ for_layer_3 config frame = is_served config frame.address.sapi && is_unit_to_gro
 abbrev pub data_heard : Config → ℕ → Fields → User → Acted User
 data_heard config now frame s =
     if for_layer_3 config frame then unit_from_group frame.address.sapi frame.info s
-    else or_discarded s (link_of_user now (of_sapi frame.address.sapi frame.address.tei) (Heard frame.control frame.address.role) frame.info s)
+    else or_discarded s (link_of_user now (of_sapi frame.address.sapi frame.address.tei)
+    (Heard frame.control frame.address.role) frame.info s)
 
 abbrev pub frame_heard : Config → ℕ → Fields → User → Acted User
-frame_heard config now frame s = if carries_message frame then message_heard config now (message_at frame.info) s else data_heard config now frame s
+frame_heard config now frame s =
+    if carries_message frame then message_heard config now (message_at frame.info) s
+    else data_heard config now frame s
 
 abbrev pub fault_heard : ℕ → FaultKind → Option Address → User → Acted User
 fault_heard now kind None s = discards s
-fault_heard now kind (Some address) s = or_discarded s (link_of_user now (of_sapi address.sapi address.tei) (Faulty kind) [] s)
+fault_heard now kind (Some address) s =
+    or_discarded s (link_of_user now (of_sapi address.sapi address.tei) (Faulty kind) [] s)
 
 abbrev pub heard : Config → ℕ → Result Fields FrameFault → User → Acted User
 heard config now (Ok frame) s = frame_heard config now frame s
@@ -205,13 +232,16 @@ heard config now (Err fault) s = fault_heard now fault.kind fault.address s
 unfoldable pub user_takes : Config → List ℕ → ℕ → User → Acted User
 user_takes config octets now s = heard config now (frame_at side.Network octets) s
 
--- The TEI that is got because of these octets, where one is: its links are added, and nothing else takes memory.
+-- The TEI that is got because of these octets, where one is: its links are added, and nothing
+-- else takes memory.
 abbrev pub got_for_message : User → Result TeiMessage TeiFault → Option ℕ
-got_for_message s (Ok message) = tei_given (terminal_step s.terminal (event.Heard message (next_reference s.random))).outs
+got_for_message s (Ok message) =
+    tei_given (terminal_step s.terminal (event.Heard message (next_reference s.random))).outs
 got_for_message s (Err fault) = None
 
 abbrev pub got_for_frame : User → Result Fields FrameFault → Option ℕ
-got_for_frame s (Ok frame) = if carries_message frame then got_for_message s (message_at frame.info) else None
+got_for_frame s (Ok frame) =
+    if carries_message frame then got_for_message s (message_at frame.info) else None
 got_for_frame s (Err fault) = None
 
 unfoldable pub got_for : User → List ℕ → Option ℕ
@@ -220,17 +250,22 @@ got_for s octets = got_for_frame s (frame_at side.Network octets)
 -- ---- A timer expires.
 
 abbrev pub management_expires : Config → ℕ → Timer → User → Acted User
-management_expires config now timer s = terminal_acts config now event.T202 (record s { served = record { links = s.served.links; timers = stopped timer s.served.timers } })
+management_expires config now timer s = terminal_acts config now event.T202 (record s {
+  served = record { links = s.served.links; timers = stopped timer s.served.timers };
+})
 
 unfoldable pub user_expires : Config → ℕ → Timer → Option LinkId → User → Acted User
 user_expires config now timer None s = management_expires config now timer s
-user_expires config now timer (Some id) s = or_unmoved s (among_links s (in_links id (link_expires side.User id now timer) s.served.links))
+user_expires config now timer (Some id) s = or_unmoved s
+    (among_links s (in_links id (link_expires side.User id now timer) s.served.links))
 
 -- ---- Requests. Only the SAPI of a name is looked at.
 
 -- for the link of the terminal's own TEI, or what is done where there is none
-abbrev pub with_tei_or : ℕ → Phase → Sapi → Input → List ℕ → Result (Acted User) SideKind → User → Result (Acted User) SideKind
-with_tei_or now (Assigned by own) sapi input octets otherwise s = link_of_user now (of_sapi sapi own) input octets s
+abbrev pub with_tei_or : ℕ → Phase → Sapi → Input → List ℕ → Result (Acted User) SideKind → User
+    → Result (Acted User) SideKind
+with_tei_or now (Assigned by own) sapi input octets otherwise s =
+    link_of_user now (of_sapi sapi own) input octets s
 with_tei_or now Unassigned sapi input octets otherwise s = otherwise
 with_tei_or now (Awaiting purpose count ri) sapi input octets otherwise s = otherwise
 
@@ -247,20 +282,30 @@ keeps sapi.Management on kept = kept
 -- An establishment without TEI is kept, and a TEI is asked for (5.3.2).
 abbrev pub wants : Config → ℕ → Sapi → User → Result (Acted User) SideKind
 wants config now sapi s =
-    if is_served config sapi then Ok (terminal_acts config now event.Want (record s { kept = keeps sapi true s.kept })) else Err NoLink
+    if is_served config sapi
+    then Ok (terminal_acts config now event.Want (record s { kept = keeps sapi true s.kept }))
+    else Err NoLink
 
 -- A release forgets it, and the terminal goes on asking.
 abbrev pub forgets : Sapi → User → Result (Acted User) SideKind
 forgets sapi s =
     if is_kept sapi s.kept
-    then Ok (record { after = record s { kept = keeps sapi false s.kept }; effects = record no_effects { primitives = Of (of_sapi sapi group_tei) what.ReleaseConfirm ∷ [] } })
+    then Ok (record {
+      after = record s { kept = keeps sapi false s.kept };
+      effects = record no_effects { primitives = told_of_group sapi what.ReleaseConfirm };
+    })
     else Err NoLink
 
 unfoldable pub user_requested : Config → Request → ℕ → User → Result (Acted User) SideKind
-user_requested config (request.Establish id) now s = with_tei_or now s.terminal id.sapi Establish [] (wants config now id.sapi s) s
-user_requested config (request.Release id) now s = with_tei_or now s.terminal id.sapi Release [] (forgets id.sapi s) s
-user_requested config (request.Unit id octets) now s = with_tei_or now s.terminal id.sapi (UnitData (length octets.items)) octets.items (Err NoLink) s
-user_requested config (request.Give id message) now s = with_tei_or now s.terminal id.sapi (Give message.items) [] (Err (Link NotEstablished)) s
-user_requested config (request.Busy id on) now s = with_tei_or now s.terminal id.sapi (busy_input on) [] (Err NoLink) s
+user_requested config (request.Establish id) now s =
+    with_tei_or now s.terminal id.sapi Establish [] (wants config now id.sapi s) s
+user_requested config (request.Release id) now s =
+    with_tei_or now s.terminal id.sapi Release [] (forgets id.sapi s) s
+user_requested config (request.Unit id octets) now s = with_tei_or now s.terminal id.sapi
+    (UnitData (length octets.items)) octets.items (Err NoLink) s
+user_requested config (request.Give id message) now s = with_tei_or now s.terminal id.sapi
+    (Give message.items) [] (Err (Link NotEstablished)) s
+user_requested config (request.Busy id on) now s =
+    with_tei_or now s.terminal id.sapi (busy_input on) [] (Err NoLink) s
 user_requested config request.AskTei now s = Ok (terminal_acts config now event.Ask s)
 user_requested config (request.Check tei) now s = Ok (unmoved s)

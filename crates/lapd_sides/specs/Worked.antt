@@ -23,7 +23,8 @@ use Rattle.lapd_links.specs.Links.{Linked, Acted, of_sapi}
 use Rattle.lapd_sides.specs.Network.{Network, network_takes, network_expires, network_requested}
 use Rattle.lapd_sides.specs.User.{User, next_reference, advanced, user_takes, user_expires, user_requested}
 
--- octets come from the line, a timer expires, or something is asked for; at a moment in milliseconds
+-- octets come from the line, a timer expires, or something is asked for; at a moment in
+-- milliseconds
 pub data Happening : Type 0 where
   Comes : (octets : List ℕ) → (now : ℕ) → Happening
   Expires : (timer : Timer) → (of : Option LinkId) → (now : ℕ) → Happening
@@ -54,7 +55,9 @@ network_run config (h ∷ hs) s = network_run config hs (left_by s (network_does
 
 abbrev pub network_gives : Config → List Happening → Network → List (Result Effects SideKind)
 network_gives config [] s = []
-network_gives config (h ∷ hs) s = given_by (network_does config h s) ∷ network_gives config hs (left_by s (network_does config h s))
+network_gives config (h ∷ hs) s =
+    given_by (network_does config h s)
+    ∷ network_gives config hs (left_by s (network_does config h s))
 
 abbrev pub user_run : Config → List Happening → User → User
 user_run config [] s = s
@@ -62,7 +65,9 @@ user_run config (h ∷ hs) s = user_run config hs (left_by s (user_does config h
 
 abbrev pub user_gives : Config → List Happening → User → List (Result Effects SideKind)
 user_gives config [] s = []
-user_gives config (h ∷ hs) s = given_by (user_does config h s) ∷ user_gives config hs (left_by s (user_does config h s))
+user_gives config (h ∷ hs) s =
+    given_by (user_does config h s)
+    ∷ user_gives config hs (left_by s (user_does config h s))
 
 -- what is looked at of a link: its state, and when its timers end
 abbrev pub state_of : Option Linked → Option State
@@ -76,16 +81,24 @@ ends_at timer (Some l) = deadline_of timer l.timers
 -- ---- The network side, with both SAPIs of basic access.
 
 abbrev pub both_sapis : Config
-both_sapis = record { sapi16 = true; params0 = basic_parameters Call; params16 = basic_parameters Packet; durations = standard_lengths; seed = 0 }
+both_sapis = record {
+  sapi16 = true;
+  params0 = basic_parameters Call;
+  params16 = basic_parameters Packet;
+  durations = standard_lengths;
+  seed = 0;
+}
 
 abbrev pub call_control_alone : Config
-call_control_alone = record { sapi16 = false; params0 = basic_parameters Call; params16 = basic_parameters Packet; durations = standard_lengths; seed = 0 }
+call_control_alone = record both_sapis { sapi16 = false }
 
 -- a TEI is asked for; then a DISC comes to each of its links, and one to a TEI that is not there
 abbrev pub tei_and_disc : List Happening
 tei_and_disc =
     Comes (0xFC ∷ 0xFF ∷ 0x03 ∷ 0x0F ∷ 0x12 ∷ 0x34 ∷ 0x01 ∷ 0xFF ∷ []) 0
-    ∷ Comes (0x00 ∷ 0x81 ∷ 0x53 ∷ []) 0 ∷ Comes (0x40 ∷ 0x81 ∷ 0x53 ∷ []) 0 ∷ Comes (0x00 ∷ 0x83 ∷ 0x53 ∷ []) 0 ∷ []
+    ∷ Comes (0x00 ∷ 0x81 ∷ 0x53 ∷ []) 0
+    ∷ Comes (0x40 ∷ 0x81 ∷ 0x53 ∷ []) 0
+    ∷ Comes (0x00 ∷ 0x83 ∷ 0x53 ∷ []) 0 ∷ []
 
 -- both links are established, and that of SAPI 16 is released
 abbrev pub both_established : List Happening
@@ -101,7 +114,10 @@ vain_check = Asked (request.Check 64) 600 ∷ Expires T201 None 1600 ∷ Expires
 -- octets that are no frame for a link that is there, four times, and then a SABME
 abbrev pub four_and_sabme : List Happening
 four_and_sabme =
-    Comes (0x00 ∷ []) 0 ∷ Comes (0x01 ∷ 0x81 ∷ 0x73 ∷ []) 0 ∷ Comes (0x04 ∷ 0x81 ∷ 0x7F ∷ []) 0 ∷ Comes (0x00 ∷ 0x83 ∷ 0x7F ∷ []) 0
+    Comes (0x00 ∷ []) 0
+    ∷ Comes (0x01 ∷ 0x81 ∷ 0x73 ∷ []) 0
+    ∷ Comes (0x04 ∷ 0x81 ∷ 0x7F ∷ []) 0
+    ∷ Comes (0x00 ∷ 0x83 ∷ 0x7F ∷ []) 0
     ∷ Comes (0x00 ∷ 0x81 ∷ 0x7F ∷ []) 0 ∷ []
 
 -- ---- The user side.
@@ -122,8 +138,12 @@ asking ri = spelling side.User (frame_of_message (tei.request ri))
 
 -- it wants to establish, and nobody answers
 abbrev pub vain_want : List Happening
-vain_want = Asked (request.Establish (of_sapi Call 0)) 0 ∷ Expires T202 None 2000 ∷ Expires T202 None 4000 ∷ Expires T202 None 6000 ∷ []
+vain_want =
+    Asked (request.Establish (of_sapi Call 0)) 0
+    ∷ Expires T202 None 2000 ∷ Expires T202 None 4000 ∷ Expires T202 None 6000 ∷ []
 
 -- it wants to establish, and is assigned TEI 64
 abbrev pub want_and_tei : List Happening
-want_and_tei = Asked (request.Establish (of_sapi Call 0)) 0 ∷ Comes (0xFE ∷ 0xFF ∷ 0x03 ∷ 0x0F ∷ 0x00 ∷ 0x00 ∷ 0x02 ∷ 0x81 ∷ []) 100 ∷ []
+want_and_tei =
+    Asked (request.Establish (of_sapi Call 0)) 0
+    ∷ Comes (0xFE ∷ 0xFF ∷ 0x03 ∷ 0x0F ∷ 0x00 ∷ 0x00 ∷ 0x02 ∷ 0x81 ∷ []) 100 ∷ []

@@ -1,8 +1,8 @@
 //! A side of either kind.
 
-ghost use Rattle.std.specs.Prelude.{◌≡◌, true, false, None, OnOk, OnErr, IfErr, option_copied};
+ghost use Rattle.std.specs.Prelude.{◌≡◌, true, false, OnOk, OnErr, IfErr, option_copied};
 ghost use Rattle.lapd_links.specs.Effects.{no_effects};
-ghost use Rattle.lapd_sides.specs.Requests.{message_of};
+ghost use Rattle.lapd_sides.specs.Requests.{message_of, without_message};
 
 use crate::{Acts, NetSide, Request, SideFault, SideKind, UserSide};
 use lapd_frame::Side;
@@ -39,7 +39,7 @@ impl EitherSide {
     pub fn take(&mut self, bytes: &[u8], now: u64, acts: &mut Acts) -> Result<(), SideFault>
         ensures side { side_of self.new ≡ side_of self.old }
         ensures ok { OnOk result (Takes bytes.now now self.old self.new acts.new) }
-        ensures err { IfErr result (λ fault. fault ≡ record { kind = SideKind.Memory; message = None }) }
+        ensures err { IfErr result (λ fault. fault ≡ without_message SideKind.Memory) }
         ensures only { OnErr result (TakesMemory bytes.now self.old) }
         ensures unchanged { OnErr result (Stays self.old self.new) }
         ensures nothing { OnErr result (acts.new ≡ no_effects) }

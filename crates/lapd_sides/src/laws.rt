@@ -17,7 +17,10 @@ ghost use Rattle.lapd_sides.specs.Worked.{network_run, network_gives, user_run, 
 /// A network side assigns a TEI, and from then on its two links answer; a DISC for another TEI is discarded.
 pub fn assignments_make_links()
     ensures { network_gives both_sapis tei_and_disc (new_network both_sapis [])
-        ≡ Ok (record { frames = (0xFE ∷ 0xFF ∷ 0x03 ∷ 0x0F ∷ 0x12 ∷ 0x34 ∷ 0x02 ∷ 0x81 ∷ []) ∷ []; primitives = Management (tei.Given 64) ∷ [] })
+        ≡ Ok (record {
+          frames = (0xFE ∷ 0xFF ∷ 0x03 ∷ 0x0F ∷ 0x12 ∷ 0x34 ∷ 0x02 ∷ 0x81 ∷ []) ∷ [];
+          primitives = Management (tei.Given 64) ∷ [];
+        })
         ∷ Ok (record { frames = (0x00 ∷ 0x81 ∷ 0x1F ∷ []) ∷ []; primitives = [] })
         ∷ Ok (record { frames = (0x40 ∷ 0x81 ∷ 0x1F ∷ []) ∷ []; primitives = [] })
         ∷ Ok (record { frames = []; primitives = [] }) ∷ [] }
@@ -26,22 +29,48 @@ pub fn assignments_make_links()
 /// Two links are established at moment 0, and the one of SAPI 16 is released at 500: the other stays in state 7, and its T203
 /// still ends at 10,000.
 pub fn releases_leave_other_links()
-    ensures gives { network_gives both_sapis (both_established ++ one_released) (new_network both_sapis (64 ∷ []))
-        ≡ Ok (record { frames = (0x00 ∷ 0x81 ∷ 0x73 ∷ []) ∷ []; primitives = Of (of_sapi Call 64) what.Established ∷ [] })
-        ∷ Ok (record { frames = (0x40 ∷ 0x81 ∷ 0x73 ∷ []) ∷ []; primitives = Of (of_sapi Packet 64) what.Established ∷ [] })
-        ∷ Ok (record { frames = (0x40 ∷ 0x81 ∷ 0x73 ∷ []) ∷ []; primitives = Of (of_sapi Packet 64) what.Released ∷ [] }) ∷ [] }
-    ensures released { state_of ((network_run both_sapis (both_established ++ one_released) (new_network both_sapis (64 ∷ []))).served.links (of_sapi Packet 64)) ≡ Some TeiAssigned }
-    ensures other_state { state_of ((network_run both_sapis (both_established ++ one_released) (new_network both_sapis (64 ∷ []))).served.links (of_sapi Call 64)) ≡ Some MultipleFrameEstablished }
-    ensures other_timer { ends_at T203 ((network_run both_sapis (both_established ++ one_released) (new_network both_sapis (64 ∷ []))).served.links (of_sapi Call 64)) ≡ Some 10000 }
+    ensures gives { network_gives both_sapis (both_established ++ one_released)
+        (new_network both_sapis (64 ∷ []))
+        ≡ Ok (record {
+          frames = (0x00 ∷ 0x81 ∷ 0x73 ∷ []) ∷ [];
+          primitives = Of (of_sapi Call 64) what.Established ∷ [];
+        })
+        ∷ Ok (record {
+          frames = (0x40 ∷ 0x81 ∷ 0x73 ∷ []) ∷ [];
+          primitives = Of (of_sapi Packet 64) what.Established ∷ [];
+        })
+        ∷ Ok (record {
+          frames = (0x40 ∷ 0x81 ∷ 0x73 ∷ []) ∷ [];
+          primitives = Of (of_sapi Packet 64) what.Released ∷ [];
+        }) ∷ [] }
+    ensures released { state_of ((network_run both_sapis (both_established ++ one_released)
+        (new_network both_sapis (64 ∷ []))).served.links (of_sapi Packet 64)) ≡ Some TeiAssigned }
+    ensures other_state { state_of ((network_run both_sapis (both_established ++ one_released)
+        (new_network both_sapis (64 ∷ []))).served.links (of_sapi Call 64))
+        ≡ Some MultipleFrameEstablished }
+    ensures other_timer { ends_at T203 ((network_run both_sapis (both_established ++ one_released)
+        (new_network both_sapis (64 ∷ []))).served.links (of_sapi Call 64)) ≡ Some 10000 }
 {}
 
 /// A check that no terminal answers frees the TEI: the outcome is told first, and then its links, by rising SAPI, are released.
 pub fn freed_teis_lose_their_links()
-    ensures gives { network_gives both_sapis vain_check (network_run both_sapis both_established (new_network both_sapis (64 ∷ [])))
-        ≡ Ok (record { frames = (0xFE ∷ 0xFF ∷ 0x03 ∷ 0x0F ∷ 0x00 ∷ 0x00 ∷ 0x04 ∷ 0x81 ∷ []) ∷ []; primitives = [] })
-        ∷ Ok (record { frames = (0xFE ∷ 0xFF ∷ 0x03 ∷ 0x0F ∷ 0x00 ∷ 0x00 ∷ 0x04 ∷ 0x81 ∷ []) ∷ []; primitives = [] })
-        ∷ Ok (record { frames = []; primitives = Management (tei.Free 64) ∷ Of (of_sapi Call 64) what.Released ∷ Of (of_sapi Packet 64) what.Released ∷ [] }) ∷ [] }
-    ensures gone { (network_run both_sapis (both_established ++ vain_check) (new_network both_sapis (64 ∷ []))).served.links (of_sapi Call 64) ≡ None }
+    ensures gives { network_gives both_sapis vain_check
+        (network_run both_sapis both_established (new_network both_sapis (64 ∷ [])))
+        ≡ Ok (record {
+          frames = (0xFE ∷ 0xFF ∷ 0x03 ∷ 0x0F ∷ 0x00 ∷ 0x00 ∷ 0x04 ∷ 0x81 ∷ []) ∷ [];
+          primitives = [];
+        })
+        ∷ Ok (record {
+          frames = (0xFE ∷ 0xFF ∷ 0x03 ∷ 0x0F ∷ 0x00 ∷ 0x00 ∷ 0x04 ∷ 0x81 ∷ []) ∷ [];
+          primitives = [];
+        })
+        ∷ Ok (record {
+          frames = [];
+          primitives = Management (tei.Free 64)
+              ∷ Of (of_sapi Call 64) what.Released ∷ Of (of_sapi Packet 64) what.Released ∷ [];
+        }) ∷ [] }
+    ensures gone { (network_run both_sapis (both_established ++ vain_check)
+        (new_network both_sapis (64 ∷ []))).served.links (of_sapi Call 64) ≡ None }
 {}
 
 /// Octets with F1, F2 and F3, and a frame for a TEI that is not there, are discarded and counted; a SABME is answered.
@@ -64,15 +93,24 @@ pub fn vain_requests_are_released()
         ≡ Ok (record { frames = asking 0 ∷ []; primitives = [] })
         ∷ Ok (record { frames = asking (reference 1) ∷ []; primitives = [] })
         ∷ Ok (record { frames = asking (reference 2) ∷ []; primitives = [] })
-        ∷ Ok (record { frames = []; primitives = Management tei.Failed ∷ Of (of_sapi Call 127) what.Released ∷ [] }) ∷ [] }
+        ∷ Ok (record {
+          frames = [];
+          primitives = Management tei.Failed ∷ Of (of_sapi Call 127) what.Released ∷ [];
+        }) ∷ [] }
 {}
 
 /// The terminal gets TEI 64 by its first reference: the establishment that was kept is done, T202 is stopped, and T200 of
 /// the new link runs.
 pub fn kept_establishments_are_done()
-    ensures gives { user_gives call_control_alone want_and_tei (new_user call_control_alone None random)
+    ensures gives { user_gives call_control_alone want_and_tei
+        (new_user call_control_alone None random)
         ≡ Ok (record { frames = asking 0 ∷ []; primitives = [] })
-        ∷ Ok (record { frames = (0x00 ∷ 0x81 ∷ 0x7F ∷ []) ∷ []; primitives = Management (tei.Got 64) ∷ [] }) ∷ [] }
-    ensures t202 { deadline_of T202 (user_run call_control_alone want_and_tei (new_user call_control_alone None random)).served.timers ≡ None }
-    ensures t200 { ends_at T200 ((user_run call_control_alone want_and_tei (new_user call_control_alone None random)).served.links (of_sapi Call 64)) ≡ Some 1100 }
+        ∷ Ok (record {
+          frames = (0x00 ∷ 0x81 ∷ 0x7F ∷ []) ∷ [];
+          primitives = Management (tei.Got 64) ∷ [];
+        }) ∷ [] }
+    ensures t202 { deadline_of T202 (user_run call_control_alone want_and_tei
+        (new_user call_control_alone None random)).served.timers ≡ None }
+    ensures t200 { ends_at T200 ((user_run call_control_alone want_and_tei
+        (new_user call_control_alone None random)).served.links (of_sapi Call 64)) ≡ Some 1100 }
 {}

@@ -8,15 +8,17 @@ ghost use Rattle.lapd_tei.specs.Out.{tei_given};
 ghost use Rattle.lapd_table.specs.LinkTable.{IsFor};
 ghost use Rattle.lapd_frame.specs.Fault.{is_for_link};
 ghost use Rattle.lapd_links.specs.Effects.{no_effects};
-ghost use Rattle.lapd_links.specs.Expiries.{IsDue, IsNextDeadline, of_served};
-ghost use Rattle.lapd_sides.specs.Requests.{message_of};
+ghost use Rattle.lapd_links.specs.Expiries.{IsNextDeadline, of_served};
+ghost use Rattle.lapd_sides.specs.Requests.{message_of, without_message};
 ghost use Rattle.lapd_sides.specs.Shows.{ShowEnds};
 ghost use Rattle.lapd_links.specs.Links.{IsOfLink};
-ghost use Rattle.lapd_sides.specs.Network.{Network, new_network, network_takes, network_expires, network_requested, assigner_acts, message_heard, link_of_network, or_discarded, frame_heard, fault_heard, unit_requested, unit_to_group, given_for, given_for_frame};
+ghost use Rattle.lapd_sides.specs.Network.{Network, new_network, network_takes, network_expires, network_requested, assigner_acts, link_of_network, or_discarded, frame_heard, fault_heard, unit_requested, unit_to_group, given_for, given_for_frame, given_for_message};
 
 use crate::served::{LinksAndTimer, carries_message, one_more};
 use crate::{Acts, Config, Expiry, Request, SideFault, SideKind};
-use lapd_frame::{Address, Control, FaultKind, Frame, FrameFault, Role, Sapi, Side, Tei, read};
+use lapd_frame::{
+    Address, Control, FaultKind, Frame, FrameFault, N201, Role, Sapi, Side, Tei, read,
+};
 use lapd_link::{Event, LinkFault};
 use lapd_links::{due, next_deadline, refused};
 use lapd_table::{LinkId, LinkTable};
@@ -39,7 +41,7 @@ pub struct NetSide {
 }
 
 impl NetSide {
-    ghost use Rattle.lapd_sides.specs.ShowsNetwork.{ShowNetwork, HasDone, HasGranted, HasExpired};
+    ghost use Rattle.lapd_sides.specs.ShowsNetwork.{ShowNetwork, EachShown, ShowsAsBefore, Does, Grants, RefusesAs, Expires, Rests};
 
     /// A network side that holds the TEIs that are known, each 0 to 126: their links are there, in state 4.
     ///
@@ -70,10 +72,12 @@ impl NetSide {
     ///
     /// B3 where that memory was refused. Nothing is changed, and nothing given.
     pub fn take(&mut self, bytes: &[u8], now: u64, acts: &mut Acts) -> Result<(), SideFault>
-        ensures ok { OnOk result ((config : Config) (s : Network) → ShowNetwork self.old config s → HasDone self.new config acts.new (network_takes config bytes.now now s)) }
-        ensures err { IfErr result (λ fault. fault ≡ record { kind = SideKind.Memory; message = None }) }
-        ensures only { OnErr result ((config : Config) (s : Network) → ShowNetwork self.old config s → IsSome (given_for s.assigner bytes.now)) }
-        ensures unchanged { OnErr result ((config : Config) (s : Network) → ShowNetwork self.old config s → ShowNetwork self.new config s) }
+        ensures ok { OnOk result (Does self.old self.new acts.new
+            (λ config. network_takes config bytes.now now)) }
+        ensures err { IfErr result (λ fault. fault ≡ without_message SideKind.Memory) }
+        ensures only { OnErr result (EachShown self.old
+            (λ s. IsSome (given_for s.assigner bytes.now))) }
+        ensures unchanged { OnErr result (ShowsAsBefore self.old self.new) }
         ensures nothing { OnErr result (acts.new ≡ no_effects) }
     {
         acts.clear();
@@ -89,9 +93,11 @@ impl NetSide {
     /// Octets of the user side: a frame, or a fault.
     fn hear_octets(&mut self, bytes: &[u8], now: u64, acts: &mut Acts) -> Result<(), AllocError>
         requires empty { acts.old ≡ no_effects }
-        ensures ok { OnOk result ((config : Config) (s : Network) → ShowNetwork self.old config s → HasDone self.new config acts.new (network_takes config bytes.now now s)) }
-        ensures only { OnErr result ((config : Config) (s : Network) → ShowNetwork self.old config s → IsSome (given_for s.assigner bytes.now)) }
-        ensures unchanged { OnErr result ((config : Config) (s : Network) → ShowNetwork self.old config s → ShowNetwork self.new config s) }
+        ensures ok { OnOk result (Does self.old self.new acts.new
+            (λ config. network_takes config bytes.now now)) }
+        ensures only { OnErr result (EachShown self.old
+            (λ s. IsSome (given_for s.assigner bytes.now))) }
+        ensures unchanged { OnErr result (ShowsAsBefore self.old self.new) }
         ensures nothing { OnErr result (acts.new ≡ no_effects) }
     {
         match read(bytes, Side::User) {
@@ -105,11 +111,13 @@ impl NetSide {
 
     /// A frame, which is a message of TEI management or is for the link that it names.
     fn hear(&mut self, frame: &Frame<'_>, now: u64, acts: &mut Acts) -> Result<(), AllocError>
-        requires fits { length frame.now.info ≤ 260 }
+        requires fits { length frame.now.info ≤ N201 }
         requires empty { acts.old ≡ no_effects }
-        ensures ok { OnOk result ((config : Config) (s : Network) → ShowNetwork self.old config s → HasDone self.new config acts.new (frame_heard config now frame.now s)) }
-        ensures only { OnErr result ((config : Config) (s : Network) → ShowNetwork self.old config s → IsSome (given_for_frame s.assigner (Ok frame.now))) }
-        ensures unchanged { OnErr result ((config : Config) (s : Network) → ShowNetwork self.old config s → ShowNetwork self.new config s) }
+        ensures ok { OnOk result (Does self.old self.new acts.new
+            (λ config. frame_heard config now frame.now)) }
+        ensures only { OnErr result (EachShown self.old
+            (λ s. IsSome (given_for_frame s.assigner (Ok frame.now)))) }
+        ensures unchanged { OnErr result (ShowsAsBefore self.old self.new) }
         ensures nothing { OnErr result (acts.new ≡ no_effects) }
     {
         if carries_message(frame) {
@@ -128,7 +136,8 @@ impl NetSide {
     fn hear_fault(&mut self, fault: &FrameFault, now: u64, acts: &mut Acts)
         requires empty { acts.old ≡ no_effects }
         requires of_link { IfSome fault.now.address (λ address. is_for_link fault.now.kind ≡ true) }
-        ensures { (config : Config) (s : Network) → ShowNetwork self.old config s → HasDone self.new config acts.new (fault_heard now fault.now.kind fault.now.address s) }
+        ensures { Does self.old self.new acts.new
+            (λ _. fault_heard now fault.now.kind fault.now.address) }
     {
         match fault.address {
             Some(address) => {
@@ -148,9 +157,11 @@ impl NetSide {
         acts: &mut Acts,
     ) -> Result<(), AllocError>
         requires empty { acts.old ≡ no_effects }
-        ensures ok { OnOk result ((config : Config) (s : Network) → ShowNetwork self.old config s → HasDone self.new config acts.new (assigner_acts config now (AssignerEvent.Heard message) s)) }
-        ensures only { OnErr result ((config : Config) (s : Network) → ShowNetwork self.old config s → IsSome (tei_given (assigner_step s.assigner (AssignerEvent.Heard message)).outs)) }
-        ensures unchanged { OnErr result ((config : Config) (s : Network) → ShowNetwork self.old config s → ShowNetwork self.new config s) }
+        ensures ok { OnOk result (Does self.old self.new acts.new
+            (λ config. assigner_acts config now (AssignerEvent.Heard message))) }
+        ensures only { OnErr result (EachShown self.old
+            (λ s. IsSome (given_for_message s.assigner (Ok message)))) }
+        ensures unchanged { OnErr result (ShowsAsBefore self.old self.new) }
         ensures nothing { OnErr result (acts.new ≡ no_effects) }
     {
         let mut assigner = self.assigner;
@@ -167,7 +178,7 @@ impl NetSide {
     fn manage(&mut self, event: AssignerEvent, now: u64, acts: &mut Acts)
         requires empty { acts.old ≡ no_effects }
         requires gives_none { (a : AssignerState) → tei_given (assigner_step a event).outs ≡ None }
-        ensures { (config : Config) (s : Network) → ShowNetwork self.old config s → HasDone self.new config acts.new (assigner_acts config now event s) }
+        ensures { Does self.old self.new acts.new (λ config. assigner_acts config now event) }
     {
         let outs = self.assigner.handle(event);
         self.served
@@ -178,8 +189,9 @@ impl NetSide {
     fn act_or_discard(&mut self, id: LinkId, event: Event, octets: &[u8], now: u64, acts: &mut Acts)
         requires empty { acts.old ≡ no_effects }
         requires for_link { IsFor id event }
-        requires fits { length octets.now ≤ 260 }
-        ensures { (config : Config) (s : Network) → ShowNetwork self.old config s → HasDone self.new config acts.new (or_discarded s (link_of_network now id (input_of event.entry) octets.now s)) }
+        requires fits { length octets.now ≤ N201 }
+        ensures { Does self.old self.new acts.new
+            (λ _ s. or_discarded s (link_of_network now id (input_of event.entry) octets.now s)) }
     {
         match self.served.links.act(id, event, octets, now, acts) {
             Ok(()) => {}
@@ -190,8 +202,8 @@ impl NetSide {
     /// What is due at the moment `now`, the first alone: its timer has expired. `false` where nothing is due. It takes no
     /// memory. Call it until it answers `false`.
     pub fn tick(&mut self, now: u64, acts: &mut Acts) -> bool
-        ensures due { result ≡ true → (config : Config) (s : Network) → ShowNetwork self.old config s → HasExpired self.new config acts.new now s }
-        ensures none { result ≡ false → (config : Config) (s : Network) → ShowNetwork self.old config s → IsDue now s.served None × ShowNetwork self.new config s }
+        ensures due { result ≡ true → Expires self.old self.new acts.new now }
+        ensures none { result ≡ false → Rests self.old self.new now }
         ensures nothing { result ≡ false → acts.new ≡ no_effects }
     {
         acts.clear();
@@ -213,7 +225,7 @@ impl NetSide {
     /// where no timer runs. It is the same until the next call of `take`, `tick` or `request`, so that a program sleeps until
     /// then, or until octets come.
     pub fn next_deadline(&self) -> Option<u64>
-        ensures { (config : Config) (s : Network) → ShowNetwork self.now config s → IsNextDeadline s.served result }
+        ensures { EachShown self.now (λ s. IsNextDeadline s.served result) }
     {
         next_deadline(&self.served.timers, &self.served.links)
     }
@@ -222,7 +234,8 @@ impl NetSide {
     fn expire(&mut self, id: LinkId, timer: Timer, now: u64, acts: &mut Acts)
         requires empty { acts.old ≡ no_effects }
         requires of_link { IsOfLink timer }
-        ensures { (config : Config) (s : Network) → ShowNetwork self.old config s → HasDone self.new config acts.new (network_expires config now timer (Some id) s) }
+        ensures { Does self.old self.new acts.new
+            (λ config. network_expires config now timer (Some id)) }
     {
         let _ = self.served.links.expire(id, timer, now, acts);
     }
@@ -235,10 +248,12 @@ impl NetSide {
     /// changed, and nothing given.
     #[tactic(auto, unfolding(crate::specs::Network::network_requested))]
     pub fn request(&mut self, request: Request, now: u64, acts: &mut Acts) -> Result<(), SideFault>
-        ensures ok { OnOk result ((config : Config) (s : Network) → ShowNetwork self.old config s → HasGranted self.new config acts.new (network_requested config request now s)) }
-        ensures err { IfErr result (λ fault. (config : Config) (s : Network) → ShowNetwork self.old config s → network_requested config request now s ≡ Err fault.kind) }
+        ensures ok { OnOk result (Grants self.old self.new acts.new
+            (λ config. network_requested config request now)) }
+        ensures err { IfErr result (λ fault. RefusesAs self.old fault.kind
+            (λ config. network_requested config request now)) }
         ensures handed_back { IfErr result (λ fault. fault.message ≡ message_of request) }
-        ensures unchanged { OnErr result ((config : Config) (s : Network) → ShowNetwork self.old config s → ShowNetwork self.new config s) }
+        ensures unchanged { OnErr result (ShowsAsBefore self.old self.new) }
         ensures nothing { OnErr result (acts.new ≡ no_effects) }
     {
         acts.clear();
@@ -259,16 +274,18 @@ impl NetSide {
 }
 
 impl NetSide {
-    ghost use Rattle.lapd_sides.specs.ShowsNetwork.{ShowNetwork, HasGranted};
+    ghost use Rattle.lapd_sides.specs.ShowsNetwork.{EachShown, ShowsAsBefore, Grants, RefusesAs};
 
     /// An event for the link with this name.
     fn act(&mut self, id: LinkId, event: Event, now: u64, acts: &mut Acts) -> Result<(), SideFault>
         requires empty { acts.old ≡ no_effects }
         requires for_link { IsFor id event }
-        ensures ok { OnOk result ((config : Config) (s : Network) → ShowNetwork self.old config s → HasGranted self.new config acts.new (link_of_network now id (input_of event.entry) [] s)) }
-        ensures err { IfErr result (λ fault. (config : Config) (s : Network) → ShowNetwork self.old config s → link_of_network now id (input_of event.entry) [] s ≡ Err fault.kind) }
+        ensures ok { OnOk result (Grants self.old self.new acts.new
+            (λ _. link_of_network now id (input_of event.entry) [])) }
+        ensures err { IfErr result (λ fault. RefusesAs self.old fault.kind
+            (λ _. link_of_network now id (input_of event.entry) [])) }
         ensures handed_back { IfErr result (λ fault. fault.message ≡ None) }
-        ensures unchanged { OnErr result ((config : Config) (s : Network) → ShowNetwork self.old config s → ShowNetwork self.new config s) }
+        ensures unchanged { OnErr result (ShowsAsBefore self.old self.new) }
         ensures nothing { OnErr result (acts.new ≡ no_effects) }
     {
         match self.served.links.act(id, event, &[], now, acts) {
@@ -289,10 +306,12 @@ impl NetSide {
         acts: &mut Acts,
     ) -> Result<(), SideFault>
         requires empty { acts.old ≡ no_effects }
-        ensures ok { OnOk result ((config : Config) (s : Network) → ShowNetwork self.old config s → HasGranted self.new config acts.new (unit_requested config now id octets.items s)) }
-        ensures err { IfErr result (λ fault. (config : Config) (s : Network) → ShowNetwork self.old config s → unit_requested config now id octets.items s ≡ Err fault.kind) }
+        ensures ok { OnOk result (Grants self.old self.new acts.new
+            (λ config. unit_requested config now id octets.items)) }
+        ensures err { IfErr result (λ fault. RefusesAs self.old fault.kind
+            (λ config. unit_requested config now id octets.items)) }
         ensures handed_back { IfErr result (λ fault. fault.message ≡ Some octets) }
-        ensures unchanged { OnErr result ((config : Config) (s : Network) → ShowNetwork self.old config s → ShowNetwork self.new config s) }
+        ensures unchanged { OnErr result (ShowsAsBefore self.old self.new) }
         ensures nothing { OnErr result (acts.new ≡ no_effects) }
     {
         match self.put_unit(id, octets.as_slice(), now, acts) {
@@ -310,9 +329,11 @@ impl NetSide {
         acts: &mut Acts,
     ) -> Result<(), SideKind>
         requires empty { acts.old ≡ no_effects }
-        ensures ok { OnOk result ((config : Config) (s : Network) → ShowNetwork self.old config s → HasGranted self.new config acts.new (unit_requested config now id octets.now s)) }
-        ensures err { IfErr result (λ kind. (config : Config) (s : Network) → ShowNetwork self.old config s → unit_requested config now id octets.now s ≡ Err kind) }
-        ensures unchanged { OnErr result ((config : Config) (s : Network) → ShowNetwork self.old config s → ShowNetwork self.new config s) }
+        ensures ok { OnOk result (Grants self.old self.new acts.new
+            (λ config. unit_requested config now id octets.now)) }
+        ensures err { IfErr result (λ kind. RefusesAs self.old kind
+            (λ config. unit_requested config now id octets.now)) }
+        ensures unchanged { OnErr result (ShowsAsBefore self.old self.new) }
         ensures nothing { OnErr result (acts.new ≡ no_effects) }
     {
         if self.config.serves_group(&id) {
@@ -331,10 +352,12 @@ impl NetSide {
         acts: &mut Acts,
     ) -> Result<(), SideFault>
         requires empty { acts.old ≡ no_effects }
-        ensures ok { OnOk result ((config : Config) (s : Network) → ShowNetwork self.old config s → HasGranted self.new config acts.new (link_of_network now id (Give message.items) [] s)) }
-        ensures err { IfErr result (λ fault. (config : Config) (s : Network) → ShowNetwork self.old config s → link_of_network now id (Give message.items) [] s ≡ Err fault.kind) }
+        ensures ok { OnOk result (Grants self.old self.new acts.new
+            (λ _. link_of_network now id (Give message.items) [])) }
+        ensures err { IfErr result (λ fault. RefusesAs self.old fault.kind
+            (λ _. link_of_network now id (Give message.items) [])) }
         ensures handed_back { IfErr result (λ fault. fault.message ≡ Some message) }
-        ensures unchanged { OnErr result ((config : Config) (s : Network) → ShowNetwork self.old config s → ShowNetwork self.new config s) }
+        ensures unchanged { OnErr result (ShowsAsBefore self.old self.new) }
         ensures nothing { OnErr result (acts.new ≡ no_effects) }
     {
         self.served.links.give(id, message, now, acts)
@@ -342,14 +365,14 @@ impl NetSide {
 
     /// The links that are there.
     pub fn table(&self) -> &LinkTable
-        ensures { (config : Config) (s : Network) → ShowNetwork self.now config s → ShowEnds Side.Network result.now s.served.links }
+        ensures { EachShown self.now (λ s. ShowEnds Side.Network result.now s.served.links) }
     {
         &self.served.links.table
     }
 
     /// The timers of a link that is there; `None` names T201 of TEI management.
     pub fn timers(&self, of: Option<LinkId>) -> Option<&TimerSet>
-        ensures { (config : Config) (s : Network) → ShowNetwork self.now config s → option_copied result ≡ of_served s.served of }
+        ensures { EachShown self.now (λ s. option_copied result ≡ of_served s.served of) }
     {
         match of {
             None => Some(&self.served.timers),
@@ -359,7 +382,7 @@ impl NetSide {
 
     /// The assigner of TEIs.
     pub fn assigner(&self) -> &Assigner
-        ensures { (config : Config) (s : Network) → ShowNetwork self.now config s → result.now ≡ s.assigner }
+        ensures { EachShown self.now (λ s. result.now ≡ s.assigner) }
     {
         &self.assigner
     }
@@ -367,8 +390,7 @@ impl NetSide {
     /// How many frames [`NetSide::take`] has discarded since the side was made: those with F1 to F3, and those for a link
     /// that is not there. It stays at `u64::MAX` once it is there. What TEI management ignores is not counted.
     pub fn discarded(&self) -> u64
-        ensures { (config : Config) (s : Network) → ShowNetwork self.now config s
-            → result ≡ s.discarded }
+        ensures { EachShown self.now (λ s. result ≡ s.discarded) }
     {
         self.discarded
     }
@@ -381,8 +403,10 @@ impl NetSide {
 /// L3 for more than 260 octets.
 fn put_group_unit(sapi: Sapi, octets: &[u8], acts: &mut Acts) -> Result<(), SideKind>
     requires empty { acts.old ≡ no_effects }
-    ensures ok { OnOk result ((s : Network) → unit_to_group sapi octets.now s ≡ Ok (record { after = s; effects = acts.new })) }
-    ensures err { IfErr result (λ kind. (s : Network) → unit_to_group sapi octets.now s ≡ Err kind) }
+    ensures ok { OnOk result ((s : Network)
+        → unit_to_group sapi octets.now s ≡ Ok (record { after = s; effects = acts.new })) }
+    ensures err { IfErr result (λ kind. (s : Network)
+        → unit_to_group sapi octets.now s ≡ Err kind) }
     ensures nothing { OnErr result (acts.new ≡ no_effects) }
 {
     let address = Address {

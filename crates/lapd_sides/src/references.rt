@@ -40,7 +40,8 @@ impl References {
 
     /// Where the next one is sent, the one after it is the next now.
     pub fn advance_if(&mut self, sent: bool)
-        ensures { (random : Lcg) → ShowReferences self.old random → ShowReferences self.new (if sent then advanced (pcg32 random) else random) }
+        ensures { (random : Lcg) → ShowReferences self.old random
+            → ShowReferences self.new (if sent then advanced (pcg32 random) else random) }
     {
         if sent {
             self.next = low_sixteen(self.rest.next_word());

@@ -2,14 +2,13 @@
 
 ghost use Rattle.std.specs.Prelude.{◌≡◌, ◌≤◌, ◌<◌, ◌+◌, ◌++◌, length, Some, None, OnOk, OnErr, IfOk, IfSome, IsSome};
 ghost use Rattle.std.specs.List.{All, filter_map};
-ghost use Rattle.lapd_frame.specs.declared.Side.{Side};
 ghost use Rattle.lapd_timers.specs.Due.{at_rest};
 ghost use Rattle.lapd_tei.specs.Out.{IsInRange, tei_given, tei_freed};
+ghost use Rattle.lapd_links.specs.declared.acts.TheConstants.{MOST_FRAMES, MOST_PRIMITIVES};
 ghost use Rattle.lapd_links.specs.Effects.{managed, message_sent, outcome_of, no_effects};
 ghost use Rattle.lapd_links.specs.Links.{no_links};
-ghost use Rattle.lapd_sides.specs.Management.{carries_message, is_unit_to_group, links_with, manages, one_more};
-ghost use Rattle.lapd_links.specs.Links.{Served};
-ghost use Rattle.lapd_sides.specs.Shows.{ShowServed, HaveServed};
+ghost use Rattle.lapd_sides.specs.Management.{carries_message, is_unit_to_group, one_more};
+ghost use Rattle.lapd_sides.specs.Shows.{ShowServed, Become, ShowAsBefore, CarryOut, with_given_links};
 
 use crate::{Acts, Config, Primitive};
 use lapd_frame::{Control, Frame, Sapi, Side, Tei};
@@ -32,7 +31,8 @@ impl LinksAndTimer {
     ///
     /// `AllocError` where memory was refused.
     pub fn new(alloc: Global, side: Side, durations: Durations) -> Result<LinksAndTimer, AllocError>
-        ensures { IfOk result (λ s. ShowServed side s (record { links = no_links; timers = at_rest durations })) }
+        ensures { IfOk result (λ s. ShowServed side s
+            (record { links = no_links; timers = at_rest durations })) }
     {
         Ok(LinksAndTimer {
             links: LinkSet::new(alloc, side)?,
@@ -52,8 +52,8 @@ impl LinksAndTimer {
         outs: &[TeiOut],
     ) -> Result<(), AllocError>
         requires in_range { All IsInRange outs.now }
-        ensures ok { OnOk result ((side : Side) (s : Served) → ShowServed side self.old s → ShowServed side self.new (record s { links = links_with config.now (tei_given outs.now) s.links })) }
-        ensures unchanged { OnErr result ((side : Side) (s : Served) → ShowServed side self.old s → ShowServed side self.new s) }
+        ensures ok { OnOk result (Become self.old self.new (with_given_links config.now outs.now)) }
+        ensures unchanged { OnErr result (ShowAsBefore self.old self.new) }
         ensures only { OnErr result (IsSome (tei_given outs.now)) }
     {
         if let Some(tei) = given(outs) {
@@ -68,8 +68,7 @@ impl LinksAndTimer {
         requires in_range { All IsInRange outs.now }
         requires at_most { length outs.now ≤ 6 }
         requires empty { acts.old ≡ no_effects }
-        ensures done { (config : Config) (s : Served) → ShowServed side self.old (record s { links = links_with config (tei_given outs.now) s.links })
-            → HaveServed side self.new acts.new (manages side config now outs.now s) }
+        ensures done { CarryOut side self.old self.new acts.new now outs.now }
         ensures most_frames { length acts.new.frames ≤ 6 }
         ensures most_primitives { length acts.new.primitives ≤ 8 }
     {
@@ -135,7 +134,7 @@ fn freed(outs: &[TeiOut]) -> Option<Tei>
 /// Puts the messages that these outputs send behind the others.
 fn put_messages(side: Side, outs: &[TeiOut], acts: &mut Acts)
     requires in_range { All IsInRange outs.now }
-    requires room { length acts.old.frames + length outs.now ≤ 280 }
+    requires room { length acts.old.frames + length outs.now ≤ MOST_FRAMES }
     ensures frames { acts.new.frames ≡ acts.old.frames ++ filter_map (message_sent side) outs.now }
     ensures primitives { acts.new.primitives ≡ acts.old.primitives }
     ensures at_most { length acts.new.frames ≤ length acts.old.frames + length outs.now }
@@ -149,8 +148,9 @@ fn put_messages(side: Side, outs: &[TeiOut], acts: &mut Acts)
 
 /// Tells the outcomes among these outputs.
 fn tell_outcomes(outs: &[TeiOut], acts: &mut Acts)
-    requires room { length acts.old.primitives + length outs.now ≤ 280 }
-    ensures primitives { acts.new.primitives ≡ acts.old.primitives ++ filter_map outcome_of outs.now }
+    requires room { length acts.old.primitives + length outs.now ≤ MOST_PRIMITIVES }
+    ensures primitives { acts.new.primitives
+        ≡ acts.old.primitives ++ filter_map outcome_of outs.now }
     ensures room { length acts.new.primitives ≤ length acts.old.primitives + length outs.now }
     ensures frames { acts.new.frames ≡ acts.old.frames }
 {

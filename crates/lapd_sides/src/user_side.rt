@@ -1,29 +1,28 @@
 //! The user side.
 
-ghost use Rattle.std.specs.Prelude.{◌≡◌, ◌≤◌, ◌<◌, ◌+◌, ◌++◌, ◌∷◌, true, false, length, [], Some, None, Ok, Err, OnOk, OnErr, IfOk, IfErr, IfSome, IsSome, option_copied};
+ghost use Rattle.std.specs.Prelude.{◌≡◌, ◌≤◌, ◌<◌, ◌+◌, ◌++◌, true, false, length, [], Some, None, Ok, Err, OnOk, OnErr, IfOk, IfErr, IfSome, IsSome, option_copied};
 ghost use Rattle.std.specs.List.{All};
 ghost use Rattle.lapd_states.specs.Input.{input_of, Establish, Release, UnitData, Give};
 ghost use Rattle.lapd_states.specs.declared.event.LinkFault.TheVariants.{NotEstablished};
-ghost use Rattle.lapd_tei.specs.Message.{group_tei};
 ghost use Rattle.lapd_tei.specs.Out.{IsInRange, tei_given};
-ghost use Rattle.lapd_tei.specs.Terminal.{TerminalStep, terminal_step};
+ghost use Rattle.lapd_tei.specs.Terminal.{terminal_step};
 ghost use Rattle.lapd_tei.specs.declared.phase.Phase.{Phase};
 ghost use Rattle.lapd_table.specs.LinkTable.{IsFor};
 ghost use Rattle.lapd_frame.specs.Fault.{is_for_link};
-ghost use Rattle.lapd_links.specs.declared.primitive.Primitive.TheVariants.{Of};
 ghost use Rattle.lapd_links.specs.declared.side_fault.SideKind.TheVariants.{NoLink, Link};
+ghost use Rattle.lapd_links.specs.declared.acts.TheConstants.{MOST_FRAMES, MOST_PRIMITIVES};
 ghost use Rattle.lapd_links.specs.Effects.{no_effects};
-ghost use Rattle.lapd_links.specs.Expiries.{IsDue, IsNextDeadline, of_served};
+ghost use Rattle.lapd_links.specs.Expiries.{IsNextDeadline, of_served};
 ghost use Rattle.lapd_links.specs.Links.{IsOfLink, of_sapi};
-ghost use Rattle.lapd_sides.specs.Requests.{message_of};
+ghost use Rattle.lapd_sides.specs.Requests.{message_of, without_message};
 ghost use Rattle.lapd_sides.specs.Shows.{ShowEnds};
-ghost use Rattle.lapd_sides.specs.User.{User, seeded, sends_message, new_user, user_takes, user_expires, user_requested, terminal_acts, assigned, kept_after, establishes_kept, establishes, gives_up_kept, told_of_sapi, link_of_user, or_discarded, frame_heard, data_heard, for_layer_3, fault_heard, got_for, got_for_frame, got_for_message, wants, forgets, with_tei_or};
+ghost use Rattle.lapd_sides.specs.User.{User, seeded, sends_message, new_user, user_takes, user_expires, user_requested, terminal_acts, assigned, kept_after, establishes_kept, establishes, gives_up_kept, told_of_group, told_of_sapi, link_of_user, or_discarded, frame_heard, data_heard, for_layer_3, fault_heard, got_for, got_for_frame, got_for_message, wants, forgets, with_tei_or};
 
 use crate::kept::Kept;
 use crate::references::References;
 use crate::served::{LinksAndTimer, carries_message, is_unit_to_group, one_more};
 use crate::{Acts, Config, Expiry, Octets, Primitive, Request, SideFault, SideKind, What};
-use lapd_frame::{FaultKind, Frame, FrameFault, Sapi, Side, Tei, read};
+use lapd_frame::{FaultKind, Frame, FrameFault, N201, Sapi, Side, Tei, read};
 use lapd_link::{Event, LinkFault};
 use lapd_links::{due, next_deadline, refused};
 use lapd_table::{LinkId, LinkTable};
@@ -48,7 +47,7 @@ pub struct UserSide {
 }
 
 impl UserSide {
-    ghost use Rattle.lapd_sides.specs.ShowsUser.{ShowUser, HasDone, HasGranted, HasExpired};
+    ghost use Rattle.lapd_sides.specs.ShowsUser.{ShowUser, EachShown, ShowsAsBefore, Does, Grants, RefusesAs, Expires, Rests};
 
     /// A user side with a fixed TEI, 0 to 126, whose links are there, in state 4; or with none, which has no links yet.
     ///
@@ -57,7 +56,8 @@ impl UserSide {
     /// `AllocError` where memory was refused.
     pub fn new(alloc: Global, config: Config, fixed: Option<Tei>) -> Result<UserSide, AllocError>
         requires { IfSome fixed (λ tei. tei < 127) }
-        ensures { IfOk result (λ side. ShowUser side config (new_user config fixed (seeded config.seed))) }
+        ensures { IfOk result (λ side. ShowUser side config
+            (new_user config fixed (seeded config.seed))) }
     {
         let mut served = LinksAndTimer::new(alloc, Side::User, config.durations)?;
         if let Some(tei) = fixed {
@@ -82,10 +82,11 @@ impl UserSide {
     ///
     /// B3 where that memory was refused. Nothing is changed, and nothing given.
     pub fn take(&mut self, bytes: &[u8], now: u64, acts: &mut Acts) -> Result<(), SideFault>
-        ensures ok { OnOk result ((config : Config) (s : User) → ShowUser self.old config s → HasDone self.new config acts.new (user_takes config bytes.now now s)) }
-        ensures err { IfErr result (λ fault. fault ≡ record { kind = SideKind.Memory; message = None }) }
-        ensures only { OnErr result ((config : Config) (s : User) → ShowUser self.old config s → IsSome (got_for s bytes.now)) }
-        ensures unchanged { OnErr result ((config : Config) (s : User) → ShowUser self.old config s → ShowUser self.new config s) }
+        ensures ok { OnOk result (Does self.old self.new acts.new
+            (λ config. user_takes config bytes.now now)) }
+        ensures err { IfErr result (λ fault. fault ≡ without_message SideKind.Memory) }
+        ensures only { OnErr result (EachShown self.old (λ s. IsSome (got_for s bytes.now))) }
+        ensures unchanged { OnErr result (ShowsAsBefore self.old self.new) }
         ensures nothing { OnErr result (acts.new ≡ no_effects) }
     {
         acts.clear();
@@ -101,9 +102,10 @@ impl UserSide {
     /// Octets of the network side: a frame, or a fault.
     fn hear_octets(&mut self, bytes: &[u8], now: u64, acts: &mut Acts) -> Result<(), AllocError>
         requires empty { acts.old ≡ no_effects }
-        ensures ok { OnOk result ((config : Config) (s : User) → ShowUser self.old config s → HasDone self.new config acts.new (user_takes config bytes.now now s)) }
-        ensures only { OnErr result ((config : Config) (s : User) → ShowUser self.old config s → IsSome (got_for s bytes.now)) }
-        ensures unchanged { OnErr result ((config : Config) (s : User) → ShowUser self.old config s → ShowUser self.new config s) }
+        ensures ok { OnOk result (Does self.old self.new acts.new
+            (λ config. user_takes config bytes.now now)) }
+        ensures only { OnErr result (EachShown self.old (λ s. IsSome (got_for s bytes.now))) }
+        ensures unchanged { OnErr result (ShowsAsBefore self.old self.new) }
         ensures nothing { OnErr result (acts.new ≡ no_effects) }
     {
         match read(bytes, Side::Network) {
@@ -118,10 +120,12 @@ impl UserSide {
     /// A frame, which is a message of TEI management or is none.
     fn hear(&mut self, frame: &Frame<'_>, now: u64, acts: &mut Acts) -> Result<(), AllocError>
         requires empty { acts.old ≡ no_effects }
-        requires fits { length frame.now.info ≤ 260 }
-        ensures ok { OnOk result ((config : Config) (s : User) → ShowUser self.old config s → HasDone self.new config acts.new (frame_heard config now frame.now s)) }
-        ensures only { OnErr result ((config : Config) (s : User) → ShowUser self.old config s → IsSome (got_for_frame s (Ok frame.now))) }
-        ensures unchanged { OnErr result ((config : Config) (s : User) → ShowUser self.old config s → ShowUser self.new config s) }
+        requires fits { length frame.now.info ≤ N201 }
+        ensures ok { OnOk result (Does self.old self.new acts.new
+            (λ config. frame_heard config now frame.now)) }
+        ensures only { OnErr result (EachShown self.old
+            (λ s. IsSome (got_for_frame s (Ok frame.now)))) }
+        ensures unchanged { OnErr result (ShowsAsBefore self.old self.new) }
         ensures nothing { OnErr result (acts.new ≡ no_effects) }
     {
         if carries_message(frame) {
@@ -138,8 +142,8 @@ impl UserSide {
     /// A frame that is no message of TEI management: unit data to all terminals, or a frame for the link that it names.
     fn hear_data(&mut self, frame: &Frame<'_>, now: u64, acts: &mut Acts)
         requires empty { acts.old ≡ no_effects }
-        requires fits { length frame.now.info ≤ 260 }
-        ensures { (config : Config) (s : User) → ShowUser self.old config s → HasDone self.new config acts.new (data_heard config now frame.now s) }
+        requires fits { length frame.now.info ≤ N201 }
+        ensures { Does self.old self.new acts.new (λ config. data_heard config now frame.now) }
     {
         let address = frame.address();
         if is_for_layer_3(&self.config, frame) {
@@ -154,7 +158,8 @@ impl UserSide {
     fn hear_fault(&mut self, fault: &FrameFault, now: u64, acts: &mut Acts)
         requires empty { acts.old ≡ no_effects }
         requires of_link { IfSome fault.now.address (λ address. is_for_link fault.now.kind ≡ true) }
-        ensures { (config : Config) (s : User) → ShowUser self.old config s → HasDone self.new config acts.new (fault_heard now fault.now.kind fault.now.address s) }
+        ensures { Does self.old self.new acts.new
+            (λ _. fault_heard now fault.now.kind fault.now.address) }
     {
         match fault.address {
             Some(address) => {
@@ -173,9 +178,11 @@ impl UserSide {
         acts: &mut Acts,
     ) -> Result<(), AllocError>
         requires empty { acts.old ≡ no_effects }
-        ensures ok { OnOk result ((config : Config) (s : User) → ShowUser self.old config s → HasDone self.new config acts.new (terminal_acts config now (TerminalEvent.Heard message) s)) }
-        ensures only { OnErr result ((config : Config) (s : User) → ShowUser self.old config s → IsSome (got_for_message s (Ok message))) }
-        ensures unchanged { OnErr result ((config : Config) (s : User) → ShowUser self.old config s → ShowUser self.new config s) }
+        ensures ok { OnOk result (Does self.old self.new acts.new
+            (λ config. terminal_acts config now (TerminalEvent.Heard message))) }
+        ensures only { OnErr result (EachShown self.old
+            (λ s. IsSome (got_for_message s (Ok message)))) }
+        ensures unchanged { OnErr result (ShowsAsBefore self.old self.new) }
         ensures nothing { OnErr result (acts.new ≡ no_effects) }
     {
         let event = TerminalEvent::Heard(message, self.references.next());
@@ -192,8 +199,9 @@ impl UserSide {
     fn act_or_discard(&mut self, id: LinkId, event: Event, octets: &[u8], now: u64, acts: &mut Acts)
         requires empty { acts.old ≡ no_effects }
         requires for_link { IsFor id event }
-        requires fits { length octets.now ≤ 260 }
-        ensures { (config : Config) (s : User) → ShowUser self.old config s → HasDone self.new config acts.new (or_discarded s (link_of_user now id (input_of event.entry) octets.now s)) }
+        requires fits { length octets.now ≤ N201 }
+        ensures { Does self.old self.new acts.new
+            (λ _ s. or_discarded s (link_of_user now id (input_of event.entry) octets.now s)) }
     {
         match self.served.links.act(id, event, octets, now, acts) {
             Ok(()) => {}
@@ -204,8 +212,8 @@ impl UserSide {
     /// What is due at the moment `now`, the first alone: its timer has expired. `false` where nothing is due. It takes no
     /// memory. Call it until it answers `false`.
     pub fn tick(&mut self, now: u64, acts: &mut Acts) -> bool
-        ensures due { result ≡ true → (config : Config) (s : User) → ShowUser self.old config s → HasExpired self.new config acts.new now s }
-        ensures none { result ≡ false → (config : Config) (s : User) → ShowUser self.old config s → IsDue now s.served None × ShowUser self.new config s }
+        ensures due { result ≡ true → Expires self.old self.new acts.new now }
+        ensures none { result ≡ false → Rests self.old self.new now }
         ensures nothing { result ≡ false → acts.new ≡ no_effects }
     {
         acts.clear();
@@ -227,7 +235,7 @@ impl UserSide {
     /// where no timer runs. It is the same until the next call of `take`, `tick` or `request`, so that a program sleeps until
     /// then, or until octets come.
     pub fn next_deadline(&self) -> Option<u64>
-        ensures { (config : Config) (s : User) → ShowUser self.now config s → IsNextDeadline s.served result }
+        ensures { EachShown self.now (λ s. IsNextDeadline s.served result) }
     {
         next_deadline(&self.served.timers, &self.served.links)
     }
@@ -236,7 +244,8 @@ impl UserSide {
     fn expire(&mut self, id: LinkId, timer: Timer, now: u64, acts: &mut Acts)
         requires empty { acts.old ≡ no_effects }
         requires of_link { IsOfLink timer }
-        ensures { (config : Config) (s : User) → ShowUser self.old config s → HasDone self.new config acts.new (user_expires config now timer (Some id) s) }
+        ensures { Does self.old self.new acts.new
+            (λ config. user_expires config now timer (Some id)) }
     {
         let _ = self.served.links.expire(id, timer, now, acts);
     }
@@ -250,10 +259,12 @@ impl UserSide {
     /// handed back. Nothing is changed, and nothing given.
     #[tactic(auto, unfolding(crate::specs::User::user_requested))]
     pub fn request(&mut self, request: Request, now: u64, acts: &mut Acts) -> Result<(), SideFault>
-        ensures ok { OnOk result ((config : Config) (s : User) → ShowUser self.old config s → HasGranted self.new config acts.new (user_requested config request now s)) }
-        ensures err { IfErr result (λ fault. (config : Config) (s : User) → ShowUser self.old config s → user_requested config request now s ≡ Err fault.kind) }
+        ensures ok { OnOk result (Grants self.old self.new acts.new
+            (λ config. user_requested config request now)) }
+        ensures err { IfErr result (λ fault. RefusesAs self.old fault.kind
+            (λ config. user_requested config request now)) }
         ensures handed_back { IfErr result (λ fault. fault.message ≡ message_of request) }
-        ensures unchanged { OnErr result ((config : Config) (s : User) → ShowUser self.old config s → ShowUser self.new config s) }
+        ensures unchanged { OnErr result (ShowsAsBefore self.old self.new) }
         ensures nothing { OnErr result (acts.new ≡ no_effects) }
     {
         acts.clear();
@@ -274,14 +285,14 @@ impl UserSide {
 
     /// The links that are there.
     pub fn table(&self) -> &LinkTable
-        ensures { (config : Config) (s : User) → ShowUser self.now config s → ShowEnds Side.User result.now s.served.links }
+        ensures { EachShown self.now (λ s. ShowEnds Side.User result.now s.served.links) }
     {
         &self.served.links.table
     }
 
     /// The timers of a link that is there; `None` names T202 of TEI management.
     pub fn timers(&self, of: Option<LinkId>) -> Option<&TimerSet>
-        ensures { (config : Config) (s : User) → ShowUser self.now config s → option_copied result ≡ of_served s.served of }
+        ensures { EachShown self.now (λ s. option_copied result ≡ of_served s.served of) }
     {
         match of {
             None => Some(&self.served.timers),
@@ -291,7 +302,7 @@ impl UserSide {
 
     /// The terminal.
     pub fn terminal(&self) -> &Terminal
-        ensures { (config : Config) (s : User) → ShowUser self.now config s → result.now ≡ s.terminal }
+        ensures { EachShown self.now (λ s. result.now ≡ s.terminal) }
     {
         &self.terminal
     }
@@ -299,8 +310,7 @@ impl UserSide {
     /// How many frames [`UserSide::take`] has discarded since the side was made: those with F1 to F3, and those for a link
     /// that is not there. It stays at `u64::MAX` once it is there. What TEI management ignores is not counted.
     pub fn discarded(&self) -> u64
-        ensures { (config : Config) (s : User) → ShowUser self.now config s
-            → result ≡ s.discarded }
+        ensures { EachShown self.now (λ s. result ≡ s.discarded) }
     {
         self.discarded
     }
@@ -308,15 +318,19 @@ impl UserSide {
 
 /// Requests.
 impl UserSide {
-    ghost use Rattle.lapd_sides.specs.ShowsUser.{ShowUser, HasGranted};
+    ghost use Rattle.lapd_sides.specs.ShowsUser.{ShowsAsBefore, Grants, RefusesAs};
 
     /// The link of this SAPI is to be established; without TEI that is kept.
     fn establish(&mut self, sapi: Sapi, now: u64, acts: &mut Acts) -> Result<(), SideFault>
         requires empty { acts.old ≡ no_effects }
-        ensures ok { OnOk result ((config : Config) (s : User) → ShowUser self.old config s → HasGranted self.new config acts.new (with_tei_or now s.terminal sapi Establish [] (wants config now sapi s) s)) }
-        ensures err { IfErr result (λ fault. (config : Config) (s : User) → ShowUser self.old config s → with_tei_or now s.terminal sapi Establish [] (wants config now sapi s) s ≡ Err fault.kind) }
+        ensures ok { OnOk result (Grants self.old self.new acts.new
+            (λ config s. with_tei_or now s.terminal sapi Establish []
+            (wants config now sapi s) s)) }
+        ensures err { IfErr result (λ fault. RefusesAs self.old fault.kind
+            (λ config s. with_tei_or now s.terminal sapi Establish []
+            (wants config now sapi s) s)) }
         ensures handed_back { IfErr result (λ fault. fault.message ≡ None) }
-        ensures unchanged { OnErr result ((config : Config) (s : User) → ShowUser self.old config s → ShowUser self.new config s) }
+        ensures unchanged { OnErr result (ShowsAsBefore self.old self.new) }
         ensures nothing { OnErr result (acts.new ≡ no_effects) }
     {
         match self.terminal.tei() {
@@ -328,10 +342,12 @@ impl UserSide {
     /// An establishment without TEI, of a SAPI that is served: it is kept, and a TEI is asked for.
     fn want(&mut self, sapi: Sapi, now: u64, acts: &mut Acts) -> Result<(), SideFault>
         requires empty { acts.old ≡ no_effects }
-        ensures ok { OnOk result ((config : Config) (s : User) → ShowUser self.old config s → HasGranted self.new config acts.new (wants config now sapi s)) }
-        ensures err { IfErr result (λ fault. (config : Config) (s : User) → ShowUser self.old config s → wants config now sapi s ≡ Err fault.kind) }
+        ensures ok { OnOk result (Grants self.old self.new acts.new
+            (λ config. wants config now sapi)) }
+        ensures err { IfErr result (λ fault. RefusesAs self.old fault.kind
+            (λ config. wants config now sapi)) }
         ensures handed_back { IfErr result (λ fault. fault.message ≡ None) }
-        ensures unchanged { OnErr result ((config : Config) (s : User) → ShowUser self.old config s → ShowUser self.new config s) }
+        ensures unchanged { OnErr result (ShowsAsBefore self.old self.new) }
         ensures nothing { OnErr result (acts.new ≡ no_effects) }
     {
         if !self.config.serves(sapi) {
@@ -346,10 +362,12 @@ impl UserSide {
     /// The link of this SAPI is to be released; without TEI an establishment that is kept is forgotten.
     fn release(&mut self, sapi: Sapi, now: u64, acts: &mut Acts) -> Result<(), SideFault>
         requires empty { acts.old ≡ no_effects }
-        ensures ok { OnOk result ((config : Config) (s : User) → ShowUser self.old config s → HasGranted self.new config acts.new (with_tei_or now s.terminal sapi Release [] (forgets sapi s) s)) }
-        ensures err { IfErr result (λ fault. (config : Config) (s : User) → ShowUser self.old config s → with_tei_or now s.terminal sapi Release [] (forgets sapi s) s ≡ Err fault.kind) }
+        ensures ok { OnOk result (Grants self.old self.new acts.new
+            (λ _ s. with_tei_or now s.terminal sapi Release [] (forgets sapi s) s)) }
+        ensures err { IfErr result (λ fault. RefusesAs self.old fault.kind
+            (λ _ s. with_tei_or now s.terminal sapi Release [] (forgets sapi s) s)) }
         ensures handed_back { IfErr result (λ fault. fault.message ≡ None) }
-        ensures unchanged { OnErr result ((config : Config) (s : User) → ShowUser self.old config s → ShowUser self.new config s) }
+        ensures unchanged { OnErr result (ShowsAsBefore self.old self.new) }
         ensures nothing { OnErr result (acts.new ≡ no_effects) }
     {
         match self.terminal.tei() {
@@ -361,10 +379,10 @@ impl UserSide {
     /// An establishment that is kept is forgotten. The terminal goes on asking for a TEI.
     fn forget(&mut self, sapi: Sapi, acts: &mut Acts) -> Result<(), SideFault>
         requires empty { acts.old ≡ no_effects }
-        ensures ok { OnOk result ((config : Config) (s : User) → ShowUser self.old config s → HasGranted self.new config acts.new (forgets sapi s)) }
-        ensures err { IfErr result (λ fault. (config : Config) (s : User) → ShowUser self.old config s → forgets sapi s ≡ Err fault.kind) }
+        ensures ok { OnOk result (Grants self.old self.new acts.new (λ _. forgets sapi)) }
+        ensures err { IfErr result (λ fault. RefusesAs self.old fault.kind (λ _. forgets sapi)) }
         ensures handed_back { IfErr result (λ fault. fault.message ≡ None) }
-        ensures unchanged { OnErr result ((config : Config) (s : User) → ShowUser self.old config s → ShowUser self.new config s) }
+        ensures unchanged { OnErr result (ShowsAsBefore self.old self.new) }
         ensures nothing { OnErr result (acts.new ≡ no_effects) }
     {
         if !self.kept.has(sapi) {
@@ -385,10 +403,12 @@ impl UserSide {
     ) -> Result<(), SideFault>
         requires empty { acts.old ≡ no_effects }
         requires for_link { (id : LinkId) → IsFor id event }
-        ensures ok { OnOk result ((config : Config) (s : User) → ShowUser self.old config s → HasGranted self.new config acts.new (with_tei_or now s.terminal sapi (input_of event.entry) [] (Err NoLink) s)) }
-        ensures err { IfErr result (λ fault. (config : Config) (s : User) → ShowUser self.old config s → with_tei_or now s.terminal sapi (input_of event.entry) [] (Err NoLink) s ≡ Err fault.kind) }
+        ensures ok { OnOk result (Grants self.old self.new acts.new
+            (λ _ s. with_tei_or now s.terminal sapi (input_of event.entry) [] (Err NoLink) s)) }
+        ensures err { IfErr result (λ fault. RefusesAs self.old fault.kind
+            (λ _ s. with_tei_or now s.terminal sapi (input_of event.entry) [] (Err NoLink) s)) }
         ensures handed_back { IfErr result (λ fault. fault.message ≡ None) }
-        ensures unchanged { OnErr result ((config : Config) (s : User) → ShowUser self.old config s → ShowUser self.new config s) }
+        ensures unchanged { OnErr result (ShowsAsBefore self.old self.new) }
         ensures nothing { OnErr result (acts.new ≡ no_effects) }
     {
         match self.terminal.tei() {
@@ -406,10 +426,14 @@ impl UserSide {
         acts: &mut Acts,
     ) -> Result<(), SideFault>
         requires empty { acts.old ≡ no_effects }
-        ensures ok { OnOk result ((config : Config) (s : User) → ShowUser self.old config s → HasGranted self.new config acts.new (with_tei_or now s.terminal sapi (UnitData (length octets.items)) octets.items (Err NoLink) s)) }
-        ensures err { IfErr result (λ fault. (config : Config) (s : User) → ShowUser self.old config s → with_tei_or now s.terminal sapi (UnitData (length octets.items)) octets.items (Err NoLink) s ≡ Err fault.kind) }
+        ensures ok { OnOk result (Grants self.old self.new acts.new
+            (λ _ s. with_tei_or now s.terminal sapi (UnitData (length octets.items)) octets.items
+            (Err NoLink) s)) }
+        ensures err { IfErr result (λ fault. RefusesAs self.old fault.kind
+            (λ _ s. with_tei_or now s.terminal sapi (UnitData (length octets.items)) octets.items
+            (Err NoLink) s)) }
         ensures handed_back { IfErr result (λ fault. fault.message ≡ Some octets) }
-        ensures unchanged { OnErr result ((config : Config) (s : User) → ShowUser self.old config s → ShowUser self.new config s) }
+        ensures unchanged { OnErr result (ShowsAsBefore self.old self.new) }
         ensures nothing { OnErr result (acts.new ≡ no_effects) }
     {
         let Some(tei) = self.terminal.tei() else {
@@ -434,10 +458,14 @@ impl UserSide {
         acts: &mut Acts,
     ) -> Result<(), SideFault>
         requires empty { acts.old ≡ no_effects }
-        ensures ok { OnOk result ((config : Config) (s : User) → ShowUser self.old config s → HasGranted self.new config acts.new (with_tei_or now s.terminal sapi (Give message.items) [] (Err (Link NotEstablished)) s)) }
-        ensures err { IfErr result (λ fault. (config : Config) (s : User) → ShowUser self.old config s → with_tei_or now s.terminal sapi (Give message.items) [] (Err (Link NotEstablished)) s ≡ Err fault.kind) }
+        ensures ok { OnOk result (Grants self.old self.new acts.new
+            (λ _ s. with_tei_or now s.terminal sapi (Give message.items) []
+            (Err (Link NotEstablished)) s)) }
+        ensures err { IfErr result (λ fault. RefusesAs self.old fault.kind
+            (λ _ s. with_tei_or now s.terminal sapi (Give message.items) []
+            (Err (Link NotEstablished)) s)) }
         ensures handed_back { IfErr result (λ fault. fault.message ≡ Some message) }
-        ensures unchanged { OnErr result ((config : Config) (s : User) → ShowUser self.old config s → ShowUser self.new config s) }
+        ensures unchanged { OnErr result (ShowsAsBefore self.old self.new) }
         ensures nothing { OnErr result (acts.new ≡ no_effects) }
     {
         match self.terminal.tei() {
@@ -450,10 +478,12 @@ impl UserSide {
     fn act(&mut self, id: LinkId, event: Event, now: u64, acts: &mut Acts) -> Result<(), SideFault>
         requires empty { acts.old ≡ no_effects }
         requires for_link { IsFor id event }
-        ensures ok { OnOk result ((config : Config) (s : User) → ShowUser self.old config s → HasGranted self.new config acts.new (link_of_user now id (input_of event.entry) [] s)) }
-        ensures err { IfErr result (λ fault. (config : Config) (s : User) → ShowUser self.old config s → link_of_user now id (input_of event.entry) [] s ≡ Err fault.kind) }
+        ensures ok { OnOk result (Grants self.old self.new acts.new
+            (λ _. link_of_user now id (input_of event.entry) [])) }
+        ensures err { IfErr result (λ fault. RefusesAs self.old fault.kind
+            (λ _. link_of_user now id (input_of event.entry) [])) }
         ensures handed_back { IfErr result (λ fault. fault.message ≡ None) }
-        ensures unchanged { OnErr result ((config : Config) (s : User) → ShowUser self.old config s → ShowUser self.new config s) }
+        ensures unchanged { OnErr result (ShowsAsBefore self.old self.new) }
         ensures nothing { OnErr result (acts.new ≡ no_effects) }
     {
         match self.served.links.act(id, event, &[], now, acts) {
@@ -468,12 +498,13 @@ impl UserSide {
 
 /// TEI management.
 impl UserSide {
-    ghost use Rattle.lapd_sides.specs.ShowsUser.{ShowUser, HasDone, HasFollowed, admitted};
+    ghost use Rattle.lapd_sides.specs.ShowsUser.{Does, Follows, CarriesOut};
 
     /// A TEI is to be asked for.
     fn ask(&mut self, now: u64, acts: &mut Acts)
         requires { acts.old ≡ no_effects }
-        ensures { (config : Config) (s : User) → ShowUser self.old config s → HasDone self.new config acts.new (terminal_acts config now TerminalEvent.Ask s) }
+        ensures { Does self.old self.new acts.new
+            (λ config. terminal_acts config now TerminalEvent.Ask) }
     {
         let event = TerminalEvent::Ask(self.references.next());
         self.manage(event, now, acts);
@@ -482,7 +513,8 @@ impl UserSide {
     /// T202 has expired, and no longer runs.
     fn ask_again(&mut self, now: u64, acts: &mut Acts)
         requires { acts.old ≡ no_effects }
-        ensures { (config : Config) (s : User) → ShowUser self.old config s → HasDone self.new config acts.new (terminal_acts config now TerminalEvent.T202 s) }
+        ensures { Does self.old self.new acts.new
+            (λ config. terminal_acts config now TerminalEvent.T202) }
     {
         let event = TerminalEvent::T202(self.references.next());
         self.manage(event, now, acts);
@@ -492,7 +524,8 @@ impl UserSide {
     fn manage(&mut self, event: TerminalEvent, now: u64, acts: &mut Acts)
         requires empty { acts.old ≡ no_effects }
         requires gets_none { (phase : Phase) → tei_given (terminal_step phase event).outs ≡ None }
-        ensures { (config : Config) (s : User) → ShowUser self.old config s → HasDone self.new config acts.new (assigned config now (terminal_step s.terminal event) s) }
+        ensures { Does self.old self.new acts.new
+            (λ config s. assigned config now (terminal_step s.terminal event) s) }
     {
         let outs = self.terminal.handle(event);
         self.carry_out(outs.as_slice(), now, acts);
@@ -503,8 +536,7 @@ impl UserSide {
         requires in_range { All IsInRange outs.now }
         requires at_most { length outs.now ≤ 6 }
         requires empty { acts.old ≡ no_effects }
-        ensures { (config : Config) (s : User) (step : TerminalStep) → step.outs ≡ outs.now → ShowUser self.old config (admitted config step s)
-            → HasDone self.new config acts.new (assigned config now step s) }
+        ensures { CarriesOut self.old self.new acts.new now outs.now }
     {
         self.references.advance_if(sends_message(outs));
         self.served.carry_out(Side::User, outs, now, acts);
@@ -516,7 +548,7 @@ impl UserSide {
     fn settle_kept(&mut self, outs: &[TeiOut], now: u64, acts: &mut Acts)
         requires frame_room { length acts.old.frames ≤ 8 }
         requires primitive_room { length acts.old.primitives ≤ 8 }
-        ensures { (config : Config) (s : User) → ShowUser self.old config s → HasFollowed self.new config acts.old acts.new (kept_after now outs.now s) }
+        ensures { Follows self.old self.new acts.old acts.new (λ _. kept_after now outs.now) }
     {
         for out in outs {
             match out {
@@ -531,7 +563,7 @@ impl UserSide {
     fn establish_kept(&mut self, tei: Tei, now: u64, acts: &mut Acts)
         requires frame_room { length acts.old.frames ≤ 8 }
         requires primitive_room { length acts.old.primitives ≤ 8 }
-        ensures { (config : Config) (s : User) → ShowUser self.old config s → HasFollowed self.new config acts.old acts.new (establishes_kept now tei s) }
+        ensures { Follows self.old self.new acts.old acts.new (λ _. establishes_kept now tei) }
     {
         let kept = self.kept;
         self.kept = Kept::nothing();
@@ -541,9 +573,9 @@ impl UserSide {
 
     /// The link with this name is to be established, where that was kept. What it gives goes behind what `acts` has.
     fn establish_if(&mut self, kept: bool, id: LinkId, now: u64, acts: &mut Acts)
-        requires frame_room { length acts.old.frames ≤ 144 }
-        requires primitive_room { length acts.old.primitives ≤ 144 }
-        ensures done { (config : Config) (s : User) → ShowUser self.old config s → HasFollowed self.new config acts.old acts.new (establishes kept now id s) }
+        requires frame_room { length acts.old.frames + 136 ≤ MOST_FRAMES }
+        requires primitive_room { length acts.old.primitives + 136 ≤ MOST_PRIMITIVES }
+        ensures done { Follows self.old self.new acts.old acts.new (λ _. establishes kept now id) }
         ensures most_frames { length acts.new.frames ≤ length acts.old.frames + 136 }
         ensures most_primitives { length acts.new.primitives ≤ length acts.old.primitives + 136 }
     {
@@ -555,7 +587,7 @@ impl UserSide {
     /// The terminal has got no TEI: what is kept is released, SAPI 0 first.
     fn give_up_kept(&mut self, acts: &mut Acts)
         requires { length acts.old.primitives ≤ 8 }
-        ensures { (config : Config) (s : User) → ShowUser self.old config s → HasFollowed self.new config acts.old acts.new (gives_up_kept s) }
+        ensures { Follows self.old self.new acts.old acts.new (λ _. gives_up_kept) }
     {
         let kept = self.kept;
         self.kept = Kept::nothing();
@@ -586,16 +618,20 @@ fn sends_message(outs: &[TeiOut]) -> bool
 /// Tells layer 3 of unit data to all terminals, of this SAPI (Q.921 5.2).
 fn tell_unit(sapi: Sapi, octets: &[u8], acts: &mut Acts)
     requires empty { acts.old ≡ no_effects }
-    requires fits { length octets.now ≤ 260 }
-    ensures { acts.new ≡ record no_effects { primitives = Of (of_sapi sapi group_tei) (What.UnitUp octets.now) ∷ [] } }
+    requires fits { length octets.now ≤ N201 }
+    ensures { acts.new ≡ record no_effects {
+      primitives = told_of_group sapi (What.UnitUp octets.now);
+    } }
 {
     tell_sapi(sapi, What::UnitUp(Octets::new(octets)), acts);
 }
 
 /// Tells layer 3 that a SAPI without TEI is released, where its establishment was kept.
 fn release_if(kept: bool, sapi: Sapi, acts: &mut Acts)
-    requires { length acts.old.primitives < 280 }
-    ensures { acts.new ≡ record acts.old { primitives = acts.old.primitives ++ told_of_sapi kept sapi What.Released } }
+    requires { length acts.old.primitives < MOST_PRIMITIVES }
+    ensures { acts.new ≡ record acts.old {
+      primitives = acts.old.primitives ++ told_of_sapi kept sapi What.Released;
+    } }
 {
     if kept {
         tell_sapi(sapi, What::Released, acts);
@@ -604,15 +640,17 @@ fn release_if(kept: bool, sapi: Sapi, acts: &mut Acts)
 
 /// Tells layer 3 of a SAPI without TEI, which is named by the group TEI.
 fn tell_sapi(sapi: Sapi, what: What, acts: &mut Acts)
-    requires { length acts.old.primitives < 280 }
-    ensures { acts.new ≡ record acts.old { primitives = acts.old.primitives ++ Of (of_sapi sapi group_tei) what ∷ [] } }
+    requires { length acts.old.primitives < MOST_PRIMITIVES }
+    ensures { acts.new ≡ record acts.old {
+      primitives = acts.old.primitives ++ told_of_group sapi what;
+    } }
 {
     acts.tell(Primitive::Of(name(sapi, Tei::group()), what));
 }
 
 /// B1, where no octets were handed in.
 fn no_link() -> SideFault
-    ensures { result ≡ record { kind = SideKind.NoLink; message = None } }
+    ensures { result ≡ without_message SideKind.NoLink }
 {
     SideFault {
         kind: SideKind::NoLink,
