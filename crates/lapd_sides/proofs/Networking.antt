@@ -1,14 +1,18 @@
 -- What the steps of a network side come to.
 use Rattle.std.proofs.Common.{◌≡◌, ℕ, List, [], length, Bool, false, Option, Some, None, Result, Ok, Err, refl, sym, ap, subst, ◌∙◌}
-use Rattle.std.specs.Prelude.{OnOk, OnErr, IfErr, ◌&&◌, ◌==◌, if◌then◌else◌}
+use Rattle.std.specs.declared.alloc.Global.{Global}
+use Rattle.std.specs.Prelude.{Vec, true, IsErr, OnOk, OnErr, IfErr, ◌&&◌, ◌==◌, if◌then◌else◌}
 use Rattle.lapd_states.specs.Input.{Faulty, Heard, UnitData}
 use Rattle.lapd_timers.specs.Due.{Timers}
+use Rattle.lapd_frame.specs.declared.Side.{Side}
 use Rattle.lapd_frame.specs.declared.Side.TheVariants as side
 use Rattle.lapd_frame.specs.declared.Address.{Address}
 use Rattle.lapd_frame.specs.declared.fault_kind.FaultKind.{FaultKind}
 use Rattle.lapd_frame.specs.Frame.{Fields}
 use Rattle.lapd_tei.specs.declared.assigner.AssignerEvent.{AssignerEvent}
 use Rattle.lapd_tei.specs.declared.out.TeiOut.{TeiOut}
+use Rattle.lapd_tei.specs.declared.message.TeiMessage.{TeiMessage}
+use Rattle.lapd_tei.specs.declared.fault.TeiFault.{TeiFault}
 use Rattle.lapd_tei.specs.Assigner.{assigner_step}
 use Rattle.lapd_tei.specs.Message.{group_tei, message_at}
 use Rattle.lapd_tei.specs.Out.{tei_given}
@@ -16,6 +20,8 @@ use Rattle.lapd_links.specs.declared.config.Config.{Config}
 use Rattle.lapd_table.specs.declared.link_id.LinkId.{LinkId}
 use Rattle.lapd_table.specs.LinkId.{id_of_address}
 use Rattle.lapd_links.specs.declared.expiry.Expiry.{Expiry}
+use Rattle.lapd_links.specs.declared.links.LinkSet.{LinkSet}
+use Rattle.lapd_links.specs.declared.side_fault.SideFault.{SideFault}
 use Rattle.lapd_sides.specs.declared.net_side.NetSide.{NetSide}
 use Rattle.lapd_sides.specs.declared.served.LinksAndTimer.{LinksAndTimer}
 use Rattle.lapd_links.specs.declared.side_fault.SideKind.{SideKind}
@@ -24,10 +30,10 @@ use Rattle.lapd_links.specs.Expiries.{IsDue, IsNextDeadline}
 use Rattle.lapd_links.specs.Links.{Links, Acted, is_served}
 use Rattle.lapd_sides.specs.Management.{carries_message, links_with, manages, one_more}
 use Rattle.lapd_links.specs.Links.{Served}
-use Rattle.lapd_sides.specs.Network.{Network, link_of_network, unit_requested, unit_to_group, network_expires, assigner_acts, among_links, or_discarded, or_unmoved, message_heard, frame_heard, fault_heard}
+use Rattle.lapd_sides.specs.Network.{Network, link_of_network, unit_requested, unit_to_group, network_expires, assigner_acts, among_links, or_discarded, or_unmoved, message_heard, frame_heard, fault_heard, given_for_message, given_for_frame}
 use Rattle.lapd_links.specs.Shown.{ShowLinks, HaveActed}
-use Rattle.lapd_sides.specs.Shows.{ShowServed, HaveServed}
-use Rattle.lapd_sides.specs.ShowsNetwork.{ShowNetwork, HasDone, HasGranted, HasExpired}
+use Rattle.lapd_sides.specs.Shows.{ShowServed, HaveServed, Step}
+use Rattle.lapd_sides.specs.ShowsNetwork.{ShowNetwork, HasDone, HasGranted, HasExpired, Hears, LacksMemory, Answers}
 
 -- ---- TEI management.
 
@@ -75,6 +81,26 @@ done_or_unmoved (Ok u) code config s before acts outcome configured assigner cou
 done_or_unmoved (Err k) code config s before acts outcome configured assigner counted timers empty ok err shown nothing =
     subst (λ (o : Result (Acted Links) SideKind). HasDone code config acts (or_unmoved s (among_links s o))) (sym err) (record { shown = kept code config s configured assigner counted timers shown; given = nothing ∙ empty })
 
+-- the side with its links after a step
+abbrev pub relinked : NetSide → LinkSet → NetSide
+relinked code links = record code { served = record code.served { links = links } }
+
+-- what a call of a link set answers, the side answers
+pub link_answers : (result : Result (Unit {0}) SideFault) (code : NetSide) (links : LinkSet) (before acts : Effects) (message : Option (Vec ℕ Global)) (does : Side → Links → Result (Acted Links) SideKind) → before ≡ no_effects
+    → OnOk result ((at : Side) (l : Links) → ShowLinks at code.served.links l → HaveActed at links before acts (does at l))
+    → IfErr result (λ fault. (at : Side) (l : Links) → ShowLinks at code.served.links l → does at l ≡ Err fault.kind)
+    → IfErr result (λ fault. fault.message ≡ message)
+    → OnErr result ((at : Side) (l : Links) → ShowLinks at code.served.links l → ShowLinks at links l) → OnErr result (acts ≡ before)
+    → Answers result code (relinked code links) acts message (λ config s. among_links s (does side.Network s.served.links))
+link_answers (Ok u) code links before acts message does empty ok err back same nothing = λ config s shown.
+    granted (relinked code links) config s before acts _ shown.configured shown.assigner shown.discarded shown.served.timers empty (ok side.Network s.served.links shown.served.links)
+link_answers (Err fault) code links before acts message does empty ok err back same nothing = record {
+  kind = λ config s shown. ap (among_links s) (err side.Network s.served.links shown.served.links);
+  handed_back = back;
+  unchanged = λ config s shown. kept (relinked code links) config s shown.configured shown.assigner shown.discarded shown.served.timers (same side.Network s.served.links shown.served.links);
+  nothing = nothing ∙ empty;
+}
+
 -- or it is discarded, and counted
 pub discarded_so : (code : NetSide) (config : Config) (s : Network) (before acts : Effects) (outcome : Result (Acted Links) SideKind) (kind : SideKind) → code.config ≡ config → code.assigner ≡ s.assigner
     → code.discarded ≡ one_more s.discarded → code.served.timers ≡ s.served.timers → before ≡ no_effects → outcome ≡ Err kind → ShowLinks side.Network code.served.links s.served.links → acts ≡ before
@@ -82,6 +108,18 @@ pub discarded_so : (code : NetSide) (config : Config) (s : Network) (before acts
 discarded_so code config s before acts outcome kind configured assigner counted timers empty err shown nothing =
     subst (λ (o : Result (Acted Links) SideKind). HasDone code config acts (or_discarded s (among_links s o))) (sym err)
     (record { shown = record { configured = configured; served = record { links = shown; timers = timers }; assigner = assigner; discarded = counted }; given = nothing ∙ empty })
+
+-- no memory was found
+pub lacks : {E : Type 0} (result : Result (Unit {0}) E) (old after : NetSide) (acts : Effects) (tei : Network → Option ℕ) (step : Step Network) → IsErr result → LacksMemory old after acts tei → Hears result old after acts tei step
+lacks (Ok u) old after acts tei step is h = absurd (cc)
+lacks (Err e) old after acts tei step is h = h
+
+-- a frame is a message
+pub heard_as_message : {E : Type 0} (result : Result (Unit {0}) E) (old after : NetSide) (acts : Effects) (now : ℕ) (frame : Fields) (test : Bool) (found : Result TeiMessage TeiFault) → test ≡ carries_message frame → test ≡ true → found ≡ message_at frame.info
+    → Hears result old after acts (λ s. given_for_message s.assigner found) (λ config. message_heard config now found) → Hears result old after acts (λ s. given_for_frame s.assigner (Ok frame)) (λ config. frame_heard config now frame)
+heard_as_message result old after acts now frame test found is holds read h =
+    subst (λ (b : Bool). Hears result old after acts (λ s. if b then given_for_message s.assigner (message_at frame.info) else None) (λ config s. if b then message_heard config now (message_at frame.info) s else or_discarded s (link_of_network now (id_of_address frame.address) (Heard frame.control frame.address.role) frame.info s))) (sym holds ∙ is)
+    (subst (λ (r : Result TeiMessage TeiFault). Hears result old after acts (λ s. given_for_message s.assigner r) (λ config. message_heard config now r)) read h)
 
 -- a frame that is no message is for the link that it names
 pub heard_by_link : (after : NetSide) (config : Config) (now : ℕ) (frame : Fields) (s : Network) (test : Bool) (address : Address) (id : LinkId) (octets : List ℕ) (acts : Effects) → test ≡ carries_message frame → test ≡ false

@@ -2,7 +2,8 @@
 use Rattle.std.proofs.Common.{◌≡◌, ℕ, List, [], Option, Some, None, Result, Ok, Err, refl, sym, ap, subst, ◌∙◌, ◌<◌, ◌∷◌, length, get_or, drop, suc, append_assoc}
 use Rattle.std.proofs.lemmas.List.{append-nil}
 use Rattle.std.proofs.Math.Seq.{drop-cons}
-use Rattle.std.specs.Prelude.{Bool, true, false, nat_lt, if◌then◌else◌, OnOk, OnErr, IfErr}
+use Rattle.std.specs.declared.alloc.Global.{Global}
+use Rattle.std.specs.Prelude.{Vec, IsErr, Bool, true, false, nat_lt, if◌then◌else◌, OnOk, OnErr, IfErr}
 use Rattle.rand_pcg.specs.Pcg.{pcg32}
 use Rattle.lapd_frame.specs.declared.Sapi.{Sapi}
 use Rattle.lapd_frame.specs.declared.Sapi.TheVariants as sapi
@@ -19,7 +20,9 @@ use Rattle.lapd_tei.specs.declared.phase.Phase.TheVariants.{Unassigned, Awaiting
 use Rattle.lapd_tei.specs.declared.terminal.TerminalEvent.{TerminalEvent}
 use Rattle.lapd_tei.specs.declared.terminal.TerminalEvent.TheVariants as event
 use Rattle.lapd_tei.specs.Terminal.{TerminalStep, terminal_step, tei_of, n202}
-use Rattle.lapd_tei.specs.Message.{group_tei}
+use Rattle.lapd_tei.specs.Message.{group_tei, message_at}
+use Rattle.lapd_tei.specs.declared.message.TeiMessage.{TeiMessage}
+use Rattle.lapd_tei.specs.declared.fault.TeiFault.{TeiFault}
 use Rattle.lapd_tei.specs.Out.{tei_given}
 use Rattle.lapd_table.specs.declared.link_id.LinkId.{LinkId}
 use Rattle.lapd_table.specs.LinkId.{id_of_address}
@@ -37,12 +40,12 @@ use Rattle.lapd_links.specs.declared.side_fault.SideKind.TheVariants.{NoLink}
 use Rattle.lapd_links.specs.Expiries.{IsDue}
 use Rattle.lapd_links.specs.Effects.{Effects, no_effects, and_then}
 use Rattle.lapd_links.specs.Links.{Links, Acted, is_served, in_links, link_acts, of_sapi, no_links, with_tei}
-use Rattle.lapd_sides.specs.Management.{links_with, manages, one_more}
-use Rattle.lapd_sides.specs.User.{User, Kept, nothing_kept, among_links, or_discarded, or_unmoved, next, link_of_user, with_tei_or, establishes, establishes_kept, terminal_acts, assigned, kept_after, fault_heard, for_layer_3, data_heard, unit_from_group, user_expires, user_requested, wants, keeps, is_kept, forgets, sends_message, next_reference, advanced, drawn, links_of_fixed}
+use Rattle.lapd_sides.specs.Management.{carries_message, links_with, manages, one_more}
+use Rattle.lapd_sides.specs.User.{User, Kept, nothing_kept, among_links, or_discarded, or_unmoved, next, link_of_user, with_tei_or, establishes, establishes_kept, terminal_acts, assigned, kept_after, fault_heard, for_layer_3, data_heard, message_heard, frame_heard, got_for_message, got_for_frame, unit_from_group, user_expires, user_requested, wants, keeps, is_kept, forgets, sends_message, next_reference, advanced, drawn, links_of_fixed}
 use Rattle.lapd_sides.specs.Requests.{message_of}
 use Rattle.lapd_links.specs.Shown.{ShowLinks, HaveActed}
-use Rattle.lapd_sides.specs.Shows.{ShowServed, HaveServed}
-use Rattle.lapd_sides.specs.ShowsUser.{ShowUser, ShowReferences, HasDone, HasFollowed, HasGranted, HasExpired, admitted}
+use Rattle.lapd_sides.specs.Shows.{ShowServed, HaveServed, Step, Outcome}
+use Rattle.lapd_sides.specs.ShowsUser.{ShowUser, ShowReferences, HasDone, HasFollowed, HasGranted, HasExpired, Hears, LacksMemory, Answers, admitted}
 
 -- the side with its links after a step
 abbrev pub relinked : UserSide → LinkSet → UserSide
@@ -71,6 +74,21 @@ link_refused s now id input octets kind h = ap (among_links s) h
 
 pub links_kept : (code : UserSide) (links : LinkSet) (config : Config) (s : User) → ShowUser code config s → ShowLinks side.User links s.served.links → ShowUser (relinked code links) config s
 links_kept code links config s shown l = reshown code links config s s.served.links shown l
+
+-- what a call of a link set answers, the side answers
+pub link_answers : (result : Result (Unit {0}) SideFault) (code : UserSide) (links : LinkSet) (before acts : Effects) (message : Option (Vec ℕ Global)) (does : Side → Links → Result (Acted Links) SideKind) → before ≡ no_effects
+    → OnOk result ((at : Side) (l : Links) → ShowLinks at code.served.links l → HaveActed at links before acts (does at l))
+    → IfErr result (λ fault. (at : Side) (l : Links) → ShowLinks at code.served.links l → does at l ≡ Err fault.kind)
+    → IfErr result (λ fault. fault.message ≡ message)
+    → OnErr result ((at : Side) (l : Links) → ShowLinks at code.served.links l → ShowLinks at links l) → OnErr result (acts ≡ before)
+    → Answers result code (relinked code links) acts message (λ config s. among_links s (does side.User s.served.links))
+link_answers (Ok u) code links before acts message does empty ok err back same nothing = λ config s shown. granted code links config s before acts _ shown empty (ok side.User s.served.links shown.served.links)
+link_answers (Err fault) code links before acts message does empty ok err back same nothing = record {
+  kind = λ config s shown. ap (among_links s) (err side.User s.served.links shown.served.links);
+  handed_back = back;
+  unchanged = λ config s shown. links_kept code links config s shown (same side.User s.served.links shown.served.links);
+  nothing = nothing ∙ empty;
+}
 
 -- one after another
 in_turn : (before e f : Effects) → and_then (and_then before e) f ≡ and_then before (and_then e f)
@@ -155,6 +173,12 @@ is_none code config s found now sapi input octets otherwise shown of is =
 
 pub granted_as : (code : UserSide) (config : Config) (acts : Effects) (a b : Result (Acted User) SideKind) → b ≡ a → HasGranted code config acts a → HasGranted code config acts b
 granted_as code config acts a b e h = subst (λ (o : Result (Acted User) SideKind). HasGranted code config acts o) (sym e) h
+
+-- an answer to what comes to the same
+pub answers_as : (result : Result (Unit {0}) SideFault) (old after : UserSide) (acts : Effects) (message : Option (Vec ℕ Global)) (a b : Outcome User) → ((config : Config) (s : User) → ShowUser old config s → b config s ≡ a config s)
+    → Answers result old after acts message a → Answers result old after acts message b
+answers_as (Ok u) old after acts message a b same h = λ config s shown. granted_as after config acts (a config s) (b config s) (same config s shown) (h config s shown)
+answers_as (Err fault) old after acts message a b same h = record { kind = λ config s shown. same config s shown ∙ h.kind config s shown; handed_back = h.handed_back; unchanged = h.unchanged; nothing = h.nothing }
 
 -- ---- One step after another.
 
@@ -278,6 +302,20 @@ faulty after config acts now kind found address id s is named h =
     subst (λ (f : Option Address). HasDone after config acts (fault_heard now kind f s)) (sym is)
     (subst (λ (i : LinkId). HasDone after config acts (or_discarded s (link_of_user now i (Faulty kind) [] s))) named h)
 
+-- ---- A frame.
+
+-- no memory was found
+pub lacks : {E : Type 0} (result : Result (Unit {0}) E) (old after : UserSide) (acts : Effects) (tei : User → Option ℕ) (step : Step User) → IsErr result → LacksMemory old after acts tei → Hears result old after acts tei step
+lacks (Ok u) old after acts tei step is h = absurd (cc)
+lacks (Err e) old after acts tei step is h = h
+
+-- a frame is a message
+pub heard_as_message : {E : Type 0} (result : Result (Unit {0}) E) (old after : UserSide) (acts : Effects) (now : ℕ) (frame : Fields) (test : Bool) (found : Result TeiMessage TeiFault) → test ≡ carries_message frame → test ≡ true → found ≡ message_at frame.info
+    → Hears result old after acts (λ s. got_for_message s found) (λ config. message_heard config now found) → Hears result old after acts (λ s. got_for_frame s (Ok frame)) (λ config. frame_heard config now frame)
+heard_as_message result old after acts now frame test found is holds read h =
+    subst (λ (b : Bool). Hears result old after acts (λ s. if b then got_for_message s (message_at frame.info) else None) (λ config s. if b then message_heard config now (message_at frame.info) s else data_heard config now frame s)) (sym holds ∙ is)
+    (subst (λ (r : Result TeiMessage TeiFault). Hears result old after acts (λ s. got_for_message s r) (λ config. message_heard config now r)) read h)
+
 -- ---- A frame that is no message.
 
 -- what was looked at of it, by what the side was made with
@@ -334,18 +372,9 @@ wanted code after config now sapi s acts test is holds shown done = record {
 
 -- ---- A request is the one that was looked for.
 
-pub granted_for : (result : Result (Unit {0}) SideFault) (old after : UserSide) (acts : Effects) (now : ℕ) (r q : Request) → r ≡ q
-    → OnOk result ((config : Config) (s : User) → ShowUser old config s → HasGranted after config acts (user_requested config q now s))
-    → OnOk result ((config : Config) (s : User) → ShowUser old config s → HasGranted after config acts (user_requested config r now s))
-granted_for result old after acts now r q is h = subst (λ (x : Request). OnOk result ((config : Config) (s : User) → ShowUser old config s → HasGranted after config acts (user_requested config x now s))) (sym is) h
-
-pub refused_for : (result : Result (Unit {0}) SideFault) (old : UserSide) (now : ℕ) (r q : Request) → r ≡ q
-    → IfErr result (λ fault. (config : Config) (s : User) → ShowUser old config s → user_requested config q now s ≡ Err fault.kind)
-    → IfErr result (λ fault. (config : Config) (s : User) → ShowUser old config s → user_requested config r now s ≡ Err fault.kind)
-refused_for result old now r q is h = subst (λ (x : Request). IfErr result (λ fault. (config : Config) (s : User) → ShowUser old config s → user_requested config x now s ≡ Err fault.kind)) (sym is) h
-
-pub handed_back_for : (result : Result (Unit {0}) SideFault) (r q : Request) → r ≡ q → IfErr result (λ fault. fault.message ≡ message_of q) → IfErr result (λ fault. fault.message ≡ message_of r)
-handed_back_for result r q is h = subst (λ (x : Request). IfErr result (λ fault. fault.message ≡ message_of x)) (sym is) h
+pub answers_for : (result : Result (Unit {0}) SideFault) (old after : UserSide) (acts : Effects) (now : ℕ) (r q : Request) → r ≡ q
+    → Answers result old after acts (message_of q) (λ config. user_requested config q now) → Answers result old after acts (message_of r) (λ config. user_requested config r now)
+answers_for result old after acts now r q is h = subst (λ (x : Request). Answers result old after acts (message_of x) (λ config. user_requested config x now)) (sym is) h
 
 -- ---- An establishment is forgotten.
 

@@ -1,11 +1,11 @@
 -- A side of either kind. What its calls do is what those of a network side or of a user side do.
-use Rattle.std.specs.Prelude.{◌≡◌, ℕ, List, Option, IsSome}
+use Rattle.std.specs.Prelude.{◌≡◌, ℕ, List, Option, Result, ⊤}
 use Rattle.lapd_timers.specs.Due.{Timers}
 use Rattle.lapd_frame.specs.declared.Side.{Side}
 use Rattle.lapd_frame.specs.declared.Side.TheVariants as side
 use Rattle.lapd_table.specs.declared.link_id.LinkId.{LinkId}
 use Rattle.lapd_table.specs.declared.link_table.LinkTable.{LinkTable}
-use Rattle.lapd_links.specs.declared.side_fault.SideKind.{SideKind}
+use Rattle.lapd_links.specs.declared.side_fault.SideFault.{SideFault}
 use Rattle.lapd_links.specs.Effects.{Effects}
 use Rattle.lapd_links.specs.Expiries.{IsNextDeadline, of_served}
 use Rattle.lapd_sides.specs.declared.request.Request.{Request}
@@ -13,6 +13,7 @@ use Rattle.lapd_sides.specs.declared.either_side.EitherSide.{EitherSide}
 use Rattle.lapd_sides.specs.declared.either_side.EitherSide.TheVariants as either
 use Rattle.lapd_sides.specs.Network.{network_takes, network_requested, given_for}
 use Rattle.lapd_sides.specs.User.{user_takes, user_requested, got_for}
+use Rattle.lapd_sides.specs.Requests.{message_of}
 use Rattle.lapd_sides.specs.Shows.{ShowEnds}
 use Rattle.lapd_sides.specs.ShowsNetwork as network
 use Rattle.lapd_sides.specs.ShowsUser as user
@@ -24,34 +25,21 @@ side_of (either.User s) = side.User
 
 -- ---- What a call does.
 
--- octets come
-abbrev pub Takes : List ℕ → ℕ → EitherSide → EitherSide → Effects → Type 0
-Takes octets now (either.Network old) (either.Network new) acts =
-    network.Does old new acts (λ config. network_takes config octets now)
-Takes octets now (either.User old) (either.User new) acts =
-    user.Does old new acts (λ config. user_takes config octets now)
-Takes octets now old new acts = ⊥
+-- octets come, and are heard, or memory is refused
+abbrev pub Takes : List ℕ → ℕ → Result ⊤ SideFault → EitherSide → EitherSide → Effects → Type 0
+Takes octets now result (either.Network old) (either.Network new) acts = network.Hears result
+    old new acts (λ s. given_for s.assigner octets) (λ config. network_takes config octets now)
+Takes octets now result (either.User old) (either.User new) acts = user.Hears result
+    old new acts (λ s. got_for s octets) (λ config. user_takes config octets now)
+Takes octets now result old new acts = ⊥
 
--- a TEI is given or got because of them, so that memory is taken
-abbrev pub TakesMemory : List ℕ → EitherSide → Type 0
-TakesMemory octets (either.Network old) =
-    network.EachShown old (λ s. IsSome (given_for s.assigner octets))
-TakesMemory octets (either.User old) = user.EachShown old (λ s. IsSome (got_for s octets))
-
--- something is asked for, and granted
-abbrev pub Grants : Request → ℕ → EitherSide → EitherSide → Effects → Type 0
-Grants request now (either.Network old) (either.Network new) acts =
-    network.Grants old new acts (λ config. network_requested config request now)
-Grants request now (either.User old) (either.User new) acts =
-    user.Grants old new acts (λ config. user_requested config request now)
-Grants request now old new acts = ⊥
-
--- or refused, for this reason
-abbrev pub Refuses : Request → ℕ → EitherSide → SideKind → Type 0
-Refuses request now (either.Network old) kind =
-    network.RefusesAs old kind (λ config. network_requested config request now)
-Refuses request now (either.User old) kind =
-    user.RefusesAs old kind (λ config. user_requested config request now)
+-- something is asked for, and granted or refused
+abbrev pub Answers : Request → ℕ → Result ⊤ SideFault → EitherSide → EitherSide → Effects → Type 0
+Answers request now result (either.Network old) (either.Network new) acts = network.Answers result
+    old new acts (message_of request) (λ config. network_requested config request now)
+Answers request now result (either.User old) (either.User new) acts = user.Answers result
+    old new acts (message_of request) (λ config. user_requested config request now)
+Answers request now result old new acts = ⊥
 
 -- the first timer that is due has expired
 abbrev pub Expires : ℕ → EitherSide → EitherSide → Effects → Type 0
@@ -64,12 +52,6 @@ abbrev pub Rests : ℕ → EitherSide → EitherSide → Type 0
 Rests now (either.Network old) (either.Network new) = network.Rests old new now
 Rests now (either.User old) (either.User new) = user.Rests old new now
 Rests now old new = ⊥
-
--- it shows what it showed
-abbrev pub Stays : EitherSide → EitherSide → Type 0
-Stays (either.Network old) (either.Network new) = network.ShowsAsBefore old new
-Stays (either.User old) (either.User new) = user.ShowsAsBefore old new
-Stays old new = ⊥
 
 -- ---- What is read off it.
 

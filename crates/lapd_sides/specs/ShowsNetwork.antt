@@ -1,10 +1,12 @@
 -- How a network side in code shows that of the definition, and how its calls are stated.
-use Rattle.std.specs.Prelude.{◌≡◌, ℕ, Some, None, Result, Ok, Err}
+use Rattle.std.specs.Prelude.{◌≡◌, ℕ, Option, Some, None, Result, Ok, Err, IsSome, Vec, ⊤}
+use Rattle.std.specs.declared.alloc.Global.{Global}
 use Rattle.lapd_frame.specs.declared.Side.TheVariants as side
 use Rattle.lapd_links.specs.declared.config.Config.{Config}
 use Rattle.lapd_sides.specs.declared.net_side.NetSide.{NetSide}
+use Rattle.lapd_links.specs.declared.side_fault.SideFault.{SideFault}
 use Rattle.lapd_links.specs.declared.side_fault.SideKind.{SideKind}
-use Rattle.lapd_links.specs.Effects.{Effects}
+use Rattle.lapd_links.specs.Effects.{Effects, no_effects}
 use Rattle.lapd_links.specs.declared.expiry.Expiry.{Expiry}
 use Rattle.lapd_links.specs.Expiries.{IsDue}
 use Rattle.lapd_links.specs.Links.{Acted}
@@ -55,6 +57,20 @@ Does old new acts step =
     (config : Config) (s : Network) → ShowNetwork old config s
     → HasDone new config acts (step config s)
 
+-- it finds no memory, which it takes only for the links of a TEI that is given: all is as it was,
+-- and nothing is given
+pub record LacksMemory (old new : NetSide) (acts : Effects)
+    (tei : Network → Option ℕ) : Type 0 where
+  pub only : EachShown old (λ s. IsSome (tei s))
+  pub unchanged : ShowsAsBefore old new
+  pub nothing : acts ≡ no_effects
+
+-- it hears what comes: it does this step, or finds no memory
+abbrev pub Hears : {E : Type 0} → Result ⊤ E → NetSide → NetSide → Effects → (Network → Option ℕ)
+    → Step Network → Type 0
+Hears (Ok done) old new acts tei step = Does old new acts step
+Hears (Err fault) old new acts tei step = LacksMemory old new acts tei
+
 -- it grants what is asked for
 abbrev pub Grants : NetSide → NetSide → Effects → Outcome Network → Type 0
 Grants old new acts outcome =
@@ -65,6 +81,20 @@ Grants old new acts outcome =
 abbrev pub RefusesAs : NetSide → SideKind → Outcome Network → Type 0
 RefusesAs old kind outcome =
     (config : Config) (s : Network) → ShowNetwork old config s → outcome config s ≡ Err kind
+
+-- and hands the message back: all is as it was, and nothing is given
+pub record Refuses (old new : NetSide) (acts : Effects) (message : Option (Vec ℕ Global))
+    (outcome : Outcome Network) (fault : SideFault) : Type 0 where
+  pub kind : RefusesAs old fault.kind outcome
+  pub handed_back : fault.message ≡ message
+  pub unchanged : ShowsAsBefore old new
+  pub nothing : acts ≡ no_effects
+
+-- it is answered: what is asked for is granted, or refused
+abbrev pub Answers : Result ⊤ SideFault → NetSide → NetSide → Effects → Option (Vec ℕ Global)
+    → Outcome Network → Type 0
+Answers (Ok done) old new acts message outcome = Grants old new acts outcome
+Answers (Err fault) old new acts message outcome = Refuses old new acts message outcome fault
 
 -- the first of its timers that is due expires
 abbrev pub Expires : NetSide → NetSide → Effects → ℕ → Type 0

@@ -1,5 +1,6 @@
 -- How a user side in code shows that of the definition, and how its calls are stated.
-use Rattle.std.specs.Prelude.{◌≡◌, ℕ, List, Some, None, Result, Ok, Err}
+use Rattle.std.specs.Prelude.{◌≡◌, ℕ, List, Option, Some, None, Result, Ok, Err, IsSome, Vec, ⊤}
+use Rattle.std.specs.declared.alloc.Global.{Global}
 use Rattle.rand_pcg.specs.Lcg.{Lcg}
 use Rattle.rand_pcg.specs.Pcg.{pcg32}
 use Rattle.lapd_frame.specs.declared.Side.TheVariants as side
@@ -9,8 +10,9 @@ use Rattle.lapd_tei.specs.Terminal.{TerminalStep}
 use Rattle.lapd_links.specs.declared.config.Config.{Config}
 use Rattle.lapd_sides.specs.declared.references.References.{References}
 use Rattle.lapd_sides.specs.declared.user_side.UserSide.{UserSide}
+use Rattle.lapd_links.specs.declared.side_fault.SideFault.{SideFault}
 use Rattle.lapd_links.specs.declared.side_fault.SideKind.{SideKind}
-use Rattle.lapd_links.specs.Effects.{Effects, and_then}
+use Rattle.lapd_links.specs.Effects.{Effects, and_then, no_effects}
 use Rattle.lapd_links.specs.declared.expiry.Expiry.{Expiry}
 use Rattle.lapd_links.specs.Expiries.{IsDue}
 use Rattle.lapd_links.specs.Links.{Acted}
@@ -96,6 +98,20 @@ CarriesOut old new acts now outs =
     → ShowUser old config (admitted config step s)
     → HasDone new config acts (assigned config now step s)
 
+-- it finds no memory, which it takes only for the links of a TEI that is got: all is as it was,
+-- and nothing is given
+pub record LacksMemory (old new : UserSide) (acts : Effects)
+    (tei : User → Option ℕ) : Type 0 where
+  pub only : EachShown old (λ s. IsSome (tei s))
+  pub unchanged : ShowsAsBefore old new
+  pub nothing : acts ≡ no_effects
+
+-- it hears what comes: it does this step, or finds no memory
+abbrev pub Hears : {E : Type 0} → Result ⊤ E → UserSide → UserSide → Effects → (User → Option ℕ)
+    → Step User → Type 0
+Hears (Ok done) old new acts tei step = Does old new acts step
+Hears (Err fault) old new acts tei step = LacksMemory old new acts tei
+
 -- it grants what is asked for
 abbrev pub Grants : UserSide → UserSide → Effects → Outcome User → Type 0
 Grants old new acts outcome =
@@ -106,6 +122,20 @@ Grants old new acts outcome =
 abbrev pub RefusesAs : UserSide → SideKind → Outcome User → Type 0
 RefusesAs old kind outcome =
     (config : Config) (s : User) → ShowUser old config s → outcome config s ≡ Err kind
+
+-- and hands the message back: all is as it was, and nothing is given
+pub record Refuses (old new : UserSide) (acts : Effects) (message : Option (Vec ℕ Global))
+    (outcome : Outcome User) (fault : SideFault) : Type 0 where
+  pub kind : RefusesAs old fault.kind outcome
+  pub handed_back : fault.message ≡ message
+  pub unchanged : ShowsAsBefore old new
+  pub nothing : acts ≡ no_effects
+
+-- it is answered: what is asked for is granted, or refused
+abbrev pub Answers : Result ⊤ SideFault → UserSide → UserSide → Effects → Option (Vec ℕ Global)
+    → Outcome User → Type 0
+Answers (Ok done) old new acts message outcome = Grants old new acts outcome
+Answers (Err fault) old new acts message outcome = Refuses old new acts message outcome fault
 
 -- the first of its timers that is due expires
 abbrev pub Expires : UserSide → UserSide → Effects → ℕ → Type 0

@@ -1,8 +1,8 @@
 //! A side of either kind.
 
-ghost use Rattle.std.specs.Prelude.{◌≡◌, true, false, OnOk, OnErr, IfErr, option_copied};
+ghost use Rattle.std.specs.Prelude.{◌≡◌, true, false, IfErr, option_copied};
 ghost use Rattle.lapd_links.specs.Effects.{no_effects};
-ghost use Rattle.lapd_sides.specs.Requests.{message_of, without_message};
+ghost use Rattle.lapd_sides.specs.Requests.{without_message};
 
 use crate::{Acts, NetSide, Request, SideFault, SideKind, UserSide};
 use lapd_frame::Side;
@@ -19,7 +19,7 @@ pub enum EitherSide {
 }
 
 impl EitherSide {
-    ghost use Rattle.lapd_sides.specs.Either.{side_of, Takes, TakesMemory, Grants, Refuses, Expires, Rests, Stays, HasNextDeadline, HasTable, HasTimers, HasDiscarded};
+    ghost use Rattle.lapd_sides.specs.Either.{side_of, Takes, Answers, Expires, Rests, HasNextDeadline, HasTable, HasTimers, HasDiscarded};
 
     /// Which of the two it is.
     pub fn side(&self) -> Side
@@ -38,11 +38,8 @@ impl EitherSide {
     /// B3 where memory was refused for the links of a TEI. Nothing is changed, and nothing given.
     pub fn take(&mut self, bytes: &[u8], now: u64, acts: &mut Acts) -> Result<(), SideFault>
         ensures side { side_of self.new ≡ side_of self.old }
-        ensures ok { OnOk result (Takes bytes.now now self.old self.new acts.new) }
+        ensures heard { Takes bytes.now now result self.old self.new acts.new }
         ensures err { IfErr result (λ fault. fault ≡ without_message SideKind.Memory) }
-        ensures only { OnErr result (TakesMemory bytes.now self.old) }
-        ensures unchanged { OnErr result (Stays self.old self.new) }
-        ensures nothing { OnErr result (acts.new ≡ no_effects) }
     {
         match self {
             EitherSide::Network(side) => side.take(bytes, now, acts),
@@ -72,11 +69,7 @@ impl EitherSide {
     /// changed, and nothing given.
     pub fn request(&mut self, request: Request, now: u64, acts: &mut Acts) -> Result<(), SideFault>
         ensures side { side_of self.new ≡ side_of self.old }
-        ensures ok { OnOk result (Grants request now self.old self.new acts.new) }
-        ensures err { IfErr result (λ fault. Refuses request now self.old fault.kind) }
-        ensures handed_back { IfErr result (λ fault. fault.message ≡ message_of request) }
-        ensures unchanged { OnErr result (Stays self.old self.new) }
-        ensures nothing { OnErr result (acts.new ≡ no_effects) }
+        ensures answers { Answers request now result self.old self.new acts.new }
     {
         match self {
             EitherSide::Network(side) => side.request(request, now, acts),

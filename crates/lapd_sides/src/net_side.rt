@@ -1,6 +1,6 @@
 //! The network side.
 
-ghost use Rattle.std.specs.Prelude.{◌≡◌, ◌≤◌, ◌<◌, true, false, length, [], Some, None, Ok, Err, OnOk, OnErr, IfOk, IfErr, IfSome, IsSome, option_copied};
+ghost use Rattle.std.specs.Prelude.{◌≡◌, ◌≤◌, ◌<◌, true, false, length, [], Some, None, Ok, Err, OnOk, OnErr, IfOk, IfErr, IfSome, option_copied};
 ghost use Rattle.std.specs.List.{All};
 ghost use Rattle.lapd_states.specs.Input.{input_of, Give};
 ghost use Rattle.lapd_tei.specs.Assigner.{AssignerState, assigner_step};
@@ -41,7 +41,7 @@ pub struct NetSide {
 }
 
 impl NetSide {
-    ghost use Rattle.lapd_sides.specs.ShowsNetwork.{ShowNetwork, EachShown, ShowsAsBefore, Does, Grants, RefusesAs, Expires, Rests};
+    ghost use Rattle.lapd_sides.specs.ShowsNetwork.{ShowNetwork, EachShown, Does, Hears, Answers, Expires, Rests};
 
     /// A network side that holds the TEIs that are known, each 0 to 126: their links are there, in state 4.
     ///
@@ -72,13 +72,9 @@ impl NetSide {
     ///
     /// B3 where that memory was refused. Nothing is changed, and nothing given.
     pub fn take(&mut self, bytes: &[u8], now: u64, acts: &mut Acts) -> Result<(), SideFault>
-        ensures ok { OnOk result (Does self.old self.new acts.new
-            (λ config. network_takes config bytes.now now)) }
+        ensures heard { Hears result self.old self.new acts.new
+            (λ s. given_for s.assigner bytes.now) (λ config. network_takes config bytes.now now) }
         ensures err { IfErr result (λ fault. fault ≡ without_message SideKind.Memory) }
-        ensures only { OnErr result (EachShown self.old
-            (λ s. IsSome (given_for s.assigner bytes.now))) }
-        ensures unchanged { OnErr result (ShowsAsBefore self.old self.new) }
-        ensures nothing { OnErr result (acts.new ≡ no_effects) }
     {
         acts.clear();
         match self.hear_octets(bytes, now, acts) {
@@ -93,12 +89,8 @@ impl NetSide {
     /// Octets of the user side: a frame, or a fault.
     fn hear_octets(&mut self, bytes: &[u8], now: u64, acts: &mut Acts) -> Result<(), AllocError>
         requires empty { acts.old ≡ no_effects }
-        ensures ok { OnOk result (Does self.old self.new acts.new
-            (λ config. network_takes config bytes.now now)) }
-        ensures only { OnErr result (EachShown self.old
-            (λ s. IsSome (given_for s.assigner bytes.now))) }
-        ensures unchanged { OnErr result (ShowsAsBefore self.old self.new) }
-        ensures nothing { OnErr result (acts.new ≡ no_effects) }
+        ensures { Hears result self.old self.new acts.new
+            (λ s. given_for s.assigner bytes.now) (λ config. network_takes config bytes.now now) }
     {
         match read(bytes, Side::User) {
             Ok(frame) => self.hear(&frame, now, acts),
@@ -113,12 +105,9 @@ impl NetSide {
     fn hear(&mut self, frame: &Frame<'_>, now: u64, acts: &mut Acts) -> Result<(), AllocError>
         requires fits { length frame.now.info ≤ N201 }
         requires empty { acts.old ≡ no_effects }
-        ensures ok { OnOk result (Does self.old self.new acts.new
-            (λ config. frame_heard config now frame.now)) }
-        ensures only { OnErr result (EachShown self.old
-            (λ s. IsSome (given_for_frame s.assigner (Ok frame.now)))) }
-        ensures unchanged { OnErr result (ShowsAsBefore self.old self.new) }
-        ensures nothing { OnErr result (acts.new ≡ no_effects) }
+        ensures { Hears result self.old self.new acts.new
+            (λ s. given_for_frame s.assigner (Ok frame.now))
+            (λ config. frame_heard config now frame.now) }
     {
         if carries_message(frame) {
             match TeiMessage::read(frame.info()) {
@@ -157,12 +146,9 @@ impl NetSide {
         acts: &mut Acts,
     ) -> Result<(), AllocError>
         requires empty { acts.old ≡ no_effects }
-        ensures ok { OnOk result (Does self.old self.new acts.new
-            (λ config. assigner_acts config now (AssignerEvent.Heard message))) }
-        ensures only { OnErr result (EachShown self.old
-            (λ s. IsSome (given_for_message s.assigner (Ok message)))) }
-        ensures unchanged { OnErr result (ShowsAsBefore self.old self.new) }
-        ensures nothing { OnErr result (acts.new ≡ no_effects) }
+        ensures { Hears result self.old self.new acts.new
+            (λ s. given_for_message s.assigner (Ok message))
+            (λ config. assigner_acts config now (AssignerEvent.Heard message)) }
     {
         let mut assigner = self.assigner;
         let outs = assigner.handle(AssignerEvent::Heard(message));
@@ -248,13 +234,8 @@ impl NetSide {
     /// changed, and nothing given.
     #[tactic(auto, unfolding(crate::specs::Network::network_requested))]
     pub fn request(&mut self, request: Request, now: u64, acts: &mut Acts) -> Result<(), SideFault>
-        ensures ok { OnOk result (Grants self.old self.new acts.new
-            (λ config. network_requested config request now)) }
-        ensures err { IfErr result (λ fault. RefusesAs self.old fault.kind
-            (λ config. network_requested config request now)) }
-        ensures handed_back { IfErr result (λ fault. fault.message ≡ message_of request) }
-        ensures unchanged { OnErr result (ShowsAsBefore self.old self.new) }
-        ensures nothing { OnErr result (acts.new ≡ no_effects) }
+        ensures { Answers result self.old self.new acts.new (message_of request)
+            (λ config. network_requested config request now) }
     {
         acts.clear();
         if let Request::Check(tei) = &request {
@@ -274,19 +255,14 @@ impl NetSide {
 }
 
 impl NetSide {
-    ghost use Rattle.lapd_sides.specs.ShowsNetwork.{EachShown, ShowsAsBefore, Grants, RefusesAs};
+    ghost use Rattle.lapd_sides.specs.ShowsNetwork.{EachShown, ShowsAsBefore, Grants, RefusesAs, Answers};
 
     /// An event for the link with this name.
     fn act(&mut self, id: LinkId, event: Event, now: u64, acts: &mut Acts) -> Result<(), SideFault>
         requires empty { acts.old ≡ no_effects }
         requires for_link { IsFor id event }
-        ensures ok { OnOk result (Grants self.old self.new acts.new
-            (λ _. link_of_network now id (input_of event.entry) [])) }
-        ensures err { IfErr result (λ fault. RefusesAs self.old fault.kind
-            (λ _. link_of_network now id (input_of event.entry) [])) }
-        ensures handed_back { IfErr result (λ fault. fault.message ≡ None) }
-        ensures unchanged { OnErr result (ShowsAsBefore self.old self.new) }
-        ensures nothing { OnErr result (acts.new ≡ no_effects) }
+        ensures { Answers result self.old self.new acts.new None
+            (λ _. link_of_network now id (input_of event.entry) []) }
     {
         match self.served.links.act(id, event, &[], now, acts) {
             Ok(()) => Ok(()),
@@ -306,13 +282,8 @@ impl NetSide {
         acts: &mut Acts,
     ) -> Result<(), SideFault>
         requires empty { acts.old ≡ no_effects }
-        ensures ok { OnOk result (Grants self.old self.new acts.new
-            (λ config. unit_requested config now id octets.items)) }
-        ensures err { IfErr result (λ fault. RefusesAs self.old fault.kind
-            (λ config. unit_requested config now id octets.items)) }
-        ensures handed_back { IfErr result (λ fault. fault.message ≡ Some octets) }
-        ensures unchanged { OnErr result (ShowsAsBefore self.old self.new) }
-        ensures nothing { OnErr result (acts.new ≡ no_effects) }
+        ensures { Answers result self.old self.new acts.new (Some octets)
+            (λ config. unit_requested config now id octets.items) }
     {
         match self.put_unit(id, octets.as_slice(), now, acts) {
             Ok(()) => Ok(()),
@@ -352,13 +323,8 @@ impl NetSide {
         acts: &mut Acts,
     ) -> Result<(), SideFault>
         requires empty { acts.old ≡ no_effects }
-        ensures ok { OnOk result (Grants self.old self.new acts.new
-            (λ _. link_of_network now id (Give message.items) [])) }
-        ensures err { IfErr result (λ fault. RefusesAs self.old fault.kind
-            (λ _. link_of_network now id (Give message.items) [])) }
-        ensures handed_back { IfErr result (λ fault. fault.message ≡ Some message) }
-        ensures unchanged { OnErr result (ShowsAsBefore self.old self.new) }
-        ensures nothing { OnErr result (acts.new ≡ no_effects) }
+        ensures { Answers result self.old self.new acts.new (Some message)
+            (λ _. link_of_network now id (Give message.items) []) }
     {
         self.served.links.give(id, message, now, acts)
     }

@@ -1,6 +1,6 @@
 //! The user side.
 
-ghost use Rattle.std.specs.Prelude.{◌≡◌, ◌≤◌, ◌<◌, ◌+◌, ◌++◌, true, false, length, [], Some, None, Ok, Err, OnOk, OnErr, IfOk, IfErr, IfSome, IsSome, option_copied};
+ghost use Rattle.std.specs.Prelude.{◌≡◌, ◌≤◌, ◌<◌, ◌+◌, ◌++◌, true, false, length, [], Some, None, Ok, Err, IfOk, IfErr, IfSome, option_copied};
 ghost use Rattle.std.specs.List.{All};
 ghost use Rattle.lapd_states.specs.Input.{input_of, Establish, Release, UnitData, Give};
 ghost use Rattle.lapd_states.specs.declared.event.LinkFault.TheVariants.{NotEstablished};
@@ -47,7 +47,7 @@ pub struct UserSide {
 }
 
 impl UserSide {
-    ghost use Rattle.lapd_sides.specs.ShowsUser.{ShowUser, EachShown, ShowsAsBefore, Does, Grants, RefusesAs, Expires, Rests};
+    ghost use Rattle.lapd_sides.specs.ShowsUser.{ShowUser, EachShown, Does, Hears, Answers, Expires, Rests};
 
     /// A user side with a fixed TEI, 0 to 126, whose links are there, in state 4; or with none, which has no links yet.
     ///
@@ -82,12 +82,9 @@ impl UserSide {
     ///
     /// B3 where that memory was refused. Nothing is changed, and nothing given.
     pub fn take(&mut self, bytes: &[u8], now: u64, acts: &mut Acts) -> Result<(), SideFault>
-        ensures ok { OnOk result (Does self.old self.new acts.new
-            (λ config. user_takes config bytes.now now)) }
+        ensures heard { Hears result self.old self.new acts.new
+            (λ s. got_for s bytes.now) (λ config. user_takes config bytes.now now) }
         ensures err { IfErr result (λ fault. fault ≡ without_message SideKind.Memory) }
-        ensures only { OnErr result (EachShown self.old (λ s. IsSome (got_for s bytes.now))) }
-        ensures unchanged { OnErr result (ShowsAsBefore self.old self.new) }
-        ensures nothing { OnErr result (acts.new ≡ no_effects) }
     {
         acts.clear();
         match self.hear_octets(bytes, now, acts) {
@@ -102,11 +99,8 @@ impl UserSide {
     /// Octets of the network side: a frame, or a fault.
     fn hear_octets(&mut self, bytes: &[u8], now: u64, acts: &mut Acts) -> Result<(), AllocError>
         requires empty { acts.old ≡ no_effects }
-        ensures ok { OnOk result (Does self.old self.new acts.new
-            (λ config. user_takes config bytes.now now)) }
-        ensures only { OnErr result (EachShown self.old (λ s. IsSome (got_for s bytes.now))) }
-        ensures unchanged { OnErr result (ShowsAsBefore self.old self.new) }
-        ensures nothing { OnErr result (acts.new ≡ no_effects) }
+        ensures { Hears result self.old self.new acts.new
+            (λ s. got_for s bytes.now) (λ config. user_takes config bytes.now now) }
     {
         match read(bytes, Side::Network) {
             Ok(frame) => self.hear(&frame, now, acts),
@@ -121,12 +115,8 @@ impl UserSide {
     fn hear(&mut self, frame: &Frame<'_>, now: u64, acts: &mut Acts) -> Result<(), AllocError>
         requires empty { acts.old ≡ no_effects }
         requires fits { length frame.now.info ≤ N201 }
-        ensures ok { OnOk result (Does self.old self.new acts.new
-            (λ config. frame_heard config now frame.now)) }
-        ensures only { OnErr result (EachShown self.old
-            (λ s. IsSome (got_for_frame s (Ok frame.now)))) }
-        ensures unchanged { OnErr result (ShowsAsBefore self.old self.new) }
-        ensures nothing { OnErr result (acts.new ≡ no_effects) }
+        ensures { Hears result self.old self.new acts.new
+            (λ s. got_for_frame s (Ok frame.now)) (λ config. frame_heard config now frame.now) }
     {
         if carries_message(frame) {
             match TeiMessage::read(frame.info()) {
@@ -178,12 +168,9 @@ impl UserSide {
         acts: &mut Acts,
     ) -> Result<(), AllocError>
         requires empty { acts.old ≡ no_effects }
-        ensures ok { OnOk result (Does self.old self.new acts.new
-            (λ config. terminal_acts config now (TerminalEvent.Heard message))) }
-        ensures only { OnErr result (EachShown self.old
-            (λ s. IsSome (got_for_message s (Ok message)))) }
-        ensures unchanged { OnErr result (ShowsAsBefore self.old self.new) }
-        ensures nothing { OnErr result (acts.new ≡ no_effects) }
+        ensures { Hears result self.old self.new acts.new
+            (λ s. got_for_message s (Ok message))
+            (λ config. terminal_acts config now (TerminalEvent.Heard message)) }
     {
         let event = TerminalEvent::Heard(message, self.references.next());
         let mut terminal = self.terminal;
@@ -259,13 +246,8 @@ impl UserSide {
     /// handed back. Nothing is changed, and nothing given.
     #[tactic(auto, unfolding(crate::specs::User::user_requested))]
     pub fn request(&mut self, request: Request, now: u64, acts: &mut Acts) -> Result<(), SideFault>
-        ensures ok { OnOk result (Grants self.old self.new acts.new
-            (λ config. user_requested config request now)) }
-        ensures err { IfErr result (λ fault. RefusesAs self.old fault.kind
-            (λ config. user_requested config request now)) }
-        ensures handed_back { IfErr result (λ fault. fault.message ≡ message_of request) }
-        ensures unchanged { OnErr result (ShowsAsBefore self.old self.new) }
-        ensures nothing { OnErr result (acts.new ≡ no_effects) }
+        ensures { Answers result self.old self.new acts.new (message_of request)
+            (λ config. user_requested config request now) }
     {
         acts.clear();
         if let Request::AskTei = &request {
@@ -318,20 +300,14 @@ impl UserSide {
 
 /// Requests.
 impl UserSide {
-    ghost use Rattle.lapd_sides.specs.ShowsUser.{ShowsAsBefore, Grants, RefusesAs};
+    ghost use Rattle.lapd_sides.specs.ShowsUser.{Answers};
 
     /// The link of this SAPI is to be established; without TEI that is kept.
     fn establish(&mut self, sapi: Sapi, now: u64, acts: &mut Acts) -> Result<(), SideFault>
         requires empty { acts.old ≡ no_effects }
-        ensures ok { OnOk result (Grants self.old self.new acts.new
+        ensures { Answers result self.old self.new acts.new None
             (λ config s. with_tei_or now s.terminal sapi Establish []
-            (wants config now sapi s) s)) }
-        ensures err { IfErr result (λ fault. RefusesAs self.old fault.kind
-            (λ config s. with_tei_or now s.terminal sapi Establish []
-            (wants config now sapi s) s)) }
-        ensures handed_back { IfErr result (λ fault. fault.message ≡ None) }
-        ensures unchanged { OnErr result (ShowsAsBefore self.old self.new) }
-        ensures nothing { OnErr result (acts.new ≡ no_effects) }
+            (wants config now sapi s) s) }
     {
         match self.terminal.tei() {
             Some(tei) => self.act(name(sapi, tei), Event::Establish, now, acts),
@@ -342,13 +318,7 @@ impl UserSide {
     /// An establishment without TEI, of a SAPI that is served: it is kept, and a TEI is asked for.
     fn want(&mut self, sapi: Sapi, now: u64, acts: &mut Acts) -> Result<(), SideFault>
         requires empty { acts.old ≡ no_effects }
-        ensures ok { OnOk result (Grants self.old self.new acts.new
-            (λ config. wants config now sapi)) }
-        ensures err { IfErr result (λ fault. RefusesAs self.old fault.kind
-            (λ config. wants config now sapi)) }
-        ensures handed_back { IfErr result (λ fault. fault.message ≡ None) }
-        ensures unchanged { OnErr result (ShowsAsBefore self.old self.new) }
-        ensures nothing { OnErr result (acts.new ≡ no_effects) }
+        ensures { Answers result self.old self.new acts.new None (λ config. wants config now sapi) }
     {
         if !self.config.serves(sapi) {
             return Err(no_link());
@@ -362,13 +332,8 @@ impl UserSide {
     /// The link of this SAPI is to be released; without TEI an establishment that is kept is forgotten.
     fn release(&mut self, sapi: Sapi, now: u64, acts: &mut Acts) -> Result<(), SideFault>
         requires empty { acts.old ≡ no_effects }
-        ensures ok { OnOk result (Grants self.old self.new acts.new
-            (λ _ s. with_tei_or now s.terminal sapi Release [] (forgets sapi s) s)) }
-        ensures err { IfErr result (λ fault. RefusesAs self.old fault.kind
-            (λ _ s. with_tei_or now s.terminal sapi Release [] (forgets sapi s) s)) }
-        ensures handed_back { IfErr result (λ fault. fault.message ≡ None) }
-        ensures unchanged { OnErr result (ShowsAsBefore self.old self.new) }
-        ensures nothing { OnErr result (acts.new ≡ no_effects) }
+        ensures { Answers result self.old self.new acts.new None
+            (λ _ s. with_tei_or now s.terminal sapi Release [] (forgets sapi s) s) }
     {
         match self.terminal.tei() {
             Some(tei) => self.act(name(sapi, tei), Event::Release, now, acts),
@@ -379,11 +344,7 @@ impl UserSide {
     /// An establishment that is kept is forgotten. The terminal goes on asking for a TEI.
     fn forget(&mut self, sapi: Sapi, acts: &mut Acts) -> Result<(), SideFault>
         requires empty { acts.old ≡ no_effects }
-        ensures ok { OnOk result (Grants self.old self.new acts.new (λ _. forgets sapi)) }
-        ensures err { IfErr result (λ fault. RefusesAs self.old fault.kind (λ _. forgets sapi)) }
-        ensures handed_back { IfErr result (λ fault. fault.message ≡ None) }
-        ensures unchanged { OnErr result (ShowsAsBefore self.old self.new) }
-        ensures nothing { OnErr result (acts.new ≡ no_effects) }
+        ensures { Answers result self.old self.new acts.new None (λ _. forgets sapi) }
     {
         if !self.kept.has(sapi) {
             return Err(no_link());
@@ -403,13 +364,8 @@ impl UserSide {
     ) -> Result<(), SideFault>
         requires empty { acts.old ≡ no_effects }
         requires for_link { (id : LinkId) → IsFor id event }
-        ensures ok { OnOk result (Grants self.old self.new acts.new
-            (λ _ s. with_tei_or now s.terminal sapi (input_of event.entry) [] (Err NoLink) s)) }
-        ensures err { IfErr result (λ fault. RefusesAs self.old fault.kind
-            (λ _ s. with_tei_or now s.terminal sapi (input_of event.entry) [] (Err NoLink) s)) }
-        ensures handed_back { IfErr result (λ fault. fault.message ≡ None) }
-        ensures unchanged { OnErr result (ShowsAsBefore self.old self.new) }
-        ensures nothing { OnErr result (acts.new ≡ no_effects) }
+        ensures { Answers result self.old self.new acts.new None
+            (λ _ s. with_tei_or now s.terminal sapi (input_of event.entry) [] (Err NoLink) s) }
     {
         match self.terminal.tei() {
             Some(tei) => self.act(name(sapi, tei), event, now, acts),
@@ -426,15 +382,9 @@ impl UserSide {
         acts: &mut Acts,
     ) -> Result<(), SideFault>
         requires empty { acts.old ≡ no_effects }
-        ensures ok { OnOk result (Grants self.old self.new acts.new
+        ensures { Answers result self.old self.new acts.new (Some octets)
             (λ _ s. with_tei_or now s.terminal sapi (UnitData (length octets.items)) octets.items
-            (Err NoLink) s)) }
-        ensures err { IfErr result (λ fault. RefusesAs self.old fault.kind
-            (λ _ s. with_tei_or now s.terminal sapi (UnitData (length octets.items)) octets.items
-            (Err NoLink) s)) }
-        ensures handed_back { IfErr result (λ fault. fault.message ≡ Some octets) }
-        ensures unchanged { OnErr result (ShowsAsBefore self.old self.new) }
-        ensures nothing { OnErr result (acts.new ≡ no_effects) }
+            (Err NoLink) s) }
     {
         let Some(tei) = self.terminal.tei() else {
             return Err(refused(SideKind::NoLink, octets));
@@ -458,15 +408,9 @@ impl UserSide {
         acts: &mut Acts,
     ) -> Result<(), SideFault>
         requires empty { acts.old ≡ no_effects }
-        ensures ok { OnOk result (Grants self.old self.new acts.new
+        ensures { Answers result self.old self.new acts.new (Some message)
             (λ _ s. with_tei_or now s.terminal sapi (Give message.items) []
-            (Err (Link NotEstablished)) s)) }
-        ensures err { IfErr result (λ fault. RefusesAs self.old fault.kind
-            (λ _ s. with_tei_or now s.terminal sapi (Give message.items) []
-            (Err (Link NotEstablished)) s)) }
-        ensures handed_back { IfErr result (λ fault. fault.message ≡ Some message) }
-        ensures unchanged { OnErr result (ShowsAsBefore self.old self.new) }
-        ensures nothing { OnErr result (acts.new ≡ no_effects) }
+            (Err (Link NotEstablished)) s) }
     {
         match self.terminal.tei() {
             Some(tei) => self.served.links.give(name(sapi, tei), message, now, acts),
@@ -478,13 +422,8 @@ impl UserSide {
     fn act(&mut self, id: LinkId, event: Event, now: u64, acts: &mut Acts) -> Result<(), SideFault>
         requires empty { acts.old ≡ no_effects }
         requires for_link { IsFor id event }
-        ensures ok { OnOk result (Grants self.old self.new acts.new
-            (λ _. link_of_user now id (input_of event.entry) [])) }
-        ensures err { IfErr result (λ fault. RefusesAs self.old fault.kind
-            (λ _. link_of_user now id (input_of event.entry) [])) }
-        ensures handed_back { IfErr result (λ fault. fault.message ≡ None) }
-        ensures unchanged { OnErr result (ShowsAsBefore self.old self.new) }
-        ensures nothing { OnErr result (acts.new ≡ no_effects) }
+        ensures { Answers result self.old self.new acts.new None
+            (λ _. link_of_user now id (input_of event.entry) []) }
     {
         match self.served.links.act(id, event, &[], now, acts) {
             Ok(()) => Ok(()),

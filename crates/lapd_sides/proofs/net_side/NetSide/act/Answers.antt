@@ -1,17 +1,19 @@
-use Rattle.std.proofs.Common.{ap}
+use Rattle.std.proofs.Common.{refl, ap, ◌∙◌}
 use Rattle.lapd_frame.specs.declared.Side.TheVariants as side
 use Rattle.lapd_sides.specs.Network.{link_of_network, among_links}
 use Rattle.lapd_sides.proofs.Networking.{granted, kept}
 use Rattle.lapd_sides.proofs.net_side.NetSide.act.Goals as goal
 
-pub returns-in-Ok-clause-ok : goal.returns-in-Ok-clause-ok
+pub returns-in-Ok : goal.returns-in-Ok
 unfolding link_of_network
-returns-in-Ok-clause-ok c = λ config s shown.
+returns-in-Ok c = λ config s shown.
     granted _ config s c.args.acts.now c.act.new.acts _ shown.configured shown.assigner shown.discarded shown.served.timers c.requires.empty (c.in-Ok.ensures.ok side.Network s.served.links shown.served.links)
 
-pub returns-in-Err-clause-err : goal.returns-in-Err-clause-err
+pub returns-in-Err : goal.returns-in-Err
 unfolding link_of_network
-returns-in-Err-clause-err c = λ config s shown. ap (among_links s) (c.in-Err.ensures.err side.Network s.served.links shown.served.links)
-
-pub returns-in-Err-clause-unchanged : goal.returns-in-Err-clause-unchanged
-returns-in-Err-clause-unchanged c = λ config s shown. kept _ config s shown.configured shown.assigner shown.discarded shown.served.timers (c.in-Err.ensures.unchanged side.Network s.served.links shown.served.links)
+returns-in-Err c = record {
+  kind = λ config s shown. ap (among_links s) (c.in-Err.ensures.err side.Network s.served.links shown.served.links);
+  handed_back = refl;
+  unchanged = λ config s shown. kept _ config s shown.configured shown.assigner shown.discarded shown.served.timers (c.in-Err.ensures.unchanged side.Network s.served.links shown.served.links);
+  nothing = c.in-Err.ensures.nothing ∙ c.requires.empty;
+}

@@ -1,18 +1,11 @@
-use Rattle.std.proofs.Common.{ap}
-use Rattle.lapd_frame.specs.declared.Side.TheVariants as side
-use Rattle.lapd_sides.specs.Network.{link_of_network, among_links}
-use Rattle.lapd_sides.proofs.Networking.{granted, kept}
-use Rattle.lapd_links.proofs.Outcomes.{ok_gives, err_gives, each_err}
+use Rattle.std.proofs.Common.{[], Some}
+use Rattle.lapd_states.specs.Input.{Give}
+use Rattle.lapd_links.specs.Links.{in_links, link_acts}
+use Rattle.lapd_sides.specs.Network.{link_of_network}
+use Rattle.lapd_sides.proofs.Networking.{link_answers}
 use Rattle.lapd_sides.proofs.net_side.NetSide.give.Goals as goal
 
-pub returns-clause-ok : goal.returns-clause-ok
+pub returns : goal.returns
 unfolding link_of_network
-returns-clause-ok c = ok_gives c.give.result _ _
-    (λ f config s shown. granted _ config s c.args.acts.now c.give.new.acts _ shown.configured shown.assigner shown.discarded shown.served.timers c.requires.empty (f side.Network s.served.links shown.served.links)) c.give.ensures.ok
-
-pub returns-clause-err : goal.returns-clause-err
-unfolding link_of_network
-returns-clause-err c = each_err c.give.result _ _ (λ k f config s shown. ap (among_links s) (f side.Network s.served.links shown.served.links)) c.give.ensures.err
-
-pub returns-clause-unchanged : goal.returns-clause-unchanged
-returns-clause-unchanged c = err_gives c.give.result _ _ (λ f config s shown. kept _ config s shown.configured shown.assigner shown.discarded shown.served.timers (f side.Network s.served.links shown.served.links)) c.give.ensures.unchanged
+returns c = link_answers c.give.result c.args.self.now c.give.new.self c.args.acts.now c.give.new.acts (Some c.args.message) (λ at links. in_links c.args.id (link_acts at c.args.id c.args.now (Give c.args.message.items) []) links)
+    c.requires.empty c.give.ensures.ok c.give.ensures.err c.give.ensures.handed_back c.give.ensures.unchanged c.give.ensures.nothing

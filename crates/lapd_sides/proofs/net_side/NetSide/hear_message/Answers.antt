@@ -1,4 +1,5 @@
 use Rattle.std.proofs.Common.{List, sym, ap, subst, ◌∙◌}
+use Rattle.std.specs.Prelude.{IsSome}
 use Rattle.lapd_frame.specs.declared.Side.TheVariants as side
 use Rattle.lapd_tei.specs.declared.assigner.AssignerEvent.TheVariants as event
 use Rattle.lapd_tei.specs.declared.out.TeiOut.{TeiOut}
@@ -7,19 +8,25 @@ use Rattle.lapd_tei.specs.Out.{tei_given}
 use Rattle.lapd_links.specs.declared.config.Config.{Config}
 use Rattle.lapd_sides.specs.Management.{links_with}
 use Rattle.lapd_sides.specs.Shows.{ShowServed}
-use Rattle.lapd_sides.proofs.Networking.{assigned_so, on_err}
+use Rattle.lapd_sides.proofs.Networking.{assigned_so, lacks}
 use Rattle.lapd_sides.proofs.net_side.NetSide.hear_message.Goals as goal
 
-pub returns-in_err-admit-clause-unchanged : goal.returns-in_err-admit-clause-unchanged
-returns-in_err-admit-clause-unchanged c = on_err c.from_residual.result _ (λ config s shown. record {
-  configured = shown.configured;
-  served = c.in_err-admit.ensures.unchanged side.Network s.served shown.served;
-  assigner = shown.assigner;
-  discarded = shown.discarded;
-})
+pub returns-in_err-admit : goal.returns-in_err-admit
+returns-in_err-admit c =
+    let heard = event.Heard c.args.message in
+    lacks c.from_residual.result _ _ _ _ _ c.from_residual.ensures.0 (record {
+      only = λ config s shown. subst (λ (o : List TeiOut). IsSome (tei_given o)) (c.as_slice.ensures.value ∙ c.handle-outs.ensures.outs ∙ ap (λ (a : AssignerState). (assigner_step a heard).outs) shown.assigner) c.in_err-admit.ensures.only;
+      unchanged = λ config s shown. record {
+        configured = shown.configured;
+        served = c.in_err-admit.ensures.unchanged side.Network s.served shown.served;
+        assigner = shown.assigner;
+        discarded = shown.discarded;
+      };
+      nothing = c.requires.empty;
+    })
 
-pub returns-clause-ok : goal.returns-clause-ok
-returns-clause-ok c = λ config s shown.
+pub returns : goal.returns
+returns c = λ config s shown.
     let outs = c.as_slice-2.result.now in
     let heard = event.Heard c.args.message in
     let are = c.as_slice-2.ensures.value ∙ c.handle-outs.ensures.outs in

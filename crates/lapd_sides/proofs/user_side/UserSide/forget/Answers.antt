@@ -7,7 +7,7 @@ use Rattle.lapd_links.specs.declared.primitive.What.TheVariants as what
 use Rattle.lapd_sides.proofs.Using.{forgotten}
 use Rattle.lapd_sides.proofs.user_side.UserSide.forget.Goals as goal
 
-pub returns-clause-ok : goal.returns-clause-ok
-returns-clause-ok c = λ config s shown.
+pub returns : goal.returns
+returns c = λ config s shown.
     forgotten c.args.self.now c.set.new.self config c.args.sapi s c.tell_sapi.new.acts c.has.result c.has.ensures c.if-not-has.false c.set.ensures
     (c.tell_sapi.ensures ∙ ap (λ (e : Effects). record e { primitives = e.primitives ++ Of (of_sapi c.args.sapi group_tei) what.ReleaseConfirm ∷ [] }) c.requires.empty) shown

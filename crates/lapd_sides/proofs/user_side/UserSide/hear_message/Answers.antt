@@ -1,4 +1,5 @@
-use Rattle.std.proofs.Common.{List, sym, ap, subst, ◌∙◌}
+use Rattle.std.proofs.Common.{ℕ, List, sym, ap, subst, ◌∙◌}
+use Rattle.std.specs.Prelude.{IsSome}
 use Rattle.lapd_frame.specs.declared.Side.TheVariants as side
 use Rattle.lapd_tei.specs.declared.out.TeiOut.{TeiOut}
 use Rattle.lapd_tei.specs.declared.phase.Phase.{Phase}
@@ -8,22 +9,28 @@ use Rattle.lapd_tei.specs.Terminal.{terminal_step}
 use Rattle.lapd_links.specs.declared.config.Config.{Config}
 use Rattle.lapd_sides.specs.Management.{links_with}
 use Rattle.lapd_sides.specs.Shows.{ShowServed}
-use Rattle.lapd_sides.proofs.Networking.{on_err}
-use Rattle.lapd_sides.proofs.Using.{acts_so, outs_of}
+use Rattle.lapd_sides.proofs.Using.{acts_so, lacks, outs_of}
 use Rattle.lapd_sides.proofs.user_side.UserSide.hear_message.Goals as goal
 
-pub returns-in_err-admit-clause-unchanged : goal.returns-in_err-admit-clause-unchanged
-returns-in_err-admit-clause-unchanged c = on_err c.from_residual.result _ (λ config s shown. record {
-  configured = shown.configured;
-  served = c.in_err-admit.ensures.unchanged side.User s.served shown.served;
-  terminal = shown.terminal;
-  kept = shown.kept;
-  random = shown.random;
-  discarded = shown.discarded;
-})
+pub returns-in_err-admit : goal.returns-in_err-admit
+returns-in_err-admit c =
+    let heard = event.Heard c.args.message c.next.result in
+    lacks c.from_residual.result _ _ _ _ _ c.from_residual.ensures.0 (record {
+      only = λ config s shown. subst (λ (o : List TeiOut). IsSome (tei_given o))
+          (sym (outs_of c.args.self.now config s heard c.as_slice.result.now shown (c.as_slice.ensures.value ∙ c.handle-outs.ensures.outs)) ∙ ap (λ (r : ℕ). (terminal_step s.terminal (event.Heard c.args.message r)).outs) (c.next.ensures s.random shown.random)) c.in_err-admit.ensures.only;
+      unchanged = λ config s shown. record {
+        configured = shown.configured;
+        served = c.in_err-admit.ensures.unchanged side.User s.served shown.served;
+        terminal = shown.terminal;
+        kept = shown.kept;
+        random = shown.random;
+        discarded = shown.discarded;
+      };
+      nothing = c.requires.empty;
+    })
 
-pub returns-clause-ok : goal.returns-clause-ok
-returns-clause-ok c = λ config s shown.
+pub returns : goal.returns
+returns c = λ config s shown.
     let heard = event.Heard c.args.message c.next.result in
     let outs = c.as_slice-2.result.now in
     let are = outs_of c.args.self.now config s heard outs shown (c.as_slice-2.ensures.value ∙ c.handle-outs.ensures.outs) in

@@ -7,8 +7,8 @@ use Rattle.lapd_sides.proofs.user_side.UserSide.want.Goals as goal
 pub manage-requires-clause-gets_none : goal.manage-requires-clause-gets_none
 manage-requires-clause-gets_none c = want_gets_none c.next.result
 
-pub returns-clause-ok : goal.returns-clause-ok
-returns-clause-ok c = λ config s shown.
+pub returns : goal.returns
+returns c = λ config s shown.
     let t : User = record s { kept = keeps c.args.sapi true s.kept } in
     wanted c.args.self.now c.manage.new.self config c.args.now c.args.sapi s c.manage.new.acts c.serves.result c.serves.ensures c.if-not-serves.false shown
     (acts_so c.manage.new.self config c.args.now t c.manage.new.acts event.Want c.next.result (c.next.ensures s.random shown.random)
