@@ -14,7 +14,7 @@ ghost use Rattle.lapd_sides.specs.Shows.{ShowEnds};
 ghost use Rattle.lapd_links.specs.Links.{IsOfLink};
 ghost use Rattle.lapd_sides.specs.Network.{Network, new_network, network_takes, network_expires, network_requested, assigner_acts, link_of_network, or_discarded, frame_heard, fault_heard, unit_requested, unit_to_group, given_for, given_for_frame, given_for_message};
 
-use crate::served::{LinksAndTimer, carries_message, one_more};
+use crate::served::{LinksAndTimer, carries_message, one_more, without_message};
 use crate::{Acts, Config, Expiry, Request, SideFault, SideKind};
 use lapd_frame::{
     Address, Control, FaultKind, Frame, FrameFault, N201, Role, Sapi, Side, Tei, read,
@@ -79,10 +79,7 @@ impl NetSide {
         acts.clear();
         match self.hear_octets(bytes, now, acts) {
             Ok(()) => Ok(()),
-            Err(AllocError) => Err(SideFault {
-                kind: SideKind::Memory,
-                message: None,
-            }),
+            Err(AllocError) => Err(without_message(SideKind::Memory)),
         }
     }
 
@@ -266,10 +263,7 @@ impl NetSide {
     {
         match self.served.links.act(id, event, &[], now, acts) {
             Ok(()) => Ok(()),
-            Err(kind) => Err(SideFault {
-                kind,
-                message: None,
-            }),
+            Err(kind) => Err(without_message(kind)),
         }
     }
 

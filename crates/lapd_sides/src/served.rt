@@ -8,14 +8,21 @@ ghost use Rattle.lapd_links.specs.declared.acts.TheConstants.{MOST_FRAMES, MOST_
 ghost use Rattle.lapd_links.specs.Effects.{managed, message_sent, outcome_of, no_effects};
 ghost use Rattle.lapd_links.specs.Links.{no_links};
 ghost use Rattle.lapd_sides.specs.Management.{carries_message, is_unit_to_group, one_more};
+ghost use Rattle.lapd_sides.specs.Requests.{without_message};
 ghost use Rattle.lapd_sides.specs.Shows.{ShowServed, Become, ShowAsBefore, CarryOut, with_given_links};
 
-use crate::{Acts, Config, Primitive};
+use crate::{Acts, Config, Primitive, SideFault, SideKind};
 use lapd_frame::{Control, Frame, Sapi, Side, Tei};
 use lapd_links::LinkSet;
 use lapd_tei::TeiOut;
 use lapd_timers::{Durations, TimerSet};
 use std::alloc::{AllocError, Global};
+
+/// How many outputs one step of a link gives at most, each with one frame or one primitive at most.
+pub const MOST_OUTPUTS: usize = 136;
+
+/// How many outputs one step of TEI management gives at most.
+pub const MOST_TEI_OUTPUTS: usize = 6;
 
 /// The links of a side with their timers, and the timer of TEI management, T201 or T202.
 #[derive(Drop)]
@@ -66,11 +73,11 @@ impl LinksAndTimer {
     /// and stopped, and the links of a TEI that is freed or given up go. What it gives goes behind what `acts` has.
     pub fn carry_out(&mut self, side: Side, outs: &[TeiOut], now: u64, acts: &mut Acts)
         requires in_range { All IsInRange outs.now }
-        requires at_most { length outs.now ≤ 6 }
+        requires at_most { length outs.now ≤ MOST_TEI_OUTPUTS }
         requires empty { acts.old ≡ no_effects }
         ensures done { CarryOut side self.old self.new acts.new now outs.now }
-        ensures most_frames { length acts.new.frames ≤ 6 }
-        ensures most_primitives { length acts.new.primitives ≤ 8 }
+        ensures most_frames { length acts.new.frames ≤ MOST_TEI_OUTPUTS }
+        ensures most_primitives { length acts.new.primitives ≤ MOST_TEI_OUTPUTS + 2 }
     {
         put_messages(side, outs, acts);
         tell_outcomes(outs, acts);
@@ -103,6 +110,16 @@ pub fn one_more(count: u64) -> u64
     ensures { result ≡ one_more count }
 {
     count.saturating_add(1)
+}
+
+/// A refusal for this reason, where no octets were handed in.
+pub fn without_message(kind: SideKind) -> SideFault
+    ensures { result ≡ without_message kind }
+{
+    SideFault {
+        kind,
+        message: None,
+    }
 }
 
 /// The TEI that is given by these outputs, or got.

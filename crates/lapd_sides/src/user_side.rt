@@ -20,7 +20,10 @@ ghost use Rattle.lapd_sides.specs.User.{User, seeded, sends_message, new_user, u
 
 use crate::kept::Kept;
 use crate::references::References;
-use crate::served::{LinksAndTimer, carries_message, is_unit_to_group, one_more};
+use crate::served::{
+    LinksAndTimer, MOST_OUTPUTS, MOST_TEI_OUTPUTS, carries_message, is_unit_to_group, one_more,
+    without_message,
+};
 use crate::{Acts, Config, Expiry, Octets, Primitive, Request, SideFault, SideKind, What};
 use lapd_frame::{FaultKind, Frame, FrameFault, N201, Sapi, Side, Tei, read};
 use lapd_link::{Event, LinkFault};
@@ -89,10 +92,7 @@ impl UserSide {
         acts.clear();
         match self.hear_octets(bytes, now, acts) {
             Ok(()) => Ok(()),
-            Err(AllocError) => Err(SideFault {
-                kind: SideKind::Memory,
-                message: None,
-            }),
+            Err(AllocError) => Err(without_message(SideKind::Memory)),
         }
     }
 
@@ -321,7 +321,7 @@ impl UserSide {
         ensures { Answers result self.old self.new acts.new None (λ config. wants config now sapi) }
     {
         if !self.config.serves(sapi) {
-            return Err(no_link());
+            return Err(without_message(SideKind::NoLink));
         }
         self.kept.set(sapi, true);
         let event = TerminalEvent::Want(self.references.next());
@@ -347,7 +347,7 @@ impl UserSide {
         ensures { Answers result self.old self.new acts.new None (λ _. forgets sapi) }
     {
         if !self.kept.has(sapi) {
-            return Err(no_link());
+            return Err(without_message(SideKind::NoLink));
         }
         self.kept.set(sapi, false);
         tell_sapi(sapi, What::ReleaseConfirm, acts);
@@ -369,7 +369,7 @@ impl UserSide {
     {
         match self.terminal.tei() {
             Some(tei) => self.act(name(sapi, tei), event, now, acts),
-            None => Err(no_link()),
+            None => Err(without_message(SideKind::NoLink)),
         }
     }
 
@@ -427,10 +427,7 @@ impl UserSide {
     {
         match self.served.links.act(id, event, &[], now, acts) {
             Ok(()) => Ok(()),
-            Err(kind) => Err(SideFault {
-                kind,
-                message: None,
-            }),
+            Err(kind) => Err(without_message(kind)),
         }
     }
 }
@@ -473,7 +470,7 @@ impl UserSide {
     /// What these outputs of the terminal come to: all but the links of a TEI that it got, which are there already.
     fn carry_out(&mut self, outs: &[TeiOut], now: u64, acts: &mut Acts)
         requires in_range { All IsInRange outs.now }
-        requires at_most { length outs.now ≤ 6 }
+        requires at_most { length outs.now ≤ MOST_TEI_OUTPUTS }
         requires empty { acts.old ≡ no_effects }
         ensures { CarriesOut self.old self.new acts.new now outs.now }
     {
@@ -485,8 +482,8 @@ impl UserSide {
     /// What these outputs mean for the establishments that are kept: they are done where a TEI was got, and released where
     /// none was.
     fn settle_kept(&mut self, outs: &[TeiOut], now: u64, acts: &mut Acts)
-        requires frame_room { length acts.old.frames ≤ 8 }
-        requires primitive_room { length acts.old.primitives ≤ 8 }
+        requires frame_room { length acts.old.frames ≤ MOST_TEI_OUTPUTS + 2 }
+        requires primitive_room { length acts.old.primitives ≤ MOST_TEI_OUTPUTS + 2 }
         ensures { Follows self.old self.new acts.old acts.new (λ _. kept_after now outs.now) }
     {
         for out in outs {
@@ -500,8 +497,8 @@ impl UserSide {
 
     /// The terminal has got this TEI: what is kept is done, SAPI 0 first.
     fn establish_kept(&mut self, tei: Tei, now: u64, acts: &mut Acts)
-        requires frame_room { length acts.old.frames ≤ 8 }
-        requires primitive_room { length acts.old.primitives ≤ 8 }
+        requires frame_room { length acts.old.frames ≤ MOST_TEI_OUTPUTS + 2 }
+        requires primitive_room { length acts.old.primitives ≤ MOST_TEI_OUTPUTS + 2 }
         ensures { Follows self.old self.new acts.old acts.new (λ _. establishes_kept now tei) }
     {
         let kept = self.kept;
@@ -512,11 +509,12 @@ impl UserSide {
 
     /// The link with this name is to be established, where that was kept. What it gives goes behind what `acts` has.
     fn establish_if(&mut self, kept: bool, id: LinkId, now: u64, acts: &mut Acts)
-        requires frame_room { length acts.old.frames + 136 ≤ MOST_FRAMES }
-        requires primitive_room { length acts.old.primitives + 136 ≤ MOST_PRIMITIVES }
+        requires frame_room { length acts.old.frames + MOST_OUTPUTS ≤ MOST_FRAMES }
+        requires primitive_room { length acts.old.primitives + MOST_OUTPUTS ≤ MOST_PRIMITIVES }
         ensures done { Follows self.old self.new acts.old acts.new (λ _. establishes kept now id) }
-        ensures most_frames { length acts.new.frames ≤ length acts.old.frames + 136 }
-        ensures most_primitives { length acts.new.primitives ≤ length acts.old.primitives + 136 }
+        ensures most_frames { length acts.new.frames ≤ length acts.old.frames + MOST_OUTPUTS }
+        ensures most_primitives { length acts.new.primitives
+            ≤ length acts.old.primitives + MOST_OUTPUTS }
     {
         if kept {
             let _ = self.served.links.act(id, Event::Establish, &[], now, acts);
@@ -525,7 +523,7 @@ impl UserSide {
 
     /// The terminal has got no TEI: what is kept is released, SAPI 0 first.
     fn give_up_kept(&mut self, acts: &mut Acts)
-        requires { length acts.old.primitives ≤ 8 }
+        requires { length acts.old.primitives ≤ MOST_TEI_OUTPUTS + 2 }
         ensures { Follows self.old self.new acts.old acts.new (λ _. gives_up_kept) }
     {
         let kept = self.kept;
@@ -585,16 +583,6 @@ fn tell_sapi(sapi: Sapi, what: What, acts: &mut Acts)
     } }
 {
     acts.tell(Primitive::Of(name(sapi, Tei::group()), what));
-}
-
-/// B1, where no octets were handed in.
-fn no_link() -> SideFault
-    ensures { result ≡ without_message SideKind.NoLink }
-{
-    SideFault {
-        kind: SideKind::NoLink,
-        message: None,
-    }
 }
 
 /// The name of a link.
