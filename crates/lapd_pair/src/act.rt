@@ -180,6 +180,8 @@ impl Station {
     }
 
     /// T200 expires, where it runs and nothing that it waits for is on its way.
+    // A call of its own, as it is rare: `act` is compiled into one piece, and others would pay for it.
+    #[inline(never)]
     fn expire_200(
         &mut self,
         inward: &mut Line,

@@ -155,6 +155,8 @@ impl Line {
     }
 
     /// Takes off the frame at this place, counted from 0. Those before it move, or those behind it, whichever are fewer.
+    // A call of its own, as it is rare: `Station::act` is compiled into one piece, and others would pay for it.
+    #[inline(never)]
     fn take_out(&mut self, place: usize)
         requires { self.old.first + place < self.old.end }
         ensures octets { octets_on self.new ≡ remove (octets_on self.old) place }
