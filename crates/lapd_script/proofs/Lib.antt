@@ -1,4 +1,5 @@
 pub mod HexText
+pub mod Lines
 pub mod Numbers
 pub mod Printed
 pub mod Walks

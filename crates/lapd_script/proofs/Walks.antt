@@ -1,11 +1,11 @@
 -- Lemmas on walks over the lines of a script.
 use Rattle.std.specs.Prelude.{⊤}
-use Rattle.std.proofs.Common.{◌≡◌, ◌≢◌, ℕ, ◌+◌, ◌<◌, List, [], ◌∷◌, ◌++◌, true, false, cond, Option, None, Some, length, Result, Ok, Err, inl, inr, IsNone, IsSomeAnd, OnOk, IsErrAnd, IfSome, refl, sym, ap, ◌∙◌, subst, append_assoc, append-nil, length-append, arith}
+use Rattle.std.proofs.Common.{◌≡◌, ℕ, ◌+◌, ◌<◌, List, [], ◌∷◌, ◌++◌, true, false, Option, None, Some, length, Result, Ok, Err, inl, inr, IsNone, IsSomeAnd, OnOk, IsErrAnd, IfSome, refl, sym, ap, ◌∙◌, subst, append_assoc, append-nil, length-append, arith}
 use Rattle.std.specs.Io.KnownBytes.{Appends, Keeps, Consumes, IsAtEnd}
-use Rattle.std.proofs.lemmas.Bool.{ne_eqb}
 use Rattle.std.proofs.KnownBytes.{Appends-nil, Appends-trans, Appends-kept, Keeps-refl}
-use Rattle.lapd_script.specs.Script.{Step, outcome_of, is_passed_over, before_rest, number_or, state_or, output_of, bad_from, bad_line, state_after, EndsAs, with_first, lines_of}
-use Rattle.lapd_script.specs.Walked.{HasNoFeed, Ran, Walked, WalkEnds, KeepsFault, Came}
+use Rattle.lapd_script.specs.Script.{Step, outcome_of, is_passed_over, before_rest, number_or, state_or, output_of, bad_from, bad_line, state_after, EndsAs}
+use Rattle.lapd_script.specs.Walked.{HasNoFeed, without_comment, walk_lines, Ran, Walked, WalkEnds, KeepsFault, Came}
+use Rattle.lapd_script.proofs.Lines.{outcome_of-passed, outcome_of-not_passed, outcome_of-without_comment, walk_lines-whole, walk_lines-last, walk_lines-shorter}
 use Rattle.lapd_script.specs.declared.script.ScriptFault.{ScriptFault}
 use Rattle.lapd_script.specs.declared.script.ScriptFault.TheVariants.{BadLine, Device, Memory, Port}
 
@@ -101,30 +101,24 @@ Walked-one step s line more next n a b e h = record {
 
 -- ---- one line
 
-outcome_of-passed : {S : Type 0} (step : Step S) (s : S) (line : List ℕ) → is_passed_over line ≡ true → outcome_of step s line ≡ Some ([], s)
-outcome_of-passed step s line e = ap (λ b. cond b (Some ([], s)) (step s line)) e
-
-outcome_of-not_passed : {S : Type 0} (step : Step S) (s : S) (line : List ℕ) → is_passed_over line ≡ false → outcome_of step s line ≡ step s line
-outcome_of-not_passed step s line e = ap (λ b. cond b (Some ([], s)) (step s line)) e
-
 -- a line that is passed over
 pub line_passed : {C S : Type 0} (stands_for : C → S → Type 0) (step : Step S) (s : S) (line : List ℕ) (more : List (List ℕ)) (command : C) (n : ℕ) (a : Option (List ℕ))
-    → is_passed_over line ≡ true → stands_for command s → WalkEnds stands_for step s (Ok tt) (line ∷ more) more command n (n + 1) a a
+    → is_passed_over line ≡ true → stands_for command s → WalkEnds stands_for step s (Ok tt) (without_comment line ∷ more) more command n (n + 1) a a
 line_passed stands_for step s line more command n a e h =
-    (s, h, Walked-one step s line more ([], s) n a a (outcome_of-passed step s line e) (Appends-nil a))
+    (s, h, Walked-one step s (without_comment line) more ([], s) n a a (outcome_of-without_comment step s line ∙ outcome_of-passed step s line e) (Appends-nil a))
 
 -- a line that is done
 pub line_done : {C S : Type 0} (stands_for : C → S → Type 0) (step : Step S) (s : S) (line : List ℕ) (more : List (List ℕ)) (command : C) (n : ℕ) (a b : Option (List ℕ))
-    → is_passed_over line ≡ false → IsSomeAnd (step s line) (λ next. stands_for command next.1 × Appends a b next.0) → WalkEnds stands_for step s (Ok tt) (line ∷ more) more command n (n + 1) a b
+    → is_passed_over line ≡ false → IsSomeAnd (step s line) (λ next. stands_for command next.1 × Appends a b next.0) → WalkEnds stands_for step s (Ok tt) (without_comment line ∷ more) more command n (n + 1) a b
 line_done stands_for step s line more command n a b e h =
     let w = some_of (step s line) _ h in
-    (w.0.1, w.2.0, Walked-one step s line more w.0 n a b (outcome_of-not_passed step s line e ∙ w.1) w.2.1)
+    (w.0.1, w.2.0, Walked-one step s (without_comment line) more w.0 n a b (outcome_of-without_comment step s line ∙ outcome_of-not_passed step s line e ∙ w.1) w.2.1)
 
 -- a bad line
 pub line_bad : {C S : Type 0} (stands_for : C → S → Type 0) (step : Step S) (s : S) (line : List ℕ) (more : List (List ℕ)) (command : C) (n : ℕ) (a b : Option (List ℕ))
-    → is_passed_over line ≡ false → IsNone (step s line) × Keeps a b → WalkEnds stands_for step s (Err (BadLine (n + 1))) (line ∷ more) more command n (n + 1) a b
+    → is_passed_over line ≡ false → IsNone (step s line) × Keeps a b → WalkEnds stands_for step s (Err (BadLine (n + 1))) (without_comment line ∷ more) more command n (n + 1) a b
 line_bad stands_for step s line more command n a b e h =
-    (s, line, more, n, Walked-none step s (line ∷ more) n a b h.1, outcome_of-not_passed step s line e ∙ none_of (step s line) h.0, refl)
+    (s, without_comment line, more, n, Walked-none step s (without_comment line ∷ more) n a b h.1, outcome_of-without_comment step s line ∙ outcome_of-not_passed step s line e ∙ none_of (step s line) h.0, refl)
 
 -- memory ran out
 pub memory_out : {C S : Type 0} (stands_for : C → S → Type 0) (step : Step S) (s : S) (lines more : List (List ℕ)) (command : C) (n m : ℕ) (a b : Option (List ℕ))
@@ -203,31 +197,6 @@ stands_after {C} {S} stands_for step s (Ok done) lines command m a b q =
     subst (stands_for command) (sym e) q.1
 stands_after stands_for step s (Err fault) lines command m a b q = tt
 
--- ---- the lines of octets
-
-pub HasNoFeed-append : (a b : List ℕ) → HasNoFeed a → HasNoFeed b → HasNoFeed (a ++ b)
-HasNoFeed-append [] b h k = k
-HasNoFeed-append (o ∷ a) b h k = (h.0, HasNoFeed-append a b h.1 k)
-
--- an octet that is no line feed goes to the front of the first line
-lines_of-other : (o : ℕ) (octets : List ℕ) → o ≢ 10 → lines_of (o ∷ octets) ≡ with_first o (lines_of octets)
-lines_of-other o octets h = ap (λ b. cond b ([] ∷ lines_of octets) (with_first o (lines_of octets))) (ne_eqb o 10 h)
-
-lines_of-line : (line rest : List ℕ) → HasNoFeed line → lines_of (line ++ 10 ∷ rest) ≡ line ∷ lines_of rest
-lines_of-line [] rest h = refl
-lines_of-line (o ∷ line) rest h = lines_of-other o (line ++ 10 ∷ rest) h.0 ∙ ap (with_first o) (lines_of-line line rest h.1)
-
--- octets without a line feed are one line
-pub lines_of-last : (o : ℕ) (line : List ℕ) → HasNoFeed (o ∷ line) → lines_of (o ∷ line) ≡ (o ∷ line) ∷ []
-lines_of-last o [] h = lines_of-other o [] h.0
-lines_of-last o (p ∷ line) h = lines_of-other o (p ∷ line) h.0 ∙ ap (with_first o) (lines_of-last p line h.1)
-
--- what was cut off, and a line with its line feed, is the first line
-pub lines_of-whole : (cut line left after : List ℕ) → HasNoFeed cut → HasNoFeed line → lines_of (cut ++ (line ++ 10 ∷ left) ++ after) ≡ (cut ++ line) ∷ lines_of (left ++ after)
-lines_of-whole cut line left after h k =
-    let e : cut ++ (line ++ 10 ∷ left) ++ after ≡ (cut ++ line) ++ 10 ∷ (left ++ after) = simp append_assoc in
-    ap lines_of e ∙ lines_of-line (cut ++ line) (left ++ after) (HasNoFeed-append cut line h k)
-
 -- ---- walks that fail
 
 -- how a walk fails does not hang on what it was to leave
@@ -257,28 +226,35 @@ memory_after {C} {S} stands_for step s t (Err e) fault lines mid last command n 
 
 -- a whole line whose front may have been cut off
 pub whole_done : {C S : Type 0} (stands_for : C → S → Type 0) (step : Step S) (s : S) (result : Result ⊤ ScriptFault) (cut line joined left after : List ℕ) (command : C) (n m : ℕ) (a b : Option (List ℕ))
-    → joined ≡ cut ++ line → HasNoFeed cut → HasNoFeed line → WalkEnds stands_for step s result (joined ∷ lines_of (left ++ after)) (lines_of (left ++ after)) command n m a b
-    → WalkEnds stands_for step s result (lines_of (cut ++ (line ++ 10 ∷ left) ++ after)) (lines_of (left ++ after)) command n m a b
+    → joined ≡ cut ++ line → HasNoFeed cut → HasNoFeed line → WalkEnds stands_for step s result (without_comment joined ∷ walk_lines (left ++ after)) (walk_lines (left ++ after)) command n m a b
+    → WalkEnds stands_for step s result (walk_lines (cut ++ (line ++ 10 ∷ left) ++ after)) (walk_lines (left ++ after)) command n m a b
 whole_done {C} {S} stands_for step s result cut line joined left after command n m a b e h k q =
-    let F : List (List ℕ) → Type 0 = λ x. WalkEnds stands_for step s result x (lines_of (left ++ after)) command n m a b in
-    subst F (ap (λ x. x ∷ lines_of (left ++ after)) e ∙ sym (lines_of-whole cut line left after h k)) q
+    let F : List (List ℕ) → Type 0 = λ x. WalkEnds stands_for step s result x (walk_lines (left ++ after)) command n m a b in
+    subst F (ap (λ x. without_comment x ∷ walk_lines (left ++ after)) e ∙ sym (walk_lines-whole cut line left after h k)) q
 
 -- the walk so far, with what is left in another spelling
-pub Walked-same : {S : Type 0} (step : Step S) (s : S) (lines : List (List ℕ)) (x y : List ℕ) (t : S) (n m : ℕ) (a b : Option (List ℕ)) → x ≡ y → Walked step s lines (lines_of x) t n m a b → Walked step s lines (lines_of y) t n m a b
+pub Walked-same : {S : Type 0} (step : Step S) (s : S) (lines : List (List ℕ)) (x y : List ℕ) (t : S) (n m : ℕ) (a b : Option (List ℕ)) → x ≡ y → Walked step s lines (walk_lines x) t n m a b → Walked step s lines (walk_lines y) t n m a b
 Walked-same {S} step s lines x y t n m a b e p =
-    let F : List ℕ → Type 0 = λ z. Walked step s lines (lines_of z) t n m a b in subst F e p
+    let F : List ℕ → Type 0 = λ z. Walked step s lines (walk_lines z) t n m a b in subst F e p
+
+-- the walk so far, with what is left cut off in part
+pub Walked-cut : {S : Type 0} (step : Step S) (s : S) (lines : List (List ℕ)) (cut new after : List ℕ) (t : S) (n m : ℕ) (a b : Option (List ℕ))
+    → HasNoFeed cut → new ≡ without_comment cut → Walked step s lines (walk_lines (cut ++ after)) t n m a b → Walked step s lines (walk_lines (new ++ after)) t n m a b
+Walked-cut {S} step s lines cut new after t n m a b h e p =
+    let F : List (List ℕ) → Type 0 = λ z. Walked step s lines z t n m a b in
+    subst F (sym (ap (λ x. walk_lines (x ++ after)) e ∙ walk_lines-shorter cut after h)) p
 
 -- the last line
 pub last_ends : {C S : Type 0} (stands_for : C → S → Type 0) (step : Step S) (s : S) (result : Result ⊤ ScriptFault) (cut : List ℕ) (command : C) (n m : ℕ) (a b : Option (List ℕ))
-    → 0 < length cut → HasNoFeed cut → WalkEnds stands_for step s result (cut ∷ []) [] command n m a b → WalkEnds stands_for step s result (lines_of cut) [] command n m a b
+    → 0 < length cut → HasNoFeed cut → WalkEnds stands_for step s result (without_comment cut ∷ []) [] command n m a b → WalkEnds stands_for step s result (walk_lines cut) [] command n m a b
 last_ends stands_for step s result [] command n m a b some h q = absurd (omega arith)
 last_ends {C} {S} stands_for step s result (o ∷ line) command n m a b some h q =
     let F : List (List ℕ) → Type 0 = λ x. WalkEnds stands_for step s result x [] command n m a b in
-    subst F (sym (lines_of-last o line h)) q
+    subst F (sym (walk_lines-last o line h)) q
 
 -- no last line
 pub none_last : {C S : Type 0} (stands_for : C → S → Type 0) (step : Step S) (s : S) (cut : List ℕ) (command : C) (n : ℕ) (a : Option (List ℕ))
-    → length cut ≡ 0 → stands_for command s → WalkEnds stands_for step s (Ok tt) (lines_of cut) [] command n n a a
+    → length cut ≡ 0 → stands_for command s → WalkEnds stands_for step s (Ok tt) (walk_lines cut) [] command n n a a
 none_last stands_for step s [] command n a none h = (s, h, Walked-none step s [] n a a (Keeps-refl a))
 none_last stands_for step s (o ∷ line) command n a none h = absurd (omega arith)
 
@@ -292,7 +268,7 @@ consumes_some rest part (Some ys) h = (ys, refl, h)
 pub Came-kept : {C S : Type 0} (stands_for : C → S → Type 0) (step : Step S) (s : S) (initial now : Option (List ℕ)) (command : C) (cut : List ℕ) (n : ℕ) (a b c : Option (List ℕ)) → Came stands_for step s initial now command cut n a b → Keeps b c → Came stands_for step s initial now command cut n a c
 Came-kept stands_for step s None now command cut n a b c p k = tt
 Came-kept stands_for step s (Some octets) now command cut n a b c p k =
-    (p.0, p.1, p.2, p.3, Walked-kept step s (lines_of octets) (lines_of (cut ++ p.0)) p.1 0 n a b c p.4 k)
+    (p.0, p.1, p.2, p.3, Walked-kept step s (walk_lines octets) (walk_lines (cut ++ p.0)) p.1 0 n a b c p.4 k)
 
 -- a read that fails changes nothing
 pub Came-unread : {C S : Type 0} (stands_for : C → S → Type 0) (step : Step S) (s : S) (initial now new : Option (List ℕ)) (command : C) (cut : List ℕ) (n : ℕ) (a b : Option (List ℕ)) → Came stands_for step s initial now command cut n a b → Keeps now new → Came stands_for step s initial new command cut n a b
@@ -308,38 +284,38 @@ Came-unread stands_for step s (Some octets) now new command cut n a b p k =
 -- a part is read, and its lines are done
 pub Came-read : {C S : Type 0} (stands_for : C → S → Type 0) (step : Step S) (s : S) (initial now new : Option (List ℕ)) (command command' : C) (cut part cut' : List ℕ) (n m : ℕ) (a b c : Option (List ℕ))
     → Came stands_for step s initial now command cut n a b → Consumes now new part
-    → ((t : S) (after : List ℕ) → stands_for command t → WalkEnds stands_for step t (Ok tt) (lines_of (cut ++ part ++ after)) (lines_of (cut' ++ after)) command' n m b c)
+    → ((t : S) (after : List ℕ) → stands_for command t → WalkEnds stands_for step t (Ok tt) (walk_lines (cut ++ part ++ after)) (walk_lines (cut' ++ after)) command' n m b c)
     → Came stands_for step s initial new command' cut' m a c
 Came-read stands_for step s None now new command command' cut part cut' n m a b c p k f = tt
 Came-read stands_for step s (Some octets) now new command command' cut part cut' n m a b c p k f =
     let w = consumes_some p.0 part new (subst (λ x. Consumes x new part) p.2 k) in
     let e : cut ++ p.0 ≡ cut ++ part ++ w.0 = ap (λ x. cut ++ x) w.2 ∙ sym (append_assoc cut part w.0) in
     let q = f p.1 w.0 p.3 in
-    (w.0, q.0, w.1, q.1, Walked-trans step s (lines_of octets) (lines_of (cut ++ part ++ w.0)) (lines_of (cut' ++ w.0)) p.1 q.0 0 n m a b c (Walked-same step s (lines_of octets) _ _ p.1 0 n a b e p.4) q.2)
+    (w.0, q.0, w.1, q.1, Walked-trans step s (walk_lines octets) (walk_lines (cut ++ part ++ w.0)) (walk_lines (cut' ++ w.0)) p.1 q.0 0 n m a b c (Walked-same step s (walk_lines octets) _ _ p.1 0 n a b e p.4) q.2)
 
 -- a part is read, and the walk fails at it
 pub Came-fails : {C S : Type 0} (stands_for : C → S → Type 0) (step : Step S) (s : S) (initial now new : Option (List ℕ)) (command command' : C) (result : Result ⊤ ScriptFault) (fault : ScriptFault) (cut part cut' : List ℕ) (n m : ℕ) (a b c : Option (List ℕ))
     → IsErrAnd result (λ e. e ≡ fault) → Came stands_for step s initial now command cut n a b → Consumes now new part
-    → ((t : S) (after : List ℕ) → stands_for command t → WalkEnds stands_for step t (Err fault) (lines_of (cut ++ part ++ after)) (lines_of (cut' ++ after)) command' n m b c)
-    → IfSome initial (λ octets. (x : ℕ) × WalkEnds stands_for step s result (lines_of octets) [] command' 0 x a c)
+    → ((t : S) (after : List ℕ) → stands_for command t → WalkEnds stands_for step t (Err fault) (walk_lines (cut ++ part ++ after)) (walk_lines (cut' ++ after)) command' n m b c)
+    → IfSome initial (λ octets. (x : ℕ) × WalkEnds stands_for step s result (walk_lines octets) [] command' 0 x a c)
 Came-fails stands_for step s None now new command command' result fault cut part cut' n m a b c is p k f = tt
 Came-fails stands_for step s (Some octets) now new command command' result fault cut part cut' n m a b c is p k f =
     let w = consumes_some p.0 part new (subst (λ x. Consumes x new part) p.2 k) in
     let e : cut ++ p.0 ≡ cut ++ part ++ w.0 = ap (λ x. cut ++ x) w.2 ∙ sym (append_assoc cut part w.0) in
-    (m, fails_after stands_for step s p.1 result fault (lines_of octets) (lines_of (cut ++ part ++ w.0)) [] (lines_of (cut' ++ w.0)) command' 0 n m m a b c is (Walked-same step s (lines_of octets) _ _ p.1 0 n a b e p.4) (f p.1 w.0 p.3))
+    (m, fails_after stands_for step s p.1 result fault (walk_lines octets) (walk_lines (cut ++ part ++ w.0)) [] (walk_lines (cut' ++ w.0)) command' 0 n m m a b c is (Walked-same step s (walk_lines octets) _ _ p.1 0 n a b e p.4) (f p.1 w.0 p.3))
 
 -- the reader is at its end
 pub Came-last : {C S : Type 0} (stands_for : C → S → Type 0) (step : Step S) (s : S) (initial now new : Option (List ℕ)) (command command' : C) (result : Result ⊤ ScriptFault) (cut part : List ℕ) (n m : ℕ) (a b c : Option (List ℕ))
     → Came stands_for step s initial now command cut n a b → Consumes now new part → length part ≡ 0 → IsAtEnd new
-    → ((t : S) → stands_for command t → WalkEnds stands_for step t result (lines_of cut) [] command' n m b c)
-    → IfSome initial (λ octets. (x : ℕ) × WalkEnds stands_for step s result (lines_of octets) [] command' 0 x a c)
+    → ((t : S) → stands_for command t → WalkEnds stands_for step t result (walk_lines cut) [] command' n m b c)
+    → IfSome initial (λ octets. (x : ℕ) × WalkEnds stands_for step s result (walk_lines octets) [] command' 0 x a c)
 Came-last stands_for step s None now new command command' result cut part n m a b c p k none end f = tt
 Came-last stands_for step s (Some octets) now new command command' result cut part n m a b c p k none end f =
     let w = consumes_some p.0 part new (subst (λ x. Consumes x new part) p.2 k) in
     let left : w.0 ≡ [] = subst IsAtEnd w.1 end in
     let read : part ≡ [] = nil_of part none in
     let e : cut ++ p.0 ≡ cut = ap (λ x. cut ++ x) (w.2 ∙ ap (λ x. x ++ w.0) read ∙ left) ∙ append-nil cut in
-    (m, WalkEnds-after stands_for step s p.1 result (lines_of octets) (lines_of cut) [] command' 0 n m a b c (Walked-same step s (lines_of octets) _ _ p.1 0 n a b e p.4) (f p.1 p.3))
+    (m, WalkEnds-after stands_for step s p.1 result (walk_lines octets) (walk_lines cut) [] command' 0 n m a b c (Walked-same step s (walk_lines octets) _ _ p.1 0 n a b e p.4) (f p.1 p.3))
   where
     nil_of : (xs : List ℕ) → length xs ≡ 0 → xs ≡ []
     nil_of [] h = refl
@@ -347,10 +323,10 @@ Came-last stands_for step s (Some octets) now new command command' result cut pa
 
 -- a device fault
 pub device_ends : {C S : Type 0} (stands_for : C → S → Type 0) (step : Step S) (s : S) (initial : Option (List ℕ)) (result : Result ⊤ ScriptFault) (command : C) (a b : Option (List ℕ))
-    → result ≡ Err Device → IfSome initial (λ octets. (x : ℕ) × WalkEnds stands_for step s result (lines_of octets) [] command 0 x a b)
+    → result ≡ Err Device → IfSome initial (λ octets. (x : ℕ) × WalkEnds stands_for step s result (walk_lines octets) [] command 0 x a b)
 device_ends stands_for step s None result command a b e = tt
 device_ends {C} {S} stands_for step s (Some octets) result command a b e =
-    let F : Result ⊤ ScriptFault → Type 0 = λ x. WalkEnds stands_for step s x (lines_of octets) [] command 0 0 a b in
+    let F : Result ⊤ ScriptFault → Type 0 = λ x. WalkEnds stands_for step s x (walk_lines octets) [] command 0 0 a b in
     (0, subst F (sym e) tt)
 
 -- nothing but a device fault comes from handing out

@@ -1,5 +1,5 @@
 -- What a walk over a script has done so far.
-use Rattle.std.specs.Prelude.{◌≡◌, ◌≢◌, ℕ, ◌+◌, List, [], ◌∷◌, ◌++◌, Option, None, Some, length, Result, Ok, Err, ⊤, ◌⊎◌, IsSomeAnd, IfSome}
+use Rattle.std.specs.Prelude.{◌≡◌, ◌≢◌, ℕ, ◌+◌, ◌==◌, Bool, false, if◌then◌else◌, List, [], ◌∷◌, ◌++◌, map, take, Option, None, Some, length, Result, Ok, Err, ⊤, ◌⊎◌, IsSomeAnd, IfSome}
 use Rattle.std.specs.List.{AllByRecursion}
 use Rattle.std.specs.Io.KnownBytes.{Appends}
 use Rattle.lapd_script.specs.Script.{Step, outcome_of, lines_of}
@@ -9,6 +9,19 @@ use Rattle.lapd_script.specs.declared.script.ScriptFault.TheVariants.{BadLine, D
 -- no octet is a line feed
 abbrev pub HasNoFeed : List ℕ → Type 0
 HasNoFeed octets = AllByRecursion (λ octet. octet ≢ 10) octets
+
+-- a line that begins with `#`
+abbrev pub is_comment : List ℕ → Bool
+is_comment [] = false
+is_comment (octet ∷ octets) = octet == 35
+
+-- what a walk has to know of a line: of one that begins with `#`, which is passed over, the first octet alone
+abbrev pub without_comment : List ℕ → List ℕ
+without_comment line = if is_comment line then take 1 line else line
+
+-- what a walk has to know of a script's lines
+abbrev pub walk_lines : List ℕ → List (List ℕ)
+walk_lines octets = map without_comment (lines_of octets)
 
 -- the lines, all of them good, print this text and lead to the state t
 abbrev pub Ran : {S : Type 0} → Step S → S → List (List ℕ) → List ℕ → S → Type 0
@@ -41,4 +54,4 @@ KeepsFault ended result = (result ≡ ended) ⊎ (result ≡ Err Device)
 -- the walk came to what was cut off and what the reader has left
 abbrev pub Came : {C S : Type 0} → (C → S → Type 0) → Step S → S → Option (List ℕ) → Option (List ℕ) → C → List ℕ → ℕ → Option (List ℕ) → Option (List ℕ) → Type 0
 Came {C} {S} stands_for step s initial now command cut n a b = IfSome initial
-    (λ octets. (rest : List ℕ) × (t : S) × (now ≡ Some rest) × stands_for command t × Walked step s (lines_of octets) (lines_of (cut ++ rest)) t 0 n a b)
+    (λ octets. (rest : List ℕ) × (t : S) × (now ≡ Some rest) × stands_for command t × Walked step s (walk_lines octets) (walk_lines (cut ++ rest)) t 0 n a b)

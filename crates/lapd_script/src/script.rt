@@ -4,7 +4,7 @@ ghost use Rattle.std.specs.Prelude.{◌≡◌, ℕ, ◌+◌, ◌<◌, ◌≤◌,
 ghost use Rattle.std.specs.Io.KnownBytes.{Appends, Keeps};
 ghost use Rattle.lapd_script.specs.Script.{Step, EndsAs, LineEndsAs, outcome_of, is_passed_over as passed_over, lines_of, state_after, status_of};
 ghost use Rattle.lapd_script.specs.declared.script.LineFault.TheVariants.{Device as LineDevice};
-ghost use Rattle.lapd_script.specs.Walked.{HasNoFeed, KeepsFault, WalkEnds};
+ghost use Rattle.lapd_script.specs.Walked.{HasNoFeed, KeepsFault, WalkEnds, is_comment, walk_lines, without_comment};
 
 use lapd_port::PortFault;
 use memchr::memchr;
@@ -120,7 +120,7 @@ fn walk_script<C: Command, R: Read, W: Write>(
     out: &mut W,
 ) -> Result<(), ScriptFault>
     ensures { (s : C.State) → C.stands_for command.old s → IfSome (R.remaining script.old)
-        (λ octets. (m : ℕ) × WalkEnds C.stands_for C.step s result (lines_of octets) [] command.new 0 m
+        (λ octets. (m : ℕ) × WalkEnds C.stands_for C.step s result (walk_lines octets) [] command.new 0 m
         (W.contents out.old) (W.contents out.new)) }
 {
     let mut number: u64 = 0;
@@ -155,8 +155,8 @@ fn walk_part<C: Command, W: Write>(
     ensures count { number.new ≤ number.old + length octets.now }
     ensures cut { OnOk result (HasNoFeed cut.new.items) }
     ensures ended { (s : C.State) (after : List ℕ) → C.stands_for command.old s
-        → WalkEnds C.stands_for C.step s result (lines_of (cut.old.items ++ octets.now ++ after))
-        (lines_of (cut.new.items ++ after)) command.new number.old number.new
+        → WalkEnds C.stands_for C.step s result (walk_lines (cut.old.items ++ octets.now ++ after))
+        (walk_lines (cut.new.items ++ after)) command.new number.old number.new
         (W.contents out.old) (W.contents out.new) }
 {
     let mut rest = octets;
@@ -164,7 +164,7 @@ fn walk_part<C: Command, W: Write>(
         walk_whole(command, number, cut, line, out)?;
         rest = left;
     }
-    keep(cut, rest)?;
+    keep_cut(cut, rest)?;
     Ok(())
 }
 
@@ -183,7 +183,7 @@ fn walk_whole<C: Command, W: Write>(
     ensures used { OnOk result (cut.new.items ≡ []) }
     ensures ended { (s : C.State) (left after : List ℕ) → C.stands_for command.old s
         → WalkEnds C.stands_for C.step s result
-        (lines_of (cut.old.items ++ (line.now ++ 10 ∷ left) ++ after)) (lines_of (left ++ after))
+        (walk_lines (cut.old.items ++ (line.now ++ 10 ∷ left) ++ after)) (walk_lines (left ++ after))
         command.new number.old number.new (W.contents out.old) (W.contents out.new) }
 {
     if cut.is_empty() {
@@ -205,7 +205,7 @@ fn walk_last<C: Command, W: Write>(
     requires room { number.old + 1 < 2 ^ 64 }
     requires no_feed { HasNoFeed cut.now }
     ensures { (s : C.State) → C.stands_for command.old s
-        → WalkEnds C.stands_for C.step s result (lines_of cut.now) [] command.new number.old number.new
+        → WalkEnds C.stands_for C.step s result (walk_lines cut.now) [] command.new number.old number.new
         (W.contents out.old) (W.contents out.new) }
 {
     if cut.is_empty() {
@@ -224,7 +224,7 @@ fn walk_line<C: Command, W: Write>(
     requires { number.old + 1 < 2 ^ 64 }
     ensures count { number.new ≡ number.old + 1 }
     ensures ended { (s : C.State) (more : List (List ℕ)) → C.stands_for command.old s
-        → WalkEnds C.stands_for C.step s result (line.now ∷ more) more command.new number.old number.new
+        → WalkEnds C.stands_for C.step s result (without_comment line.now ∷ more) more command.new number.old number.new
         (W.contents out.old) (W.contents out.new) }
 {
     *number += 1;
@@ -253,6 +253,26 @@ fn first_line(octets: &[u8]) -> Option<(&[u8], &[u8])>
 {
     let end = memchr(b'\n', octets)?;
     Some((&octets[..end], &octets[end + 1..]))
+}
+
+// Puts the octets behind those that were cut off. Of a line that begins with `#` the first octet alone is kept: it is passed
+// over, whatever follows.
+fn keep_cut(cut: &mut Vec<u8>, octets: &[u8]) -> Result<(), ScriptFault>
+    ensures ok { OnOk result (cut.new.items ≡ without_comment (cut.old.items ++ octets.now)) }
+    ensures err { IsOkUnless result ScriptFault.Memory }
+{
+    keep(cut, octets)?;
+    if is_comment(cut.as_slice()) {
+        cut.truncate(1);
+    }
+    Ok(())
+}
+
+// Whether the line begins with `#`.
+fn is_comment(line: &[u8]) -> bool
+    ensures { result ≡ is_comment line.now }
+{
+    matches!(line, [b'#', ..])
 }
 
 // Puts the octets behind those that were cut off.

@@ -1,4 +1,5 @@
 use Rattle.std.proofs.Common.{◌+◌, ◌∷◌, sym, ◌∙◌}
+use Rattle.lapd_script.specs.Walked.{without_comment}
 use Rattle.lapd_script.proofs.Walks.{line_passed, line_done, line_bad, memory_out}
 use Rattle.lapd_script.proofs.script.walk_line.Goals as goal
 
@@ -16,4 +17,4 @@ returns-in-Err-Bad-clause-ended g c = λ s more h.
 
 pub returns-in-Err-Memory-clause-ended : goal.returns-in-Err-Memory-clause-ended
 returns-in-Err-Memory-clause-ended g c = λ s more h.
-    memory_out g.C.Command.stands_for g.C.Command.step s (c.args.line.now ∷ more) more c.run.new.self c.args.number.now (c.args.number.now + 1) (g.W.Write.contents c.args.out.now) (g.W.Write.contents c.run.new.out) ((rw c.in-Err-Memory.field-0-is at c.in-Err-Memory.ensures) s h)
+    memory_out g.C.Command.stands_for g.C.Command.step s (without_comment c.args.line.now ∷ more) more c.run.new.self c.args.number.now (c.args.number.now + 1) (g.W.Write.contents c.args.out.now) (g.W.Write.contents c.run.new.out) ((rw c.in-Err-Memory.field-0-is at c.in-Err-Memory.ensures) s h)

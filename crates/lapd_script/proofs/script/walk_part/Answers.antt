@@ -1,7 +1,7 @@
-use Rattle.std.proofs.Common.{◌∷◌, ◌++◌, length, ap, sym, subst, length-append, arith}
-use Rattle.lapd_script.specs.Script.{lines_of}
-use Rattle.lapd_script.specs.Walked.{HasNoFeed}
-use Rattle.lapd_script.proofs.Walks.{fails_after, memory_after, Walked-same, Walked-trans}
+use Rattle.std.proofs.Common.{◌∷◌, ◌++◌, length, ap, sym, subst, length-append, rules, arith}
+use Rattle.lapd_script.specs.Walked.{walk_lines, HasNoFeed}
+use Rattle.lapd_script.proofs.Lines.{HasNoFeed-append}
+use Rattle.lapd_script.proofs.Walks.{fails_after, memory_after, Walked-cut, Walked-same, Walked-trans}
 use Rattle.lapd_script.proofs.script.walk_part.Goals as goal
 
 pub returns-in_err-walk_whole-clause-ended : goal.returns-in_err-walk_whole-clause-ended
@@ -10,14 +10,14 @@ returns-in_err-walk_whole-clause-ended g c = λ s after h.
     let step = g.C.Command.step in
     let cut = c.loop-line.cut.items in
     let whole = cut ++ (c.in-Some.line.now ++ 10 ∷ c.in-Some.left.now) ++ after in
-    let lines = lines_of (c.args.cut.now.items ++ c.args.octets.now ++ after) in
+    let lines = walk_lines (c.args.cut.now.items ++ c.args.octets.now ++ after) in
     let n = c.args.number.now in
     let i = c.loop-line.number in
     let m = c.walk_whole.new.number in
     let a = g.W.Write.contents c.args.out.now in
     let b = g.W.Write.contents c.loop-line.out in
     let d = g.W.Write.contents c.walk_whole.new.out in
-    fails_after g.C.Command.stands_for step s w.0 c.from_residual.result c.in_err-walk_whole.field-0.0 lines (lines_of whole) (lines_of (c.walk_whole.new.cut.items ++ after)) (lines_of (c.in-Some.left.now ++ after)) c.walk_whole.new.command n i m m a b d
+    fails_after g.C.Command.stands_for step s w.0 c.from_residual.result c.in_err-walk_whole.field-0.0 lines (walk_lines whole) (walk_lines (c.walk_whole.new.cut.items ++ after)) (walk_lines (c.in-Some.left.now ++ after)) c.walk_whole.new.command n i m m a b d
     c.from_residual.ensures.1 (Walked-same step s lines _ whole w.0 n i a b (ap (λ x. cut ++ x ++ after) c.in-Some.ensures.found.1) w.2)
     (c.in_err-walk_whole.ensures.ended w.0 c.in-Some.left.now after w.1)
 
@@ -36,7 +36,7 @@ loop-line-preserved g c = record {
       let cut = c.loop-line.cut.items in
       let left = c.in-Some.left.now in
       let whole = cut ++ (c.in-Some.line.now ++ 10 ∷ left) ++ after in
-      let lines = lines_of (c.args.cut.now.items ++ c.args.octets.now ++ after) in
+      let lines = walk_lines (c.args.cut.now.items ++ c.args.octets.now ++ after) in
       let n = c.args.number.now in
       let i = c.loop-line.number in
       let m = c.walk_whole.new.number in
@@ -46,23 +46,24 @@ loop-line-preserved g c = record {
       let q = c.in_ok-walk_whole.ensures.ended w.0 left after w.1 in (
         q.0,
         q.1,
-        Walked-trans step s lines (lines_of whole) (lines_of (c.walk_whole.new.cut.items ++ left ++ after)) w.0 q.0 n i m a b d
+        Walked-trans step s lines (walk_lines whole) (walk_lines (c.walk_whole.new.cut.items ++ left ++ after)) w.0 q.0 n i m a b d
             (Walked-same step s lines _ whole w.0 n i a b (ap (λ x. cut ++ x ++ after) c.in-Some.ensures.found.1) w.2)
-            (Walked-same step w.0 (lines_of whole) (left ++ after) (c.walk_whole.new.cut.items ++ left ++ after) q.0 i m b d (ap (λ x. x ++ left ++ after) (sym c.in_ok-walk_whole.ensures.used)) q.2),
+            (Walked-same step w.0 (walk_lines whole) (left ++ after) (c.walk_whole.new.cut.items ++ left ++ after) q.0 i m b d (ap (λ x. x ++ left ++ after) (sym c.in_ok-walk_whole.ensures.used)) q.2),
       );
 }
 
-pub returns-in_err-keep-clause-ended : goal.returns-in_err-keep-clause-ended
-returns-in_err-keep-clause-ended g c = λ s after h.
+pub returns-in_err-keep_cut-clause-ended : goal.returns-in_err-keep_cut-clause-ended
+returns-in_err-keep_cut-clause-ended g c = λ s after h.
     let w = c.loop-line.invariant.walked s after h in
-    memory_after g.C.Command.stands_for g.C.Command.step s w.0 c.from_residual-in_err-keep.result c.in_err-keep.field-0.0 (lines_of (c.args.cut.now.items ++ c.args.octets.now ++ after)) (lines_of (c.loop-line.cut.items ++ c.loop-line.rest.now ++ after)) (lines_of (c.keep.new.cut.items ++ after)) c.loop-line.command c.args.number.now c.loop-line.number c.loop-line.number (g.W.Write.contents c.args.out.now) (g.W.Write.contents c.loop-line.out)
-    c.from_residual-in_err-keep.ensures.1 c.in_err-keep.ensures.err w.2
+    memory_after g.C.Command.stands_for g.C.Command.step s w.0 c.from_residual-in_err-keep_cut.result c.in_err-keep_cut.field-0.0 (walk_lines (c.args.cut.now.items ++ c.args.octets.now ++ after)) (walk_lines (c.loop-line.cut.items ++ c.loop-line.rest.now ++ after)) (walk_lines (c.keep_cut.new.cut.items ++ after)) c.loop-line.command c.args.number.now c.loop-line.number c.loop-line.number (g.W.Write.contents c.args.out.now) (g.W.Write.contents c.loop-line.out)
+    c.from_residual-in_err-keep_cut.ensures.1 c.in_err-keep_cut.ensures.err w.2
 
 pub returns-clause-ended : goal.returns-clause-ended
 returns-clause-ended g c = λ s after h.
-    let w = c.loop-line.invariant.walked s after h in (
+    let w = c.loop-line.invariant.walked s after h in
+    let last : HasNoFeed c.loop-line.rest.now = search rules in (
       w.0,
       w.1,
-      Walked-same g.C.Command.step s (lines_of (c.args.cut.now.items ++ c.args.octets.now ++ after)) (c.loop-line.cut.items ++ c.loop-line.rest.now ++ after) (c.keep.new.cut.items ++ after) w.0 c.args.number.now c.loop-line.number (g.W.Write.contents c.args.out.now) (g.W.Write.contents c.loop-line.out)
-          (ap (λ x. x ++ after) (sym c.in_ok-keep.ensures.ok)) w.2,
+      Walked-cut g.C.Command.step s (walk_lines (c.args.cut.now.items ++ c.args.octets.now ++ after)) (c.loop-line.cut.items ++ c.loop-line.rest.now) c.keep_cut.new.cut.items after w.0 c.args.number.now c.loop-line.number (g.W.Write.contents c.args.out.now) (g.W.Write.contents c.loop-line.out)
+          (HasNoFeed-append c.loop-line.cut.items c.loop-line.rest.now c.loop-line.invariant.no_feed last) c.in_ok-keep_cut.ensures.ok w.2,
     )

@@ -1,6 +1,5 @@
 use Rattle.std.proofs.Common.{ℕ, ◌+◌, ◌≤◌, ◌++◌, List, length}
-use Rattle.lapd_script.specs.Script.{lines_of}
-use Rattle.lapd_script.specs.Walked.{HasNoFeed, Walked}
+use Rattle.lapd_script.specs.Walked.{walk_lines, HasNoFeed, Walked}
 use Rattle.lapd_script.proofs.script.walk_part.Given as goal
 
 abbrev pub invariant-loop-line : goal.invariant-loop-line
@@ -9,7 +8,7 @@ invariant-loop-line g l = record {
   no_feed : HasNoFeed l.cut.items;
   walked : (s : g.C.Command.State) (after : List ℕ) → g.C.Command.stands_for l.initial.command s
       → (t : g.C.Command.State) × g.C.Command.stands_for l.command t
-      × Walked g.C.Command.step s (lines_of (l.initial.cut.items ++ l.octets ++ after)) (lines_of (l.cut.items ++ l.rest ++ after)) t l.initial.number l.number (g.W.Write.contents l.initial.out) (g.W.Write.contents l.out);
+      × Walked g.C.Command.step s (walk_lines (l.initial.cut.items ++ l.octets ++ after)) (walk_lines (l.cut.items ++ l.rest ++ after)) t l.initial.number l.number (g.W.Write.contents l.initial.out) (g.W.Write.contents l.out);
 }
 
 abbrev pub decreases-loop-line : goal.decreases-loop-line
