@@ -16,7 +16,7 @@ from proving.report import about, clock
 LOG = "prove.log"
 # The crates that two jobs check. Each job reads the libraries below: low on the chain two take 0.75 of the time of one and hardly
 # more of processor, and higher up no less time, and half as much again of processor.
-BY_TWO = ("lapd_field", "lapd_machine")
+BY_TWO = ("lapd_field", "lapd_link_machine")
 
 
 class Unbuilt(Exception):

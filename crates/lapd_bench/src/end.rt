@@ -1,7 +1,7 @@
 //! One end of the link, between messages and octets.
 
 use crate::bench_fault::BenchFault;
-use crate::line::Line;
+use crate::wire::Wire;
 use lapd_frame::{Sapi, Side, Tei, read};
 use lapd_link::{Event, Link, Out, Outs, Params};
 use std::alloc::Global;
@@ -40,7 +40,7 @@ impl End {
     /// # Errors
     ///
     /// As [`End::give`].
-    pub fn establish(&mut self, to: &mut Line) -> Result<(), BenchFault> {
+    pub fn establish(&mut self, to: &mut Wire) -> Result<(), BenchFault> {
         self.link.handle_into(Event::Establish, &mut self.outs)?;
         self.carry_out(to)
     }
@@ -50,7 +50,7 @@ impl End {
     /// # Errors
     ///
     /// `Refused` by the link, or `LineFull`.
-    pub fn give(&mut self, message: Vec<u8>, to: &mut Line) -> Result<(), BenchFault> {
+    pub fn give(&mut self, message: Vec<u8>, to: &mut Wire) -> Result<(), BenchFault> {
         self.link.give_into(message, &mut self.outs)?;
         self.given = self.given.wrapping_add(1);
         self.carry_out(to)
@@ -61,7 +61,7 @@ impl End {
     /// # Errors
     ///
     /// `NoFrame` for octets that are none, `NotForLink`, `Refused` by the link, or `LineFull`.
-    pub fn hear(&mut self, from: &mut Line, to: &mut Line) -> Result<(), BenchFault> {
+    pub fn hear(&mut self, from: &mut Wire, to: &mut Wire) -> Result<(), BenchFault> {
         for slot in from.under_way() {
             let frame = read(slot.octets(), from.sender())?;
             if !self.link.is_for(&frame.address()) {
@@ -76,7 +76,7 @@ impl End {
 
     /// Sends what its last step calls for, and counts the messages that it speaks of.
     #[inline(always)]
-    fn carry_out(&mut self, to: &mut Line) -> Result<(), BenchFault> {
+    fn carry_out(&mut self, to: &mut Wire) -> Result<(), BenchFault> {
         for out in &self.outs {
             match out {
                 Out::Up => self.received = self.received.wrapping_add(1),

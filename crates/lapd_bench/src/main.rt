@@ -17,22 +17,22 @@
 mod bench_fault;
 mod counts;
 mod end;
-mod line;
 mod over_pair;
 mod over_port;
 mod over_side;
 mod over_table;
 mod over_tei;
+mod wire;
 mod work;
 
 use bench_fault::BenchFault;
 use counts::{Counts, Done, Octets};
 use end::End;
 use lapd_frame::Side;
-use line::Line;
 use std::alloc::Global;
 use std::io;
 use std::process::ExitCode;
+use wire::Wire;
 use work::{Work, asked};
 
 /// How many messages are passed where the command line does not say.
@@ -60,7 +60,7 @@ fn done(rt: &HostRuntime) -> Result<Done, BenchFault> {
     match asked(rt)? {
         Work::Links(messages) => Ok(Done::Messages(run(alloc, messages)?)),
         Work::Pair(messages) => Ok(Done::Messages(over_pair::pass(alloc, messages)?)),
-        Work::Line(frames, moves) => Ok(Done::Messages(over_pair::stand(alloc, frames, moves)?)),
+        Work::Wire(frames, moves) => Ok(Done::Messages(over_pair::stand(alloc, frames, moves)?)),
         Work::Table(links, frames) => Ok(Done::Messages(over_table::answer(alloc, links, frames)?)),
         Work::Side(links, frames) => Ok(Done::Messages(over_side::take(alloc, links, frames)?)),
         Work::Tick(links, times) => Ok(Done::Messages(over_side::tick(alloc, links, times)?)),
@@ -107,8 +107,8 @@ fn show_octets(rt: &HostRuntime, octets: Octets) -> io::Result<()> {
 struct Pair {
     user: End,
     network: End,
-    to_network: Line,
-    to_user: Line,
+    to_network: Wire,
+    to_user: Wire,
 }
 
 /// Establishes the link, and passes so many messages over it from the user to the network.
@@ -122,8 +122,8 @@ impl Pair {
         Ok(Pair {
             user: End::new(alloc, Side::User)?,
             network: End::new(alloc, Side::Network)?,
-            to_network: Line::new(Side::User),
-            to_user: Line::new(Side::Network),
+            to_network: Wire::new(Side::User),
+            to_user: Wire::new(Side::Network),
         })
     }
 

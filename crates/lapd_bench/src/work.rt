@@ -11,7 +11,7 @@ pub enum Work {
     /// So many messages go over a pair.
     Pair(u32),
     /// So many frames stand on the line of a pair, and so many more are sent and delivered.
-    Line(u32, u32),
+    Wire(u32, u32),
     /// To so many links of a table so many enquiries are handed in.
     Table(u32, u32),
     /// To so many links of a side so many I frames are handed in.
@@ -90,7 +90,7 @@ fn of_one(word: &str, times: u32) -> Result<Work, BenchFault> {
 /// What this word asks for with two numbers.
 fn of_two(word: &str, count: u32, times: u32) -> Result<Work, BenchFault> {
     match word {
-        "line" => Ok(Work::Line(count, times)),
+        "line" => Ok(Work::Wire(count, times)),
         "table" => Ok(Work::Table(count, times)),
         "side" => Ok(Work::Side(count, times)),
         "tick" => Ok(Work::Tick(count, times)),

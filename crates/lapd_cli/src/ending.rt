@@ -2,12 +2,12 @@
 //! one tells why. What standard error does not take is given up.
 
 ghost use Rattle.std.specs.Prelude.{◌≡◌, ◌&&◌, IfNone, IfSome, if◌then◌else◌};
-ghost use Rattle.lapd_script.specs.Script.{status_of as status_of_fault};
+ghost use Rattle.lapd_cli_script.specs.Script.{status_of as status_of_fault};
 
 use crate::reason::Reason;
-use lapd_command_line::{Unchosen, WordsFault};
-use lapd_console::{Script, reason};
-use lapd_script::{PortFault, ScriptFault};
+use lapd_cli_console::{Script, reason};
+use lapd_cli_options::{NoInvocation, WordsFault};
+use lapd_cli_script::{PortFault, ScriptFault};
 use std::io::{self, ErrorKind};
 use std::process::ExitCode;
 
@@ -173,10 +173,10 @@ pub fn say_words_fault(rt: &HostRuntime, fault: WordsFault) -> ExitCode {
 }
 
 /// Prints the text that the program's words ask for, or says what is wrong with them.
-pub fn say_unchosen(rt: &HostRuntime, unchosen: &Unchosen<'_>) -> ExitCode {
+pub fn say_no_invocation(rt: &HostRuntime, unchosen: &NoInvocation<'_>) -> ExitCode {
     match unchosen {
-        Unchosen::Shown(text) => show(rt, text.as_str()),
-        Unchosen::Memory => say_memory(rt),
+        NoInvocation::Shown(text) => show(rt, text.as_str()),
+        NoInvocation::Memory => say_memory(rt),
         _ => {
             let _ = eprint!(rt; "{unchosen}");
             ExitCode::from(COMMAND_LINE)

@@ -2,11 +2,10 @@
 
 use crate::connection;
 use crate::ending::Stop;
-use lapd_bus::bus;
-use lapd_command_line::{Job, Params};
-use lapd_commands::{answer, decode, pair};
-use lapd_console::Script;
-use lapd_socket::{FromRead, FromWrite, Port, loop_over, net, user};
+use lapd_cli_commands::{answer, bus, decode, loop_over, pair};
+use lapd_cli_console::Script;
+use lapd_cli_options::{Job, Params};
+use lapd_cli_side_commands::{FromRead, FromWrite, Port, net, user};
 use std::io::{Read, Write};
 
 /// The command whose script this is.

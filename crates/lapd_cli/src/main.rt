@@ -1,10 +1,11 @@
-//! The program `lapd`: it answers a script as a link of the ISDN D channel (ITU-T Q.921), plays two ends of one and the
-//! line between them, also over a socket, is a whole side of an interface over a socket, assigns TEIs on a bus of terminals, or prints octets as trace lines.
+//! The program `lapd`: it answers a script as a link of the ISDN D channel (ITU-T Q.921), plays two ends of one and the line
+//! between them, also over a socket, is a whole side of an interface over a socket, assigns TEIs on a bus of terminals, or
+//! prints octets as trace lines.
 //!
 //! Scripts come on standard input, a line for each thing that happens, and each line's answer goes
-//! to standard output before more is read. The commands stand in `lapd_commands`, `lapd_bus` and `lapd_socket`, the
-//! walk over a script in `lapd_script`, the command line in `lapd_command_line`, and what is said to people about a script
-//! in `lapd_console`.
+//! to standard output before more is read. The commands stand in `lapd_cli_commands` and `lapd_cli_side_commands`, the
+//! walk over a script in `lapd_cli_script`, the command line in `lapd_cli_options`, and what is said to people about a script
+//! in `lapd_cli_console`.
 #![tactic(auto)]
 
 mod connection;
@@ -13,12 +14,12 @@ mod greeting;
 mod job;
 mod reason;
 
-use ending::{Ending, Stop, say_ending, say_memory, say_unchosen, say_words_fault};
+use ending::{Ending, Stop, say_ending, say_memory, say_no_invocation, say_words_fault};
 use greeting::Greeting;
 use job::{do_job, script_of};
-use lapd_command_line::{Chosen, Job, choose, words};
-use lapd_console::{KeptLines, Refusals, Session, Watched};
-use lapd_script::ScriptFault;
+use lapd_cli_console::{KeptLines, Refusals, Session, Watched};
+use lapd_cli_options::{Invocation, Job, parse_words, words};
+use lapd_cli_script::ScriptFault;
 use std::io::{BufWriter, IsTerminal, Read};
 use std::process::ExitCode;
 
@@ -27,20 +28,20 @@ fn main(rt: HostRuntime) -> ExitCode {
         Ok(words) => words,
         Err(fault) => return say_words_fault(&rt, fault),
     };
-    match choose(rt.alloc(), words.as_slice()) {
+    match parse_words(rt.alloc(), words.as_slice()) {
         Ok(
-            Chosen {
+            Invocation {
                 job,
                 address,
                 strict,
             },
-        ) => do_chosen(&rt, job, address.unwrap_or(""), strict),
-        Err(unchosen) => say_unchosen(&rt, &unchosen),
+        ) => do_invocation(&rt, job, address.unwrap_or(""), strict),
+        Err(unchosen) => say_no_invocation(&rt, &unchosen),
     }
 }
 
 // Does what the words chose, over standard input and output. At a terminal a bad line is told, and the next one awaited.
-fn do_chosen(rt: &HostRuntime, job: Job, address: &str, strict: bool) -> ExitCode {
+fn do_invocation(rt: &HostRuntime, job: Job, address: &str, strict: bool) -> ExitCode {
     if rt.stdin().is_terminal() {
         let session = Session::new(rt.alloc(), script_of(&job), rt.reader(), rt.stderr());
         let lines = Greeting::new(session, rt.stderr());

@@ -3,12 +3,11 @@
 use crate::devices::{SOUND, port_of};
 use crate::dialogues::{BOTH_NET, BOTH_USER, MOST, Row, octets_of, play};
 use crate::wants::{are_same, is_said, wants};
-use lapd_bus::bus;
-use lapd_command_line::{Chosen, Job, Unchosen, WordsFault, choose, help, words};
-use lapd_commands::{answer, decode, pair};
+use lapd_cli_commands::{answer, bus, decode, pair};
+use lapd_cli_options::{Invocation, Job, NoInvocation, WordsFault, help, parse_words, words};
+use lapd_cli_script::{PortFault, ScriptFault};
 use lapd_frame::{Sapi, Side};
 use lapd_link::{Params, Recovery};
-use lapd_script::{PortFault, ScriptFault};
 use std::alloc::{AllocError, Global};
 use std::env::{Env, FillError};
 use std::test::Fail;
@@ -204,7 +203,7 @@ fn address(wanted: Wanted) -> Option<&'static str> {
 }
 
 // Whether this is what is wanted.
-fn is_wanted(chosen: &Chosen<'_>, wanted: Wanted, strict: bool) -> bool {
+fn is_wanted(chosen: &Invocation<'_>, wanted: Wanted, strict: bool) -> bool {
     match job(wanted) {
         Some(job) => {
             chosen.job == job && chosen.address == address(wanted) && chosen.strict == strict
@@ -215,7 +214,7 @@ fn is_wanted(chosen: &Chosen<'_>, wanted: Wanted, strict: bool) -> bool {
 
 // Whether the words choose this.
 fn chooses(alloc: Global, words: &[&str], wanted: Wanted, strict: bool) -> bool {
-    let chosen = choose(alloc, words);
+    let chosen = parse_words(alloc, words);
     match &chosen {
         Ok(chosen) => is_wanted(chosen, wanted, strict),
         Err(_) => false,
@@ -308,8 +307,8 @@ const FAULTS: &[&[&str]] = &[
 
 // Whether the parser does not take the words, and has a text for it.
 fn is_refused(alloc: Global, words: &[&str]) -> bool {
-    let chosen = choose(alloc, words);
-    matches!(&chosen, Err(Unchosen::Refused(_)))
+    let chosen = parse_words(alloc, words);
+    matches!(&chosen, Err(NoInvocation::Refused(_)))
 }
 
 // The last of these words, which names a row.
@@ -350,9 +349,10 @@ const ASKED: &[(&[&str], bool)] = &[
 
 // Whether a text is shown, which is the short help of a command, or is not.
 fn is_shown(alloc: Global, words: &[&str], is_short: bool) -> bool {
-    let chosen = choose(alloc, words);
+    let chosen = parse_words(alloc, words);
     match &chosen {
-        Err(Unchosen::Shown(text)) => is_short == text.as_str().trim_end().ends_with(help::SHORT),
+        Err(NoInvocation::Shown(text)) => is_short
+            == text.as_str().trim_end().ends_with(help::SHORT),
         _ => false,
     }
 }
@@ -461,7 +461,7 @@ const NUMBERS: &[(&[&str], &str)] = &[
 
 // Whether this is said of the words, which choose nothing.
 fn says(alloc: Global, words: &[&str], text: &str) -> bool {
-    let chosen = choose(alloc, words);
+    let chosen = parse_words(alloc, words);
     match &chosen {
         Err(unchosen) => is_said(alloc, unchosen, text),
         Ok(_) => false,

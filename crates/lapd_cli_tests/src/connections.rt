@@ -2,7 +2,7 @@
 
 use crate::scripts::{Ended, Ends, MESSAGE, ends_of, loop_of, pair_of};
 use crate::wants::{are_same, wants};
-use lapd_socket::{FromRead, FromWrite, Port};
+use lapd_cli_side_commands::{FromRead, FromWrite, Port};
 use std::alloc::Global;
 use std::io;
 use std::net::{TcpListener, TcpStream};

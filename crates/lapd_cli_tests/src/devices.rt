@@ -2,7 +2,7 @@
 
 use crate::port::devices::{Giver, NO_TROUBLE, Taker, Trouble, sink_of, source_of};
 use arrayvec::ArrayVec;
-use lapd_socket::Port;
+use lapd_cli_side_commands::Port;
 use std::io;
 use std::io::{ErrorKind, Write};
 

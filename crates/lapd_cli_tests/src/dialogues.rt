@@ -3,8 +3,8 @@
 use crate::devices::{Devices, MemoryPort, Paper, SOUND, port_of};
 use crate::port::devices::calls_of;
 use crate::wants::{are_same, wants};
-use lapd_script::ScriptFault;
-use lapd_socket::{Port, Sink, Source, net, user};
+use lapd_cli_script::ScriptFault;
+use lapd_cli_side_commands::{Port, Sink, Source, net, user};
 use std::alloc::Global;
 use std::io::Write;
 use std::test::Fail;

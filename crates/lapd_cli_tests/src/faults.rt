@@ -3,7 +3,7 @@
 use crate::scripts::{Ended, Ends, MESSAGE, ends_of, loop_of, pair_of};
 use crate::wants::wants;
 use crate::wire::{Trouble, Wire};
-use lapd_script::ScriptFault;
+use lapd_cli_script::ScriptFault;
 use std::alloc::Global;
 use std::test::Fail;
 

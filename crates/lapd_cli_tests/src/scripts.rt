@@ -2,10 +2,10 @@
 
 use crate::wants::{are_same, wants};
 use crate::wire::{Trouble, Wire, WirePort};
-use lapd_commands::pair;
+use lapd_cli_commands::{loop_over, pair};
+use lapd_cli_script::ScriptFault;
+use lapd_cli_side_commands::{FromRead, FromWrite, Port, Sink, Source};
 use lapd_link::{Params, Recovery};
-use lapd_script::ScriptFault;
-use lapd_socket::{FromRead, FromWrite, Port, Sink, Source, loop_over};
 use std::alloc::Global;
 use std::test::Fail;
 

@@ -4,7 +4,7 @@
 use crate::connections::to_itself;
 use crate::dialogues::{BOTH_NET, BOTH_USER, MOST, Row, go_over, octets_of};
 use crate::wants::{are_same, wants};
-use lapd_socket::{FromRead, FromWrite, Port};
+use lapd_cli_side_commands::{FromRead, FromWrite, Port};
 use std::alloc::Global;
 use std::io::{Read, Write};
 use std::net::TcpStream;

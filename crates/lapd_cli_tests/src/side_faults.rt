@@ -4,8 +4,8 @@
 use crate::devices::{Devices, MemoryPort, SOUND, port_of};
 use crate::dialogues::{Ended, MOST, Row, WORKED_NET, WORKED_USER, Who, octets_of, play};
 use crate::wants::wants;
-use lapd_script::ScriptFault;
-use lapd_socket::PortFault;
+use lapd_cli_script::ScriptFault;
+use lapd_cli_side_commands::PortFault;
 use std::alloc::Global;
 use std::test::Fail;
 

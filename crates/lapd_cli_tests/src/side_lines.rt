@@ -3,7 +3,7 @@
 use crate::devices::{SOUND, port_of};
 use crate::dialogues::{Who, play};
 use crate::wants::{are_same, wants};
-use lapd_script::ScriptFault;
+use lapd_cli_script::ScriptFault;
 use std::alloc::Global;
 use std::test::Fail;
 

@@ -4,7 +4,7 @@
 use crate::devices::{SOUND, port_of};
 use crate::dialogues::{Ended, MOST, Row, WORKED_NET, WORKED_USER, octets_of, play};
 use crate::wants::{are_same, wants};
-use lapd_script::ScriptFault;
+use lapd_cli_script::ScriptFault;
 use std::test::Fail;
 
 /// Whether whole lines of the text are printed.

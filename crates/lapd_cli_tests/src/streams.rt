@@ -2,10 +2,10 @@
 
 use crate::devices::Paper;
 use crate::wants::{are_same, wants};
-use lapd_commands::{Params, answer};
-use lapd_console::{KeptLines, Refusals, Script, Session, Watched};
+use lapd_cli_commands::{Params, answer};
+use lapd_cli_console::{KeptLines, Refusals, Script, Session, Watched};
+use lapd_cli_script::ScriptFault;
 use lapd_frame::{Sapi, Side};
-use lapd_script::ScriptFault;
 use std::alloc::Global;
 use std::io::{self, ErrorKind, Read, Write};
 use std::test::Fail;

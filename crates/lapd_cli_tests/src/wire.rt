@@ -4,7 +4,7 @@ ghost use Rattle.std.specs.Prelude.{◌≡◌, ◌≤◌, MatchResult, length};
 ghost use Rattle.lapd_port.specs.Device.{failures_after};
 
 use arrayvec::ArrayVec;
-use lapd_socket::{DeviceError, Port, Sink, Source};
+use lapd_cli_side_commands::{DeviceError, Port, Sink, Source};
 use std::cell::RefCell;
 
 /// The octets that were taken and not given back yet.

@@ -9,28 +9,28 @@ use Rattle.lapd_frame.specs.declared.Control.{Control}
 use Rattle.lapd_frame.specs.declared.Control.TheVariants.{Ui}
 use Rattle.lapd_frame.specs.Frame.{n201, at_most_n201, content_fault}
 use Rattle.lapd_mod128.specs.Counting.{Tagged}
-use Rattle.lapd_states.specs.declared.out.Out.{Out}
-use Rattle.lapd_states.specs.declared.out.Out.TheVariants.{Send, SendMessage, SendUnit}
-use Rattle.lapd_states.specs.declared.event.LinkFault.TheVariants.{TooLong}
-use Rattle.lapd_states.specs.Counts.{IsPlaced, ArePlaced}
-use Rattle.lapd_states.specs.End.{End, StepState, begin, new_end}
-use Rattle.lapd_states.specs.Input.{Input, UnitData}
-use Rattle.lapd_states.specs.Numbers.{HearsNumbers}
-use Rattle.lapd_states.specs.Parameters.{Parameters}
-use Rattle.lapd_states.specs.Spoken.{IsSpoken, AreSpoken, AreShort}
-use Rattle.lapd_states.specs.Table.{unless, step}
-use Rattle.lapd_states.proofs.KeptByStep.{step_keeps_parameters, step_is_spoken, step_is_short}
-use Rattle.lapd_states.proofs.MessagesThere.{messages_are_there}
-use Rattle.lapd_states.proofs.NumbersOfStep.{numbers_stay}
-use Rattle.lapd_states.proofs.Soundness.{sound_new, sound_step}
+use Rattle.lapd_link_rows.specs.declared.out.Out.{Out}
+use Rattle.lapd_link_rows.specs.declared.out.Out.TheVariants.{Send, SendMessage, SendUnit}
+use Rattle.lapd_link_rows.specs.declared.event.LinkFault.TheVariants.{TooLong}
+use Rattle.lapd_link_rows.specs.Counts.{IsPlaced, ArePlaced}
+use Rattle.lapd_link_rows.specs.End.{End, StepState, begin, new_end}
+use Rattle.lapd_link_rows.specs.Input.{Input, UnitData}
+use Rattle.lapd_link_rows.specs.Numbers.{HearsNumbers}
+use Rattle.lapd_link_rows.specs.Parameters.{Parameters}
+use Rattle.lapd_link_rows.specs.SentFrames.{IsSpoken, AreSpoken, AreShort}
+use Rattle.lapd_link_rows.specs.Table.{unless, step}
+use Rattle.lapd_link_rows.proofs.KeptByStep.{step_keeps_parameters, step_is_spoken, step_is_short}
+use Rattle.lapd_link_rows.proofs.MessagesThere.{messages_are_there}
+use Rattle.lapd_link_rows.proofs.NumbersOfStep.{numbers_stay}
+use Rattle.lapd_link_rows.proofs.Soundness.{sound_new, sound_step}
 use Rattle.lapd_supervision.specs.StateVariables.{initial_variables}
-use Rattle.lapd_machine.specs.declared.machine.Machine.{Machine}
-use Rattle.lapd_machine.specs.Sent.{IsBetweenSteps}
-use Rattle.lapd_machine.specs.StandsFor.{StandsFor}
+use Rattle.lapd_link_machine.specs.declared.machine.Machine.{Machine}
+use Rattle.lapd_link_machine.specs.Sent.{IsBetweenSteps}
+use Rattle.lapd_link_machine.specs.StandsFor.{StandsFor}
 use Rattle.lapd_link.specs.Link.{Setup, setup_of, Steps}
 use Rattle.lapd_link.specs.SentFrame.{link_parts, sent_frame, link_frame, made_frame, HaveFrames, HasFramesOf, KeepsFrames}
 use Rattle.lapd_link.specs.declared.link.Link.{Link}
-use Rattle.lapd_machine.proofs.BetweenSteps.{end_of, shows_end, is_sound, are_short, short_behind}
+use Rattle.lapd_link_machine.proofs.BetweenSteps.{end_of, shows_end, is_sound, are_short, short_behind}
 
 -- ---- One output.
 

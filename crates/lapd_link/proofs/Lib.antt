@@ -1,2 +1,2 @@
-pub use Rattle.lapd_machine.proofs.BetweenSteps
+pub use Rattle.lapd_link_machine.proofs.BetweenSteps
 pub mod Frames

@@ -38,9 +38,9 @@ mod sent_frame;
 pub use lapd_frame::{
     Address, Control, FaultKind, Frame, FrameFault, Number, Role, Sapi, Side, Tei,
 };
-pub use lapd_machine::Outs;
+pub use lapd_link_machine::Outs;
+pub use lapd_link_rows::{Event, Letter, LinkFault, Out, Params, Recovery, Refused, State};
 pub use lapd_queue::IQueue;
-pub use lapd_states::{Event, Letter, LinkFault, Out, Params, Recovery, Refused, State};
 pub use lapd_supervision::{Seq, Window};
 pub use lapd_timers::Timer;
 pub use laws::sent_outputs_have_frames;

@@ -1,10 +1,10 @@
 ghost use Rattle.std.specs.Prelude.{◌≡◌, ◌<◌, ◌≢◌, [], IfOk, IfErr, OnOk, OnErr};
-ghost use Rattle.lapd_machine.specs.Sent.{IsBetweenSteps};
+ghost use Rattle.lapd_link_machine.specs.Sent.{IsBetweenSteps};
 
 use lapd_frame::{Address, Sapi, Side, Tei};
-use lapd_machine::{Machine, Outs};
+use lapd_link_machine::{Machine, Outs};
+use lapd_link_rows::{Event, LinkFault, Params, Refused};
 use lapd_queue::IQueue;
-use lapd_states::{Event, LinkFault, Params, Refused};
 use lapd_supervision::Window;
 use lapd_timers::Timer;
 use std::alloc::{AllocError, Global};
@@ -33,10 +33,10 @@ pub struct Link {
 
 impl Link {
     ghost use Rattle.std.specs.Prelude.{ℕ, List, length};
-    ghost use Rattle.lapd_states.specs.Begins.{begins};
-    ghost use Rattle.lapd_states.specs.End.{End, new_end};
-    ghost use Rattle.lapd_states.specs.Input.{input_of, Give};
-    ghost use Rattle.lapd_states.specs.Refusal.{refused};
+    ghost use Rattle.lapd_link_rows.specs.Begins.{begins};
+    ghost use Rattle.lapd_link_rows.specs.End.{End, new_end};
+    ghost use Rattle.lapd_link_rows.specs.Input.{input_of, Give};
+    ghost use Rattle.lapd_link_rows.specs.Refusal.{refused};
     ghost use Rattle.lapd_link.specs.Link.{LinkStandsFor, Setup, setup_of, Steps, Refuses, IsForLink, is_address_of};
     ghost use Rattle.lapd_link.specs.SentFrame.{HasFramesOf};
 
@@ -155,7 +155,7 @@ impl Link {
         }
         match self.machine.queue_up(message) {
             Ok(()) => {
-                self.machine.close(outs);
+                self.machine.end_step(outs);
                 Ok(())
             }
             Err(message) => Err(Refused {
@@ -200,13 +200,13 @@ impl Link {
 }
 
 /// What a link shows.
-#[tactic(auto, unfolding(lapd_states::specs::End::begin))]
+#[tactic(auto, unfolding(lapd_link_rows::specs::End::begin))]
 impl Link {
     ghost use Rattle.std.specs.Prelude.{◌-◌, length};
-    ghost use Rattle.lapd_states.specs.End.{End, runs};
-    ghost use Rattle.lapd_states.specs.State.{state_number};
+    ghost use Rattle.lapd_link_rows.specs.End.{End, runs};
+    ghost use Rattle.lapd_link_rows.specs.State.{state_number};
     ghost use Rattle.lapd_link.specs.Link.{LinkStandsFor, setup_of};
-    ghost use Rattle.lapd_machine.specs.Tail.{IsTail};
+    ghost use Rattle.lapd_link_machine.specs.Tail.{IsTail};
 
     /// The number of its state, 4 to 8.
     pub fn state(&self) -> u8

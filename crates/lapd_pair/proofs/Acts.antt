@@ -7,22 +7,22 @@ use Rattle.lapd_frame.specs.declared.Side.{Side}
 use Rattle.lapd_frame.specs.Frame.{Fields, n201}
 use Rattle.lapd_link.specs.Link.{LinkStandsFor}
 use Rattle.lapd_mod128.specs.Counting.{Tagged}
-use Rattle.lapd_states.specs.declared.event.LinkFault.{LinkFault}
-use Rattle.lapd_states.specs.declared.event.LinkFault.TheVariants.{TooLong}
-use Rattle.lapd_states.specs.declared.out.Out.{Out}
-use Rattle.lapd_states.specs.Close.{close}
-use Rattle.lapd_states.specs.End.{End, begin}
-use Rattle.lapd_states.specs.Input as input
-use Rattle.lapd_states.specs.Input.{Input}
-use Rattle.lapd_states.specs.Refusal.{refused}
-use Rattle.lapd_states.specs.Table.{unless, row, step}
-use Rattle.lapd_world.specs.Kept.{IsKept}
-use Rattle.lapd_world.specs.Line.{Flight}
-use Rattle.lapd_world.specs.Move as world
-use Rattle.lapd_world.specs.Move.{View, Refused, stepped, hears, takes}
+use Rattle.lapd_link_rows.specs.declared.event.LinkFault.{LinkFault}
+use Rattle.lapd_link_rows.specs.declared.event.LinkFault.TheVariants.{TooLong}
+use Rattle.lapd_link_rows.specs.declared.out.Out.{Out}
+use Rattle.lapd_link_rows.specs.EndOfStep.{end_step}
+use Rattle.lapd_link_rows.specs.End.{End, begin}
+use Rattle.lapd_link_rows.specs.Input as input
+use Rattle.lapd_link_rows.specs.Input.{Input}
+use Rattle.lapd_link_rows.specs.Refusal.{refused}
+use Rattle.lapd_link_rows.specs.Table.{unless, row, step}
+use Rattle.lapd_pair_world.specs.Kept.{IsKept}
+use Rattle.lapd_pair_world.specs.Line.{Flight}
+use Rattle.lapd_pair_world.specs.Move as world
+use Rattle.lapd_pair_world.specs.Move.{View, Refused, stepped, hears, takes}
 use Rattle.lapd_pair.specs.declared.line.Line.{Line}
 use Rattle.lapd_pair.specs.declared.pair_fault.PairFault.{PairFault}
-use Rattle.lapd_pair.specs.declared.station.Station.{Station}
+use Rattle.lapd_pair.specs.declared.recorded_link.RecordedLink.{RecordedLink}
 use Rattle.lapd_pair.specs.Line.{fields_of, IsOn}
 use Rattle.lapd_pair.specs.Moves.{IsRefusedAs}
 use Rattle.lapd_pair.specs.Station.{IsStation, IsActed, IsAsked, IsHanded, Acts, RefusesAs, ShowsAsBefore}
@@ -45,11 +45,11 @@ on_err P Q (Err e) h p = h p
 
 pub takes_refused : (i : Input) (octets : List ℕ) (v : View) (fault : LinkFault) → refused i v.station.end ≡ Some fault → takes Tagged i octets v ≡ Err (Refused fault)
 unfolding takes step
-takes_refused i octets v fault h = ap (λ (o : Option LinkFault). stepped octets 0 v (unless o (close Tagged (row Tagged v.station.end.state i (begin v.station.end))))) h
+takes_refused i octets v fault h = ap (λ (o : Option LinkFault). stepped octets 0 v (unless o (end_step Tagged (row Tagged v.station.end.state i (begin v.station.end))))) h
 
 pub takes_goes : (i : Input) (octets : List ℕ) (v : View) → refused i v.station.end ≡ None → is_ok (takes Tagged i octets v) ≡ true
 unfolding takes step
-takes_goes i octets v h = ap (λ (o : Option LinkFault). is_ok (stepped octets 0 v (unless o (close Tagged (row Tagged v.station.end.state i (begin v.station.end)))))) h
+takes_goes i octets v h = ap (λ (o : Option LinkFault). is_ok (stepped octets 0 v (unless o (end_step Tagged (row Tagged v.station.end.state i (begin v.station.end)))))) h
 
 pub hears_goes : (frame : Flight) (v : View) → is_ok (hears Tagged frame v) ≡ true
 unfolding hears step
@@ -75,13 +75,13 @@ asked_is_short other octets v h free = rw h (omega arith)
 
 -- ---- What is made room for shows what it showed.
 
-abbrev pub StationsSame : Station → Station → Type 0
+abbrev pub StationsSame : RecordedLink → RecordedLink → Type 0
 StationsSame old made = (side : Side) (t : world.Station) → IsStation side old t → IsStation side made t
 
 abbrev pub LinesSame : Line → Line → Type 0
 LinesSame old made = (from : Side) (frames : List Flight) → IsOn from old frames → IsOn from made frames
 
-pub shows_still : (old made new : Station) (outward outward_made outward_new : Line) (r : Result (ArrayVec Out) PairFault) → StationsSame old made → LinesSame outward outward_made
+pub shows_still : (old made new : RecordedLink) (outward outward_made outward_new : Line) (r : Result (ArrayVec Out) PairFault) → StationsSame old made → LinesSame outward outward_made
     → OnErr r ((new ≡ made) × (outward_new ≡ outward_made)) → OnErr r (ShowsAsBefore old outward new outward_new)
 shows_still old made new outward outward_made outward_new (Ok outs) station line h = tt
 shows_still old made new outward outward_made outward_new (Err fault) station line h = record {
@@ -92,14 +92,14 @@ shows_still old made new outward outward_made outward_new (Err fault) station li
 -- ---- A request or an expiry.
 
 -- how a step for an input is stated
-abbrev pub StepsTo : Input → List ℕ → Option (Vec ℕ Global) → Station → Line → Station → Line → ArrayVec Out → Type 0
+abbrev pub StepsTo : Input → List ℕ → Option (Vec ℕ Global) → RecordedLink → Line → RecordedLink → Line → ArrayVec Out → Type 0
 StepsTo i octets copy made outward_made new outward_new outs = (side : Side) (place : ℕ) (v : View) → IsKept Tagged v.station → IsStation side made v.station → IsOn side outward_made v.outgoing → length octets ≤ n201 → IsHanded i octets copy
     → IsActed side new outward_new (stepped octets place v (step Tagged i v.station.end)) outs.items
 
-abbrev pub StepRefuses : Input → Station → PairFault → Type 0
+abbrev pub StepRefuses : Input → RecordedLink → PairFault → Type 0
 StepRefuses i made fault = (octets : List ℕ) (place : ℕ) (side : Side) (v : View) → IsStation side made v.station → IsRefusedAs fault (stepped octets place v (step Tagged i v.station.end))
 
-pub request_acts : (i : Input) (octets : List ℕ) (old made new : Station) (outward outward_made outward_new : Line) (r : Result (ArrayVec Out) PairFault)
+pub request_acts : (i : Input) (octets : List ℕ) (old made new : RecordedLink) (outward outward_made outward_new : Line) (r : Result (ArrayVec Out) PairFault)
     → IsAsked i octets → ((e : End) → LinkStandsFor old.link e → refused i e ≡ None) → StationsSame old made → LinesSame outward outward_made
     → IfOk r (StepsTo i octets None made outward_made new outward_new) → IfOk r (Acts old outward new outward_new (λ side v. takes Tagged i octets v))
 unfolding takes
@@ -107,7 +107,7 @@ request_acts i octets old made new outward outward_made outward_new (Err fault) 
 request_acts i octets old made new outward outward_made outward_new (Ok outs) asked free station line h = λ side v kept shown on.
     h side 0 v kept (station side v.station shown) (line side v.outgoing on) (asked_is_short i octets v asked (free v.station.end shown.link)) (asked_is_handed i octets asked)
 
-pub request_refused : (i : Input) (octets : List ℕ) (old made : Station) (r : Result (ArrayVec Out) PairFault) → StationsSame old made
+pub request_refused : (i : Input) (octets : List ℕ) (old made : RecordedLink) (r : Result (ArrayVec Out) PairFault) → StationsSame old made
     → IfErr r (StepRefuses i made) → IfErr r (RefusesAs old (λ side v. takes Tagged i octets v))
 unfolding takes
 request_refused i octets old made (Ok outs) station h = tt
@@ -115,7 +115,7 @@ request_refused i octets old made (Err fault) station h = λ side v shown. h oct
 
 -- ---- A frame.
 
-pub frame_acts : (f : Fields) (octets : List ℕ) (copy : Vec ℕ Global) (old made new : Station) (outward outward_made outward_new : Line) (r : Result (ArrayVec Out) PairFault)
+pub frame_acts : (f : Fields) (octets : List ℕ) (copy : Vec ℕ Global) (old made new : RecordedLink) (outward outward_made outward_new : Line) (r : Result (ArrayVec Out) PairFault)
     → octets ≡ f.info → copy.items ≡ f.info → StationsSame old made → LinesSame outward outward_made
     → IfOk r (StepsTo (input.Heard f.control f.address.role) octets (Some copy) made outward_made new outward_new)
     → IfOk r (λ outs. (flight : Flight) → fields_of flight ≡ f → length flight.info ≤ n201 → Acts old outward new outward_new (λ side v. hears Tagged flight v) outs)
@@ -127,7 +127,7 @@ frame_acts f octets copy old made new outward outward_made outward_new (Ok outs)
     let all = subst Is (sym is) (same, told) in
     λ side v kept shown on. all.1 side flight.place v kept (station side v.station shown) (line side v.outgoing on) short all.0
 
-pub frame_refused : (f : Fields) (old made : Station) (r : Result (ArrayVec Out) PairFault) → StationsSame old made → IfErr r (StepRefuses (input.Heard f.control f.address.role) made)
+pub frame_refused : (f : Fields) (old made : RecordedLink) (r : Result (ArrayVec Out) PairFault) → StationsSame old made → IfErr r (StepRefuses (input.Heard f.control f.address.role) made)
     → IfErr r (λ fault. (flight : Flight) → fields_of flight ≡ f → RefusesAs old (λ side v. hears Tagged flight v) fault)
 unfolding hears
 frame_refused f old made (Ok outs) station h = tt
@@ -138,11 +138,11 @@ frame_refused f old made (Err fault) station h = λ flight is.
 
 -- ---- A message.
 
-abbrev pub GivesTo : List ℕ → List ℕ → Station → Line → Station → Line → ArrayVec Out → Type 0
+abbrev pub GivesTo : List ℕ → List ℕ → RecordedLink → Line → RecordedLink → Line → ArrayVec Out → Type 0
 GivesTo message copy made outward_made new outward_new outs = (side : Side) (v : View) → IsKept Tagged v.station → IsStation side made v.station → IsOn side outward_made v.outgoing → copy ≡ message
     → IsActed side new outward_new (stepped [] 0 v (step Tagged (input.Give message) v.station.end)) outs.items
 
-pub message_acts : (message queued copy : List ℕ) (old made new : Station) (outward outward_made outward_new : Line) (r : Result (ArrayVec Out) PairFault) → queued ≡ message → copy ≡ message
+pub message_acts : (message queued copy : List ℕ) (old made new : RecordedLink) (outward outward_made outward_new : Line) (r : Result (ArrayVec Out) PairFault) → queued ≡ message → copy ≡ message
     → StationsSame old made → LinesSame outward outward_made
     → IfOk r (GivesTo queued copy made outward_made new outward_new) → IfOk r (Acts old outward new outward_new (λ side v. takes Tagged (input.Give message) [] v))
 unfolding takes
@@ -151,7 +151,7 @@ message_acts message queued copy old made new outward outward_made outward_new (
     let all = subst (λ (m : List ℕ). GivesTo m copy made outward_made new outward_new outs) is h in
     λ side v kept shown on. all side v kept (station side v.station shown) (line side v.outgoing on) same
 
-pub message_refused : (message queued : List ℕ) (old made : Station) (r : Result (ArrayVec Out) PairFault) → queued ≡ message → StationsSame old made
+pub message_refused : (message queued : List ℕ) (old made : RecordedLink) (r : Result (ArrayVec Out) PairFault) → queued ≡ message → StationsSame old made
     → IfErr r (λ fault. (side : Side) (v : View) → IsStation side made v.station → IsRefusedAs fault (stepped [] 0 v (step Tagged (input.Give queued) v.station.end)))
     → IfErr r (RefusesAs old (λ side v. takes Tagged (input.Give message) [] v))
 unfolding takes

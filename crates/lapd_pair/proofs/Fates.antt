@@ -6,15 +6,15 @@ use Rattle.std.proofs.lemmas.List.{take_at, drop_at, set_at}
 use Rattle.std.proofs.lemmas.List.FromFn.{length-range_with_len, length-map-range_with_len, map-range_with_len_more, get_or-map-range_with_len}
 use Rattle.std.proofs.Math.ListN.{set}
 use Rattle.std.specs.List.{range_with_len}
-use Rattle.lapd_world.specs.Histories as world
-use Rattle.lapd_world.specs.Histories.{with_sending, with_acked, with_dropped}
-use Rattle.lapd_world.specs.Kept.{is_one_of, AreSettled}
-use Rattle.lapd_world.proofs.Settled.{one_of_both, one_of_range}
+use Rattle.lapd_pair_world.specs.Histories as world
+use Rattle.lapd_pair_world.specs.Histories.{with_sending, with_acked, with_dropped}
+use Rattle.lapd_pair_world.specs.Kept.{is_one_of, AreSettled}
+use Rattle.lapd_pair_world.proofs.Settled.{one_of_both, one_of_range}
 use Rattle.lapd_pair.specs.declared.fate.Fate.{Fate}
 use Rattle.lapd_pair.specs.declared.fate.Ending.{Ending}
 use Rattle.lapd_pair.specs.declared.fate.Ending.TheVariants.{Waiting, Acked, Dropped}
 use Rattle.lapd_pair.specs.Fates.{ended, with_endings}
-use Rattle.lapd_pair.specs.declared.history.History.{History}
+use Rattle.lapd_pair.specs.declared.log.Log.{Log}
 use Rattle.lapd_pair.specs.Histories.{ending_at, fate_at, fates_of, IsHistory}
 
 -- ---- Lists made from a function of the place.
@@ -155,16 +155,16 @@ sent_fates h all at establishment fates fate e lt read =
 
 -- ---- Of a history that is kept.
 
-pub fates_len : {kept : History} {messages : List (List ℕ)} {h : world.History} → IsHistory kept messages h → vec_len kept.fates ≡ length messages
+pub fates_len : {kept : Log} {messages : List (List ℕ)} {h : world.History} → IsHistory kept messages h → vec_len kept.fates ≡ length messages
 fates_len {kept} {messages} {h} is = kept.fates.ok.0 ∙ ap length is.fates ∙ length-map-range_with_len (fate_at h) 0 (length messages)
 
-pub settled_is : {kept : History} {messages : List (List ℕ)} {h : world.History} → IsHistory kept messages h → AreSettled h → kept.acknowledged + kept.dropped ≡ h.passed
+pub settled_is : {kept : Log} {messages : List (List ℕ)} {h : world.History} → IsHistory kept messages h → AreSettled h → kept.acknowledged + kept.dropped ≡ h.passed
 settled_is is are = let a = is.acknowledged in let d = is.dropped in let p = are.counted in omega arith
 
-pub passed_within : {kept : History} {messages : List (List ℕ)} {h : world.History} → IsHistory kept messages h → AreSettled h → h.passed ≤ length messages
+pub passed_within : {kept : Log} {messages : List (List ℕ)} {h : world.History} → IsHistory kept messages h → AreSettled h → h.passed ≤ length messages
 passed_within {kept} is are = let len = fates_len is in let passed = settled_is is are in let within = kept.within in omega arith
 
-pub acked_after : (kept : History) {messages : List (List ℕ)} {h : world.History} → IsHistory kept messages h → AreSettled h → (n : ℕ) (after : List Fate)
+pub acked_after : (kept : Log) {messages : List (List ℕ)} {h : world.History} → IsHistory kept messages h → AreSettled h → (n : ℕ) (after : List Fate)
     → kept.acknowledged + kept.dropped + n ≤ vec_len kept.fates → after ≡ with_endings Acked (kept.acknowledged + kept.dropped) n kept.fates.items
     → after ≡ fates_of (length messages) (with_acked n h)
 acked_after kept {messages} {h} is are n after le e =
@@ -173,7 +173,7 @@ acked_after kept {messages} {h} is are n after le e =
     let all = acked_fates h n (length messages) (omega arith) in
     e ∙ rw (passed, is.fates) all
 
-pub dropped_after : (kept : History) {messages : List (List ℕ)} {h : world.History} → IsHistory kept messages h → AreSettled h → (n : ℕ) (after : List Fate)
+pub dropped_after : (kept : Log) {messages : List (List ℕ)} {h : world.History} → IsHistory kept messages h → AreSettled h → (n : ℕ) (after : List Fate)
     → kept.acknowledged + kept.dropped + n ≤ vec_len kept.fates → after ≡ with_endings Dropped (kept.acknowledged + kept.dropped) n kept.fates.items
     → after ≡ fates_of (length messages) (with_dropped n h)
 dropped_after kept {messages} {h} is are n after le e =
@@ -188,19 +188,19 @@ acked_count h n count e = let l = length-append h.acked (range_with_len h.passed
 pub dropped_count : (h : world.History) (n count : ℕ) → count ≡ length h.dropped → count + n ≡ length (with_dropped n h).dropped
 dropped_count h n count e = let l = length-append h.dropped (range_with_len h.passed n) in let r = length-range_with_len h.passed n in omega arith
 
-pub given_after : (kept : History) {messages : List (List ℕ)} {h : world.History} → IsHistory kept messages h → AreSettled h → h.sent_in (length messages) ≡ None
+pub given_after : (kept : Log) {messages : List (List ℕ)} {h : world.History} → IsHistory kept messages h → AreSettled h → h.sent_in (length messages) ≡ None
     → (message : List ℕ) → kept.fates.items ++ fate_with None Waiting ∷ [] ≡ fates_of (length (messages ++ message ∷ [])) h
 given_after kept {messages} {h} is are unsent message =
     rw (is.fates, length-append messages (message ∷ [])) (given_fates h (length messages) are (passed_within is are) unsent)
 
-pub unsent_after : (kept : History) {messages : List (List ℕ)} {h : world.History} → IsHistory kept messages h → AreSettled h → (place waiting establishment : ℕ)
+pub unsent_after : (kept : Log) {messages : List (List ℕ)} {h : world.History} → IsHistory kept messages h → AreSettled h → (place waiting establishment : ℕ)
     → kept.acknowledged + kept.dropped + waiting ≡ vec_len kept.fates → waiting ≤ place → kept.fates.items ≡ fates_of (length messages) (with_sending (h.passed + place) establishment h)
 unsent_after kept {messages} {h} is are place waiting establishment counted le =
     let len = fates_len is in
     let passed = settled_is is are in
     is.fates ∙ unsent_fates h (length messages) (h.passed + place) establishment (omega arith)
 
-pub sent_after : (kept : History) {messages : List (List ℕ)} {h : world.History} → IsHistory kept messages h → AreSettled h → (place waiting count at establishment : ℕ) (fate : Fate)
+pub sent_after : (kept : Log) {messages : List (List ℕ)} {h : world.History} → IsHistory kept messages h → AreSettled h → (place waiting count at establishment : ℕ) (fate : Fate)
     → kept.acknowledged + kept.dropped + waiting ≡ vec_len kept.fates → place < waiting → at ≡ kept.acknowledged + kept.dropped + place
     → length h.begun ≡ establishment → count ≡ vec_len kept.begun → fate ≡ get_or kept.fates.items at fate
     → set kept.fates.items at (fate_with (Some count) fate.end) ≡ fates_of (length messages) (with_sending (h.passed + place) establishment h)

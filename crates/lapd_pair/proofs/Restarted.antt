@@ -7,15 +7,15 @@ use Rattle.lapd_link.specs.Link.{LinkStandsFor, Setup, setup_of}
 use Rattle.lapd_link.specs.Tail.{IsTail}
 use Rattle.lapd_mod128.specs.Counting.{Tagged}
 use Rattle.lapd_queue.specs.Waiting.{Waiting}
-use Rattle.lapd_states.specs.End.{End, begin, new_end}
-use Rattle.lapd_states.specs.Parameters.{Parameters}
-use Rattle.lapd_world.specs.Histories as world
-use Rattle.lapd_world.specs.Histories.{with_rest_dropped}
-use Rattle.lapd_world.specs.Kept.{AreSettled, IsKept}
-use Rattle.lapd_world.specs.Move.{View, quietly, restarted, restarts}
-use Rattle.lapd_pair.specs.declared.history.History.{History}
+use Rattle.lapd_link_rows.specs.End.{End, begin, new_end}
+use Rattle.lapd_link_rows.specs.Parameters.{Parameters}
+use Rattle.lapd_pair_world.specs.Histories as world
+use Rattle.lapd_pair_world.specs.Histories.{with_rest_dropped}
+use Rattle.lapd_pair_world.specs.Kept.{AreSettled, IsKept}
+use Rattle.lapd_pair_world.specs.Move.{View, quietly, restarted, restarts}
+use Rattle.lapd_pair.specs.declared.log.Log.{Log}
 use Rattle.lapd_pair.specs.declared.line.Line.{Line}
-use Rattle.lapd_pair.specs.declared.station.Station.{Station}
+use Rattle.lapd_pair.specs.declared.recorded_link.RecordedLink.{RecordedLink}
 use Rattle.lapd_pair.specs.Histories.{IsHistory}
 use Rattle.lapd_pair.specs.Line.{IsOn}
 use Rattle.lapd_pair.specs.Setup.{setup_for}
@@ -45,7 +45,7 @@ new_stands link e h = record {
   put = h.put;
 }
 
-pub started_anew : (side own : Side) (parameters : Parameters) (v : View) (old : Station) (link : Link) (history : History) (inward outward inward_new outward_new : Line)
+pub started_anew : (side own : Side) (parameters : Parameters) (v : View) (old : RecordedLink) (link : Link) (history : Log) (inward outward inward_new outward_new : Line)
     → own ≡ old.link.side → ((e : End) → LinkStandsFor old.link e → parameters ≡ e.parameters) → LinkStandsFor link (new_end parameters) → setup_of link ≡ setup_for own
     → ((messages : List (List ℕ)) (h : world.History) → AreSettled h → IsHistory old.history messages h → IsHistory history messages (with_rest_dropped (length messages) h))
     → ((from : Side) → IsOn from inward_new []) → ((from : Side) → IsOn from outward_new []) → IsKept Tagged v.station → IsView side old inward outward v

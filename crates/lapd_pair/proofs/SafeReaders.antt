@@ -10,13 +10,13 @@ use Rattle.std.specs.declared.alloc.Global.{Global}
 use Rattle.lapd_frame.specs.Address.{other_side}
 use Rattle.lapd_frame.specs.declared.Side.{Side}
 use Rattle.lapd_frame.specs.declared.Side.TheVariants.{User, Network}
-use Rattle.lapd_invariant.proofs.Reached.{every_run_safe}
+use Rattle.lapd_pair_proof.proofs.Reached.{every_run_safe}
 use Rattle.lapd_mod128.specs.Counting.{Tagged}
-use Rattle.lapd_world.specs.Histories as world
-use Rattle.lapd_world.specs.Histories.{Receipt}
-use Rattle.lapd_world.specs.Kept.{is_one_of}
-use Rattle.lapd_world.specs.Safe.{IsAmong, AreNeighboursAfter, AreNeighbours, IsSafe}
-use Rattle.lapd_world.specs.World.{new_world, run}
+use Rattle.lapd_pair_world.specs.Histories as world
+use Rattle.lapd_pair_world.specs.Histories.{Receipt}
+use Rattle.lapd_pair_world.specs.Kept.{is_one_of}
+use Rattle.lapd_pair_world.specs.Safe.{IsAmong, AreNeighboursAfter, AreNeighbours, IsSafe}
+use Rattle.lapd_pair_world.specs.World.{new_world, run}
 use Rattle.lapd_pair.specs.Establishments.{establishment_at}
 use Rattle.lapd_pair.specs.Histories.{ending_at, fate_at, fates_of, octets_and_establishment, of_received, IsHistory}
 use Rattle.lapd_pair.specs.Pair.{IsReached}
@@ -24,7 +24,7 @@ use Rattle.lapd_pair.specs.Readers.{octets_at, sent_in_at, IsSafeReading, IsSafe
 use Rattle.lapd_pair.specs.declared.fate.Ending.{Ending}
 use Rattle.lapd_pair.specs.declared.fate.Ending.TheVariants.{Waiting, Acked, Dropped}
 use Rattle.lapd_pair.specs.declared.fate.Fate.{Fate}
-use Rattle.lapd_pair.specs.declared.history.History.{History}
+use Rattle.lapd_pair.specs.declared.log.Log.{Log}
 use Rattle.lapd_pair.specs.declared.pair.Pair.{Pair}
 use Rattle.lapd_pair.specs.declared.received.Received.{Received}
 
@@ -139,7 +139,7 @@ acked_at h all place is =
 
 -- ---- One side against the other.
 
-safe_reading : (sender receiver : History) (messages others : List (List ℕ)) (h g : world.History) → IsHistory sender messages h → IsHistory receiver others g → IsSafe messages h.sent_in h.acked g.received
+safe_reading : (sender receiver : Log) (messages others : List (List ℕ)) (h g : world.History) → IsHistory sender messages h → IsHistory receiver others g → IsSafe messages h.sent_in h.acked g.received
     → IsSafeReading sender.given.items sender.fates.items receiver.received.items receiver.begun.items
 safe_reading sender receiver messages others h g sends receives safe =
     let establishments = same_establishments receiver.received.items g.received receives.received in

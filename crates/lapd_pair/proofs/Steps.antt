@@ -9,31 +9,31 @@ use Rattle.lapd_frame.specs.declared.Control.TheVariants.{I, Ui}
 use Rattle.lapd_frame.specs.Frame.{n201}
 use Rattle.lapd_link.specs.Link.{LinkStandsFor, setup_of, Steps}
 use Rattle.lapd_mod128.specs.Counting.{Tagged}
-use Rattle.lapd_states.specs.declared.event.LinkFault.{LinkFault}
-use Rattle.lapd_states.specs.declared.event.Event.{Event}
-use Rattle.lapd_states.specs.declared.event.Event.TheVariants as event
-use Rattle.lapd_states.specs.declared.out.Out.{Out}
-use Rattle.lapd_states.specs.declared.state.State.{State}
-use Rattle.lapd_states.specs.declared.state.State.TheVariants.{TeiAssigned, AwaitingEstablishment, AwaitingRelease, MultipleFrameEstablished, TimerRecovery}
-use Rattle.lapd_states.specs.Begins.{begins}
-use Rattle.lapd_states.specs.Counts.{ups, unit_ups, messages_of, accepts, hears_unit}
-use Rattle.lapd_states.specs.End.{End, StepState}
-use Rattle.lapd_states.specs.Input as input
-use Rattle.lapd_states.specs.Input.{Input, input_of}
-use Rattle.lapd_states.specs.Table.{step}
-use Rattle.lapd_states.proofs.InputsThatCount.{begun_by_step, begun_by_no_step, given_after, ups_after}
-use Rattle.lapd_states.proofs.KeptByStep.{step_is_short}
-use Rattle.lapd_states.proofs.Soundness.{sound_step}
-use Rattle.lapd_states.proofs.UnitsOfStep.{units_after}
-use Rattle.lapd_world.specs.Histories as world
-use Rattle.lapd_world.specs.Histories.{Occasion, Story, told, with_beginning}
-use Rattle.lapd_world.specs.Kept.{AreSettled, IsKept}
-use Rattle.lapd_world.specs.Move.{View, story_after, view_after, stepped}
-use Rattle.lapd_world.proofs.Keeping.{outputs_in_order, first_within, begun_counted, counted_by}
-use Rattle.lapd_world.proofs.Telling.{settled_alike}
-use Rattle.lapd_pair.specs.declared.history.History.{History}
+use Rattle.lapd_link_rows.specs.declared.event.LinkFault.{LinkFault}
+use Rattle.lapd_link_rows.specs.declared.event.Event.{Event}
+use Rattle.lapd_link_rows.specs.declared.event.Event.TheVariants as event
+use Rattle.lapd_link_rows.specs.declared.out.Out.{Out}
+use Rattle.lapd_link_rows.specs.declared.state.State.{State}
+use Rattle.lapd_link_rows.specs.declared.state.State.TheVariants.{TeiAssigned, AwaitingEstablishment, AwaitingRelease, MultipleFrameEstablished, TimerRecovery}
+use Rattle.lapd_link_rows.specs.Begins.{begins}
+use Rattle.lapd_link_rows.specs.Counts.{ups, unit_ups, messages_of, accepts, hears_unit}
+use Rattle.lapd_link_rows.specs.End.{End, StepState}
+use Rattle.lapd_link_rows.specs.Input as input
+use Rattle.lapd_link_rows.specs.Input.{Input, input_of}
+use Rattle.lapd_link_rows.specs.Table.{step}
+use Rattle.lapd_link_rows.proofs.InputsThatCount.{begun_by_step, begun_by_no_step, given_after, ups_after}
+use Rattle.lapd_link_rows.proofs.KeptByStep.{step_is_short}
+use Rattle.lapd_link_rows.proofs.Soundness.{sound_step}
+use Rattle.lapd_link_rows.proofs.UnitsOfStep.{units_after}
+use Rattle.lapd_pair_world.specs.Histories as world
+use Rattle.lapd_pair_world.specs.Histories.{Occasion, Story, told, with_beginning}
+use Rattle.lapd_pair_world.specs.Kept.{AreSettled, IsKept}
+use Rattle.lapd_pair_world.specs.Move.{View, story_after, view_after, stepped}
+use Rattle.lapd_pair_world.proofs.Keeping.{outputs_in_order, first_within, begun_counted, counted_by}
+use Rattle.lapd_pair_world.proofs.Telling.{settled_alike}
+use Rattle.lapd_pair.specs.declared.log.Log.{Log}
 use Rattle.lapd_pair.specs.declared.line.Line.{Line}
-use Rattle.lapd_pair.specs.declared.station.Station.{Station}
+use Rattle.lapd_pair.specs.declared.recorded_link.RecordedLink.{RecordedLink}
 use Rattle.lapd_pair.specs.Histories.{IsHistory}
 use Rattle.lapd_pair.specs.Line.{IsOn}
 use Rattle.lapd_pair.specs.Station.{IsStation, IsActed, IsHanded}
@@ -86,7 +86,7 @@ occasion_of octets place s = record { given = s.end.given; establishment = s.end
 abbrev story_before : View → StepState → Story
 story_before v s = record { line = v.outgoing; history = with_beginning v.station.end.establishments s.end.establishments v.station.history }
 
-telling_begins : (side : Side) (place : ℕ) (input : Input) (octets : List ℕ) (copy : Option (Vec ℕ Global)) (v : View) (s : StepState) (before now : Station) (outward : Line)
+telling_begins : (side : Side) (place : ℕ) (input : Input) (octets : List ℕ) (copy : Option (Vec ℕ Global)) (v : View) (s : StepState) (before now : RecordedLink) (outward : Line)
     → IsKept Tagged v.station → IsStation side before v.station → IsOn side outward v.outgoing → length octets ≤ n201 → IsHanded input octets copy → step Tagged input v.station.end ≡ Ok s
     → LinkStandsFor now.link s.end → setup_of now.link ≡ setup_of before.link → IsHistory now.history s.end.given (with_beginning v.station.end.establishments s.end.establishments v.station.history)
     → IsTelling side s.end (occasion_of octets place s) s.outs now outward copy (story_before v s)
@@ -112,7 +112,7 @@ telling_begins side place input octets copy v s before now outward kept shown on
 abbrev Did : StepState → Result StepState LinkFault
 Did s = Ok s
 
-acted_by : (side : Side) (place : ℕ) (octets : List ℕ) (copy : Option (Vec ℕ Global)) (v : View) (s : StepState) (after : Station) (outward : Line) (result : Result StepState LinkFault) (outs : List Out)
+acted_by : (side : Side) (place : ℕ) (octets : List ℕ) (copy : Option (Vec ℕ Global)) (v : View) (s : StepState) (after : RecordedLink) (outward : Line) (result : Result StepState LinkFault) (outs : List Out)
     → result ≡ Did s → s.outs ≡ outs → IsTelling side s.end (occasion_of octets place s) [] after outward copy (told (occasion_of octets place s) s.outs (story_before v s))
     → IsActed side after outward (stepped octets place v result) outs
 unfolding view_after story_after
@@ -125,16 +125,16 @@ acted_by side place octets copy v s after outward result outs is same h = record
 }
 
 -- what is said of these outputs is said of those, which are the same
-abbrev pub TellsAll : List ℕ → List Out → Station → Line → Option (Vec ℕ Global) → Station → Line → Option (Vec ℕ Global) → Type 0
+abbrev pub TellsAll : List ℕ → List Out → RecordedLink → Line → Option (Vec ℕ Global) → RecordedLink → Line → Option (Vec ℕ Global) → Type 0
 TellsAll octets outs now outward copy after outward_after copy_after =
     (side : Side) (e : End) (o : Occasion) (t : Story) → octets ≡ o.octets → IsTelling side e o outs now outward copy t → IsTelling side e o [] after outward_after copy_after (told o outs t)
 
-pub tells_of : (octets : List ℕ) (these those : List Out) (now : Station) (outward : Line) (copy : Option (Vec ℕ Global)) (after : Station) (outward_after : Line) (copy_after : Option (Vec ℕ Global)) → these ≡ those
+pub tells_of : (octets : List ℕ) (these those : List Out) (now : RecordedLink) (outward : Line) (copy : Option (Vec ℕ Global)) (after : RecordedLink) (outward_after : Line) (copy_after : Option (Vec ℕ Global)) → these ≡ those
     → TellsAll octets these now outward copy after outward_after copy_after → TellsAll octets those now outward copy after outward_after copy_after
 tells_of octets these those now outward copy after outward_after copy_after same tells = subst (λ (x : List Out). TellsAll octets x now outward copy after outward_after copy_after) same tells
 
 -- a step for an event
-pub step_acted : (side : Side) (place : ℕ) (input : Input) (octets : List ℕ) (copy copy_after : Option (Vec ℕ Global)) (v : View) (outs : List Out) (starts : Bool) (before now after : Station) (outward outward_after : Line)
+pub step_acted : (side : Side) (place : ℕ) (input : Input) (octets : List ℕ) (copy copy_after : Option (Vec ℕ Global)) (v : View) (outs : List Out) (starts : Bool) (before now after : RecordedLink) (outward outward_after : Line)
     → messages_of input ≡ [] → IsKept Tagged v.station → IsStation side before v.station → IsOn side outward v.outgoing → length octets ≤ n201 → IsHanded input octets copy
     → Steps before.link now.link input outs → setup_of now.link ≡ setup_of before.link
     → ((e : End) → LinkStandsFor before.link e → starts ≡ begins e.state e.release_pending input)
@@ -166,7 +166,7 @@ no_message (event.Unit len) = refl
 
 -- ---- A message is given.
 
-unless_begun : (same : Bool) (kept : History) (messages : List (List ℕ)) (h : world.History) (n : ℕ) → same ≡ true → IsHistory kept messages h → IsHistory kept messages (record h { begun = if same then h.begun else h.begun ++ n ∷ [] })
+unless_begun : (same : Bool) (kept : Log) (messages : List (List ℕ)) (h : world.History) (n : ℕ) → same ≡ true → IsHistory kept messages h → IsHistory kept messages (record h { begun = if same then h.begun else h.begun ++ n ∷ [] })
 unless_begun true kept messages h n is shown = shown
 unless_begun false kept messages h n is shown = cc
 
@@ -178,7 +178,7 @@ begins_none MultipleFrameEstablished release_pending message = refl
 begins_none TimerRecovery release_pending message = refl
 
 -- a message, which begins no establishment
-pub give_acted : (side : Side) (message : List ℕ) (copy copy_after : Option (Vec ℕ Global)) (v : View) (outs : List Out) (before now after : Station) (outward outward_after : Line)
+pub give_acted : (side : Side) (message : List ℕ) (copy copy_after : Option (Vec ℕ Global)) (v : View) (outs : List Out) (before now after : RecordedLink) (outward outward_after : Line)
     → copy ≡ None → IsKept Tagged v.station → IsStation side before v.station → IsOn side outward v.outgoing
     → Steps before.link now.link (input.Give message) outs → setup_of now.link ≡ setup_of before.link
     → ((messages : List (List ℕ)) (h : world.History) → AreSettled h → h.sent_in (length messages) ≡ None → IsHistory before.history messages h → IsHistory now.history (messages ++ message ∷ []) h)

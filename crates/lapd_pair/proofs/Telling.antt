@@ -11,19 +11,19 @@ use Rattle.lapd_frame.specs.declared.Control.TheVariants.{Ui}
 use Rattle.lapd_frame.specs.Frame.{Fields, n201, content_fault}
 use Rattle.lapd_link.specs.Link.{Setup, setup_of}
 use Rattle.lapd_link.specs.SentFrame.{link_frame, message_frame, made_frame}
-use Rattle.lapd_states.specs.declared.out.Out.{Out}
-use Rattle.lapd_states.specs.declared.out.Out.TheVariants.{Send, SendMessage, SendUnit, Up, UnitUp, Acknowledged, Dropped}
-use Rattle.lapd_states.specs.Counts.{leaving, ups, unit_ups}
-use Rattle.lapd_states.specs.End.{End}
-use Rattle.lapd_states.specs.Spoken.{AreShort}
-use Rattle.lapd_world.specs.Histories as world
-use Rattle.lapd_world.specs.Histories.{Occasion, Story, tell, told, with_sending, with_receipt, with_acked, with_dropped}
-use Rattle.lapd_world.specs.Kept.{AreSettled, AreInOrder}
-use Rattle.lapd_world.specs.Line.{Flight}
-use Rattle.lapd_world.proofs.Telling.{message_is_short, unit_is_proper, in_order_then, settled_then, begun_then}
-use Rattle.lapd_pair.specs.declared.history.History.{History}
+use Rattle.lapd_link_rows.specs.declared.out.Out.{Out}
+use Rattle.lapd_link_rows.specs.declared.out.Out.TheVariants.{Send, SendMessage, SendUnit, Up, UnitUp, Acknowledged, Dropped}
+use Rattle.lapd_link_rows.specs.Counts.{leaving, ups, unit_ups}
+use Rattle.lapd_link_rows.specs.End.{End}
+use Rattle.lapd_link_rows.specs.SentFrames.{AreShort}
+use Rattle.lapd_pair_world.specs.Histories as world
+use Rattle.lapd_pair_world.specs.Histories.{Occasion, Story, tell, told, with_sending, with_receipt, with_acked, with_dropped}
+use Rattle.lapd_pair_world.specs.Kept.{AreSettled, AreInOrder}
+use Rattle.lapd_pair_world.specs.Line.{Flight}
+use Rattle.lapd_pair_world.proofs.Telling.{message_is_short, unit_is_proper, in_order_then, settled_then, begun_then}
+use Rattle.lapd_pair.specs.declared.log.Log.{Log}
 use Rattle.lapd_pair.specs.declared.line.Line.{Line}
-use Rattle.lapd_pair.specs.declared.station.Station.{Station}
+use Rattle.lapd_pair.specs.declared.recorded_link.RecordedLink.{RecordedLink}
 use Rattle.lapd_pair.specs.Histories.{IsHistory, HasRoom, data_room}
 use Rattle.lapd_pair.specs.Line.{fields_of, link_address, IsOn, HasRoomFor}
 use Rattle.lapd_pair.specs.Setup.{setup_for}
@@ -78,7 +78,7 @@ told_apart o (Acknowledged n) t = refl
 told_apart o (Dropped n) t = refl
 told_apart o out t = refl
 
-pub sent_on : (side from : Side) (e : End) (o : Occasion) (out : Out) (rest : List Out) (s : Station) (before after : Line) (copy : Option (Vec ℕ Global)) (t : Story) (octets : List ℕ) (f : Fields)
+pub sent_on : (side from : Side) (e : End) (o : Occasion) (out : Out) (rest : List Out) (s : RecordedLink) (before after : Line) (copy : Option (Vec ℕ Global)) (t : Story) (octets : List ℕ) (f : Fields)
     → from ≡ s.link.side → made_frame (setup_of s.link) (drop e.first e.given) octets out ≡ Some f → ((line : List Flight) (sent : Flight) → IsOn from before line → fields_of sent ≡ f → IsOn from after (with_sent (Some sent) line))
     → octets ≡ o.octets → IsTelling side e o (out ∷ rest) s before copy t → IsOn side after (with_sent (flight_of o t.history.passed out) t.line)
 sent_on side from e o out rest s before after copy t octets f own is shows same h =
@@ -87,7 +87,7 @@ sent_on side from e o out rest s before after copy t octets f own is shows same 
     let Shows : Side → Type 0 = λ x. (line : List Flight) (sent : Flight) → IsOn x before line → fields_of sent ≡ f → IsOn x after (with_sent (Some sent) line) in
     told_where side before after t.line (flight_of o t.history.passed out) f (sym frame ∙ ap (λ x. made_frame (setup_of s.link) (drop e.first e.given) x out) (sym same) ∙ is) (λ sent are. subst Shows sends shows t.line sent h.line are)
 
-pub sent_nothing : (side : Side) (e : End) (o : Occasion) (out : Out) (rest : List Out) (s : Station) (before : Line) (copy : Option (Vec ℕ Global)) (t : Story) (octets : List ℕ)
+pub sent_nothing : (side : Side) (e : End) (o : Occasion) (out : Out) (rest : List Out) (s : RecordedLink) (before : Line) (copy : Option (Vec ℕ Global)) (t : Story) (octets : List ℕ)
     → made_frame (setup_of s.link) (drop e.first e.given) octets out ≡ None
     → octets ≡ o.octets → IsTelling side e o (out ∷ rest) s before copy t → IsOn side before (with_sent (flight_of o t.history.passed out) t.line)
 sent_nothing side e o out rest s before copy t octets is same h =
@@ -104,12 +104,12 @@ copied_octets : (octets : List ℕ) (n : ℕ) (copy : Option (Vec ℕ Global)) (
 copied_octets octets n copy held is h = let there : IsCopy octets n (Some held) = rw is at h in there.1
 
 -- what is written down, by each output that says something
-pub written_message : (side : Side) (e : End) (o : Occasion) (out : Out) (rest : List Out) (s : Station) (line : Line) (copy : Option (Vec ℕ Global)) (t : Story) (after : History) (n : ℕ) (control : Control)
+pub written_message : (side : Side) (e : End) (o : Occasion) (out : Out) (rest : List Out) (s : RecordedLink) (line : Line) (copy : Option (Vec ℕ Global)) (t : Story) (after : Log) (n : ℕ) (control : Control)
     → out ≡ SendMessage n control → ((messages : List (List ℕ)) (h : world.History) (establishment : ℕ) → length h.begun ≡ establishment → AreSettled h → IsHistory s.history messages h → IsHistory after messages (with_sending (h.passed + n) establishment h))
     → IsTelling side e o (out ∷ rest) s line copy t → IsHistory after e.given (history_told o out t.history)
 written_message side e o out rest s line copy t after n control is does h = rw is (does e.given t.history o.establishment h.begun h.settled h.history)
 
-pub written_acknowledged : (side : Side) (e : End) (o : Occasion) (out : Out) (rest : List Out) (s : Station) (line : Line) (copy : Option (Vec ℕ Global)) (t : Story) (after : History) (n : ℕ)
+pub written_acknowledged : (side : Side) (e : End) (o : Occasion) (out : Out) (rest : List Out) (s : RecordedLink) (line : Line) (copy : Option (Vec ℕ Global)) (t : Story) (after : Log) (n : ℕ)
     → out ≡ Acknowledged n → ((messages : List (List ℕ)) (h : world.History) → AreSettled h → h.passed + n ≤ length messages → IsHistory s.history messages h → IsHistory after messages (with_acked n h))
     → IsTelling side e o (out ∷ rest) s line copy t → IsHistory after e.given (history_told o out t.history)
 written_acknowledged side e o out rest s line copy t after n is does h =
@@ -118,7 +118,7 @@ written_acknowledged side e o out rest s line copy t after n is does h =
     let few : t.history.passed + n ≤ length e.given = omega (arith, told) in
     rw is (does e.given t.history h.settled few h.history)
 
-pub written_dropped : (side : Side) (e : End) (o : Occasion) (out : Out) (rest : List Out) (s : Station) (line : Line) (copy : Option (Vec ℕ Global)) (t : Story) (after : History) (n : ℕ)
+pub written_dropped : (side : Side) (e : End) (o : Occasion) (out : Out) (rest : List Out) (s : RecordedLink) (line : Line) (copy : Option (Vec ℕ Global)) (t : Story) (after : Log) (n : ℕ)
     → out ≡ Dropped n → ((messages : List (List ℕ)) (h : world.History) → AreSettled h → h.passed + n ≤ length messages → IsHistory s.history messages h → IsHistory after messages (with_dropped n h))
     → IsTelling side e o (out ∷ rest) s line copy t → IsHistory after e.given (history_told o out t.history)
 written_dropped side e o out rest s line copy t after n is does h =
@@ -127,7 +127,7 @@ written_dropped side e o out rest s line copy t after n is does h =
     let few : t.history.passed + n ≤ length e.given = omega (arith, told) in
     rw is (does e.given t.history h.settled few h.history)
 
-pub written_receipt : (side : Side) (e : End) (o : Occasion) (out : Out) (rest : List Out) (s : Station) (line : Line) (copy : Option (Vec ℕ Global)) (t : Story) (after : History) (octets : Vec ℕ Global)
+pub written_receipt : (side : Side) (e : End) (o : Occasion) (out : Out) (rest : List Out) (s : RecordedLink) (line : Line) (copy : Option (Vec ℕ Global)) (t : Story) (after : Log) (octets : Vec ℕ Global)
     → out ≡ Up → copy ≡ Some octets → ((messages : List (List ℕ)) (h : world.History) (establishment place : ℕ) → length h.begun ≡ establishment → IsHistory s.history messages h
     → IsHistory after messages (with_receipt (record { octets = octets.items; establishment = establishment; place = place }) h))
     → IsTelling side e o (out ∷ rest) s line copy t → IsHistory after e.given (history_told o out t.history)
@@ -138,7 +138,7 @@ written_receipt side e o out rest s line copy t after octets is held does h =
 -- ---- All outputs are told.
 
 -- with `rest` still to be told, what was shown before the first output is shown as far as the others were told
-pub record AreToldUpTo (all : List Out) (octets : List ℕ) (before : Station) (line_before : Line) (copy_before : Option (Vec ℕ Global)) (rest : List Out) (now : Station) (line_now : Line) (copy_now : Option (Vec ℕ Global)) : Type 0 where
+pub record AreToldUpTo (all : List Out) (octets : List ℕ) (before : RecordedLink) (line_before : Line) (copy_before : Option (Vec ℕ Global)) (rest : List Out) (now : RecordedLink) (line_now : Line) (copy_now : Option (Vec ℕ Global)) : Type 0 where
   pub shows : (side : Side) (e : End) (o : Occasion) (t : Story) → octets ≡ o.octets → IsTelling side e o all before line_before copy_before t
       → (u : Story) × IsTelling side e o rest now line_now copy_now u × (told o rest u ≡ told o all t)
   pub link : now.link ≡ before.link
@@ -146,7 +146,7 @@ pub record AreToldUpTo (all : List Out) (octets : List ℕ) (before : Station) (
   pub history_room : IfSome copy_now (λ _. HasRoom data_room now.history)
 
 -- one more is told
-then_told : (side : Side) (e : End) (o : Occasion) (out : Out) (rest : List Out) (s after : Station) (line line_after : Line) (copy copy_after : Option (Vec ℕ Global)) (t : Story)
+then_told : (side : Side) (e : End) (o : Occasion) (out : Out) (rest : List Out) (s after : RecordedLink) (line line_after : Line) (copy copy_after : Option (Vec ℕ Global)) (t : Story)
     → after.link ≡ s.link → IsOn side line_after (with_sent (flight_of o t.history.passed out) t.line) → IsHistory after.history e.given (history_told o out t.history) → IsCopy o.octets (ups rest + unit_ups rest) copy_after
     → IsTelling side e o (out ∷ rest) s line copy t → IsTelling side e o rest after line_after copy_after (tell o out t)
 then_told side e o out rest s after line line_after copy copy_after t same on written copied h = record {
@@ -164,7 +164,7 @@ then_told side e o out rest s after line line_after copy copy_after t same on wr
   copied = copied;
 }
 
-pub one_told : (all : List Out) (octets : List ℕ) (before : Station) (line_before : Line) (copy_before : Option (Vec ℕ Global)) (out : Out) (rest : List Out) (s after : Station) (line line_after : Line) (copy copy_after : Option (Vec ℕ Global))
+pub one_told : (all : List Out) (octets : List ℕ) (before : RecordedLink) (line_before : Line) (copy_before : Option (Vec ℕ Global)) (out : Out) (rest : List Out) (s after : RecordedLink) (line line_after : Line) (copy copy_after : Option (Vec ℕ Global))
     → ((side : Side) (e : End) (o : Occasion) (rest : List Out) (copy : Option (Vec ℕ Global)) (t : Story) → octets ≡ o.octets → IsTelling side e o (out ∷ rest) s line copy t → IsOn side line_after (with_sent (flight_of o t.history.passed out) t.line))
     → ((side : Side) (e : End) (o : Occasion) (rest : List Out) (line : Line) (t : Story) → IsTelling side e o (out ∷ rest) s line copy t → IsHistory after.history e.given (history_told o out t.history))
     → ((octets : List ℕ) (rest : List Out) → IsCopy octets (ups (out ∷ rest) + unit_ups (out ∷ rest)) copy → IsCopy octets (ups rest + unit_ups rest) copy_after)

@@ -9,46 +9,46 @@ use Rattle.lapd_frame.specs.Address.{other_side}
 use Rattle.lapd_frame.specs.Frame.{Fields, IsFrame, n201, spelling}
 use Rattle.lapd_link.specs.Link.{Setup}
 use Rattle.lapd_mod128.specs.Counting.{Tagged}
-use Rattle.lapd_states.specs.declared.event.LinkFault.{LinkFault}
-use Rattle.lapd_states.specs.declared.out.Out.{Out}
-use Rattle.lapd_states.specs.End.{StepState}
-use Rattle.lapd_states.specs.Input as input
-use Rattle.lapd_states.specs.Input.{Input, Expiry}
-use Rattle.lapd_states.specs.Table.{step}
-use Rattle.lapd_world.specs.Kept.{IsKept}
-use Rattle.lapd_world.specs.Line.{Flight, without_lost, first_poll, first_final}
-use Rattle.lapd_world.specs.Move as world
-use Rattle.lapd_world.specs.Move.{View, Acted, Refusal, Refused, NothingThere, NotRunning, NotYet, view_after, stepped, hears, takes, delivers, busy_input, quietly, loses, restarts, acts, expires_200, expires_203}
+use Rattle.lapd_link_rows.specs.declared.event.LinkFault.{LinkFault}
+use Rattle.lapd_link_rows.specs.declared.out.Out.{Out}
+use Rattle.lapd_link_rows.specs.End.{StepState}
+use Rattle.lapd_link_rows.specs.Input as input
+use Rattle.lapd_link_rows.specs.Input.{Input, Expiry}
+use Rattle.lapd_link_rows.specs.Table.{step}
+use Rattle.lapd_pair_world.specs.Kept.{IsKept}
+use Rattle.lapd_pair_world.specs.Line.{Flight, without_lost, first_poll, first_final}
+use Rattle.lapd_pair_world.specs.Move as world
+use Rattle.lapd_pair_world.specs.Move.{View, Turn, Refusal, Refused, NothingThere, NotRunning, NotYet, view_after, stepped, hears, takes, delivers, busy_input, quietly, loses, restarts, acts, expires_200, expires_203}
 use Rattle.lapd_frame.proofs.Lengths.{content_is_short}
 use Rattle.lapd_pair.specs.declared.line.Line.{Line}
 use Rattle.lapd_pair.specs.declared.moves.Move.{Move}
 use Rattle.lapd_pair.specs.declared.moves.Move.TheVariants as moves
 use Rattle.lapd_pair.specs.declared.pair_fault.PairFault.{PairFault}
-use Rattle.lapd_pair.specs.declared.station.Station.{Station}
+use Rattle.lapd_pair.specs.declared.recorded_link.RecordedLink.{RecordedLink}
 use Rattle.lapd_pair.specs.Line.{fields_of, IsOn, IsFirst}
 use Rattle.lapd_pair.specs.Moves.{move_of, IsRefusedAs}
 use Rattle.lapd_pair.specs.Station.{IsStation, IsView, IsActed, IsDone, Acts, RefusesAs, ShowsAsBefore, ActsInView, RefusesInView, ShowsViewAsBefore}
 use Rattle.lapd_pair.proofs.Lines.{first_is_read}
 
 abbrev Deed : Type 0
-Deed = Side → View → Result Acted Refusal
+Deed = Side → View → Result Turn Refusal
 
 -- ---- A step takes nothing off the line.
 
-abbrev Did : Acted → Result Acted Refusal
+abbrev Did : Turn → Result Turn Refusal
 Did acted = Ok acted
 
-same_acted : (a b : Acted) → Did a ≡ Did b → a ≡ b
+same_acted : (a b : Turn) → Did a ≡ Did b → a ≡ b
 same_acted a b h = cc
 
-stepped_takes_none : (octets : List ℕ) (place : ℕ) (v : View) (result : Result StepState LinkFault) (acted : Acted) → stepped octets place v result ≡ Did acted → acted.view.incoming ≡ v.incoming
+stepped_takes_none : (octets : List ℕ) (place : ℕ) (v : View) (result : Result StepState LinkFault) (acted : Turn) → stepped octets place v result ≡ Did acted → acted.view.incoming ≡ v.incoming
 unfolding view_after
-stepped_takes_none octets place v (Ok s) acted is = ap (λ (a : Acted). a.view.incoming) (sym (same_acted (record { view = view_after octets place v s; outs = s.outs }) acted is))
+stepped_takes_none octets place v (Ok s) acted is = ap (λ (a : Turn). a.view.incoming) (sym (same_acted (record { view = view_after octets place v s; outs = s.outs }) acted is))
 stepped_takes_none octets place v (Err fault) acted is = cc
 
 -- what comes of a deed leaves what is on its way to the side as it is
 abbrev pub TakesNone : Deed → Type 0
-TakesNone deed = (side : Side) (v : View) (acted : Acted) → deed side v ≡ Did acted → acted.view.incoming ≡ v.incoming
+TakesNone deed = (side : Side) (v : View) (acted : Turn) → deed side v ≡ Did acted → acted.view.incoming ≡ v.incoming
 
 pub request_takes_none : (i : Input) (octets : List ℕ) → TakesNone (λ side v. takes Tagged i octets v)
 unfolding takes
@@ -56,7 +56,7 @@ request_takes_none i octets side v acted is = stepped_takes_none octets 0 v (ste
 
 -- ---- From a side to what it sees.
 
-pub acts_in_view : (deed : Deed) (old new : Station) (inward outward outward_new : Line) (r : Result (ArrayVec Out) PairFault) → TakesNone deed
+pub acts_in_view : (deed : Deed) (old new : RecordedLink) (inward outward outward_new : Line) (r : Result (ArrayVec Out) PairFault) → TakesNone deed
     → IfOk r (Acts old outward new outward_new deed) → IfOk r (ActsInView old inward outward new inward outward_new deed)
 acts_in_view deed old new inward outward outward_new (Err fault) none h = tt
 acts_in_view deed old new inward outward outward_new (Ok outs) none h = λ side v kept shown.
@@ -68,11 +68,11 @@ acts_in_view deed old new inward outward outward_new (Ok outs) none h = λ side 
       view = record { station = a.station; incoming = subst (IsOn (other_side side) inward) (sym (none side v a.acted a.is)) shown.incoming; outgoing = a.outgoing };
     }
 
-pub refuses_in_view : (deed : Deed) (old : Station) (inward outward : Line) (r : Result (ArrayVec Out) PairFault) → IfErr r (RefusesAs old deed) → IfErr r (RefusesInView old inward outward deed)
+pub refuses_in_view : (deed : Deed) (old : RecordedLink) (inward outward : Line) (r : Result (ArrayVec Out) PairFault) → IfErr r (RefusesAs old deed) → IfErr r (RefusesInView old inward outward deed)
 refuses_in_view deed old inward outward (Ok outs) h = tt
 refuses_in_view deed old inward outward (Err fault) h = λ side v shown. h side v shown.station
 
-pub shows_view : (old new : Station) (inward outward outward_new : Line) (r : Result (ArrayVec Out) PairFault) → OnErr r (ShowsAsBefore old outward new outward_new)
+pub shows_view : (old new : RecordedLink) (inward outward outward_new : Line) (r : Result (ArrayVec Out) PairFault) → OnErr r (ShowsAsBefore old outward new outward_new)
     → OnErr r (ShowsViewAsBefore old inward outward new inward outward_new)
 shows_view old new inward outward outward_new (Ok outs) h = tt
 shows_view old new inward outward outward_new (Err fault) h = λ side v shown.
@@ -81,7 +81,7 @@ shows_view old new inward outward outward_new (Err fault) h = λ side v shown.
 -- ---- From what a side sees once it has looked at the line.
 
 -- it sees the same, where each line shows the same of its sender
-pub seen_alike : (side own other : Side) (s : Station) (inward inward_seen outward outward_seen : Line) (v : View) → own ≡ side → other_side side ≡ other
+pub seen_alike : (side own other : Side) (s : RecordedLink) (inward inward_seen outward outward_seen : Line) (v : View) → own ≡ side → other_side side ≡ other
     → (IsOn other inward v.incoming → IsOn other inward_seen v.incoming) → (IsOn own outward v.outgoing → IsOn own outward_seen v.outgoing) → IsView side s inward outward v → IsView side s inward_seen outward_seen v
 seen_alike side own other s inward inward_seen outward outward_seen v mine theirs comes goes shown = record {
   station = shown.station;
@@ -89,41 +89,41 @@ seen_alike side own other s inward inward_seen outward outward_seen v mine their
   outgoing = subst (λ (x : Side). IsOn x outward_seen v.outgoing) mine (goes (subst (λ (x : Side). IsOn x outward v.outgoing) (sym mine) shown.outgoing));
 }
 
-pub acts_as_seen : (deed : Deed) (old new : Station) (inward inward_seen inward_new outward outward_seen outward_new : Line) (r : Result (ArrayVec Out) PairFault) → ShowsViewAsBefore old inward outward old inward_seen outward_seen
+pub acts_as_seen : (deed : Deed) (old new : RecordedLink) (inward inward_seen inward_new outward outward_seen outward_new : Line) (r : Result (ArrayVec Out) PairFault) → ShowsViewAsBefore old inward outward old inward_seen outward_seen
     → IfOk r (ActsInView old inward_seen outward_seen new inward_new outward_new deed) → IfOk r (ActsInView old inward outward new inward_new outward_new deed)
 acts_as_seen deed old new inward inward_seen inward_new outward outward_seen outward_new (Err fault) seen h = tt
 acts_as_seen deed old new inward inward_seen inward_new outward outward_seen outward_new (Ok outs) seen h = λ side v kept shown. h side v kept (seen side v shown)
 
-pub shows_as_seen : (old new : Station) (inward inward_seen inward_new outward outward_seen outward_new : Line) (r : Result (ArrayVec Out) PairFault) → ShowsViewAsBefore old inward outward old inward_seen outward_seen
+pub shows_as_seen : (old new : RecordedLink) (inward inward_seen inward_new outward outward_seen outward_new : Line) (r : Result (ArrayVec Out) PairFault) → ShowsViewAsBefore old inward outward old inward_seen outward_seen
     → OnErr r (ShowsViewAsBefore old inward_seen outward_seen new inward_new outward_new) → OnErr r (ShowsViewAsBefore old inward outward new inward_new outward_new)
 shows_as_seen old new inward inward_seen inward_new outward outward_seen outward_new (Ok outs) seen h = tt
 shows_as_seen old new inward inward_seen inward_new outward outward_seen outward_new (Err fault) seen h = λ side v shown. h side v (seen side v shown)
 
 -- ---- A deed that comes to another, where the side shows what it does.
 
-pub acts_as : (these those : Deed) (old new : Station) (outward outward_new : Line) (r : Result (ArrayVec Out) PairFault) → ((side : Side) (v : View) → IsStation side old v.station → those side v ≡ these side v)
+pub acts_as : (these those : Deed) (old new : RecordedLink) (outward outward_new : Line) (r : Result (ArrayVec Out) PairFault) → ((side : Side) (v : View) → IsStation side old v.station → those side v ≡ these side v)
     → IfOk r (Acts old outward new outward_new these) → IfOk r (Acts old outward new outward_new those)
 acts_as these those old new outward outward_new (Err fault) same h = tt
-acts_as these those old new outward outward_new (Ok outs) same h = λ side v kept shown on. subst (λ (x : Result Acted Refusal). IsActed side new outward_new x outs.items) (sym (same side v shown)) (h side v kept shown on)
+acts_as these those old new outward outward_new (Ok outs) same h = λ side v kept shown on. subst (λ (x : Result Turn Refusal). IsActed side new outward_new x outs.items) (sym (same side v shown)) (h side v kept shown on)
 
-pub refuses_as : (these those : Deed) (old : Station) (r : Result (ArrayVec Out) PairFault) → ((side : Side) (v : View) → IsStation side old v.station → those side v ≡ these side v)
+pub refuses_as : (these those : Deed) (old : RecordedLink) (r : Result (ArrayVec Out) PairFault) → ((side : Side) (v : View) → IsStation side old v.station → those side v ≡ these side v)
     → IfErr r (RefusesAs old these) → IfErr r (RefusesAs old those)
 refuses_as these those old (Ok outs) same h = tt
-refuses_as these those old (Err fault) same h = λ side v shown. subst (λ (x : Result Acted Refusal). IsRefusedAs fault x) (sym (same side v shown)) (h side v shown)
+refuses_as these those old (Err fault) same h = λ side v shown. subst (λ (x : Result Turn Refusal). IsRefusedAs fault x) (sym (same side v shown)) (h side v shown)
 
-pub acts_as_in_view : (these those : Deed) (old new : Station) (inward outward inward_new outward_new : Line) (r : Result (ArrayVec Out) PairFault) → ((side : Side) (v : View) → IsView side old inward outward v → those side v ≡ these side v)
+pub acts_as_in_view : (these those : Deed) (old new : RecordedLink) (inward outward inward_new outward_new : Line) (r : Result (ArrayVec Out) PairFault) → ((side : Side) (v : View) → IsView side old inward outward v → those side v ≡ these side v)
     → IfOk r (ActsInView old inward outward new inward_new outward_new these) → IfOk r (ActsInView old inward outward new inward_new outward_new those)
 acts_as_in_view these those old new inward outward inward_new outward_new (Err fault) same h = tt
-acts_as_in_view these those old new inward outward inward_new outward_new (Ok outs) same h = λ side v kept shown. subst (λ (x : Result Acted Refusal). IsDone side new inward_new outward_new x outs.items) (sym (same side v shown)) (h side v kept shown)
+acts_as_in_view these those old new inward outward inward_new outward_new (Ok outs) same h = λ side v kept shown. subst (λ (x : Result Turn Refusal). IsDone side new inward_new outward_new x outs.items) (sym (same side v shown)) (h side v kept shown)
 
-pub refuses_as_in_view : (these those : Deed) (old : Station) (inward outward : Line) (r : Result (ArrayVec Out) PairFault) → ((side : Side) (v : View) → IsView side old inward outward v → those side v ≡ these side v)
+pub refuses_as_in_view : (these those : Deed) (old : RecordedLink) (inward outward : Line) (r : Result (ArrayVec Out) PairFault) → ((side : Side) (v : View) → IsView side old inward outward v → those side v ≡ these side v)
     → IfErr r (RefusesInView old inward outward these) → IfErr r (RefusesInView old inward outward those)
 refuses_as_in_view these those old inward outward (Ok outs) same h = tt
-refuses_as_in_view these those old inward outward (Err fault) same h = λ side v shown. subst (λ (x : Result Acted Refusal). IsRefusedAs fault x) (sym (same side v shown)) (h side v shown)
+refuses_as_in_view these those old inward outward (Err fault) same h = λ side v shown. subst (λ (x : Result Turn Refusal). IsRefusedAs fault x) (sym (same side v shown)) (h side v shown)
 
 -- ---- Expiries.
 
-abbrev pub Refuses : Refusal → Result Acted Refusal
+abbrev pub Refuses : Refusal → Result Turn Refusal
 Refuses refusal = Err refusal
 
 pub stands_203 : (v : View) → v.station.end.t203 ≡ false → expires_203 Tagged v ≡ Err NotRunning
@@ -151,7 +151,7 @@ unfolding expires_200
 runs_200 side v h poll final = rw (h, poll, final) refl
 
 -- whose station it is
-pub side_shown : (side own : Side) (s : Station) (t : world.Station) → own ≡ s.link.side → IsStation side s t → own ≡ side
+pub side_shown : (side own : Side) (s : RecordedLink) (t : world.Station) → own ≡ s.link.side → IsStation side s t → own ≡ side
 side_shown side own s t h shown = h ∙ ap (λ (setup : Setup). setup.side) shown.setup
 
 -- ---- A delivery.
@@ -184,7 +184,7 @@ hears_first : (v : View) (frame : Flight) (rest : List Flight) → v.incoming �
 unfolding delivers
 hears_first v frame rest h = rw h refl
 
-pub delivered : (side : Side) (v : View) (frame : Flight) (rest : List Flight) (old new : Station) (inward inward_new outward outward_new : Line) (outs : ArrayVec Out) → v.incoming ≡ frame ∷ rest → IsKept Tagged v.station → IsView side old inward outward v
+pub delivered : (side : Side) (v : View) (frame : Flight) (rest : List Flight) (old new : RecordedLink) (inward inward_new outward outward_new : Line) (outs : ArrayVec Out) → v.incoming ≡ frame ∷ rest → IsKept Tagged v.station → IsView side old inward outward v
     → Acts old outward new outward_new (λ side v. hears Tagged frame v) outs → ((from : Side) (frame : Flight) (rest : List Flight) → IsOn from inward (frame ∷ rest) → IsOn from inward_new rest)
     → IsDone side new inward_new outward_new (delivers Tagged v.incoming v) outs.items
 delivered side v frame rest old new inward inward_new outward outward_new outs is kept shown acts takes =
@@ -197,17 +197,17 @@ delivered side v frame rest old new inward inward_new outward outward_new outs i
       view = record { station = a.station; incoming = subst (IsOn (other_side side) inward_new) (sym (frame_takes_none frame side (record v { incoming = rest }) a.acted a.is)) left; outgoing = a.outgoing };
     }
 
-pub delivery_refused : (side : Side) (v : View) (frame : Flight) (rest : List Flight) (old : Station) (inward outward : Line) (fault : PairFault) → v.incoming ≡ frame ∷ rest → IsView side old inward outward v
+pub delivery_refused : (side : Side) (v : View) (frame : Flight) (rest : List Flight) (old : RecordedLink) (inward outward : Line) (fault : PairFault) → v.incoming ≡ frame ∷ rest → IsView side old inward outward v
     → RefusesAs old (λ side v. hears Tagged frame v) fault → IsRefusedAs fault (delivers Tagged v.incoming v)
-delivery_refused side v frame rest old inward outward fault is shown refuses = subst (λ (x : Result Acted Refusal). IsRefusedAs fault x) (sym (hears_first v frame rest is)) (refuses side (record v { incoming = rest }) shown.station)
+delivery_refused side v frame rest old inward outward fault is shown refuses = subst (λ (x : Result Turn Refusal). IsRefusedAs fault x) (sym (hears_first v frame rest is)) (refuses side (record v { incoming = rest }) shown.station)
 
 -- the side that sends on the line to this one
-pub sender_shown : (side own other : Side) (s : Station) (t : world.Station) → own ≡ s.link.side → other ≡ other_side own → IsStation side s t → other_side side ≡ other
+pub sender_shown : (side own other : Side) (s : RecordedLink) (t : world.Station) → own ≡ s.link.side → other ≡ other_side own → IsStation side s t → other_side side ≡ other
 sender_shown side own other s t mine theirs shown = sym (theirs ∙ ap other_side (side_shown side own s t mine shown))
 
 -- ---- Which deed a move is.
 
-expiry_where : (running : Bool) (side : Side) (v : View) (acted : Acted) → (if running then takes Tagged (Expiry T203) [] v else Refuses NotRunning) ≡ Did acted → acted.view.incoming ≡ v.incoming
+expiry_where : (running : Bool) (side : Side) (v : View) (acted : Turn) → (if running then takes Tagged (Expiry T203) [] v else Refuses NotRunning) ≡ Did acted → acted.view.incoming ≡ v.incoming
 expiry_where true side v acted is = request_takes_none (Expiry T203) [] side v acted is
 expiry_where false side v acted is = cc
 
@@ -265,7 +265,7 @@ pub lost_nowhere : (at : ℕ) (v : View) → nat_lt at (length v.incoming) ≡ f
 unfolding loses
 lost_nowhere at v h = rw h refl
 
-pub lost_shown : (side : Side) (at : ℕ) (v : View) (s : Station) (inward inward_new outward : Line) → nat_lt at (length v.incoming) ≡ true → IsView side s inward outward v → IsOn (other_side side) inward_new (without_lost at v.incoming)
+pub lost_shown : (side : Side) (at : ℕ) (v : View) (s : RecordedLink) (inward inward_new outward : Line) → nat_lt at (length v.incoming) ≡ true → IsView side s inward outward v → IsOn (other_side side) inward_new (without_lost at v.incoming)
     → IsDone side s inward_new outward (loses at v) []
 lost_shown side at v s inward inward_new outward there shown left = record {
   acted = record { view = record v { incoming = without_lost at v.incoming }; outs = [] };

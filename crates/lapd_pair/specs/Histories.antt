@@ -2,10 +2,10 @@
 use Rattle.std.specs.Prelude.{◌≡◌, ◌+◌, ◌≤◌, ℕ, if◌then◌else◌, List, map, length}
 use Rattle.std.specs.List.{range_with_len}
 use Rattle.std.specs.Vec.{vec_len, vec_capacity}
-use Rattle.lapd_world.specs.Histories as world
-use Rattle.lapd_world.specs.Histories.{Receipt}
-use Rattle.lapd_world.specs.Kept.{is_one_of}
-use Rattle.lapd_pair.specs.declared.history.History.{History}
+use Rattle.lapd_pair_world.specs.Histories as world
+use Rattle.lapd_pair_world.specs.Histories.{Receipt}
+use Rattle.lapd_pair_world.specs.Kept.{is_one_of}
+use Rattle.lapd_pair.specs.declared.log.Log.{Log}
 use Rattle.lapd_pair.specs.declared.received.Received.{Received}
 use Rattle.lapd_pair.specs.declared.fate.Fate.{Fate}
 use Rattle.lapd_pair.specs.declared.fate.Ending.{Ending}
@@ -31,7 +31,7 @@ abbrev pub of_received : Received → List ℕ × ℕ
 of_received message = (message.octets.items, message.establishment)
 
 -- The histories kept are those of a side that was given these messages.
-pub record IsHistory (kept : History) (messages : List (List ℕ)) (h : world.History) : Type 0 where
+pub record IsHistory (kept : Log) (messages : List (List ℕ)) (h : world.History) : Type 0 where
   pub given : map (λ message. message.items) kept.given.items ≡ messages
   pub received : map of_received kept.received.items ≡ map octets_and_establishment h.received
   pub units : map (λ unit. unit.items) kept.units.items ≡ h.units
@@ -41,7 +41,7 @@ pub record IsHistory (kept : History) (messages : List (List ℕ)) (h : world.Hi
   pub dropped : kept.dropped ≡ length h.dropped
 
 -- Nothing is written down: all items are equal, and only the room for more may differ.
-pub record AreSame (old new : History) : Type 0 where
+pub record AreSame (old new : Log) : Type 0 where
   pub given : new.given.items ≡ old.given.items
   pub received : new.received.items ≡ old.received.items
   pub units : new.units.items ≡ old.units.items
@@ -51,7 +51,7 @@ pub record AreSame (old new : History) : Type 0 where
   pub dropped : new.dropped ≡ old.dropped
 
 -- All that is written down but fates is equal.
-pub record AreSameButFates (old new : History) : Type 0 where
+pub record AreSameButFates (old new : Log) : Type 0 where
   pub given : new.given.items ≡ old.given.items
   pub received : new.received.items ≡ old.received.items
   pub units : new.units.items ≡ old.units.items
@@ -92,7 +92,7 @@ abbrev pub step_room : Room
 step_room = record { messages = 0; receipts = 1; unit_data = 1; beginnings = 1 }
 
 -- there is so much
-pub record HasRoom (room : Room) (h : History) : Type 0 where
+pub record HasRoom (room : Room) (h : Log) : Type 0 where
   pub given : vec_len h.given + room.messages ≤ vec_capacity h.given
   pub fates : vec_len h.fates + room.messages ≤ vec_capacity h.fates
   pub received : vec_len h.received + room.receipts ≤ vec_capacity h.received
@@ -100,7 +100,7 @@ pub record HasRoom (room : Room) (h : History) : Type 0 where
   pub begun : vec_len h.begun + room.beginnings ≤ vec_capacity h.begun
 
 -- there is less than before by so much, at most
-pub record TakesRoom (room : Room) (old new : History) : Type 0 where
+pub record TakesRoom (room : Room) (old new : Log) : Type 0 where
   pub given : vec_len new.given + vec_capacity old.given ≤ vec_len old.given + vec_capacity new.given + room.messages
   pub fates : vec_len new.fates + vec_capacity old.fates ≤ vec_len old.fates + vec_capacity new.fates + room.messages
   pub received : vec_len new.received + vec_capacity old.received ≤ vec_len old.received + vec_capacity new.received + room.receipts

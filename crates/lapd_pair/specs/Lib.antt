@@ -2,7 +2,7 @@ pub mod Establishments
 pub mod Fates
 pub mod Histories
 pub mod Line
-pub mod Marked
+pub mod Marks
 pub mod Moves
 pub mod Pair
 pub mod PairFault

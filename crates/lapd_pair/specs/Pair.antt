@@ -2,18 +2,18 @@
 use Rattle.std.specs.Prelude.{◌≤◌, List}
 use Rattle.lapd_frame.specs.declared.Side.TheVariants.{User, Network}
 use Rattle.lapd_mod128.specs.Counting.{Tagged}
-use Rattle.lapd_states.specs.Parameters.{Parameters}
-use Rattle.lapd_world.specs.Kept.{IsKeptWorld}
-use Rattle.lapd_world.specs.Move.{Move}
-use Rattle.lapd_world.specs.World.{World, new_world, run}
+use Rattle.lapd_link_rows.specs.Parameters.{Parameters}
+use Rattle.lapd_pair_world.specs.Kept.{IsKeptWorld}
+use Rattle.lapd_pair_world.specs.Move.{Move}
+use Rattle.lapd_pair_world.specs.World.{World, new_world, run}
 use Rattle.lapd_pair.specs.Line.{IsOn}
 use Rattle.lapd_pair.specs.Station.{IsStation}
 use Rattle.lapd_pair.specs.declared.line.Line.{Line}
-use Rattle.lapd_pair.specs.declared.station.Station.{Station}
+use Rattle.lapd_pair.specs.declared.recorded_link.RecordedLink.{RecordedLink}
 
 -- Both sides show those of the world, and what is on the line are the world's frames, spelled. What a world keeps under all
 -- moves holds of it.
-pub record StandForWorld (user_side network_side : Station) (line_to_user line_to_network : Line) (w : World) : Type 0 where
+pub record StandForWorld (user_side network_side : RecordedLink) (line_to_user line_to_network : Line) (w : World) : Type 0 where
   pub user : IsStation User user_side w.user
   pub network : IsStation Network network_side w.network
   pub to_user : IsOn Network line_to_user w.to_user
@@ -21,7 +21,7 @@ pub record StandForWorld (user_side network_side : Station) (line_to_user line_t
   pub kept : IsKeptWorld Tagged w
 
 -- The world that some moves lead to, from a new one, in windows of up to 127.
-pub record IsReached (user_side network_side : Station) (line_to_user line_to_network : Line) : Type 0 where
+pub record IsReached (user_side network_side : RecordedLink) (line_to_user line_to_network : Line) : Type 0 where
   pub user : Parameters
   pub network : Parameters
   pub few_of_user : user.k ≤ 127

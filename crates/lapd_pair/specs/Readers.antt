@@ -4,18 +4,18 @@ use Rattle.std.specs.declared.alloc.Global.{Global}
 use Rattle.lapd_frame.specs.Address.{other_side}
 use Rattle.lapd_frame.specs.declared.Side.{Side}
 use Rattle.lapd_frame.specs.declared.Side.TheVariants.{User, Network}
-use Rattle.lapd_world.specs.Safe.{RiseFrom, IsAmong}
+use Rattle.lapd_pair_world.specs.Safe.{RiseFrom, IsAmong}
 use Rattle.lapd_pair.specs.Establishments.{establishment_at, begun_at}
 use Rattle.lapd_pair.specs.declared.fate.Ending.{Ending}
 use Rattle.lapd_pair.specs.declared.fate.Ending.TheVariants.{Acked}
 use Rattle.lapd_pair.specs.declared.fate.Fate.{Fate}
-use Rattle.lapd_pair.specs.declared.history.History.{History}
+use Rattle.lapd_pair.specs.declared.log.Log.{Log}
 use Rattle.lapd_pair.specs.declared.pair.Pair.{Pair}
 use Rattle.lapd_pair.specs.declared.received.Received.{Received}
 
 -- ---- What Pair::given, fates, received and begun return of a side.
 
-abbrev pub history_of : Side → Pair → History
+abbrev pub history_of : Side → Pair → Log
 history_of User p = p.user.history
 history_of Network p = p.network.history
 

@@ -4,44 +4,44 @@ use Rattle.std.specs.declared.alloc.Global.{Global}
 use Rattle.lapd_frame.specs.declared.Side.{Side}
 use Rattle.lapd_frame.specs.Address.{other_side}
 use Rattle.lapd_link.specs.Link.{LinkStandsFor, setup_of}
-use Rattle.lapd_world.specs.Kept.{IsKept}
-use Rattle.lapd_world.specs.Line.{Flight}
-use Rattle.lapd_world.specs.Move as world
+use Rattle.lapd_pair_world.specs.Kept.{IsKept}
+use Rattle.lapd_pair_world.specs.Line.{Flight}
+use Rattle.lapd_pair_world.specs.Move as world
 use Rattle.arrayvec.specs.ArrayVec.{ArrayVec}
 use Rattle.lapd_mod128.specs.Counting.{Tagged}
-use Rattle.lapd_states.specs.declared.out.Out.{Out}
-use Rattle.lapd_states.specs.Input.{Input, Heard, Faulty, Give, UnitData}
-use Rattle.lapd_world.specs.Move.{View, Acted, Refusal}
+use Rattle.lapd_link_rows.specs.declared.out.Out.{Out}
+use Rattle.lapd_link_rows.specs.Input.{Input, Heard, Faulty, Give, UnitData}
+use Rattle.lapd_pair_world.specs.Move.{View, Turn, Refusal}
 use Rattle.lapd_pair.specs.Histories.{IsHistory}
 use Rattle.lapd_pair.specs.Line.{IsOn}
 use Rattle.lapd_pair.specs.Setup.{setup_for}
 use Rattle.lapd_pair.specs.Moves.{IsRefusedAs}
 use Rattle.lapd_pair.specs.declared.line.Line.{Line}
 use Rattle.lapd_pair.specs.declared.pair_fault.PairFault.{PairFault}
-use Rattle.lapd_pair.specs.declared.station.Station.{Station}
+use Rattle.lapd_pair.specs.declared.recorded_link.RecordedLink.{RecordedLink}
 
-pub record IsStation (side : Side) (s : Station) (t : world.Station) : Type 0 where
+pub record IsStation (side : Side) (s : RecordedLink) (t : world.Station) : Type 0 where
   pub link : LinkStandsFor s.link t.end
   pub setup : setup_of s.link ≡ setup_for side
   pub history : IsHistory s.history t.end.given t.history
 
 -- with the two directions of the line, as this side sees them
-pub record IsView (side : Side) (s : Station) (inward outward : Line) (v : View) : Type 0 where
+pub record IsView (side : Side) (s : RecordedLink) (inward outward : Line) (v : View) : Type 0 where
   pub station : IsStation side s v.station
   pub incoming : IsOn (other_side side) inward v.incoming
   pub outgoing : IsOn side outward v.outgoing
 
 -- A deed was admitted: it came to this, with these outputs, and the side and what it sends on show it.
-pub record IsActed (side : Side) (s : Station) (outward : Line) (outcome : Result Acted Refusal) (outs : List Out) : Type 0 where
-  pub acted : Acted
+pub record IsActed (side : Side) (s : RecordedLink) (outward : Line) (outcome : Result Turn Refusal) (outs : List Out) : Type 0 where
+  pub acted : Turn
   pub is : outcome ≡ Ok acted
   pub same : acted.outs ≡ outs
   pub station : IsStation side s acted.view.station
   pub outgoing : IsOn side outward acted.view.outgoing
 
 -- the same with what is on its way to the side
-pub record IsDone (side : Side) (s : Station) (inward outward : Line) (outcome : Result Acted Refusal) (outs : List Out) : Type 0 where
-  pub acted : Acted
+pub record IsDone (side : Side) (s : RecordedLink) (inward outward : Line) (outcome : Result Turn Refusal) (outs : List Out) : Type 0 where
+  pub acted : Turn
   pub is : outcome ≡ Ok acted
   pub same : acted.outs ≡ outs
   pub view : IsView side s inward outward acted.view
@@ -68,25 +68,25 @@ with_outs (Err fault) outs = Err fault
 -- ---- How the moves of a side are stated, whatever side of the world it showed before.
 
 -- what a side does to itself and to what it sends, without what it hears
-abbrev pub Acts : Station → Line → Station → Line → (Side → View → Result Acted Refusal) → ArrayVec Out → Type 0
+abbrev pub Acts : RecordedLink → Line → RecordedLink → Line → (Side → View → Result Turn Refusal) → ArrayVec Out → Type 0
 Acts old outward_old new outward_new deed outs =
     (side : Side) (v : View) → IsKept Tagged v.station → IsStation side old v.station → IsOn side outward_old v.outgoing → IsActed side new outward_new (deed side v) outs.items
 
-abbrev pub RefusesAs : Station → (Side → View → Result Acted Refusal) → PairFault → Type 0
+abbrev pub RefusesAs : RecordedLink → (Side → View → Result Turn Refusal) → PairFault → Type 0
 RefusesAs old deed fault = (side : Side) (v : View) → IsStation side old v.station → IsRefusedAs fault (deed side v)
 
 -- it shows all that it showed before, and so does the line that it sends on
-pub record ShowsAsBefore (old : Station) (outward_old : Line) (new : Station) (outward_new : Line) : Type 0 where
+pub record ShowsAsBefore (old : RecordedLink) (outward_old : Line) (new : RecordedLink) (outward_new : Line) : Type 0 where
   pub station : (side : Side) (t : world.Station) → IsStation side old t → IsStation side new t
   pub line : (from : Side) (frames : List Flight) → IsOn from outward_old frames → IsOn from outward_new frames
 
 -- the same with what is on its way to it
-abbrev pub ActsInView : Station → Line → Line → Station → Line → Line → (Side → View → Result Acted Refusal) → ArrayVec Out → Type 0
+abbrev pub ActsInView : RecordedLink → Line → Line → RecordedLink → Line → Line → (Side → View → Result Turn Refusal) → ArrayVec Out → Type 0
 ActsInView old inward_old outward_old new inward_new outward_new deed outs =
     (side : Side) (v : View) → IsKept Tagged v.station → IsView side old inward_old outward_old v → IsDone side new inward_new outward_new (deed side v) outs.items
 
-abbrev pub RefusesInView : Station → Line → Line → (Side → View → Result Acted Refusal) → PairFault → Type 0
+abbrev pub RefusesInView : RecordedLink → Line → Line → (Side → View → Result Turn Refusal) → PairFault → Type 0
 RefusesInView old inward_old outward_old deed fault = (side : Side) (v : View) → IsView side old inward_old outward_old v → IsRefusedAs fault (deed side v)
 
-abbrev pub ShowsViewAsBefore : Station → Line → Line → Station → Line → Line → Type 0
+abbrev pub ShowsViewAsBefore : RecordedLink → Line → Line → RecordedLink → Line → Line → Type 0
 ShowsViewAsBefore old inward_old outward_old new inward_new outward_new = (side : Side) (v : View) → IsView side old inward_old outward_old v → IsView side new inward_new outward_new v

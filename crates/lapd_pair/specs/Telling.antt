@@ -5,19 +5,19 @@ use Rattle.std.specs.declared.alloc.Global.{Global}
 use Rattle.lapd_frame.specs.declared.Side.{Side}
 use Rattle.lapd_frame.specs.Frame.{n201}
 use Rattle.lapd_link.specs.Link.{LinkStandsFor, setup_of}
-use Rattle.lapd_states.specs.declared.out.Out.{Out}
-use Rattle.lapd_states.specs.declared.out.Out.TheVariants.{Send, SendMessage, SendUnit, Up, UnitUp, Acknowledged, Dropped}
-use Rattle.lapd_states.specs.Counts.{ups, unit_ups}
-use Rattle.lapd_states.specs.End.{End}
-use Rattle.lapd_states.specs.Spoken.{AreShort}
-use Rattle.lapd_world.specs.Histories.{History, Occasion, Story, message_frame, unit_frame, with_sending, with_receipt, with_unit, with_acked, with_dropped}
-use Rattle.lapd_world.specs.Kept.{AreSettled, AreInOrder}
-use Rattle.lapd_world.specs.Line.{Flight, without_info, sent_behind}
+use Rattle.lapd_link_rows.specs.declared.out.Out.{Out}
+use Rattle.lapd_link_rows.specs.declared.out.Out.TheVariants.{Send, SendMessage, SendUnit, Up, UnitUp, Acknowledged, Dropped}
+use Rattle.lapd_link_rows.specs.Counts.{ups, unit_ups}
+use Rattle.lapd_link_rows.specs.End.{End}
+use Rattle.lapd_link_rows.specs.SentFrames.{AreShort}
+use Rattle.lapd_pair_world.specs.Histories.{History, Occasion, Story, message_frame, unit_frame, with_sending, with_receipt, with_unit, with_acked, with_dropped}
+use Rattle.lapd_pair_world.specs.Kept.{AreSettled, AreInOrder}
+use Rattle.lapd_pair_world.specs.Line.{Flight, without_info, sent_behind}
 use Rattle.lapd_pair.specs.Histories.{IsHistory}
 use Rattle.lapd_pair.specs.Line.{IsOn}
 use Rattle.lapd_pair.specs.Setup.{setup_for}
 use Rattle.lapd_pair.specs.declared.line.Line.{Line}
-use Rattle.lapd_pair.specs.declared.station.Station.{Station}
+use Rattle.lapd_pair.specs.declared.recorded_link.RecordedLink.{RecordedLink}
 
 -- the frame that an output is; the first message that waits stands at `passed`
 abbrev pub flight_of : Occasion → ℕ → Out → Option Flight
@@ -47,7 +47,7 @@ IsCopy octets n (Some copy) = (n ≤ 1) × (copy.items ≡ octets)
 
 -- While `rest` is still to be told: `e` is the end after the step, `t` is what was told so far, and `copy` is held for what
 -- goes up.
-pub record IsTelling (side : Side) (e : End) (o : Occasion) (rest : List Out) (s : Station) (outward : Line) (copy : Option (Vec ℕ Global)) (t : Story) : Type 0 where
+pub record IsTelling (side : Side) (e : End) (o : Occasion) (rest : List Out) (s : RecordedLink) (outward : Line) (copy : Option (Vec ℕ Global)) (t : Story) : Type 0 where
   pub link : LinkStandsFor s.link e
   pub setup : setup_of s.link ≡ setup_for side
   pub history : IsHistory s.history e.given t.history

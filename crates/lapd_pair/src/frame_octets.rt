@@ -1,6 +1,6 @@
 ghost use Rattle.std.specs.Prelude.{◌≡◌, map};
 ghost use Rattle.lapd_frame.specs.Reading.{frame_at};
-ghost use Rattle.lapd_pair.specs.Marked.{is_read_marked, place_of_marked};
+ghost use Rattle.lapd_pair.specs.Marks.{is_read_marked, place_of_marked};
 
 use arrayvec::ArrayVec;
 use lapd_frame::{MOST_OCTETS, Role, Side, read};

@@ -11,15 +11,15 @@
 mod act;
 mod fate;
 mod frame_octets;
-mod history;
 mod laws;
 mod line;
+mod log;
 mod moves;
 mod pair;
 mod pair_fault;
 mod received;
+mod recorded_link;
 mod settled;
-mod station;
 
 pub use fate::{Ending, Fate};
 pub use frame_octets::FrameOctets;

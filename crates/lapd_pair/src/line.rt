@@ -1,7 +1,7 @@
 ghost use Rattle.std.specs.Prelude.{◌≡◌, ◌<◌, ◌≤◌, ◌+◌, ◌-◌, length, take, drop};
 ghost use Rattle.std.specs.List.{remove};
 ghost use Rattle.std.specs.Vec.{vec_len};
-ghost use Rattle.lapd_pair.specs.Marked.{left_of};
+ghost use Rattle.lapd_pair.specs.Marks.{left_of};
 
 use crate::frame_octets::{FrameOctets, marked_place};
 use lapd_frame::{Frame, Role, Side, write_over};
@@ -39,9 +39,9 @@ impl Line {
     ghost use Rattle.std.specs.Prelude.{◌≡◌, ◌<◌, ◌≤◌, ◌+◌, ℕ, nat_lt, if◌then◌else◌, true, false, List, [], ◌∷◌, ◌++◌, length, map, drop, IfNone, IfSome, OnOk};
     ghost use Rattle.std.specs.List.{remove};
     ghost use Rattle.lapd_frame.specs.Frame.{spelling};
-    ghost use Rattle.lapd_world.specs.Line.{Flight, sent_behind, without_lost, first_poll, first_final};
+    ghost use Rattle.lapd_pair_world.specs.Line.{Flight, sent_behind, without_lost, first_poll, first_final};
     ghost use Rattle.lapd_pair.specs.Line.{octets_on, polls_passed, finals_passed, fields_of, IsOn, IsFirst, HasRoomFor};
-    ghost use Rattle.lapd_pair.specs.Marked.{place_of_marked, left_of};
+    ghost use Rattle.lapd_pair.specs.Marks.{place_of_marked, left_of};
 
     /// A line with nothing on it. It takes no memory.
     pub fn new(alloc: Global) -> Line
@@ -155,7 +155,7 @@ impl Line {
     }
 
     /// Takes off the frame at this place, counted from 0. Those before it move, or those behind it, whichever are fewer.
-    // A call of its own, as it is rare: `Station::act` is compiled into one piece, and others would pay for it.
+    // A call of its own, as it is rare: `RecordedLink::act` is compiled into one piece, and others would pay for it.
     #[inline(never)]
     fn take_out(&mut self, place: usize)
         requires { self.old.first + place < self.old.end }

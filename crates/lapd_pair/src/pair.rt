@@ -10,8 +10,8 @@ use crate::line::Line;
 use crate::moves::Move;
 use crate::pair_fault::{PairFault, RunFault};
 use crate::received::Received;
+use crate::recorded_link::RecordedLink;
 use crate::settled::Settled;
-use crate::station::Station;
 use lapd_frame::Side;
 use lapd_link::{Link, Outs, Params, Timer};
 use std::alloc::{AllocError, Global};
@@ -21,17 +21,17 @@ use std::alloc::{AllocError, Global};
 #[derive(Drop)]
 pub struct Pair {
     alloc: Global,
-    user: Station,
-    network: Station,
+    user: RecordedLink,
+    network: RecordedLink,
     to_user: Line,
     to_network: Line,
     ghost reached: { ∥ IsReached user network to_user to_network ∥₁ },
 }
 
 impl Pair {
-    ghost use Rattle.lapd_invariant.specs.Reports.{AllReportsExpected};
-    ghost use Rattle.lapd_states.specs.Reports.{AreExpected};
-    ghost use Rattle.lapd_world.specs.World.{World, new_world, happens, run, outcomes};
+    ghost use Rattle.lapd_pair_proof.specs.Reports.{AllReportsExpected};
+    ghost use Rattle.lapd_link_rows.specs.Reports.{AreExpected};
+    ghost use Rattle.lapd_pair_world.specs.World.{World, new_world, happens, run, outcomes};
     ghost use Rattle.lapd_pair.specs.Moves.{move_of, IsRefusedAs};
     ghost use Rattle.lapd_pair.specs.Readers.{AreSafeReadings};
     ghost use Rattle.lapd_pair.specs.Runs.{PairStandsFor, HasHappened, HasStoppedAt, IsSafePair, moves_made, refusals};
@@ -48,8 +48,8 @@ impl Pair {
     {
         Ok(Pair {
             alloc,
-            user: Station::new(alloc, Side::User, user)?,
-            network: Station::new(alloc, Side::Network, network)?,
+            user: RecordedLink::new(alloc, Side::User, user)?,
+            network: RecordedLink::new(alloc, Side::Network, network)?,
             to_user: Line::new(alloc),
             to_network: Line::new(alloc),
         })
@@ -151,7 +151,7 @@ impl Pair {
     ghost use Rattle.lapd_link.specs.Link.{LinkStandsFor, setup_of};
     ghost use Rattle.lapd_frame.specs.Address.{other_side};
     ghost use Rattle.lapd_frame.specs.Frame.{spelling};
-    ghost use Rattle.lapd_world.specs.World.{World, left, view_of};
+    ghost use Rattle.lapd_pair_world.specs.World.{World, left, view_of};
     ghost use Rattle.lapd_pair.specs.Histories.{of_received, octets_and_establishment, fates_of};
     ghost use Rattle.lapd_pair.specs.Line.{fields_of};
     ghost use Rattle.lapd_pair.specs.Readers.{history_of, given_by, fates_by, received_by, begun_by};
@@ -160,7 +160,7 @@ impl Pair {
     ghost use Rattle.lapd_pair.specs.Station.{IsStation};
 
     /// This side.
-    fn station(&self, side: Side) -> &Station
+    fn station(&self, side: Side) -> &RecordedLink
         ensures shows { (w : World) → PairStandsFor self.now w → IsStation side result.now (view_of side w).station }
         ensures history { result.now.history ≡ history_of side self.now }
     {
@@ -252,8 +252,8 @@ impl Pair {
 /// A pair settles.
 impl Pair {
     ghost use Rattle.std.specs.Prelude.{option_map};
-    ghost use Rattle.lapd_world.specs.World.{World};
-    ghost use Rattle.lapd_drain.specs.Settle.{next_move, bound};
+    ghost use Rattle.lapd_pair_world.specs.World.{World};
+    ghost use Rattle.lapd_pair_drain.specs.Settle.{next_move, bound};
     ghost use Rattle.lapd_pair.specs.Moves.{move_of};
     ghost use Rattle.lapd_pair.specs.Readers.{AreSafeReadings};
     ghost use Rattle.lapd_pair.specs.Runs.{PairStandsFor, IsSafePair};

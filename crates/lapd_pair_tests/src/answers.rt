@@ -3,10 +3,10 @@
 use crate::devices::keeps_whole_lines;
 use crate::scripts::{ANSWERS, SCRIPT, params, push_lines, run};
 use crate::wants::wants;
-use lapd_commands::answer;
+use lapd_cli_commands::answer;
+use lapd_cli_script::ScriptFault;
 use lapd_frame::Side;
 use lapd_link::Params;
-use lapd_script::ScriptFault;
 use std::alloc::Global;
 use std::test::Fail;
 

@@ -1,8 +1,8 @@
 //! The command `decode`: what was sent, and its trace line.
 
 use crate::wants::wants;
-use lapd_commands::decode;
-use lapd_script::ScriptFault;
+use lapd_cli_commands::decode;
+use lapd_cli_script::ScriptFault;
 use std::alloc::Global;
 use std::test::Fail;
 

@@ -2,8 +2,8 @@
 
 use crate::scripts::{ANSWERS, SCRIPT, run};
 use crate::wants::wants;
-use lapd_commands::decode;
-use lapd_script::ScriptFault;
+use lapd_cli_commands::decode;
+use lapd_cli_script::ScriptFault;
 use std::alloc::Global;
 use std::cell::Cell;
 use std::io;

@@ -4,9 +4,9 @@ use crate::devices::keeps_whole_lines;
 use crate::made::params;
 use crate::scripts::push_lines;
 use crate::wants::wants;
-use lapd_commands::pair;
+use lapd_cli_commands::pair;
+use lapd_cli_script::ScriptFault;
 use lapd_link::{Params, Recovery};
-use lapd_script::ScriptFault;
 use std::alloc::Global;
 use std::test::Fail;
 

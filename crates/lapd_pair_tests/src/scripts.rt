@@ -1,10 +1,10 @@
 //! Scripts that several tests share, and how their faults read.
 
 use crate::wants::wants;
-use lapd_commands::answer;
+use lapd_cli_commands::answer;
+use lapd_cli_script::ScriptFault;
 use lapd_frame::Side;
 use lapd_link::Params;
-use lapd_script::ScriptFault;
 use std::alloc::Global;
 use std::io::{Read, Write};
 use std::test::Fail;

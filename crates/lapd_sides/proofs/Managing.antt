@@ -6,15 +6,15 @@ use Rattle.lapd_timers.specs.Due.{Timers}
 use Rattle.lapd_frame.specs.declared.Side.{Side}
 use Rattle.lapd_tei.specs.declared.out.TeiOut.{TeiOut}
 use Rattle.lapd_tei.specs.Out.{tei_given, tei_freed}
-use Rattle.lapd_links.specs.declared.config.Config.{Config}
-use Rattle.lapd_links.specs.declared.links.LinkSet.{LinkSet}
-use Rattle.lapd_links.specs.declared.primitive.Primitive.{Primitive}
-use Rattle.lapd_links.specs.Effects.{Effects, managed, message_sent, outcome_of, no_effects}
+use Rattle.lapd_sides_links.specs.declared.config.Config.{Config}
+use Rattle.lapd_sides_links.specs.declared.links.LinkSet.{LinkSet}
+use Rattle.lapd_sides_links.specs.declared.primitive.Primitive.{Primitive}
+use Rattle.lapd_sides_links.specs.Effects.{Effects, managed, message_sent, outcome_of, no_effects}
 use Rattle.lapd_sides.specs.Management.{links_with, links_without, told_without, manages}
-use Rattle.lapd_links.specs.Links.{Served}
-use Rattle.lapd_links.specs.Shown.{ShowLinks}
+use Rattle.lapd_sides_links.specs.Links.{Served}
+use Rattle.lapd_sides_links.specs.Shown.{ShowLinks}
 use Rattle.lapd_sides.specs.Shows.{HaveServed}
-use Rattle.lapd_links.proofs.Acting.{same_effects}
+use Rattle.lapd_sides_links.proofs.Acting.{same_effects}
 
 -- the links go, where a TEI is freed, and all that is told stands in order
 pub carried_out : (side : Side) (config : Config) (now : ℕ) (outs : List TeiOut) (s : Served) (links : LinkSet) (timers : Timers) (acts : Effects)

@@ -2,7 +2,7 @@
 use Rattle.std.proofs.Common.{◌≡◌, ℕ, List, [], length, Bool, false, Option, Some, None, Result, Ok, Err, refl, sym, ap, subst, ◌∙◌}
 use Rattle.std.specs.declared.alloc.Global.{Global}
 use Rattle.std.specs.Prelude.{Vec, true, IsErr, OnOk, OnErr, IfErr, ◌&&◌, ◌==◌, if◌then◌else◌}
-use Rattle.lapd_states.specs.Input.{Faulty, Heard, UnitData}
+use Rattle.lapd_link_rows.specs.Input.{Faulty, Heard, UnitData}
 use Rattle.lapd_timers.specs.Due.{Timers}
 use Rattle.lapd_frame.specs.declared.Side.{Side}
 use Rattle.lapd_frame.specs.declared.Side.TheVariants as side
@@ -16,22 +16,22 @@ use Rattle.lapd_tei.specs.declared.fault.TeiFault.{TeiFault}
 use Rattle.lapd_tei.specs.Assigner.{assigner_step}
 use Rattle.lapd_tei.specs.Message.{group_tei, message_at}
 use Rattle.lapd_tei.specs.Out.{tei_given}
-use Rattle.lapd_links.specs.declared.config.Config.{Config}
+use Rattle.lapd_sides_links.specs.declared.config.Config.{Config}
 use Rattle.lapd_table.specs.declared.link_id.LinkId.{LinkId}
 use Rattle.lapd_table.specs.LinkId.{id_of_address}
-use Rattle.lapd_links.specs.declared.expiry.Expiry.{Expiry}
-use Rattle.lapd_links.specs.declared.links.LinkSet.{LinkSet}
-use Rattle.lapd_links.specs.declared.side_fault.SideFault.{SideFault}
+use Rattle.lapd_sides_links.specs.declared.running_timer.RunningTimer.{RunningTimer}
+use Rattle.lapd_sides_links.specs.declared.links.LinkSet.{LinkSet}
+use Rattle.lapd_sides_links.specs.declared.side_fault.SideFault.{SideFault}
 use Rattle.lapd_sides.specs.declared.net_side.NetSide.{NetSide}
 use Rattle.lapd_sides.specs.declared.served.LinksAndTimer.{LinksAndTimer}
-use Rattle.lapd_links.specs.declared.side_fault.SideKind.{SideKind}
-use Rattle.lapd_links.specs.Effects.{Effects, no_effects}
-use Rattle.lapd_links.specs.Expiries.{IsDue, IsNextDeadline}
-use Rattle.lapd_links.specs.Links.{Links, Acted, is_served}
+use Rattle.lapd_sides_links.specs.declared.side_fault.SideKind.{SideKind}
+use Rattle.lapd_sides_links.specs.Effects.{Effects, no_effects}
+use Rattle.lapd_sides_links.specs.Expiries.{IsDue, IsNextDeadline}
+use Rattle.lapd_sides_links.specs.Links.{Links, Reaction, is_served}
 use Rattle.lapd_sides.specs.Management.{carries_message, links_with, manages, one_more}
-use Rattle.lapd_links.specs.Links.{Served}
+use Rattle.lapd_sides_links.specs.Links.{Served}
 use Rattle.lapd_sides.specs.Network.{Network, link_of_network, unit_requested, unit_to_group, network_expires, assigner_acts, among_links, or_discarded, or_unmoved, message_heard, frame_heard, fault_heard, given_for_message, given_for_frame}
-use Rattle.lapd_links.specs.Shown.{ShowLinks, HaveActed}
+use Rattle.lapd_sides_links.specs.Shown.{ShowLinks, HaveActed}
 use Rattle.lapd_sides.specs.Shows.{ShowServed, HaveServed, Step}
 use Rattle.lapd_sides.specs.ShowsNetwork.{ShowNetwork, HasDone, HasGranted, HasExpired, Hears, LacksMemory, Answers}
 
@@ -51,7 +51,7 @@ none_given code config outs s none shown = subst (λ (t : Option ℕ). ShowServe
 
 -- ---- A link.
 
-pub granted : (code : NetSide) (config : Config) (s : Network) (before acts : Effects) (outcome : Result (Acted Links) SideKind) → code.config ≡ config → code.assigner ≡ s.assigner → code.discarded ≡ s.discarded → code.served.timers ≡ s.served.timers
+pub granted : (code : NetSide) (config : Config) (s : Network) (before acts : Effects) (outcome : Result (Reaction Links) SideKind) → code.config ≡ config → code.assigner ≡ s.assigner → code.discarded ≡ s.discarded → code.served.timers ≡ s.served.timers
     → before ≡ no_effects → HaveActed side.Network code.served.links before acts outcome → HasGranted code config acts (among_links s outcome)
 granted code config s before acts outcome configured assigner counted timers empty h =
     let done = subst (λ (e : Effects). HaveActed side.Network code.served.links e acts outcome) empty h in
@@ -64,29 +64,29 @@ granted code config s before acts outcome configured assigner counted timers emp
 pub kept : (code : NetSide) (config : Config) (s : Network) → code.config ≡ config → code.assigner ≡ s.assigner → code.discarded ≡ s.discarded → code.served.timers ≡ s.served.timers → ShowLinks side.Network code.served.links s.served.links → ShowNetwork code config s
 kept code config s configured assigner counted timers shown = record { configured = configured; served = record { links = shown; timers = timers }; assigner = assigner; discarded = counted }
 
-pub granted_as : (code : NetSide) (config : Config) (acts : Effects) (outcome same : Result (Acted Network) SideKind) → same ≡ outcome → HasGranted code config acts outcome → HasGranted code config acts same
+pub granted_as : (code : NetSide) (config : Config) (acts : Effects) (outcome same : Result (Reaction Network) SideKind) → same ≡ outcome → HasGranted code config acts outcome → HasGranted code config acts same
 granted_as code config acts outcome same is h = subst (HasGranted code config acts) (sym is) h
 
 -- a link does what it does
-pub done_as : (after : Network → Result (Acted Network) SideKind → Acted Network) (code : NetSide) (config : Config) (s : Network) (acts : Effects) (outcome : Result (Acted Network) SideKind)
-    → ((a : Acted Network) → after s (Ok a) ≡ a) → HasGranted code config acts outcome → HasDone code config acts (after s outcome)
-done_as after code config s acts outcome same h = subst (λ (o : Result (Acted Network) SideKind). HasDone code config acts (after s o)) (sym h.is) (subst (HasDone code config acts) (sym (same h.acted)) h.done)
+pub done_as : (after : Network → Result (Reaction Network) SideKind → Reaction Network) (code : NetSide) (config : Config) (s : Network) (acts : Effects) (outcome : Result (Reaction Network) SideKind)
+    → ((a : Reaction Network) → after s (Ok a) ≡ a) → HasGranted code config acts outcome → HasDone code config acts (after s outcome)
+done_as after code config s acts outcome same h = subst (λ (o : Result (Reaction Network) SideKind). HasDone code config acts (after s o)) (sym h.is) (subst (HasDone code config acts) (sym (same h.acted)) h.done)
 
 -- or nothing, where it is not there
-pub done_or_unmoved : (result : Result (Unit {0}) SideKind) (code : NetSide) (config : Config) (s : Network) (before acts : Effects) (outcome : Result (Acted Links) SideKind)
+pub done_or_unmoved : (result : Result (Unit {0}) SideKind) (code : NetSide) (config : Config) (s : Network) (before acts : Effects) (outcome : Result (Reaction Links) SideKind)
     → code.config ≡ config → code.assigner ≡ s.assigner → code.discarded ≡ s.discarded → code.served.timers ≡ s.served.timers → before ≡ no_effects
     → OnOk result (HaveActed side.Network code.served.links before acts outcome) → IfErr result (λ k. outcome ≡ Err k) → OnErr result (ShowLinks side.Network code.served.links s.served.links) → OnErr result (acts ≡ before)
     → HasDone code config acts (or_unmoved s (among_links s outcome))
 done_or_unmoved (Ok u) code config s before acts outcome configured assigner counted timers empty ok err shown nothing = done_as or_unmoved code config s acts (among_links s outcome) (λ a. refl) (granted code config s before acts outcome configured assigner counted timers empty ok)
 done_or_unmoved (Err k) code config s before acts outcome configured assigner counted timers empty ok err shown nothing =
-    subst (λ (o : Result (Acted Links) SideKind). HasDone code config acts (or_unmoved s (among_links s o))) (sym err) (record { shown = kept code config s configured assigner counted timers shown; given = nothing ∙ empty })
+    subst (λ (o : Result (Reaction Links) SideKind). HasDone code config acts (or_unmoved s (among_links s o))) (sym err) (record { shown = kept code config s configured assigner counted timers shown; given = nothing ∙ empty })
 
 -- the side with its links after a step
 abbrev pub relinked : NetSide → LinkSet → NetSide
 relinked code links = record code { served = record code.served { links = links } }
 
 -- what a call of a link set answers, the side answers
-pub link_answers : (result : Result (Unit {0}) SideFault) (code : NetSide) (links : LinkSet) (before acts : Effects) (message : Option (Vec ℕ Global)) (does : Side → Links → Result (Acted Links) SideKind) → before ≡ no_effects
+pub link_answers : (result : Result (Unit {0}) SideFault) (code : NetSide) (links : LinkSet) (before acts : Effects) (message : Option (Vec ℕ Global)) (does : Side → Links → Result (Reaction Links) SideKind) → before ≡ no_effects
     → OnOk result ((at : Side) (l : Links) → ShowLinks at code.served.links l → HaveActed at links before acts (does at l))
     → IfErr result (λ fault. (at : Side) (l : Links) → ShowLinks at code.served.links l → does at l ≡ Err fault.kind)
     → IfErr result (λ fault. fault.message ≡ message)
@@ -102,11 +102,11 @@ link_answers (Err fault) code links before acts message does empty ok err back s
 }
 
 -- or it is discarded, and counted
-pub discarded_so : (code : NetSide) (config : Config) (s : Network) (before acts : Effects) (outcome : Result (Acted Links) SideKind) (kind : SideKind) → code.config ≡ config → code.assigner ≡ s.assigner
+pub discarded_so : (code : NetSide) (config : Config) (s : Network) (before acts : Effects) (outcome : Result (Reaction Links) SideKind) (kind : SideKind) → code.config ≡ config → code.assigner ≡ s.assigner
     → code.discarded ≡ one_more s.discarded → code.served.timers ≡ s.served.timers → before ≡ no_effects → outcome ≡ Err kind → ShowLinks side.Network code.served.links s.served.links → acts ≡ before
     → HasDone code config acts (or_discarded s (among_links s outcome))
 discarded_so code config s before acts outcome kind configured assigner counted timers empty err shown nothing =
-    subst (λ (o : Result (Acted Links) SideKind). HasDone code config acts (or_discarded s (among_links s o))) (sym err)
+    subst (λ (o : Result (Reaction Links) SideKind). HasDone code config acts (or_discarded s (among_links s o))) (sym err)
     (record { shown = record { configured = configured; served = record { links = shown; timers = timers }; assigner = assigner; discarded = counted }; given = nothing ∙ empty })
 
 -- no memory was found
@@ -144,13 +144,13 @@ not_to_group own config now id octets s test is fails same =
 
 -- ---- What is due.
 
-pub due_so : (now : ℕ) (s : Served) (timers : Timers) (result e : Option Expiry) → timers ≡ s.timers → result ≡ e → IsDue now (record { links = s.links; timers = timers }) result → IsDue now s e
+pub due_so : (now : ℕ) (s : Served) (timers : Timers) (result e : Option RunningTimer) → timers ≡ s.timers → result ≡ e → IsDue now (record { links = s.links; timers = timers }) result → IsDue now s e
 due_so now s timers result e same is due = subst (λ (t : Timers). IsDue now (record { links = s.links; timers = t }) e) same (subst (IsDue now (record { links = s.links; timers = timers })) is due)
 
 pub next_so : (s : Served) (timers : Timers) (deadline : Option ℕ) → timers ≡ s.timers → IsNextDeadline (record { links = s.links; timers = timers }) deadline → IsNextDeadline s deadline
 next_so s timers deadline same next = subst (λ (t : Timers). IsNextDeadline (record { links = s.links; timers = t }) deadline) same next
 
-pub expired_so : (code : NetSide) (config : Config) (acts : Effects) (now : ℕ) (s : Network) (e : Expiry) (of : Option LinkId) → IsDue now s.served (Some e) → e.of ≡ of → HasDone code config acts (network_expires config now e.timer of s) → HasExpired code config acts now s
+pub expired_so : (code : NetSide) (config : Config) (acts : Effects) (now : ℕ) (s : Network) (e : RunningTimer) (of : Option LinkId) → IsDue now s.served (Some e) → e.of ≡ of → HasDone code config acts (network_expires config now e.timer of s) → HasExpired code config acts now s
 expired_so code config acts now s e of due is done = record {
   expiry = e;
   due = due;

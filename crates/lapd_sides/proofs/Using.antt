@@ -12,7 +12,7 @@ use Rattle.lapd_frame.specs.declared.Side.TheVariants as side
 use Rattle.lapd_frame.specs.declared.Address.{Address}
 use Rattle.lapd_frame.specs.declared.fault_kind.FaultKind.{FaultKind}
 use Rattle.lapd_frame.specs.Frame.{Fields}
-use Rattle.lapd_states.specs.Input.{Input, Faulty, Heard}
+use Rattle.lapd_link_rows.specs.Input.{Input, Faulty, Heard}
 use Rattle.lapd_timers.specs.Due.{Timers, at_rest}
 use Rattle.lapd_tei.specs.declared.out.TeiOut.{TeiOut}
 use Rattle.lapd_tei.specs.declared.phase.Phase.{Phase}
@@ -26,24 +26,24 @@ use Rattle.lapd_tei.specs.declared.fault.TeiFault.{TeiFault}
 use Rattle.lapd_tei.specs.Out.{tei_given}
 use Rattle.lapd_table.specs.declared.link_id.LinkId.{LinkId}
 use Rattle.lapd_table.specs.LinkId.{id_of_address}
-use Rattle.lapd_links.specs.declared.config.Config.{Config}
-use Rattle.lapd_links.specs.declared.expiry.Expiry.{Expiry}
-use Rattle.lapd_links.specs.declared.links.LinkSet.{LinkSet}
-use Rattle.lapd_links.specs.declared.primitive.Primitive.TheVariants.{Of}
-use Rattle.lapd_links.specs.declared.primitive.What.TheVariants as what
+use Rattle.lapd_sides_links.specs.declared.config.Config.{Config}
+use Rattle.lapd_sides_links.specs.declared.running_timer.RunningTimer.{RunningTimer}
+use Rattle.lapd_sides_links.specs.declared.links.LinkSet.{LinkSet}
+use Rattle.lapd_sides_links.specs.declared.primitive.Primitive.TheVariants.{Of}
+use Rattle.lapd_sides_links.specs.declared.primitive.What.TheVariants as what
 use Rattle.lapd_sides.specs.declared.served.LinksAndTimer.{LinksAndTimer}
 use Rattle.lapd_sides.specs.declared.user_side.UserSide.{UserSide}
 use Rattle.lapd_sides.specs.declared.request.Request.{Request}
-use Rattle.lapd_links.specs.declared.side_fault.SideFault.{SideFault}
-use Rattle.lapd_links.specs.declared.side_fault.SideKind.{SideKind}
-use Rattle.lapd_links.specs.declared.side_fault.SideKind.TheVariants.{NoLink}
-use Rattle.lapd_links.specs.Expiries.{IsDue}
-use Rattle.lapd_links.specs.Effects.{Effects, no_effects, and_then}
-use Rattle.lapd_links.specs.Links.{Links, Acted, is_served, in_links, link_acts, of_sapi, no_links, with_tei}
+use Rattle.lapd_sides_links.specs.declared.side_fault.SideFault.{SideFault}
+use Rattle.lapd_sides_links.specs.declared.side_fault.SideKind.{SideKind}
+use Rattle.lapd_sides_links.specs.declared.side_fault.SideKind.TheVariants.{NoLink}
+use Rattle.lapd_sides_links.specs.Expiries.{IsDue}
+use Rattle.lapd_sides_links.specs.Effects.{Effects, no_effects, and_then}
+use Rattle.lapd_sides_links.specs.Links.{Links, Reaction, is_served, in_links, link_acts, of_sapi, no_links, with_tei}
 use Rattle.lapd_sides.specs.Management.{carries_message, links_with, manages, one_more}
-use Rattle.lapd_sides.specs.User.{User, Kept, nothing_kept, among_links, or_discarded, or_unmoved, next, link_of_user, with_tei_or, establishes, establishes_kept, terminal_acts, assigned, kept_after, fault_heard, for_layer_3, data_heard, message_heard, frame_heard, got_for_message, got_for_frame, unit_from_group, user_expires, user_requested, wants, keeps, is_kept, forgets, sends_message, next_reference, advanced, drawn, links_of_fixed}
+use Rattle.lapd_sides.specs.User.{User, KeptEstablishments, nothing_kept, among_links, or_discarded, or_unmoved, next, link_of_user, with_tei_or, establishes, establishes_kept, terminal_acts, assigned, kept_after, fault_heard, for_layer_3, data_heard, message_heard, frame_heard, got_for_message, got_for_frame, unit_from_group, user_expires, user_requested, wants, keeps, is_kept, forgets, sends_message, next_reference, advanced, drawn, links_of_fixed}
 use Rattle.lapd_sides.specs.Requests.{message_of}
-use Rattle.lapd_links.specs.Shown.{ShowLinks, HaveActed}
+use Rattle.lapd_sides_links.specs.Shown.{ShowLinks, HaveActed}
 use Rattle.lapd_sides.specs.Shows.{ShowServed, HaveServed, Step, Outcome}
 use Rattle.lapd_sides.specs.ShowsUser.{ShowUser, ShowReferences, HasDone, HasFollowed, HasGranted, HasExpired, Hears, LacksMemory, Answers, admitted}
 
@@ -57,7 +57,7 @@ pub reshown : (code : UserSide) (links : LinkSet) (config : Config) (s : User) (
     → ShowUser (relinked code links) config (record s { served = record { links = shown; timers = s.served.timers } })
 reshown code links config s shown h l = record { configured = h.configured; served = record { links = l; timers = h.served.timers }; terminal = h.terminal; kept = h.kept; random = h.random; discarded = h.discarded }
 
-granted : (code : UserSide) (links : LinkSet) (config : Config) (s : User) (before acts : Effects) (outcome : Result (Acted Links) SideKind) → ShowUser code config s
+granted : (code : UserSide) (links : LinkSet) (config : Config) (s : User) (before acts : Effects) (outcome : Result (Reaction Links) SideKind) → ShowUser code config s
     → before ≡ no_effects → HaveActed side.User links before acts outcome → HasGranted (relinked code links) config acts (among_links s outcome)
 granted code links config s before acts outcome shown empty h =
     let done = subst (λ (e : Effects). HaveActed side.User links e acts outcome) empty h in
@@ -76,7 +76,7 @@ pub links_kept : (code : UserSide) (links : LinkSet) (config : Config) (s : User
 links_kept code links config s shown l = reshown code links config s s.served.links shown l
 
 -- what a call of a link set answers, the side answers
-pub link_answers : (result : Result (Unit {0}) SideFault) (code : UserSide) (links : LinkSet) (before acts : Effects) (message : Option (Vec ℕ Global)) (does : Side → Links → Result (Acted Links) SideKind) → before ≡ no_effects
+pub link_answers : (result : Result (Unit {0}) SideFault) (code : UserSide) (links : LinkSet) (before acts : Effects) (message : Option (Vec ℕ Global)) (does : Side → Links → Result (Reaction Links) SideKind) → before ≡ no_effects
     → OnOk result ((at : Side) (l : Links) → ShowLinks at code.served.links l → HaveActed at links before acts (does at l))
     → IfErr result (λ fault. (at : Side) (l : Links) → ShowLinks at code.served.links l → does at l ≡ Err fault.kind)
     → IfErr result (λ fault. fault.message ≡ message)
@@ -98,32 +98,32 @@ in_turn before e f = rw (append_assoc before.frames e.frames f.frames, append_as
 behind : (e : Effects) → e ≡ and_then e no_effects
 behind e = rw (append-nil e.frames, append-nil e.primitives) refl
 
-granted_follows : (code : UserSide) (links : LinkSet) (config : Config) (s : User) (before acts : Effects) (outcome : Result (Acted Links) SideKind) → ShowUser code config s
+granted_follows : (code : UserSide) (links : LinkSet) (config : Config) (s : User) (before acts : Effects) (outcome : Result (Reaction Links) SideKind) → ShowUser code config s
     → HaveActed side.User links before acts outcome → HasFollowed (relinked code links) config before acts (or_unmoved s (among_links s outcome))
 granted_follows code links config s before acts outcome shown done =
-    subst (λ (o : Result (Acted Links) SideKind). HasFollowed (relinked code links) config before acts (or_unmoved s (among_links s o))) (sym done.is)
+    subst (λ (o : Result (Reaction Links) SideKind). HasFollowed (relinked code links) config before acts (or_unmoved s (among_links s o))) (sym done.is)
     (record { shown = reshown code links config s done.acted.after shown done.shown; given = done.given })
 
 -- what the calls of a link set answer, at the links that are shown: a link does what it does, or nothing where it is not there
-pub step_follows : (result : Result (Unit {0}) SideKind) (code : UserSide) (links : LinkSet) (config : Config) (s : User) (before acts : Effects) (does : Side → Links → Result (Acted Links) SideKind) → ShowUser code config s
+pub step_follows : (result : Result (Unit {0}) SideKind) (code : UserSide) (links : LinkSet) (config : Config) (s : User) (before acts : Effects) (does : Side → Links → Result (Reaction Links) SideKind) → ShowUser code config s
     → OnOk result ((at : Side) (l : Links) → ShowLinks at code.served.links l → HaveActed at links before acts (does at l))
     → IfErr result (λ k. (at : Side) (l : Links) → ShowLinks at code.served.links l → does at l ≡ Err k)
     → OnErr result ((at : Side) (l : Links) → ShowLinks at code.served.links l → ShowLinks at links l) → OnErr result (acts ≡ before)
     → HasFollowed (relinked code links) config before acts (or_unmoved s (among_links s (does side.User s.served.links)))
 step_follows (Ok u) code links config s before acts does shown ok err same nothing = granted_follows code links config s before acts (does side.User s.served.links) shown (ok side.User s.served.links shown.served.links)
 step_follows (Err k) code links config s before acts does shown ok err same nothing =
-    subst (λ (o : Result (Acted Links) SideKind). HasFollowed (relinked code links) config before acts (or_unmoved s (among_links s o))) (sym (err side.User s.served.links shown.served.links))
+    subst (λ (o : Result (Reaction Links) SideKind). HasFollowed (relinked code links) config before acts (or_unmoved s (among_links s o))) (sym (err side.User s.served.links shown.served.links))
     (record { shown = links_kept code links config s shown (same side.User s.served.links shown.served.links); given = nothing ∙ behind before })
 
 -- a frame is heard by its link
-pub heard_so : (code : UserSide) (config : Config) (s : User) (acts : Effects) (outcome : Result (Acted User) SideKind) → HasGranted code config acts outcome → HasDone code config acts (or_discarded s outcome)
-heard_so code config s acts outcome h = subst (λ (o : Result (Acted User) SideKind). HasDone code config acts (or_discarded s o)) (sym h.is) h.done
+pub heard_so : (code : UserSide) (config : Config) (s : User) (acts : Effects) (outcome : Result (Reaction User) SideKind) → HasGranted code config acts outcome → HasDone code config acts (or_discarded s outcome)
+heard_so code config s acts outcome h = subst (λ (o : Result (Reaction User) SideKind). HasDone code config acts (or_discarded s o)) (sym h.is) h.done
 
 -- or it is discarded, and counted
-pub discarded_so : (code : UserSide) (links : LinkSet) (count : ℕ) (config : Config) (s : User) (before acts : Effects) (outcome : Result (Acted Links) SideKind) (kind : SideKind) → ShowUser code config s → before ≡ no_effects
+pub discarded_so : (code : UserSide) (links : LinkSet) (count : ℕ) (config : Config) (s : User) (before acts : Effects) (outcome : Result (Reaction Links) SideKind) (kind : SideKind) → ShowUser code config s → before ≡ no_effects
     → outcome ≡ Err kind → ShowLinks side.User links s.served.links → acts ≡ before → count ≡ one_more code.discarded → HasDone (record (relinked code links) { discarded = count }) config acts (or_discarded s (among_links s outcome))
 discarded_so code links count config s before acts outcome kind shown empty err l nothing counted =
-    subst (λ (o : Result (Acted Links) SideKind). HasDone (record (relinked code links) { discarded = count }) config acts (or_discarded s (among_links s o))) (sym err) (record {
+    subst (λ (o : Result (Reaction Links) SideKind). HasDone (record (relinked code links) { discarded = count }) config acts (or_discarded s (among_links s o))) (sym err) (record {
       shown = record {
         configured = shown.configured;
         served = record { links = l; timers = shown.served.timers };
@@ -136,7 +136,7 @@ discarded_so code links count config s before acts outcome kind shown empty err 
     })
 
 -- behind nothing
-pub done_first : (code : UserSide) (config : Config) (before acts : Effects) (a : Acted User) → before ≡ no_effects → HasFollowed code config before acts a → HasDone code config acts a
+pub done_first : (code : UserSide) (config : Config) (before acts : Effects) (a : Reaction User) → before ≡ no_effects → HasFollowed code config before acts a → HasDone code config acts a
 done_first code config before acts a empty h = record { shown = h.shown; given = h.given ∙ ap (λ (e : Effects). and_then e a.effects) empty }
 
 -- ---- The terminal's own TEI.
@@ -147,32 +147,32 @@ pub record IsOwn (code : UserSide) (found : Option ℕ) (tei : ℕ) (sapi : Sapi
   pub is : found ≡ Some tei
   pub named : id ≡ of_sapi sapi tei
 
-own_link : (phase : Phase) (tei now : ℕ) (sapi : Sapi) (input : Input) (octets : List ℕ) (otherwise : Result (Acted User) SideKind) (s : User) → tei_of phase ≡ Some tei
+own_link : (phase : Phase) (tei now : ℕ) (sapi : Sapi) (input : Input) (octets : List ℕ) (otherwise : Result (Reaction User) SideKind) (s : User) → tei_of phase ≡ Some tei
     → with_tei_or now phase sapi input octets otherwise s ≡ link_of_user now (of_sapi sapi tei) input octets s
 own_link Unassigned tei now sapi input octets otherwise s h = absurd (cc)
 own_link (Awaiting purpose count ri) tei now sapi input octets otherwise s h = absurd (cc)
 own_link (Assigned by own) tei now sapi input octets otherwise s h = let e : own ≡ tei = cc in rw e refl
 
-no_own_link : (phase : Phase) (now : ℕ) (sapi : Sapi) (input : Input) (octets : List ℕ) (otherwise : Result (Acted User) SideKind) (s : User) → tei_of phase ≡ None
+no_own_link : (phase : Phase) (now : ℕ) (sapi : Sapi) (input : Input) (octets : List ℕ) (otherwise : Result (Reaction User) SideKind) (s : User) → tei_of phase ≡ None
     → with_tei_or now phase sapi input octets otherwise s ≡ otherwise
 no_own_link Unassigned now sapi input octets otherwise s h = refl
 no_own_link (Awaiting purpose count ri) now sapi input octets otherwise s h = refl
 no_own_link (Assigned by own) now sapi input octets otherwise s h = absurd (cc)
 
 -- with a TEI the link does it
-pub is_own : (code : UserSide) (config : Config) (s : User) (found : Option ℕ) (tei now : ℕ) (sapi : Sapi) (id : LinkId) (input : Input) (octets : List ℕ) (otherwise : Result (Acted User) SideKind) → ShowUser code config s
+pub is_own : (code : UserSide) (config : Config) (s : User) (found : Option ℕ) (tei now : ℕ) (sapi : Sapi) (id : LinkId) (input : Input) (octets : List ℕ) (otherwise : Result (Reaction User) SideKind) → ShowUser code config s
     → IsOwn code found tei sapi id → with_tei_or now s.terminal sapi input octets otherwise s ≡ link_of_user now id input octets s
 is_own code config s found tei now sapi id input octets otherwise shown own =
     own_link s.terminal tei now sapi input octets otherwise s (ap tei_of (sym shown.terminal) ∙ sym own.of ∙ own.is) ∙ ap (λ (i : LinkId). link_of_user now i input octets s) (sym own.named)
 
 -- and without one there is something else
-pub is_none : (code : UserSide) (config : Config) (s : User) (found : Option ℕ) (now : ℕ) (sapi : Sapi) (input : Input) (octets : List ℕ) (otherwise : Result (Acted User) SideKind) → ShowUser code config s
+pub is_none : (code : UserSide) (config : Config) (s : User) (found : Option ℕ) (now : ℕ) (sapi : Sapi) (input : Input) (octets : List ℕ) (otherwise : Result (Reaction User) SideKind) → ShowUser code config s
     → found ≡ tei_of code.terminal → found ≡ None → with_tei_or now s.terminal sapi input octets otherwise s ≡ otherwise
 is_none code config s found now sapi input octets otherwise shown of is =
     no_own_link s.terminal now sapi input octets otherwise s (ap tei_of (sym shown.terminal) ∙ sym of ∙ is)
 
-pub granted_as : (code : UserSide) (config : Config) (acts : Effects) (a b : Result (Acted User) SideKind) → b ≡ a → HasGranted code config acts a → HasGranted code config acts b
-granted_as code config acts a b e h = subst (λ (o : Result (Acted User) SideKind). HasGranted code config acts o) (sym e) h
+pub granted_as : (code : UserSide) (config : Config) (acts : Effects) (a b : Result (Reaction User) SideKind) → b ≡ a → HasGranted code config acts a → HasGranted code config acts b
+granted_as code config acts a b e h = subst (λ (o : Result (Reaction User) SideKind). HasGranted code config acts o) (sym e) h
 
 -- an answer to what comes to the same
 pub answers_as : (result : Result (Unit {0}) SideFault) (old after : UserSide) (acts : Effects) (message : Option (Vec ℕ Global)) (a b : Outcome User) → ((config : Config) (s : User) → ShowUser old config s → b config s ≡ a config s)
@@ -182,36 +182,36 @@ answers_as (Err fault) old after acts message a b same h = record { kind = λ co
 
 -- ---- One step after another.
 
-pub follows_next : (first second : UserSide) (config : Config) (before mid after : Effects) (a : Acted User) (does : User → Acted User) → HasFollowed first config before mid a → HasFollowed second config mid after (does a.after)
+pub follows_next : (first second : UserSide) (config : Config) (before mid after : Effects) (a : Reaction User) (does : User → Reaction User) → HasFollowed first config before mid a → HasFollowed second config mid after (does a.after)
     → HasFollowed second config before after (next a does)
 follows_next first second config before mid after a does h k = record {
   shown = k.shown;
   given = k.given ∙ ap (λ (e : Effects). and_then e (does a.after).effects) h.given ∙ in_turn before a.effects (does a.after).effects;
 }
 
-pub both_establish : (code first second : UserSide) (kept : Kept) (config : Config) (s : User) (before mid after : Effects) (call packet : Bool) (one other : LinkId) (now own : ℕ) → kept ≡ nothing_kept
+pub both_establish : (code first second : UserSide) (kept : KeptEstablishments) (config : Config) (s : User) (before mid after : Effects) (call packet : Bool) (one other : LinkId) (now own : ℕ) → kept ≡ nothing_kept
     → call ≡ code.kept.call → packet ≡ code.kept.packet → one ≡ of_sapi sapi.Call own → other ≡ of_sapi sapi.Packet own
     → ((k : Config) (t : User) → ShowUser (record code { kept = kept }) k t → HasFollowed first k before mid (establishes call now one t))
     → ((k : Config) (t : User) → ShowUser first k t → HasFollowed second k mid after (establishes packet now other t))
     → ShowUser code config s → HasFollowed second config before after (establishes_kept now own s)
 both_establish code first second kept config s before mid after call packet one other now own nothing is_call is_packet is_one is_other does other_does shown =
     let t : User = record s { kept = nothing_kept } in
-    let a : Acted User = establishes s.kept.call now (of_sapi sapi.Call own) t in
+    let a : Reaction User = establishes s.kept.call now (of_sapi sapi.Call own) t in
     let done : HasFollowed first config before mid a =
-    subst (λ (b : Bool). HasFollowed first config before mid (establishes b now (of_sapi sapi.Call own) t)) (is_call ∙ ap (λ (k : Kept). k.call) shown.kept)
+    subst (λ (b : Bool). HasFollowed first config before mid (establishes b now (of_sapi sapi.Call own) t)) (is_call ∙ ap (λ (k : KeptEstablishments). k.call) shown.kept)
     (subst (λ (i : LinkId). HasFollowed first config before mid (establishes call now i t)) is_one
     (does config t (record { configured = shown.configured; served = shown.served; terminal = shown.terminal; kept = nothing; random = shown.random; discarded = shown.discarded }))) in
     follows_next first second config before mid after a (establishes s.kept.packet now (of_sapi sapi.Packet own)) done
-    (subst (λ (b : Bool). HasFollowed second config mid after (establishes b now (of_sapi sapi.Packet own) a.after)) (is_packet ∙ ap (λ (k : Kept). k.packet) shown.kept)
+    (subst (λ (b : Bool). HasFollowed second config mid after (establishes b now (of_sapi sapi.Packet own) a.after)) (is_packet ∙ ap (λ (k : KeptEstablishments). k.packet) shown.kept)
     (subst (λ (i : LinkId). HasFollowed second config mid after (establishes packet now i a.after)) is_other (other_does config a.after done.shown)))
 
 -- the first of these outputs that means something for what is kept
 at_item : (now i : ℕ) (outs : List TeiOut) (item out : TeiOut) (s : User) → i < length outs → item ≡ get_or outs i item → item ≡ out → kept_after now (drop i outs) s ≡ kept_after now outs s → kept_after now outs s ≡ kept_after now (out ∷ drop (suc i) outs) s
 at_item now i outs item out s below is_item is same = sym same ∙ ap (λ (l : List TeiOut). kept_after now l s) (drop-cons outs i item below ∙ ap (λ (o : TeiOut). o ∷ drop (suc i) outs) (sym is_item ∙ is))
 
-pub settles : (code after : UserSide) (config : Config) (now i : ℕ) (outs : List TeiOut) (item out : TeiOut) (s : User) (before last : Effects) (a : Acted User) → i < length outs → item ≡ get_or outs i item → item ≡ out → kept_after now (drop i outs) s ≡ kept_after now outs s
+pub settles : (code after : UserSide) (config : Config) (now i : ℕ) (outs : List TeiOut) (item out : TeiOut) (s : User) (before last : Effects) (a : Reaction User) → i < length outs → item ≡ get_or outs i item → item ≡ out → kept_after now (drop i outs) s ≡ kept_after now outs s
     → kept_after now (out ∷ drop (suc i) outs) s ≡ a → HasFollowed after config before last a → HasFollowed after config before last (kept_after now outs s)
-settles code after config now i outs item out s before last a below is_item is same means h = subst (λ (x : Acted User). HasFollowed after config before last x) (sym (at_item now i outs item out s below is_item is same ∙ means)) h
+settles code after config now i outs item out s before last a below is_item is same means h = subst (λ (x : Reaction User). HasFollowed after config before last x) (sym (at_item now i outs item out s below is_item is same ∙ means)) h
 
 -- ---- TEI management.
 
@@ -222,7 +222,7 @@ pub carried : (code after : UserSide) (config : Config) (now : ℕ) (s : User) (
     → ((k : Config) (t : User) → ShowUser code k t → HasFollowed after k acts last (kept_after now outs t))
     → HasDone after config last (assigned config now step s)
 carried code after config now s step outs sent acts last same is_sent configured counted terminal kept random served rest =
-    let a : Acted User = record {
+    let a : Reaction User = record {
       after = record s { served = (manages side.User config now step.outs s.served).after; terminal = step.now; random = drawn step.outs s.random };
       effects = (manages side.User config now step.outs s.served).effects;
     } in
@@ -333,7 +333,7 @@ data_as code config now frame s test answer shown t =
 pub unit_told : (code : UserSide) (config : Config) (now : ℕ) (frame : Fields) (s : User) (test : Bool) (address : Address) (octets : List ℕ) (acts : Effects) → IsTested code frame test true → address ≡ frame.address → octets ≡ frame.info
     → acts ≡ record no_effects { primitives = Of (of_sapi address.sapi group_tei) (what.UnitUp octets) ∷ [] } → ShowUser code config s → HasDone code config acts (data_heard config now frame s)
 unit_told code config now frame s test address octets acts t is_address is_octets told shown =
-    subst (λ (a : Acted User). HasDone code config acts a) (sym (data_as code config now frame s test true shown t)) (record {
+    subst (λ (a : Reaction User). HasDone code config acts a) (sym (data_as code config now frame s test true shown t)) (record {
       shown = shown;
       given = told ∙ ap (λ (a : Address). record no_effects { primitives = Of (of_sapi a.sapi group_tei) (what.UnitUp octets) ∷ [] }) is_address
           ∙ ap (λ (o : List ℕ). record no_effects { primitives = Of (of_sapi frame.address.sapi group_tei) (what.UnitUp o) ∷ [] }) is_octets;
@@ -343,7 +343,7 @@ unit_told code config now frame s test address octets acts t is_address is_octet
 pub data_for_link : (code after : UserSide) (config : Config) (now : ℕ) (frame : Fields) (s : User) (test : Bool) (id : LinkId) (octets : List ℕ) (acts : Effects) → IsTested code frame test false → id ≡ of_sapi frame.address.sapi frame.address.tei → octets ≡ frame.info
     → ShowUser code config s → HasDone after config acts (or_discarded s (link_of_user now id (Heard frame.control frame.address.role) octets s)) → HasDone after config acts (data_heard config now frame s)
 data_for_link code after config now frame s test id octets acts t named is_octets shown h =
-    subst (λ (a : Acted User). HasDone after config acts a) (sym (data_as code config now frame s test false shown t))
+    subst (λ (a : Reaction User). HasDone after config acts a) (sym (data_as code config now frame s test false shown t))
     (subst (λ (o : List ℕ). HasDone after config acts (or_discarded s (link_of_user now (of_sapi frame.address.sapi frame.address.tei) (Heard frame.control frame.address.role) o s))) is_octets
     (subst (λ (i : LinkId). HasDone after config acts (or_discarded s (link_of_user now i (Heard frame.control frame.address.role) octets s))) named h))
 
@@ -353,7 +353,7 @@ pub reshown_after : (code : UserSide) (links : LinkSet) (timers : Timers) (confi
     → ShowUser (record code { served = record { links = links; timers = timers } }) config (record s { served = record { links = s.served.links; timers = own } })
 reshown_after code links timers config s own shown is l = record { configured = shown.configured; served = record { links = l; timers = is }; terminal = shown.terminal; kept = shown.kept; random = shown.random; discarded = shown.discarded }
 
-pub expired_so : (code : UserSide) (config : Config) (acts : Effects) (now : ℕ) (s : User) (e : Expiry) (of : Option LinkId) → IsDue now s.served (Some e) → e.of ≡ of → HasDone code config acts (user_expires config now e.timer of s) → HasExpired code config acts now s
+pub expired_so : (code : UserSide) (config : Config) (acts : Effects) (now : ℕ) (s : User) (e : RunningTimer) (of : Option LinkId) → IsDue now s.served (Some e) → e.of ≡ of → HasDone code config acts (user_expires config now e.timer of s) → HasExpired code config acts now s
 expired_so code config acts now s e of due is done = record {
   expiry = e;
   due = due;
@@ -378,14 +378,14 @@ answers_for result old after acts now r q is h = subst (λ (x : Request). Answer
 
 -- ---- An establishment is forgotten.
 
-pub forgotten : (code : UserSide) (kept : Kept) (config : Config) (sapi : Sapi) (s : User) (acts : Effects) (test : Bool) → test ≡ is_kept sapi code.kept → test ≡ true → kept ≡ keeps sapi false code.kept
+pub forgotten : (code : UserSide) (kept : KeptEstablishments) (config : Config) (sapi : Sapi) (s : User) (acts : Effects) (test : Bool) → test ≡ is_kept sapi code.kept → test ≡ true → kept ≡ keeps sapi false code.kept
     → acts ≡ record no_effects { primitives = Of (of_sapi sapi group_tei) what.ReleaseConfirm ∷ [] } → ShowUser code config s → HasGranted (record code { kept = kept }) config acts (forgets sapi s)
 forgotten code kept config sapi s acts test is holds forgot told shown = record {
   acted = record { after = record s { kept = keeps sapi false s.kept }; effects = record no_effects { primitives = Of (of_sapi sapi group_tei) what.ReleaseConfirm ∷ [] } };
   is = ap (λ (b : Bool). if b then Ok (record { after = record s { kept = keeps sapi false s.kept }; effects = record no_effects { primitives = Of (of_sapi sapi group_tei) what.ReleaseConfirm ∷ [] } }) else Err NoLink)
-      (ap (λ (k : Kept). is_kept sapi k) (sym shown.kept) ∙ sym is ∙ holds);
+      (ap (λ (k : KeptEstablishments). is_kept sapi k) (sym shown.kept) ∙ sym is ∙ holds);
   done = record {
-    shown = record { configured = shown.configured; served = shown.served; terminal = shown.terminal; kept = forgot ∙ ap (λ (k : Kept). keeps sapi false k) shown.kept; random = shown.random; discarded = shown.discarded };
+    shown = record { configured = shown.configured; served = shown.served; terminal = shown.terminal; kept = forgot ∙ ap (λ (k : KeptEstablishments). keeps sapi false k) shown.kept; random = shown.random; discarded = shown.discarded };
     given = told;
   };
 }

@@ -5,9 +5,9 @@ use Rattle.lapd_frame.specs.declared.Side.{Side}
 use Rattle.lapd_frame.specs.declared.Side.TheVariants as side
 use Rattle.lapd_table.specs.declared.link_id.LinkId.{LinkId}
 use Rattle.lapd_table.specs.declared.link_table.LinkTable.{LinkTable}
-use Rattle.lapd_links.specs.declared.side_fault.SideFault.{SideFault}
-use Rattle.lapd_links.specs.Effects.{Effects}
-use Rattle.lapd_links.specs.Expiries.{IsNextDeadline, of_served}
+use Rattle.lapd_sides_links.specs.declared.side_fault.SideFault.{SideFault}
+use Rattle.lapd_sides_links.specs.Effects.{Effects}
+use Rattle.lapd_sides_links.specs.Expiries.{IsNextDeadline, of_served}
 use Rattle.lapd_sides.specs.declared.request.Request.{Request}
 use Rattle.lapd_sides.specs.declared.either_side.EitherSide.{EitherSide}
 use Rattle.lapd_sides.specs.declared.either_side.EitherSide.TheVariants as either

@@ -7,14 +7,14 @@ use Rattle.lapd_frame.specs.declared.Side.{Side}
 use Rattle.lapd_frame.specs.declared.Control.{Control}
 use Rattle.lapd_frame.specs.declared.Control.TheVariants.{Ui}
 use Rattle.lapd_frame.specs.Frame.{Fields}
-use Rattle.lapd_states.specs.Input.{Input, BusyOn, BusyOff}
+use Rattle.lapd_link_rows.specs.Input.{Input, BusyOn, BusyOff}
 use Rattle.lapd_tei.specs.declared.out.TeiOut.{TeiOut}
 use Rattle.lapd_tei.specs.Out.{tei_given, tei_freed}
 use Rattle.lapd_tei.specs.Message.{group_tei}
-use Rattle.lapd_links.specs.declared.config.Config.{Config}
-use Rattle.lapd_links.specs.declared.primitive.Primitive.{Primitive}
-use Rattle.lapd_links.specs.Effects.{Effects, effects_of_management, managed}
-use Rattle.lapd_links.specs.Links.{Served, Links, Acted, with_tei, without_tei, told_of_tei}
+use Rattle.lapd_sides_links.specs.declared.config.Config.{Config}
+use Rattle.lapd_sides_links.specs.declared.primitive.Primitive.{Primitive}
+use Rattle.lapd_sides_links.specs.Effects.{Effects, effects_of_management, managed}
+use Rattle.lapd_sides_links.specs.Links.{Served, Links, Reaction, with_tei, without_tei, told_of_tei}
 
 abbrev pub is_ui : Control → Bool
 is_ui (Ui p) = true
@@ -54,7 +54,7 @@ abbrev pub with_partings : List Primitive → Effects → Effects
 with_partings partings e = record e { primitives = e.primitives ++ partings }
 
 -- A step gives at most one TEI and frees at most one.
-unfoldable pub manages : Side → Config → ℕ → List TeiOut → Served → Acted Served
+unfoldable pub manages : Side → Config → ℕ → List TeiOut → Served → Reaction Served
 manages side config now outs s = record {
   after = record {
     links = links_without (tei_freed outs) (links_with config (tei_given outs) s.links);

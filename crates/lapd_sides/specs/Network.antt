@@ -12,8 +12,8 @@ use Rattle.lapd_frame.specs.declared.frame_fault.FrameFault.{FrameFault}
 use Rattle.lapd_frame.specs.declared.fault_kind.FaultKind.{FaultKind}
 use Rattle.lapd_frame.specs.Frame.{Fields, n201, spelling}
 use Rattle.lapd_frame.specs.Reading.{frame_at}
-use Rattle.lapd_states.specs.declared.event.LinkFault.TheVariants.{TooLong}
-use Rattle.lapd_states.specs.Input.{Input, Heard, Faulty, Establish, Release, UnitData, Give}
+use Rattle.lapd_link_rows.specs.declared.event.LinkFault.TheVariants.{TooLong}
+use Rattle.lapd_link_rows.specs.Input.{Input, Heard, Faulty, Establish, Release, UnitData, Give}
 use Rattle.lapd_tei.specs.declared.message.TeiMessage.{TeiMessage}
 use Rattle.lapd_tei.specs.declared.fault.TeiFault.{TeiFault}
 use Rattle.lapd_tei.specs.declared.assigner.AssignerEvent.{AssignerEvent}
@@ -23,15 +23,15 @@ use Rattle.lapd_tei.specs.Message.{group_tei, message_at}
 use Rattle.lapd_tei.specs.Out.{tei_given}
 use Rattle.lapd_table.specs.declared.link_id.LinkId.{LinkId}
 use Rattle.lapd_table.specs.LinkId.{id_of_address}
-use Rattle.lapd_links.specs.declared.config.Config.{Config}
+use Rattle.lapd_sides_links.specs.declared.config.Config.{Config}
 use Rattle.lapd_sides.specs.declared.request.Request.{Request}
 use Rattle.lapd_sides.specs.declared.request.Request.TheVariants as request
-use Rattle.lapd_links.specs.declared.side_fault.SideKind.{SideKind}
-use Rattle.lapd_links.specs.declared.side_fault.SideKind.TheVariants.{Link}
-use Rattle.lapd_links.specs.Effects.{no_effects, stopped}
-use Rattle.lapd_links.specs.Links.{Links, Acted, is_served, in_links, link_acts, link_expires, links_of_held}
+use Rattle.lapd_sides_links.specs.declared.side_fault.SideKind.{SideKind}
+use Rattle.lapd_sides_links.specs.declared.side_fault.SideKind.TheVariants.{Link}
+use Rattle.lapd_sides_links.specs.Effects.{no_effects, stopped}
+use Rattle.lapd_sides_links.specs.Links.{Links, Reaction, is_served, in_links, link_acts, link_expires, links_of_held}
 use Rattle.lapd_sides.specs.Management.{carries_message, manages, one_more, busy_input}
-use Rattle.lapd_links.specs.Links.{Served}
+use Rattle.lapd_sides_links.specs.Links.{Served}
 
 -- with how many frames it has discarded
 pub record Network : Type 0 where
@@ -51,16 +51,16 @@ new_network config known = record {
 }
 
 -- nothing happens
-abbrev pub unmoved : Network → Acted Network
+abbrev pub unmoved : Network → Reaction Network
 unmoved s = record { after = s; effects = no_effects }
 
 -- a frame is discarded, and counted
-abbrev pub discards : Network → Acted Network
+abbrev pub discards : Network → Reaction Network
 discards s = record { after = record s { discarded = one_more s.discarded }; effects = no_effects }
 
 -- ---- TEI management.
 
-abbrev pub assigned : Config → ℕ → AssignerStep → Network → Acted Network
+abbrev pub assigned : Config → ℕ → AssignerStep → Network → Reaction Network
 assigned config now step s = record {
   after = record s {
     served = (manages side.Network config now step.outs s.served).after;
@@ -69,61 +69,61 @@ assigned config now step s = record {
   effects = (manages side.Network config now step.outs s.served).effects;
 }
 
-unfoldable pub assigner_acts : Config → ℕ → AssignerEvent → Network → Acted Network
+unfoldable pub assigner_acts : Config → ℕ → AssignerEvent → Network → Reaction Network
 assigner_acts config now event s = assigned config now (assigner_step s.assigner event) s
 
 -- a message that is none is ignored
-abbrev pub message_heard : Config → ℕ → Result TeiMessage TeiFault → Network → Acted Network
+abbrev pub message_heard : Config → ℕ → Result TeiMessage TeiFault → Network → Reaction Network
 message_heard config now (Ok message) s = assigner_acts config now (event.Heard message) s
 message_heard config now (Err fault) s = unmoved s
 
 -- ---- A link.
 
-abbrev pub with_links : Network → Acted Links → Acted Network
+abbrev pub with_links : Network → Reaction Links → Reaction Network
 with_links s a = record {
   after = record s { served = record { links = a.after; timers = s.served.timers } };
   effects = a.effects;
 }
 
-abbrev pub among_links : Network → Result (Acted Links) SideKind → Result (Acted Network) SideKind
+abbrev pub among_links : Network → Result (Reaction Links) SideKind → Result (Reaction Network) SideKind
 among_links s (Ok a) = Ok (with_links s a)
 among_links s (Err kind) = Err kind
 
 unfoldable pub link_of_network : ℕ → LinkId → Input → List ℕ → Network
-    → Result (Acted Network) SideKind
+    → Result (Reaction Network) SideKind
 link_of_network now id input octets s =
     among_links s (in_links id (link_acts side.Network id now input octets) s.served.links)
 
 -- what is for no link is discarded
-abbrev pub or_discarded : Network → Result (Acted Network) SideKind → Acted Network
+abbrev pub or_discarded : Network → Result (Reaction Network) SideKind → Reaction Network
 or_discarded s (Ok a) = a
 or_discarded s (Err kind) = discards s
 
 -- of a link that is not there no timer expires
-abbrev pub or_unmoved : Network → Result (Acted Network) SideKind → Acted Network
+abbrev pub or_unmoved : Network → Result (Reaction Network) SideKind → Reaction Network
 or_unmoved s (Ok a) = a
 or_unmoved s (Err kind) = unmoved s
 
 -- ---- Octets come from the line.
 
 -- a frame: a message of TEI management, or a frame for the link that it names
-abbrev pub frame_heard : Config → ℕ → Fields → Network → Acted Network
+abbrev pub frame_heard : Config → ℕ → Fields → Network → Reaction Network
 frame_heard config now frame s =
     if carries_message frame then message_heard config now (message_at frame.info) s
     else or_discarded s (link_of_network now (id_of_address frame.address)
     (Heard frame.control frame.address.role) frame.info s)
 
 -- a fault of a frame for a link (F4 to F7), or of octets for none (F1 to F3)
-abbrev pub fault_heard : ℕ → FaultKind → Option Address → Network → Acted Network
+abbrev pub fault_heard : ℕ → FaultKind → Option Address → Network → Reaction Network
 fault_heard now kind None s = discards s
 fault_heard now kind (Some address) s =
     or_discarded s (link_of_network now (id_of_address address) (Faulty kind) [] s)
 
-abbrev pub heard : Config → ℕ → Result Fields FrameFault → Network → Acted Network
+abbrev pub heard : Config → ℕ → Result Fields FrameFault → Network → Reaction Network
 heard config now (Ok frame) s = frame_heard config now frame s
 heard config now (Err fault) s = fault_heard now fault.kind fault.address s
 
-unfoldable pub network_takes : Config → List ℕ → ℕ → Network → Acted Network
+unfoldable pub network_takes : Config → List ℕ → ℕ → Network → Reaction Network
 network_takes config octets now s = heard config now (frame_at side.User octets) s
 
 -- The TEI that is given because of these octets, where one is: its links are added, and nothing
@@ -142,12 +142,12 @@ given_for a octets = given_for_frame a (frame_at side.User octets)
 
 -- ---- A timer expires.
 
-abbrev pub management_expires : Config → ℕ → Timer → Network → Acted Network
+abbrev pub management_expires : Config → ℕ → Timer → Network → Reaction Network
 management_expires config now timer s = assigner_acts config now event.T201 (record s {
   served = record { links = s.served.links; timers = stopped timer s.served.timers };
 })
 
-unfoldable pub network_expires : Config → ℕ → Timer → Option LinkId → Network → Acted Network
+unfoldable pub network_expires : Config → ℕ → Timer → Option LinkId → Network → Reaction Network
 network_expires config now timer None s = management_expires config now timer s
 network_expires config now timer (Some id) s = or_unmoved s
     (among_links s (in_links id (link_expires side.Network id now timer) s.served.links))
@@ -162,7 +162,7 @@ group_frame sapi octets = record {
   info = octets;
 }
 
-abbrev pub unit_to_group : Sapi → List ℕ → Network → Result (Acted Network) SideKind
+abbrev pub unit_to_group : Sapi → List ℕ → Network → Result (Reaction Network) SideKind
 unit_to_group sapi octets s =
     if nat_lt n201 (length octets) then Err (Link TooLong)
     else Ok (record {
@@ -170,12 +170,12 @@ unit_to_group sapi octets s =
       effects = record no_effects { frames = spelling side.Network (group_frame sapi octets) ∷ [] };
     })
 
-abbrev pub unit_requested : Config → ℕ → LinkId → List ℕ → Network → Result (Acted Network) SideKind
+abbrev pub unit_requested : Config → ℕ → LinkId → List ℕ → Network → Result (Reaction Network) SideKind
 unit_requested config now id octets s =
     if is_served config id.sapi && (id.tei == group_tei) then unit_to_group id.sapi octets s
     else link_of_network now id (UnitData (length octets)) octets s
 
-unfoldable pub network_requested : Config → Request → ℕ → Network → Result (Acted Network) SideKind
+unfoldable pub network_requested : Config → Request → ℕ → Network → Result (Reaction Network) SideKind
 network_requested config (request.Establish id) now s = link_of_network now id Establish [] s
 network_requested config (request.Release id) now s = link_of_network now id Release [] s
 network_requested config (request.Unit id octets) now s =

@@ -1,8 +1,8 @@
 -- What is handed back where a request is refused.
 use Rattle.std.specs.Prelude.{ℕ, Option, Some, None, Vec}
 use Rattle.std.specs.declared.alloc.Global.{Global}
-use Rattle.lapd_links.specs.declared.side_fault.SideFault.{SideFault}
-use Rattle.lapd_links.specs.declared.side_fault.SideKind.{SideKind}
+use Rattle.lapd_sides_links.specs.declared.side_fault.SideFault.{SideFault}
+use Rattle.lapd_sides_links.specs.declared.side_fault.SideKind.{SideKind}
 use Rattle.lapd_sides.specs.declared.request.Request.{Request}
 use Rattle.lapd_sides.specs.declared.request.Request.TheVariants as request
 

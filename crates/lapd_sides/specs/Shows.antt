@@ -3,18 +3,18 @@ use Rattle.std.specs.Prelude.{◌≡◌, ℕ, List, Option, Some, None, option_m
 use Rattle.lapd_frame.specs.declared.Side.{Side}
 use Rattle.lapd_link.specs.Link.{LinkStandsFor}
 use Rattle.lapd_link.specs.declared.link.Link.{Link}
-use Rattle.lapd_states.specs.End.{End}
+use Rattle.lapd_link_rows.specs.End.{End}
 use Rattle.lapd_table.specs.declared.link_id.LinkId.{LinkId}
 use Rattle.lapd_table.specs.declared.link_table.LinkTable.{LinkTable}
 use Rattle.lapd_table.specs.LinkTable.{side_of, link_at}
 use Rattle.lapd_tei.specs.declared.out.TeiOut.{TeiOut}
 use Rattle.lapd_tei.specs.Out.{tei_given}
-use Rattle.lapd_links.specs.declared.config.Config.{Config}
-use Rattle.lapd_links.specs.declared.side_fault.SideKind.{SideKind}
+use Rattle.lapd_sides_links.specs.declared.config.Config.{Config}
+use Rattle.lapd_sides_links.specs.declared.side_fault.SideKind.{SideKind}
 use Rattle.lapd_sides.specs.declared.served.LinksAndTimer.{LinksAndTimer}
-use Rattle.lapd_links.specs.Effects.{Effects}
-use Rattle.lapd_links.specs.Links.{Links, Linked, Acted, Served}
-use Rattle.lapd_links.specs.Shown.{ShowLinks}
+use Rattle.lapd_sides_links.specs.Effects.{Effects}
+use Rattle.lapd_sides_links.specs.Links.{Links, Linked, Reaction, Served}
+use Rattle.lapd_sides_links.specs.Shown.{ShowLinks}
 use Rattle.lapd_sides.specs.Management.{links_with, manages}
 
 -- the links and the timer of TEI management
@@ -24,7 +24,7 @@ pub record ShowServed (side : Side) (code : LinksAndTimer) (s : Served) : Type 0
 
 -- a step of them has been done: they show what it leaves, and what it gives is there
 pub record HaveServed (side : Side) (code : LinksAndTimer) (acts : Effects)
-    (a : Acted Served) : Type 0 where
+    (a : Reaction Served) : Type 0 where
   pub shown : ShowServed side code a.after
   pub given : acts ≡ a.effects
 
@@ -36,11 +36,11 @@ with_given_links config outs s = record s { links = links_with config (tei_given
 
 -- what octets, a timer or an event of TEI management come to, on a side that was made with this
 abbrev pub Step : Type 0 → Type 0
-Step S = Config → S → Acted S
+Step S = Config → S → Reaction S
 
 -- what a request comes to, which may be refused
 abbrev pub Outcome : Type 0 → Type 0
-Outcome S = Config → S → Result (Acted S) SideKind
+Outcome S = Config → S → Result (Reaction S) SideKind
 
 -- they become this
 abbrev pub Become : LinksAndTimer → LinksAndTimer → (Served → Served) → Type 0

@@ -2,14 +2,14 @@
 use Rattle.std.specs.Prelude.{◌≡◌, ℕ, Option, Some, None, Result, Ok, Err, IsSome, Vec, ⊤}
 use Rattle.std.specs.declared.alloc.Global.{Global}
 use Rattle.lapd_frame.specs.declared.Side.TheVariants as side
-use Rattle.lapd_links.specs.declared.config.Config.{Config}
+use Rattle.lapd_sides_links.specs.declared.config.Config.{Config}
 use Rattle.lapd_sides.specs.declared.net_side.NetSide.{NetSide}
-use Rattle.lapd_links.specs.declared.side_fault.SideFault.{SideFault}
-use Rattle.lapd_links.specs.declared.side_fault.SideKind.{SideKind}
-use Rattle.lapd_links.specs.Effects.{Effects, no_effects}
-use Rattle.lapd_links.specs.declared.expiry.Expiry.{Expiry}
-use Rattle.lapd_links.specs.Expiries.{IsDue}
-use Rattle.lapd_links.specs.Links.{Acted}
+use Rattle.lapd_sides_links.specs.declared.side_fault.SideFault.{SideFault}
+use Rattle.lapd_sides_links.specs.declared.side_fault.SideKind.{SideKind}
+use Rattle.lapd_sides_links.specs.Effects.{Effects, no_effects}
+use Rattle.lapd_sides_links.specs.declared.running_timer.RunningTimer.{RunningTimer}
+use Rattle.lapd_sides_links.specs.Expiries.{IsDue}
+use Rattle.lapd_sides_links.specs.Links.{Reaction}
 use Rattle.lapd_sides.specs.Network.{Network, network_expires}
 use Rattle.lapd_sides.specs.Shows.{ShowServed, Step, Outcome}
 
@@ -22,21 +22,21 @@ pub record ShowNetwork (code : NetSide) (config : Config) (s : Network) : Type 0
 
 -- a step has been done: the side shows what it leaves, and what it gives is there
 pub record HasDone (code : NetSide) (config : Config) (acts : Effects)
-    (a : Acted Network) : Type 0 where
+    (a : Reaction Network) : Type 0 where
   pub shown : ShowNetwork code config a.after
   pub given : acts ≡ a.effects
 
 -- what was asked for has been done, and not refused
 pub record HasGranted (code : NetSide) (config : Config) (acts : Effects)
-    (outcome : Result (Acted Network) SideKind) : Type 0 where
-  pub acted : Acted Network
+    (outcome : Result (Reaction Network) SideKind) : Type 0 where
+  pub acted : Reaction Network
   pub is : outcome ≡ Ok acted
   pub done : HasDone code config acts acted
 
 -- the first of its timers that is due has expired
 pub record HasExpired (code : NetSide) (config : Config) (acts : Effects)
     (now : ℕ) (s : Network) : Type 0 where
-  pub expiry : Expiry
+  pub expiry : RunningTimer
   pub due : IsDue now s.served (Some expiry)
   pub done : HasDone code config acts (network_expires config now expiry.timer expiry.of s)
 

@@ -7,15 +7,15 @@ use Rattle.lapd_frame.specs.declared.Side.TheVariants as side
 use Rattle.lapd_tei.specs.declared.out.TeiOut.{TeiOut}
 use Rattle.lapd_tei.specs.Out.{tei_given}
 use Rattle.lapd_tei.specs.Terminal.{TerminalStep}
-use Rattle.lapd_links.specs.declared.config.Config.{Config}
+use Rattle.lapd_sides_links.specs.declared.config.Config.{Config}
 use Rattle.lapd_sides.specs.declared.references.References.{References}
 use Rattle.lapd_sides.specs.declared.user_side.UserSide.{UserSide}
-use Rattle.lapd_links.specs.declared.side_fault.SideFault.{SideFault}
-use Rattle.lapd_links.specs.declared.side_fault.SideKind.{SideKind}
-use Rattle.lapd_links.specs.Effects.{Effects, and_then, no_effects}
-use Rattle.lapd_links.specs.declared.expiry.Expiry.{Expiry}
-use Rattle.lapd_links.specs.Expiries.{IsDue}
-use Rattle.lapd_links.specs.Links.{Acted}
+use Rattle.lapd_sides_links.specs.declared.side_fault.SideFault.{SideFault}
+use Rattle.lapd_sides_links.specs.declared.side_fault.SideKind.{SideKind}
+use Rattle.lapd_sides_links.specs.Effects.{Effects, and_then, no_effects}
+use Rattle.lapd_sides_links.specs.declared.running_timer.RunningTimer.{RunningTimer}
+use Rattle.lapd_sides_links.specs.Expiries.{IsDue}
+use Rattle.lapd_sides_links.specs.Links.{Reaction}
 use Rattle.lapd_sides.specs.Management.{links_with}
 use Rattle.lapd_sides.specs.User.{User, next_reference, advanced, assigned, user_expires}
 use Rattle.lapd_sides.specs.Shows.{ShowServed, Step, Outcome}
@@ -37,14 +37,14 @@ pub record ShowUser (code : UserSide) (config : Config) (s : User) : Type 0 wher
 
 -- a step has been done: the side shows what it leaves, and what it gives is there
 pub record HasDone (code : UserSide) (config : Config) (acts : Effects)
-    (a : Acted User) : Type 0 where
+    (a : Reaction User) : Type 0 where
   pub shown : ShowUser code config a.after
   pub given : acts ≡ a.effects
 
 -- A step has been done after others: the side shows what it leaves, and what it gives stands
 -- behind what they gave.
 pub record HasFollowed (code : UserSide) (config : Config) (before after : Effects)
-    (a : Acted User) : Type 0 where
+    (a : Reaction User) : Type 0 where
   pub shown : ShowUser code config a.after
   pub given : after ≡ and_then before a.effects
 
@@ -57,15 +57,15 @@ admitted config step s = record s {
 
 -- what was asked for has been done, and not refused
 pub record HasGranted (code : UserSide) (config : Config) (acts : Effects)
-    (outcome : Result (Acted User) SideKind) : Type 0 where
-  pub acted : Acted User
+    (outcome : Result (Reaction User) SideKind) : Type 0 where
+  pub acted : Reaction User
   pub is : outcome ≡ Ok acted
   pub done : HasDone code config acts acted
 
 -- the first of its timers that is due has expired
 pub record HasExpired (code : UserSide) (config : Config) (acts : Effects)
     (now : ℕ) (s : User) : Type 0 where
-  pub expiry : Expiry
+  pub expiry : RunningTimer
   pub due : IsDue now s.served (Some expiry)
   pub done : HasDone code config acts (user_expires config now expiry.timer expiry.of s)
 

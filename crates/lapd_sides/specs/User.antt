@@ -14,8 +14,8 @@ use Rattle.lapd_frame.specs.declared.frame_fault.FrameFault.{FrameFault}
 use Rattle.lapd_frame.specs.declared.fault_kind.FaultKind.{FaultKind}
 use Rattle.lapd_frame.specs.Frame.{Fields}
 use Rattle.lapd_frame.specs.Reading.{frame_at}
-use Rattle.lapd_states.specs.declared.event.LinkFault.TheVariants.{NotEstablished}
-use Rattle.lapd_states.specs.Input.{Input, Heard, Faulty, Establish, Release, UnitData, Give}
+use Rattle.lapd_link_rows.specs.declared.event.LinkFault.TheVariants.{NotEstablished}
+use Rattle.lapd_link_rows.specs.Input.{Input, Heard, Faulty, Establish, Release, UnitData, Give}
 use Rattle.lapd_tei.specs.declared.message.TeiMessage.{TeiMessage}
 use Rattle.lapd_tei.specs.declared.fault.TeiFault.{TeiFault}
 use Rattle.lapd_tei.specs.declared.out.TeiOut.{TeiOut}
@@ -28,22 +28,22 @@ use Rattle.lapd_tei.specs.Out.{tei_given}
 use Rattle.lapd_tei.specs.Terminal.{TerminalStep, terminal_step, new_terminal}
 use Rattle.lapd_tei.specs.Message.{group_tei, message_at}
 use Rattle.lapd_table.specs.declared.link_id.LinkId.{LinkId}
-use Rattle.lapd_links.specs.declared.config.Config.{Config}
-use Rattle.lapd_links.specs.declared.primitive.Primitive.{Primitive}
-use Rattle.lapd_links.specs.declared.primitive.Primitive.TheVariants.{Of}
-use Rattle.lapd_links.specs.declared.primitive.What.{What}
-use Rattle.lapd_links.specs.declared.primitive.What.TheVariants as what
+use Rattle.lapd_sides_links.specs.declared.config.Config.{Config}
+use Rattle.lapd_sides_links.specs.declared.primitive.Primitive.{Primitive}
+use Rattle.lapd_sides_links.specs.declared.primitive.Primitive.TheVariants.{Of}
+use Rattle.lapd_sides_links.specs.declared.primitive.What.{What}
+use Rattle.lapd_sides_links.specs.declared.primitive.What.TheVariants as what
 use Rattle.lapd_sides.specs.declared.request.Request.{Request}
 use Rattle.lapd_sides.specs.declared.request.Request.TheVariants as request
-use Rattle.lapd_links.specs.declared.side_fault.SideKind.{SideKind}
-use Rattle.lapd_links.specs.declared.side_fault.SideKind.TheVariants.{NoLink, Link}
-use Rattle.lapd_links.specs.Effects.{no_effects, and_then, stopped}
-use Rattle.lapd_links.specs.Links.{Links, Acted, of_sapi, is_served, in_links, link_acts, link_expires, no_links, with_tei}
+use Rattle.lapd_sides_links.specs.declared.side_fault.SideKind.{SideKind}
+use Rattle.lapd_sides_links.specs.declared.side_fault.SideKind.TheVariants.{NoLink, Link}
+use Rattle.lapd_sides_links.specs.Effects.{no_effects, and_then, stopped}
+use Rattle.lapd_sides_links.specs.Links.{Links, Reaction, of_sapi, is_served, in_links, link_acts, link_expires, no_links, with_tei}
 use Rattle.lapd_sides.specs.Management.{carries_message, is_unit_to_group, manages, one_more, busy_input}
-use Rattle.lapd_links.specs.Links.{Served}
+use Rattle.lapd_sides_links.specs.Links.{Served}
 
 -- For which SAPIs an establishment is kept until the terminal has a TEI.
-pub record Kept : Type 0 where
+pub record KeptEstablishments : Type 0 where
   pub call : Bool
   pub packet : Bool
 
@@ -51,11 +51,11 @@ pub record Kept : Type 0 where
 pub record User : Type 0 where
   pub served : Served
   pub terminal : Phase
-  pub kept : Kept
+  pub kept : KeptEstablishments
   pub random : Lcg
   pub discarded : ℕ
 
-abbrev pub nothing_kept : Kept
+abbrev pub nothing_kept : KeptEstablishments
 nothing_kept = record { call = false; packet = false }
 
 -- as it is made: with the links of a fixed TEI, or with none
@@ -72,11 +72,11 @@ new_user config fixed random = record {
   discarded = 0;
 }
 
-abbrev pub unmoved : User → Acted User
+abbrev pub unmoved : User → Reaction User
 unmoved s = record { after = s; effects = no_effects }
 
 -- a frame is discarded, and counted
-abbrev pub discards : User → Acted User
+abbrev pub discards : User → Reaction User
 discards s = record { after = record s { discarded = one_more s.discarded }; effects = no_effects }
 
 -- ---- References.
@@ -106,46 +106,46 @@ drawn outs random = if sends_message outs then advanced (pcg32 random) else rand
 
 -- ---- A link.
 
-abbrev pub with_links : User → Acted Links → Acted User
+abbrev pub with_links : User → Reaction Links → Reaction User
 with_links s a = record {
   after = record s { served = record { links = a.after; timers = s.served.timers } };
   effects = a.effects;
 }
 
-abbrev pub among_links : User → Result (Acted Links) SideKind → Result (Acted User) SideKind
+abbrev pub among_links : User → Result (Reaction Links) SideKind → Result (Reaction User) SideKind
 among_links s (Ok a) = Ok (with_links s a)
 among_links s (Err kind) = Err kind
 
-unfoldable pub link_of_user : ℕ → LinkId → Input → List ℕ → User → Result (Acted User) SideKind
+unfoldable pub link_of_user : ℕ → LinkId → Input → List ℕ → User → Result (Reaction User) SideKind
 link_of_user now id input octets s =
     among_links s (in_links id (link_acts side.User id now input octets) s.served.links)
 
 -- a frame that is for no link is discarded
-abbrev pub or_discarded : User → Result (Acted User) SideKind → Acted User
+abbrev pub or_discarded : User → Result (Reaction User) SideKind → Reaction User
 or_discarded s (Ok a) = a
 or_discarded s (Err kind) = discards s
 
 -- of a link that is not there no timer expires, and no establishment is done
-abbrev pub or_unmoved : User → Result (Acted User) SideKind → Acted User
+abbrev pub or_unmoved : User → Result (Reaction User) SideKind → Reaction User
 or_unmoved s (Ok a) = a
 or_unmoved s (Err kind) = unmoved s
 
 -- ---- TEI management: what its outcomes mean for the establishments that are kept.
 
 -- one step after another
-abbrev pub next : Acted User → (User → Acted User) → Acted User
+abbrev pub next : Reaction User → (User → Reaction User) → Reaction User
 next a does = record {
   after = (does a.after).after;
   effects = and_then a.effects (does a.after).effects;
 }
 
 -- a kept establishment is done
-abbrev pub establishes : Bool → ℕ → LinkId → User → Acted User
+abbrev pub establishes : Bool → ℕ → LinkId → User → Reaction User
 establishes true now id s = or_unmoved s (link_of_user now id Establish [] s)
 establishes false now id s = unmoved s
 
 -- With a TEI those that are kept are done, SAPI 0 first, and none is kept any more.
-abbrev pub establishes_kept : ℕ → ℕ → User → Acted User
+abbrev pub establishes_kept : ℕ → ℕ → User → Reaction User
 establishes_kept now own s =
     next (establishes s.kept.call now (of_sapi sapi.Call own) (record s { kept = nothing_kept }))
     (establishes s.kept.packet now (of_sapi sapi.Packet own))
@@ -160,7 +160,7 @@ told_of_sapi true sapi w = told_of_group sapi w
 told_of_sapi false sapi w = []
 
 -- Where no TEI was got, each is released.
-abbrev pub gives_up_kept : User → Acted User
+abbrev pub gives_up_kept : User → Reaction User
 gives_up_kept s = record {
   after = record s { kept = nothing_kept };
   effects = record no_effects {
@@ -169,13 +169,13 @@ gives_up_kept s = record {
   };
 }
 
-abbrev pub kept_after : ℕ → List TeiOut → User → Acted User
+abbrev pub kept_after : ℕ → List TeiOut → User → Reaction User
 kept_after now [] s = unmoved s
 kept_after now (tei.Got own ∷ outs) s = establishes_kept now own s
 kept_after now (tei.Failed ∷ outs) s = gives_up_kept s
 kept_after now (output ∷ outs) s = kept_after now outs s
 
-abbrev pub assigned : Config → ℕ → TerminalStep → User → Acted User
+abbrev pub assigned : Config → ℕ → TerminalStep → User → Reaction User
 assigned config now step s =
     next (record {
       after = record s {
@@ -188,18 +188,18 @@ assigned config now step s =
     (kept_after now step.outs)
 
 -- an event of the terminal, with the reference that is sent where one is
-unfoldable pub terminal_acts : Config → ℕ → (ℕ → TerminalEvent) → User → Acted User
+unfoldable pub terminal_acts : Config → ℕ → (ℕ → TerminalEvent) → User → Reaction User
 terminal_acts config now event s =
     assigned config now (terminal_step s.terminal (event (next_reference s.random))) s
 
-abbrev pub message_heard : Config → ℕ → Result TeiMessage TeiFault → User → Acted User
+abbrev pub message_heard : Config → ℕ → Result TeiMessage TeiFault → User → Reaction User
 message_heard config now (Ok message) s = terminal_acts config now (event.Heard message) s
 message_heard config now (Err fault) s = unmoved s
 
 -- ---- Octets come from the line.
 
 -- unit data to all terminals, of a SAPI that is served (5.2)
-abbrev pub unit_from_group : Sapi → List ℕ → User → Acted User
+abbrev pub unit_from_group : Sapi → List ℕ → User → Reaction User
 unit_from_group sapi octets s = record {
   after = s;
   effects = record no_effects { primitives = told_of_group sapi (what.UnitUp octets) };
@@ -209,27 +209,27 @@ unit_from_group sapi octets s = record {
 abbrev pub for_layer_3 : Config → Fields → Bool
 for_layer_3 config frame = is_served config frame.address.sapi && is_unit_to_group frame
 
-abbrev pub data_heard : Config → ℕ → Fields → User → Acted User
+abbrev pub data_heard : Config → ℕ → Fields → User → Reaction User
 data_heard config now frame s =
     if for_layer_3 config frame then unit_from_group frame.address.sapi frame.info s
     else or_discarded s (link_of_user now (of_sapi frame.address.sapi frame.address.tei)
     (Heard frame.control frame.address.role) frame.info s)
 
-abbrev pub frame_heard : Config → ℕ → Fields → User → Acted User
+abbrev pub frame_heard : Config → ℕ → Fields → User → Reaction User
 frame_heard config now frame s =
     if carries_message frame then message_heard config now (message_at frame.info) s
     else data_heard config now frame s
 
-abbrev pub fault_heard : ℕ → FaultKind → Option Address → User → Acted User
+abbrev pub fault_heard : ℕ → FaultKind → Option Address → User → Reaction User
 fault_heard now kind None s = discards s
 fault_heard now kind (Some address) s =
     or_discarded s (link_of_user now (of_sapi address.sapi address.tei) (Faulty kind) [] s)
 
-abbrev pub heard : Config → ℕ → Result Fields FrameFault → User → Acted User
+abbrev pub heard : Config → ℕ → Result Fields FrameFault → User → Reaction User
 heard config now (Ok frame) s = frame_heard config now frame s
 heard config now (Err fault) s = fault_heard now fault.kind fault.address s
 
-unfoldable pub user_takes : Config → List ℕ → ℕ → User → Acted User
+unfoldable pub user_takes : Config → List ℕ → ℕ → User → Reaction User
 user_takes config octets now s = heard config now (frame_at side.Network octets) s
 
 -- The TEI that is got because of these octets, where one is: its links are added, and nothing
@@ -249,12 +249,12 @@ got_for s octets = got_for_frame s (frame_at side.Network octets)
 
 -- ---- A timer expires.
 
-abbrev pub management_expires : Config → ℕ → Timer → User → Acted User
+abbrev pub management_expires : Config → ℕ → Timer → User → Reaction User
 management_expires config now timer s = terminal_acts config now event.T202 (record s {
   served = record { links = s.served.links; timers = stopped timer s.served.timers };
 })
 
-unfoldable pub user_expires : Config → ℕ → Timer → Option LinkId → User → Acted User
+unfoldable pub user_expires : Config → ℕ → Timer → Option LinkId → User → Reaction User
 user_expires config now timer None s = management_expires config now timer s
 user_expires config now timer (Some id) s = or_unmoved s
     (among_links s (in_links id (link_expires side.User id now timer) s.served.links))
@@ -262,32 +262,32 @@ user_expires config now timer (Some id) s = or_unmoved s
 -- ---- Requests. Only the SAPI of a name is looked at.
 
 -- for the link of the terminal's own TEI, or what is done where there is none
-abbrev pub with_tei_or : ℕ → Phase → Sapi → Input → List ℕ → Result (Acted User) SideKind → User
-    → Result (Acted User) SideKind
+abbrev pub with_tei_or : ℕ → Phase → Sapi → Input → List ℕ → Result (Reaction User) SideKind → User
+    → Result (Reaction User) SideKind
 with_tei_or now (Assigned by own) sapi input octets otherwise s =
     link_of_user now (of_sapi sapi own) input octets s
 with_tei_or now Unassigned sapi input octets otherwise s = otherwise
 with_tei_or now (Awaiting purpose count ri) sapi input octets otherwise s = otherwise
 
-abbrev pub is_kept : Sapi → Kept → Bool
+abbrev pub is_kept : Sapi → KeptEstablishments → Bool
 is_kept sapi.Call kept = kept.call
 is_kept sapi.Packet kept = kept.packet
 is_kept sapi.Management kept = false
 
-abbrev pub keeps : Sapi → Bool → Kept → Kept
+abbrev pub keeps : Sapi → Bool → KeptEstablishments → KeptEstablishments
 keeps sapi.Call on kept = record kept { call = on }
 keeps sapi.Packet on kept = record kept { packet = on }
 keeps sapi.Management on kept = kept
 
 -- An establishment without TEI is kept, and a TEI is asked for (5.3.2).
-abbrev pub wants : Config → ℕ → Sapi → User → Result (Acted User) SideKind
+abbrev pub wants : Config → ℕ → Sapi → User → Result (Reaction User) SideKind
 wants config now sapi s =
     if is_served config sapi
     then Ok (terminal_acts config now event.Want (record s { kept = keeps sapi true s.kept }))
     else Err NoLink
 
 -- A release forgets it, and the terminal goes on asking.
-abbrev pub forgets : Sapi → User → Result (Acted User) SideKind
+abbrev pub forgets : Sapi → User → Result (Reaction User) SideKind
 forgets sapi s =
     if is_kept sapi s.kept
     then Ok (record {
@@ -296,7 +296,7 @@ forgets sapi s =
     })
     else Err NoLink
 
-unfoldable pub user_requested : Config → Request → ℕ → User → Result (Acted User) SideKind
+unfoldable pub user_requested : Config → Request → ℕ → User → Result (Reaction User) SideKind
 user_requested config (request.Establish id) now s =
     with_tei_or now s.terminal id.sapi Establish [] (wants config now id.sapi s) s
 user_requested config (request.Release id) now s =

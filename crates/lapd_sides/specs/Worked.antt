@@ -11,15 +11,15 @@ use Rattle.lapd_timers.specs.declared.timer.Timer.TheVariants.{T201, T202}
 use Rattle.lapd_timers.specs.Due.{deadline_of}
 use Rattle.lapd_timers.specs.Durations.{standard_lengths}
 use Rattle.lapd_frame.specs.declared.Sapi.TheVariants.{Call, Packet}
-use Rattle.lapd_states.specs.declared.state.State.{State}
-use Rattle.lapd_states.specs.Parameters.{basic_parameters}
+use Rattle.lapd_link_rows.specs.declared.state.State.{State}
+use Rattle.lapd_link_rows.specs.Parameters.{basic_parameters}
 use Rattle.lapd_table.specs.declared.link_id.LinkId.{LinkId}
-use Rattle.lapd_links.specs.declared.config.Config.{Config}
+use Rattle.lapd_sides_links.specs.declared.config.Config.{Config}
 use Rattle.lapd_sides.specs.declared.request.Request.{Request}
 use Rattle.lapd_sides.specs.declared.request.Request.TheVariants as request
-use Rattle.lapd_links.specs.declared.side_fault.SideKind.{SideKind}
-use Rattle.lapd_links.specs.Effects.{Effects}
-use Rattle.lapd_links.specs.Links.{Linked, Acted, of_sapi}
+use Rattle.lapd_sides_links.specs.declared.side_fault.SideKind.{SideKind}
+use Rattle.lapd_sides_links.specs.Effects.{Effects}
+use Rattle.lapd_sides_links.specs.Links.{Linked, Reaction, of_sapi}
 use Rattle.lapd_sides.specs.Network.{Network, network_takes, network_expires, network_requested}
 use Rattle.lapd_sides.specs.User.{User, next_reference, advanced, user_takes, user_expires, user_requested}
 
@@ -30,22 +30,22 @@ pub data Happening : Type 0 where
   Expires : (timer : Timer) → (of : Option LinkId) → (now : ℕ) → Happening
   Asked : (request : Request) → (now : ℕ) → Happening
 
-abbrev pub network_does : Config → Happening → Network → Result (Acted Network) SideKind
+abbrev pub network_does : Config → Happening → Network → Result (Reaction Network) SideKind
 network_does config (Comes octets now) s = Ok (network_takes config octets now s)
 network_does config (Expires timer of now) s = Ok (network_expires config now timer of s)
 network_does config (Asked request now) s = network_requested config request now s
 
-abbrev pub user_does : Config → Happening → User → Result (Acted User) SideKind
+abbrev pub user_does : Config → Happening → User → Result (Reaction User) SideKind
 user_does config (Comes octets now) s = Ok (user_takes config octets now s)
 user_does config (Expires timer of now) s = Ok (user_expires config now timer of s)
 user_does config (Asked request now) s = user_requested config request now s
 
 -- what is left, and what is given; a refusal leaves all as it was
-abbrev pub left_by : {S : Type 0} → S → Result (Acted S) SideKind → S
+abbrev pub left_by : {S : Type 0} → S → Result (Reaction S) SideKind → S
 left_by s (Ok a) = a.after
 left_by s (Err kind) = s
 
-abbrev pub given_by : {S : Type 0} → Result (Acted S) SideKind → Result Effects SideKind
+abbrev pub given_by : {S : Type 0} → Result (Reaction S) SideKind → Result Effects SideKind
 given_by (Ok a) = Ok a.effects
 given_by (Err kind) = Err kind
 

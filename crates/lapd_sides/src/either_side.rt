@@ -1,7 +1,7 @@
 //! A side of either kind.
 
 ghost use Rattle.std.specs.Prelude.{◌≡◌, true, false, IfErr, option_copied};
-ghost use Rattle.lapd_links.specs.Effects.{no_effects};
+ghost use Rattle.lapd_sides_links.specs.Effects.{no_effects};
 ghost use Rattle.lapd_sides.specs.Requests.{without_message};
 
 use crate::{Acts, NetSide, Request, SideFault, SideKind, UserSide};

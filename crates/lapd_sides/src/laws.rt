@@ -2,14 +2,14 @@
 
 ghost use Rattle.std.specs.Prelude.{◌≡◌, ◌∷◌, ◌++◌, [], None, Some, Ok, Err};
 ghost use Rattle.lapd_frame.specs.declared.Sapi.TheVariants.{Call, Packet};
-ghost use Rattle.lapd_states.specs.declared.state.State.TheVariants.{TeiAssigned, MultipleFrameEstablished};
+ghost use Rattle.lapd_link_rows.specs.declared.state.State.TheVariants.{TeiAssigned, MultipleFrameEstablished};
 ghost use Rattle.lapd_tei.specs.declared.out.TeiOut.TheVariants as tei;
 ghost use Rattle.lapd_timers.specs.declared.timer.Timer.TheVariants.{T200, T202, T203};
 ghost use Rattle.lapd_timers.specs.Due.{deadline_of};
-ghost use Rattle.lapd_links.specs.declared.primitive.Primitive.TheVariants.{Of, Management};
-ghost use Rattle.lapd_links.specs.declared.primitive.What.TheVariants as what;
-ghost use Rattle.lapd_links.specs.Effects.{no_effects};
-ghost use Rattle.lapd_links.specs.Links.{of_sapi};
+ghost use Rattle.lapd_sides_links.specs.declared.primitive.Primitive.TheVariants.{Of, Management};
+ghost use Rattle.lapd_sides_links.specs.declared.primitive.What.TheVariants as what;
+ghost use Rattle.lapd_sides_links.specs.Effects.{no_effects};
+ghost use Rattle.lapd_sides_links.specs.Links.{of_sapi};
 ghost use Rattle.lapd_sides.specs.Network.{new_network};
 ghost use Rattle.lapd_sides.specs.User.{new_user};
 ghost use Rattle.lapd_sides.specs.Worked.{network_run, network_gives, user_run, user_gives, state_of, ends_at, asking, reference, both_sapis, call_control_alone, tei_and_disc, both_established, one_released, vain_check, four_and_sabme, random, vain_want, want_and_tei};

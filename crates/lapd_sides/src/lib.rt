@@ -37,7 +37,7 @@
 #![tactic(auto)]
 
 mod either_side;
-mod kept;
+mod kept_establishments;
 mod laws;
 mod net_side;
 mod references;
@@ -46,9 +46,9 @@ mod served;
 mod user_side;
 
 pub use either_side::EitherSide;
-pub use lapd_links::{
-    Acts, Config, Durations, Expiry, Letter, LinkFault, LinkId, LinkTable, Octets, Params,
-    Primitive, Sapi, Side, SideFault, SideKind, Tei, TeiMessage, TeiOut, Timer, TimerSet, What,
+pub use lapd_sides_links::{
+    Acts, Config, Durations, Letter, LinkFault, LinkId, LinkTable, Octets, Params, Primitive,
+    RunningTimer, Sapi, Side, SideFault, SideKind, Tei, TeiMessage, TeiOut, Timer, TimerSet, What,
 };
 pub use lapd_tei::{Assigner, Terminal};
 pub use laws::{

@@ -2,25 +2,25 @@
 
 ghost use Rattle.std.specs.Prelude.{◌≡◌, ◌≤◌, ◌<◌, true, false, length, [], Some, None, Ok, Err, OnOk, OnErr, IfOk, IfErr, IfSome, option_copied};
 ghost use Rattle.std.specs.List.{All};
-ghost use Rattle.lapd_states.specs.Input.{input_of, Give};
+ghost use Rattle.lapd_link_rows.specs.Input.{input_of, Give};
 ghost use Rattle.lapd_tei.specs.Assigner.{AssignerState, assigner_step};
 ghost use Rattle.lapd_tei.specs.Out.{tei_given};
 ghost use Rattle.lapd_table.specs.LinkTable.{IsFor};
 ghost use Rattle.lapd_frame.specs.Fault.{is_for_link};
-ghost use Rattle.lapd_links.specs.Effects.{no_effects};
-ghost use Rattle.lapd_links.specs.Expiries.{IsNextDeadline, of_served};
+ghost use Rattle.lapd_sides_links.specs.Effects.{no_effects};
+ghost use Rattle.lapd_sides_links.specs.Expiries.{IsNextDeadline, of_served};
 ghost use Rattle.lapd_sides.specs.Requests.{message_of, without_message};
 ghost use Rattle.lapd_sides.specs.Shows.{ShowEnds};
-ghost use Rattle.lapd_links.specs.Links.{IsOfLink};
+ghost use Rattle.lapd_sides_links.specs.Links.{IsOfLink};
 ghost use Rattle.lapd_sides.specs.Network.{Network, new_network, network_takes, network_expires, network_requested, assigner_acts, link_of_network, or_discarded, frame_heard, fault_heard, unit_requested, unit_to_group, given_for, given_for_frame, given_for_message};
 
 use crate::served::{LinksAndTimer, carries_message, one_more, without_message};
-use crate::{Acts, Config, Expiry, Request, SideFault, SideKind};
+use crate::{Acts, Config, Request, RunningTimer, SideFault, SideKind};
 use lapd_frame::{
     Address, Control, FaultKind, Frame, FrameFault, N201, Role, Sapi, Side, Tei, read,
 };
 use lapd_link::{Event, LinkFault};
-use lapd_links::{due, next_deadline, refused};
+use lapd_sides_links::{due, next_deadline, refused};
 use lapd_table::{LinkId, LinkTable};
 use lapd_tei::{Assigner, AssignerEvent, TeiMessage};
 use lapd_timers::{Timer, TimerSet};
@@ -190,8 +190,11 @@ impl NetSide {
         ensures nothing { result ≡ false → acts.new ≡ no_effects }
     {
         acts.clear();
-        let Some(Expiry { timer, of, .. }) = due(&self.served.timers, &mut self.served.links, now)
-        else {
+        let Some(RunningTimer { timer, of, .. }) = due(
+            &self.served.timers,
+            &mut self.served.links,
+            now,
+        ) else {
             return false;
         };
         match of {

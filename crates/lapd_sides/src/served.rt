@@ -4,16 +4,16 @@ ghost use Rattle.std.specs.Prelude.{◌≡◌, ◌≤◌, ◌<◌, ◌+◌, ◌+
 ghost use Rattle.std.specs.List.{All, filter_map};
 ghost use Rattle.lapd_timers.specs.Due.{at_rest};
 ghost use Rattle.lapd_tei.specs.Out.{IsInRange, tei_given, tei_freed};
-ghost use Rattle.lapd_links.specs.declared.acts.TheConstants.{MOST_FRAMES, MOST_PRIMITIVES};
-ghost use Rattle.lapd_links.specs.Effects.{managed, message_sent, outcome_of, no_effects};
-ghost use Rattle.lapd_links.specs.Links.{no_links};
+ghost use Rattle.lapd_sides_links.specs.declared.acts.TheConstants.{MOST_FRAMES, MOST_PRIMITIVES};
+ghost use Rattle.lapd_sides_links.specs.Effects.{managed, message_sent, outcome_of, no_effects};
+ghost use Rattle.lapd_sides_links.specs.Links.{no_links};
 ghost use Rattle.lapd_sides.specs.Management.{carries_message, is_unit_to_group, one_more};
 ghost use Rattle.lapd_sides.specs.Requests.{without_message};
 ghost use Rattle.lapd_sides.specs.Shows.{ShowServed, Become, ShowAsBefore, CarryOut, with_given_links};
 
 use crate::{Acts, Config, Primitive, SideFault, SideKind};
 use lapd_frame::{Control, Frame, Sapi, Side, Tei};
-use lapd_links::LinkSet;
+use lapd_sides_links::LinkSet;
 use lapd_tei::TeiOut;
 use lapd_timers::{Durations, TimerSet};
 use std::alloc::{AllocError, Global};

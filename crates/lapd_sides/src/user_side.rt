@@ -2,32 +2,32 @@
 
 ghost use Rattle.std.specs.Prelude.{◌≡◌, ◌≤◌, ◌<◌, ◌+◌, ◌++◌, true, false, length, [], Some, None, Ok, Err, IfOk, IfErr, IfSome, option_copied};
 ghost use Rattle.std.specs.List.{All};
-ghost use Rattle.lapd_states.specs.Input.{input_of, Establish, Release, UnitData, Give};
-ghost use Rattle.lapd_states.specs.declared.event.LinkFault.TheVariants.{NotEstablished};
+ghost use Rattle.lapd_link_rows.specs.Input.{input_of, Establish, Release, UnitData, Give};
+ghost use Rattle.lapd_link_rows.specs.declared.event.LinkFault.TheVariants.{NotEstablished};
 ghost use Rattle.lapd_tei.specs.Out.{IsInRange, tei_given};
 ghost use Rattle.lapd_tei.specs.Terminal.{terminal_step};
 ghost use Rattle.lapd_tei.specs.declared.phase.Phase.{Phase};
 ghost use Rattle.lapd_table.specs.LinkTable.{IsFor};
 ghost use Rattle.lapd_frame.specs.Fault.{is_for_link};
-ghost use Rattle.lapd_links.specs.declared.side_fault.SideKind.TheVariants.{NoLink, Link};
-ghost use Rattle.lapd_links.specs.declared.acts.TheConstants.{MOST_FRAMES, MOST_PRIMITIVES};
-ghost use Rattle.lapd_links.specs.Effects.{no_effects};
-ghost use Rattle.lapd_links.specs.Expiries.{IsNextDeadline, of_served};
-ghost use Rattle.lapd_links.specs.Links.{IsOfLink, of_sapi};
+ghost use Rattle.lapd_sides_links.specs.declared.side_fault.SideKind.TheVariants.{NoLink, Link};
+ghost use Rattle.lapd_sides_links.specs.declared.acts.TheConstants.{MOST_FRAMES, MOST_PRIMITIVES};
+ghost use Rattle.lapd_sides_links.specs.Effects.{no_effects};
+ghost use Rattle.lapd_sides_links.specs.Expiries.{IsNextDeadline, of_served};
+ghost use Rattle.lapd_sides_links.specs.Links.{IsOfLink, of_sapi};
 ghost use Rattle.lapd_sides.specs.Requests.{message_of, without_message};
 ghost use Rattle.lapd_sides.specs.Shows.{ShowEnds};
 ghost use Rattle.lapd_sides.specs.User.{User, seeded, sends_message, new_user, user_takes, user_expires, user_requested, terminal_acts, assigned, kept_after, establishes_kept, establishes, gives_up_kept, told_of_group, told_of_sapi, link_of_user, or_discarded, frame_heard, data_heard, for_layer_3, fault_heard, got_for, got_for_frame, got_for_message, wants, forgets, with_tei_or};
 
-use crate::kept::Kept;
+use crate::kept_establishments::KeptEstablishments;
 use crate::references::References;
 use crate::served::{
     LinksAndTimer, MOST_OUTPUTS, MOST_TEI_OUTPUTS, carries_message, is_unit_to_group, one_more,
     without_message,
 };
-use crate::{Acts, Config, Expiry, Octets, Primitive, Request, SideFault, SideKind, What};
+use crate::{Acts, Config, Octets, Primitive, Request, RunningTimer, SideFault, SideKind, What};
 use lapd_frame::{FaultKind, Frame, FrameFault, N201, Sapi, Side, Tei, read};
 use lapd_link::{Event, LinkFault};
-use lapd_links::{due, next_deadline, refused};
+use lapd_sides_links::{due, next_deadline, refused};
 use lapd_table::{LinkId, LinkTable};
 use lapd_tei::{TeiMessage, TeiOut, Terminal, TerminalEvent};
 use lapd_timers::{Timer, TimerSet};
@@ -43,7 +43,7 @@ pub struct UserSide {
     config: Config,
     served: LinksAndTimer,
     terminal: Terminal,
-    kept: Kept,
+    kept: KeptEstablishments,
     references: References,
     /// How many frames it has discarded; it stays at `u64::MAX` once it is there.
     discarded: u64,
@@ -71,7 +71,7 @@ impl UserSide {
             config,
             served,
             terminal: Terminal::new(fixed),
-            kept: Kept::nothing(),
+            kept: KeptEstablishments::nothing(),
             references: References::new(config.seed),
             discarded: 0,
         })
@@ -204,8 +204,11 @@ impl UserSide {
         ensures nothing { result ≡ false → acts.new ≡ no_effects }
     {
         acts.clear();
-        let Some(Expiry { timer, of, .. }) = due(&self.served.timers, &mut self.served.links, now)
-        else {
+        let Some(RunningTimer { timer, of, .. }) = due(
+            &self.served.timers,
+            &mut self.served.links,
+            now,
+        ) else {
             return false;
         };
         match of {
@@ -502,7 +505,7 @@ impl UserSide {
         ensures { Follows self.old self.new acts.old acts.new (λ _. establishes_kept now tei) }
     {
         let kept = self.kept;
-        self.kept = Kept::nothing();
+        self.kept = KeptEstablishments::nothing();
         self.establish_if(kept.has(Sapi::Call), name(Sapi::Call, tei), now, acts);
         self.establish_if(kept.has(Sapi::Packet), name(Sapi::Packet, tei), now, acts);
     }
@@ -527,7 +530,7 @@ impl UserSide {
         ensures { Follows self.old self.new acts.old acts.new (λ _. gives_up_kept) }
     {
         let kept = self.kept;
-        self.kept = Kept::nothing();
+        self.kept = KeptEstablishments::nothing();
         release_if(kept.has(Sapi::Call), Sapi::Call, acts);
         release_if(kept.has(Sapi::Packet), Sapi::Packet, acts);
     }

@@ -2,8 +2,8 @@
 
 ghost use Rattle.std.specs.Prelude.{◌≡◌, ◌<◌};
 
+use lapd_cli_script::put_hex;
 use lapd_link::LinkFault;
-use lapd_script::put_hex;
 use lapd_sides::{
     Acts, Config, Durations, LinkId, NetSide, Params, Request, Sapi, SideFault, SideKind, Tei,
     UserSide,

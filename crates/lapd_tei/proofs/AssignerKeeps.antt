@@ -27,7 +27,7 @@ use Rattle.lapd_tei.specs.Terminal.{tei_of}
 use Rattle.lapd_tei.specs.Assigner.{AssignerStep, assigner_step, assigner_hears, serves, begins_check, counts_response, timer_ends, round_ends, first_free, least_free, is_held, stays, checking}
 use Rattle.lapd_tei.specs.Bus.{BusState, BusStep, broadcast, assigner_did}
 use Rattle.lapd_tei.specs.Single.{references, freed, assigned_by, IsNobodys, Differ}
-use Rattle.lapd_tei.proofs.Kept.{Sits, FitsKind, Fits, Keeps, Kept, pick_yes, pick_no}
+use Rattle.lapd_tei.proofs.KeptByBus.{Sits, FitsKind, Fits, Keeps, KeptByBus, pick_yes, pick_no}
 
 -- ---- The least free TEI is not held.
 
@@ -79,11 +79,11 @@ did owner place_of b done seated flying fresh vacant = record {
 
 -- a move of this bus with this outcome keeps what is kept, under both premises
 abbrev pub Goes : BusState → List ℕ → BusStep → Type 0
-Goes b rest d = Kept b (references (sent d.outs) ++ rest) → Differ (references (sent d.outs) ++ rest) → AllByRecursion (IsNobodys b) (freed d.outs) → Kept d.now rest
+Goes b rest d = KeptByBus b (references (sent d.outs) ++ rest) → Differ (references (sent d.outs) ++ rest) → AllByRecursion (IsNobodys b) (freed d.outs) → KeptByBus d.now rest
 
 -- the TEIs held stay, and nothing is assigned
 holds_on : (b : BusState) (rest : List ℕ) (check : Option Check) (outs : List TeiOut) → ((owner : ℕ → Option ℕ) → All (Fits owner) (sent outs))
-    → Kept b rest → Kept (assigner_did b (record { now = record { held = b.assigner.held; check = check }; outs = outs })).now rest
+    → KeptByBus b rest → KeptByBus (assigner_did b (record { now = record { held = b.assigner.held; check = check }; outs = outs })).now rest
 holds_on b rest check outs fresh h = record {
   owner = h.owner;
   place_of = h.place_of;
@@ -129,8 +129,8 @@ held_now held tei n within free e = let q : is_held (set held tei true) tei ≡ 
     let k : is_held (set held tei true) n ≡ is_held (set held tei true) tei = ap (is_held (set held tei true)) e in
     let bad : true ≡ false = sym q ∙ (sym k ∙ free) in absurd cc
 
-assigns : (b : BusState) (rest : List ℕ) (ri tei : ℕ) → tei < length b.assigner.held → is_held b.assigner.held tei ≡ false → Kept b rest
-    → Kept (assigner_did b (serves ri (Some tei) b.assigner)).now rest
+assigns : (b : BusState) (rest : List ℕ) (ri tei : ℕ) → tei < length b.assigner.held → is_held b.assigner.held tei ≡ false → KeptByBus b rest
+    → KeptByBus (assigner_did b (serves ri (Some tei) b.assigner)).now rest
 unfolding owned_by
 assigns b rest ri tei within free h =
     let later : ℕ → Option ℕ = owned_by h.owner tei ri in
@@ -174,8 +174,8 @@ assigned_to_none b tei owner none flying = λ k d within. refits owner (disowned
     (λ n q. pick_no n tei None (owner n) (λ e. none k d within (q ∙ ap Some e)))
     (flying k d within)
 
-freed_kept : (b : BusState) (rest : List ℕ) (tei : ℕ) (outs : List TeiOut) → ((owner : ℕ → Option ℕ) → All (Fits owner) (sent outs)) → IsNobodys b tei → Kept b rest
-    → Kept (assigner_did b (record { now = record { held = set b.assigner.held tei false; check = None }; outs = outs })).now rest
+freed_kept : (b : BusState) (rest : List ℕ) (tei : ℕ) (outs : List TeiOut) → ((owner : ℕ → Option ℕ) → All (Fits owner) (sent outs)) → IsNobodys b tei → KeptByBus b rest
+    → KeptByBus (assigner_did b (record { now = record { held = set b.assigner.held tei false; check = None }; outs = outs })).now rest
 unfolding disowned
 freed_kept b rest tei outs fresh nobodys h =
     let later : ℕ → Option ℕ = disowned h.owner tei in

@@ -1,5 +1,5 @@
 pub mod Holding
-pub mod Kept
+pub mod KeptByBus
 pub mod Named
 pub mod TerminalKeeps
 pub mod AssignerKeeps

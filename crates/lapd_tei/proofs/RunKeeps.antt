@@ -19,7 +19,7 @@ use Rattle.lapd_tei.specs.Out.{sent}
 use Rattle.lapd_tei.specs.Terminal.{terminal_step}
 use Rattle.lapd_tei.specs.Bus.{BusState, Broadcast, new_bus, terminal_has, t202_expires, t201_expires, terminal_hears, hears, with_mark, heard_by, drops_down, drops_up, network_hears, without_up, bus_step, moved, done, run, refusal, refusals}
 use Rattle.lapd_tei.specs.Single.{Single, references, asked, Differ, IsNobodys, FreesNobodys, MeetsPremises}
-use Rattle.lapd_tei.proofs.Kept.{Sits, Fits, Kept, single_from_kept, differ_rest, differ_front}
+use Rattle.lapd_tei.proofs.KeptByBus.{Sits, Fits, KeptByBus, single_from_kept, differ_rest, differ_front}
 use Rattle.lapd_tei.proofs.TerminalKeeps.{HearsFitting, terminal_kept}
 use Rattle.lapd_tei.proofs.AssignerKeeps.{Goes, all_at, timer_goes, check_goes, hears_goes}
 
@@ -40,7 +40,7 @@ t201_goes b rest None there = λ h differ nobodys. h
 t201_goes b rest (Some check) there = timer_goes b rest b.assigner.check
 
 -- a mark changes no message
-marked : (b : BusState) (i t : ℕ) (f : Broadcast) (rest : List ℕ) → slice_get b.down i ≡ Some f → Kept b rest → Kept (with_mark b i t f) rest
+marked : (b : BusState) (i t : ℕ) (f : Broadcast) (rest : List ℕ) → slice_get b.down i ≡ Some f → KeptByBus b rest → KeptByBus (with_mark b i t f) rest
 marked b i t f rest there h = record {
   owner = h.owner;
   place_of = h.place_of;
@@ -81,7 +81,7 @@ drops_down_goes b i rest (Some f) = λ h differ nobodys. record {
 }
 
 -- messages on their way up are not looked at
-kept_without_up : (b : BusState) (i : ℕ) (rest : List ℕ) → Kept b rest → Kept (without_up b i) rest
+kept_without_up : (b : BusState) (i : ℕ) (rest : List ℕ) → KeptByBus b rest → KeptByBus (without_up b i) rest
 kept_without_up b i rest h = record { owner = h.owner; place_of = h.place_of; keeps = record { seated = h.keeps.seated; flying = h.keeps.flying; vacant = h.keeps.vacant }; unused = h.unused }
 
 nobodys_without_up : (b : BusState) (i n : ℕ) → IsNobodys b n → IsNobodys (without_up b i) n
@@ -113,7 +113,7 @@ move_goes b rest (move.Leave t) = terminal_has_goes b t rest (slice_get b.termin
 
 -- ---- A run.
 
-run_keeps : (b : BusState) (ms : List BusMove) → Kept b (asked b ms) → Differ (asked b ms) → FreesNobodys b ms → Kept (run b ms) []
+run_keeps : (b : BusState) (ms : List BusMove) → KeptByBus b (asked b ms) → Differ (asked b ms) → FreesNobodys b ms → KeptByBus (run b ms) []
 run_keeps b [] h differ nobodys = h
 run_keeps b (m ∷ ms) h differ nobodys =
     run_keeps (moved b m).now ms
@@ -134,7 +134,7 @@ all_unassigned zero i t there = absurd cc
 all_unassigned (suc n) zero t there = cc
 all_unassigned (suc n) (suc i) t there = all_unassigned n i t there
 
-new_bus_kept : (terminals : ℕ) (rest : List ℕ) → Kept (new_bus terminals) rest
+new_bus_kept : (terminals : ℕ) (rest : List ℕ) → KeptByBus (new_bus terminals) rest
 unfolding nobody
 new_bus_kept terminals rest = record {
   owner = nobody;

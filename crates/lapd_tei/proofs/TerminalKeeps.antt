@@ -14,7 +14,7 @@ use Rattle.lapd_tei.specs.Out.{sent}
 use Rattle.lapd_tei.specs.Terminal.{TerminalStep, terminal_step, awaiting_hears, assigned_hears, asks_again, is_automatic, is_got_by, names, n202}
 use Rattle.lapd_tei.specs.Bus.{BusState, terminal_did}
 use Rattle.lapd_tei.specs.Single.{references, Differ}
-use Rattle.lapd_tei.proofs.Kept.{Sits, FitsKind, Fits, Kept, get_after_set, all_back, all_front, all_both, pick_yes, pick_no}
+use Rattle.lapd_tei.proofs.KeptByBus.{Sits, FitsKind, Fits, KeptByBus, get_after_set, all_back, all_front, all_both, pick_yes, pick_no}
 
 -- the references that a terminal at this place has asked by are its own now
 abbrev pub noting : (ℕ → Option ℕ) → ℕ → List ℕ → ℕ → Option ℕ
@@ -105,8 +105,8 @@ seated_after owner place_of i rs terminals now seated none own j t there = elim 
 
 -- the bus after a step of the terminal at place i, which heard what fits
 pub terminal_kept : (b : BusState) (i : ℕ) (phase : Phase) (e : TerminalEvent) (rest : List ℕ) → slice_get b.terminals i ≡ Some phase
-    → (h : Kept b (references (sent (terminal_step phase e).outs) ++ rest)) → HearsFitting h.owner e
-    → Differ (references (sent (terminal_step phase e).outs) ++ rest) → Kept (terminal_did b i (terminal_step phase e)).now rest
+    → (h : KeptByBus b (references (sent (terminal_step phase e).outs) ++ rest)) → HearsFitting h.owner e
+    → Differ (references (sent (terminal_step phase e).outs) ++ rest) → KeptByBus (terminal_did b i (terminal_step phase e)).now rest
 terminal_kept b i phase e rest there h fits differ =
     let rs : List ℕ = references (sent (terminal_step phase e).outs) in
     record {

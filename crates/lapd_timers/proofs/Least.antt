@@ -4,11 +4,11 @@ use Rattle.std.proofs.lemmas.Bool.{leb-true, leb-false, cases_lt, cond_both}
 use Rattle.std.specs.Prelude.{nat_le}
 use Rattle.lapd_timers.specs.declared.timer.Timer.{Timer}
 use Rattle.lapd_timers.specs.declared.timer.Timer.TheVariants.{T200, T201, T202, T203}
-use Rattle.lapd_timers.specs.declared.timer_set.Expiry.{Expiry}
+use Rattle.lapd_timers.specs.declared.timer_set.TimerDeadline.{TimerDeadline}
 use Rattle.lapd_timers.specs.Due.{Timers, HasExpired, IsNoGreater, IsLeast, IsDue, deadline_of, place, sooner, sooner_of, timer_of}
 
 -- the pair of a timer before this place, where it has expired
-record IsAmong (now : ℕ) (s : Timers) (n : ℕ) (e : Expiry) : Type 0 where
+record IsAmong (now : ℕ) (s : Timers) (n : ℕ) (e : TimerDeadline) : Type 0 where
   expired : HasExpired now s e
   early : place e.timer < n
 
@@ -29,18 +29,18 @@ same_place : (a b : Timer) → place a ≡ place b → a ≡ b
 same_place a b same = sym (timer_again a) ∙ (ap timer_at same ∙ timer_again b)
 
 -- one place further there is one timer more
-divided : (now : ℕ) (s : Timers) (timer : Timer) (f : Expiry) → IsAmong now s (place timer + 1) f → IsAmong now s (place timer) f ⊎ (f.timer ≡ timer)
+divided : (now : ℕ) (s : Timers) (timer : Timer) (f : TimerDeadline) → IsAmong now s (place timer + 1) f → IsAmong now s (place timer) f ⊎ (f.timer ≡ timer)
 divided now s timer f h = elim (cases_lt (place f.timer) (place timer)) [
   | inl early ↦ inl (record { expired = h.expired; early = early })
   | inr late ↦ inr (same_place f.timer timer (omega arith))
 ]
 
-further : (now : ℕ) (s : Timers) (n : ℕ) (e : Expiry) → IsAmong now s n e → IsAmong now s (n + 1) e
+further : (now : ℕ) (s : Timers) (n : ℕ) (e : TimerDeadline) → IsAmong now s n e → IsAmong now s (n + 1) e
 further now s n e h = record { expired = h.expired; early = omega arith }
 
 -- a timer that has not expired leaves the least as it is
-as_before : (now : ℕ) (s : Timers) (timer : Timer) (least : Option Expiry)
-    → ((f : Expiry) → HasExpired now s f → f.timer ≡ timer → ⊥)
+as_before : (now : ℕ) (s : Timers) (timer : Timer) (least : Option TimerDeadline)
+    → ((f : TimerDeadline) → HasExpired now s f → f.timer ≡ timer → ⊥)
     → IsLeast (IsAmong now s (place timer)) least → IsLeast (IsAmong now s (place timer + 1)) least
 as_before now s timer None none old = λ f h. elim (divided now s timer f h) [ inl a ↦ old f a | inr same ↦ none f h.expired same ]
 as_before now s timer (Some e) none old = (
@@ -49,20 +49,20 @@ as_before now s timer (Some e) none old = (
 )
 
 -- the pair of a timer is the only one that it has
-its_deadline : (now : ℕ) (s : Timers) (e f : Expiry) → HasExpired now s e → HasExpired now s f → f.timer ≡ e.timer → e.deadline ≡ f.deadline
+its_deadline : (now : ℕ) (s : Timers) (e f : TimerDeadline) → HasExpired now s e → HasExpired now s f → f.timer ≡ e.timer → e.deadline ≡ f.deadline
 its_deadline now s e f h k same = let q : Some e.deadline ≡ Some f.deadline = sym h.runs ∙ (sym (ap (λ t. deadline_of t s) same) ∙ k.runs) in cc
 
-no_later : (l e f : Expiry) → l.deadline ≤ e.deadline → place l.timer < place e.timer → e.deadline ≡ f.deadline → place f.timer ≡ place e.timer → IsNoGreater l f
+no_later : (l e f : TimerDeadline) → l.deadline ≤ e.deadline → place l.timer < place e.timer → e.deadline ≡ f.deadline → place f.timer ≡ place e.timer → IsNoGreater l f
 no_later l e f first early same place_same = elim (cases_lt l.deadline f.deadline) [
   | inl less ↦ inl less
   | inr other ↦ inr (omega arith, omega arith)
 ]
 
-before_it : (l e f : Expiry) → e.deadline < l.deadline → IsNoGreater l f → IsNoGreater e f
+before_it : (l e f : TimerDeadline) → e.deadline < l.deadline → IsNoGreater l f → IsNoGreater e f
 before_it l e f later (inl less) = inl (omega arith)
 before_it l e f later (inr same) = let q : l.deadline ≡ f.deadline = same.0 in inl (omega arith)
 
-kept : (now : ℕ) (s : Timers) (l e : Expiry) → HasExpired now s e → IsLeast (IsAmong now s (place e.timer)) (Some l) → l.deadline ≤ e.deadline
+kept : (now : ℕ) (s : Timers) (l e : TimerDeadline) → HasExpired now s e → IsLeast (IsAmong now s (place e.timer)) (Some l) → l.deadline ≤ e.deadline
     → IsLeast (IsAmong now s (place e.timer + 1)) (Some l)
 kept now s l e h old first = (
   further now s (place e.timer) l old.0,
@@ -72,7 +72,7 @@ kept now s l e h old first = (
   ],
 )
 
-passed : (now : ℕ) (s : Timers) (l e : Expiry) → HasExpired now s e → IsLeast (IsAmong now s (place e.timer)) (Some l) → e.deadline < l.deadline
+passed : (now : ℕ) (s : Timers) (l e : TimerDeadline) → HasExpired now s e → IsLeast (IsAmong now s (place e.timer)) (Some l) → e.deadline < l.deadline
     → IsLeast (IsAmong now s (place e.timer + 1)) (Some e)
 passed now s l e h old later = (
   record { expired = h; early = omega arith },
@@ -83,7 +83,7 @@ passed now s l e h old later = (
 )
 
 -- a timer that has expired is compared with the least
-joined : (now : ℕ) (s : Timers) (least : Option Expiry) (e : Expiry) → HasExpired now s e
+joined : (now : ℕ) (s : Timers) (least : Option TimerDeadline) (e : TimerDeadline) → HasExpired now s e
     → IsLeast (IsAmong now s (place e.timer)) least → IsLeast (IsAmong now s (place e.timer + 1)) (sooner_of least e)
 joined now s None e h old = (
   record { expired = h; early = omega arith },
@@ -105,7 +105,7 @@ comes_later s timer other deadline its now q runs same past later =
     let j : deadline ≡ its = cc in omega arith
 
 -- one timer more is looked at
-one_more : (now : ℕ) (s : Timers) (timer : Timer) (least : Option Expiry) (deadline : Option ℕ) → deadline_of timer s ≡ deadline
+one_more : (now : ℕ) (s : Timers) (timer : Timer) (least : Option TimerDeadline) (deadline : Option ℕ) → deadline_of timer s ≡ deadline
     → IsLeast (IsAmong now s (place timer)) least → IsLeast (IsAmong now s (place timer + 1)) (sooner now timer deadline least)
 one_more now s timer least None q old = as_before now s timer least (λ f h same. stands_still s timer f.timer f.deadline q h.runs same) old
 one_more now s timer least (Some deadline) q old = cond_both (nat_le deadline now) _ _ (IsLeast (IsAmong now s (place timer + 1)))
@@ -121,10 +121,10 @@ in_order T201 = omega arith
 in_order T202 = omega arith
 in_order T203 = omega arith
 
-all_expired : (now : ℕ) (s : Timers) (e : Expiry) → HasExpired now s e → IsAmong now s 4 e
+all_expired : (now : ℕ) (s : Timers) (e : TimerDeadline) → HasExpired now s e → IsAmong now s 4 e
 all_expired now s e h = record { expired = h; early = in_order e.timer }
 
-of_all : (now : ℕ) (s : Timers) (least : Option Expiry) → IsLeast (IsAmong now s 4) least → IsLeast (HasExpired now s) least
+of_all : (now : ℕ) (s : Timers) (least : Option TimerDeadline) → IsLeast (IsAmong now s 4) least → IsLeast (HasExpired now s) least
 of_all now s None h = λ f k. h f (all_expired now s f k)
 of_all now s (Some e) h = (h.0.expired, λ f k. h.1 f (all_expired now s f k))
 
@@ -133,7 +133,7 @@ pub all_four : (now : ℕ) (s : Timers) → IsLeast (HasExpired now s) (sooner n
 all_four now s = of_all now s _
     (one_more now s T203 _ s.t203 refl (one_more now s T202 _ s.t202 refl (one_more now s T201 _ s.t201 refl (one_more now s T200 _ s.t200 refl (none_yet now s)))))
 
-pub found : (now : ℕ) (s : Timers) (a b c d : Option Expiry) (timer : Option Timer)
+pub found : (now : ℕ) (s : Timers) (a b c d : Option TimerDeadline) (timer : Option Timer)
     → a ≡ sooner now T200 s.t200 None → b ≡ sooner now T201 s.t201 a → c ≡ sooner now T202 s.t202 b → d ≡ sooner now T203 s.t203 c
     → timer ≡ timer_of d → IsDue now s timer
 found now s a b c d timer e f g h k = record {
@@ -143,13 +143,13 @@ found now s a b c d timer e f g h k = record {
 }
 
 -- there is one least pair at most
-same_pair : (e f : Expiry) → IsNoGreater e f → IsNoGreater f e → e.timer ≡ f.timer
+same_pair : (e f : TimerDeadline) → IsNoGreater e f → IsNoGreater f e → e.timer ≡ f.timer
 same_pair e f (inl a) (inl b) = absurd (omega arith)
 same_pair e f (inl a) (inr b) = absurd (omega (arith, b.0))
 same_pair e f (inr a) (inl b) = absurd (omega (arith, a.0))
 same_pair e f (inr a) (inr b) = same_place e.timer f.timer (omega (arith, a.1, b.1))
 
-one_least : (now : ℕ) (s : Timers) (a b : Option Expiry) → IsLeast (HasExpired now s) a → IsLeast (HasExpired now s) b → timer_of a ≡ timer_of b
+one_least : (now : ℕ) (s : Timers) (a b : Option TimerDeadline) → IsLeast (HasExpired now s) a → IsLeast (HasExpired now s) b → timer_of a ≡ timer_of b
 one_least now s None None h k = refl
 one_least now s None (Some f) h k = absurd (h f k.0)
 one_least now s (Some e) None h k = absurd (k e h.0)

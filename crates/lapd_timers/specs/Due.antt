@@ -3,7 +3,7 @@
 use Rattle.std.specs.Prelude.{◌≡◌, ℕ, ◌+◌, ◌<◌, ◌≤◌, min, nat_le, if◌then◌else◌, Option, Some, None, ◌⊎◌}
 use Rattle.lapd_timers.specs.declared.timer.Timer.{Timer}
 use Rattle.lapd_timers.specs.declared.timer.Timer.TheVariants.{T200, T201, T202, T203}
-use Rattle.lapd_timers.specs.declared.timer_set.Expiry.{Expiry}
+use Rattle.lapd_timers.specs.declared.timer_set.TimerDeadline.{TimerDeadline}
 use Rattle.lapd_timers.specs.Durations.{Lengths}
 
 -- how long each timer runs, and the deadline of each that runs, in milliseconds
@@ -46,34 +46,34 @@ place T202 = 2
 place T203 = 3
 
 -- the pairs (deadline, timer) of the timers that run with a deadline at most now
-pub record HasExpired (now : ℕ) (s : Timers) (e : Expiry) : Type 0 where
+pub record HasExpired (now : ℕ) (s : Timers) (e : TimerDeadline) : Type 0 where
   pub runs : deadline_of e.timer s ≡ Some e.deadline
   pub is_past : e.deadline ≤ now
 
 -- one pair is no greater than another: its deadline is less, or the same and its timer comes no later in the order
-abbrev pub IsNoGreater : Expiry → Expiry → Type 0
+abbrev pub IsNoGreater : TimerDeadline → TimerDeadline → Type 0
 IsNoGreater e f = (e.deadline < f.deadline) ⊎ ((e.deadline ≡ f.deadline) × (place e.timer ≤ place f.timer))
 
 -- the least of some pairs, or none where there are none
-abbrev pub IsLeast : (Expiry → Type 0) → Option Expiry → Type 0
-IsLeast Among None = (f : Expiry) → Among f → ⊥
-IsLeast Among (Some e) = Among e × ((f : Expiry) → Among f → IsNoGreater e f)
+abbrev pub IsLeast : (TimerDeadline → Type 0) → Option TimerDeadline → Type 0
+IsLeast Among None = (f : TimerDeadline) → Among f → ⊥
+IsLeast Among (Some e) = Among e × ((f : TimerDeadline) → Among f → IsNoGreater e f)
 
-abbrev pub timer_of : Option Expiry → Option Timer
+abbrev pub timer_of : Option TimerDeadline → Option Timer
 timer_of None = None
 timer_of (Some e) = Some e.timer
 
 -- the timer that is due now, where one is
 pub record IsDue (now : ℕ) (s : Timers) (timer : Option Timer) : Type 0 where
-  pub least : Option Expiry
+  pub least : Option TimerDeadline
   pub is_least : IsLeast (HasExpired now s) least
   pub is_its : timer ≡ timer_of least
 
 -- of the least so far and the deadline of one timer more, where it runs and is past
-abbrev pub sooner_of : Option Expiry → Expiry → Option Expiry
+abbrev pub sooner_of : Option TimerDeadline → TimerDeadline → Option TimerDeadline
 sooner_of None e = Some e
 sooner_of (Some least) e = if nat_le least.deadline e.deadline then Some least else Some e
 
-abbrev pub sooner : ℕ → Timer → Option ℕ → Option Expiry → Option Expiry
+abbrev pub sooner : ℕ → Timer → Option ℕ → Option TimerDeadline → Option TimerDeadline
 sooner now timer None least = least
 sooner now timer (Some deadline) least = if nat_le deadline now then sooner_of least (record { deadline = deadline; timer = timer }) else least

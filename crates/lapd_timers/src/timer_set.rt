@@ -28,7 +28,7 @@ impl Model for TimerSet {
 
 /// A timer with its deadline, a moment in milliseconds.
 #[derive(Clone, Copy)]
-struct Expiry {
+struct TimerDeadline {
     deadline: u64,
     timer: Timer,
 }
@@ -114,19 +114,24 @@ impl TimerSet {
 }
 
 /// The lesser of the least so far and the pair of this timer, where it runs and its deadline is at most `now`.
-fn sooner(least: Option<Expiry>, timer: Timer, deadline: Option<u64>, now: u64) -> Option<Expiry>
+fn sooner(
+    least: Option<TimerDeadline>,
+    timer: Timer,
+    deadline: Option<u64>,
+    now: u64,
+) -> Option<TimerDeadline>
     ensures { result ≡ sooner now timer deadline least }
 {
     match (deadline, least) {
         (None, least) => least,
         (Some(deadline), least) if deadline > now => least,
         (Some(deadline), Some(least)) if least.deadline <= deadline => Some(least),
-        (Some(deadline), _) => Some(Expiry { deadline, timer }),
+        (Some(deadline), _) => Some(TimerDeadline { deadline, timer }),
     }
 }
 
 /// The timer of a pair.
-fn timer_of(least: Option<Expiry>) -> Option<Timer>
+fn timer_of(least: Option<TimerDeadline>) -> Option<Timer>
     ensures { result ≡ timer_of least }
 {
     match least {

@@ -3,7 +3,7 @@
 //! Begin with [`line`]: it takes any octets and who sent them, and gives the text of the frame, or of the first fault
 //! where they are none. [`line_of`] gives that of a frame that is there. [`History`] keeps the last lines of a trace in
 //! room that is taken once, and [`Lines`] goes over them from the oldest. Rows of lines for every frame and fault stand
-//! in `lapd_tests`.
+//! in `lapd_link_tests`.
 #![tactic(auto)]
 
 mod history;

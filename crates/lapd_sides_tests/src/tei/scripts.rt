@@ -1,8 +1,8 @@
 //! The command `bus`: scripts, and what they call for.
 
 use crate::wants::wants;
-use lapd_bus::bus;
-use lapd_script::ScriptFault;
+use lapd_cli_commands::bus;
+use lapd_cli_script::ScriptFault;
 use std::alloc::Global;
 use std::test::Fail;
 

@@ -4,7 +4,7 @@ use Rattle.std.proofs.lemmas.Iterator.Search.{position_from_yields_List}
 use Rattle.std.specs.Option.{unwrap_or}
 use Rattle.arrayvec.specs.ArrayVec.{ArrayVec}
 use Rattle.lapd_frame.specs.Reading.{frame_at}
-use Rattle.lapd_pair.specs.Marked.{is_read_marked}
+use Rattle.lapd_pair.specs.Marks.{is_read_marked}
 use Rattle.lapd_pair.proofs.Lines.{place_or_all, place_within, position_or_len-map}
 use Rattle.lapd_pair.proofs.frame_octets.marked_place.Goals as goal
 

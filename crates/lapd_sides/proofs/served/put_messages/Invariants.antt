@@ -1,7 +1,7 @@
 use Rattle.std.proofs.Common.{◌≡◌, ◌≤◌, ◌+◌, ◌++◌, drop, length}
 use Rattle.std.specs.List.{All, filter_map}
 use Rattle.lapd_tei.specs.Out.{IsInRange}
-use Rattle.lapd_links.specs.Effects.{message_sent}
+use Rattle.lapd_sides_links.specs.Effects.{message_sent}
 use Rattle.lapd_sides.proofs.served.put_messages.Given as goal
 
 abbrev pub invariant-loop-out : goal.invariant-loop-out

@@ -1,6 +1,6 @@
 use Rattle.std.proofs.Common.{◌≡◌, ◌≤◌, ◌+◌, ◌++◌, drop, length}
 use Rattle.std.specs.List.{filter_map}
-use Rattle.lapd_links.specs.Effects.{outcome_of}
+use Rattle.lapd_sides_links.specs.Effects.{outcome_of}
 use Rattle.lapd_sides.proofs.served.tell_outcomes.Given as goal
 
 abbrev pub invariant-loop-out : goal.invariant-loop-out

@@ -1,5 +1,5 @@
 use Rattle.std.proofs.Common.{◌≡◌, drop}
-use Rattle.lapd_links.specs.Effects.{managed}
+use Rattle.lapd_sides_links.specs.Effects.{managed}
 use Rattle.lapd_sides.proofs.served.time_management.Given as goal
 
 abbrev pub invariant-loop-out : goal.invariant-loop-out

@@ -1,7 +1,7 @@
 use Rattle.std.proofs.Common.{refl, sym, ◌∙◌}
-use Rattle.lapd_states.specs.End.{begin}
-use Rattle.lapd_states.specs.Input.{Give}
-use Rattle.lapd_machine.proofs.BetweenSteps.{end_of, shows_end, settles, stays_between, step_done, step_refused, not_full, is_full, queued_and_closed}
+use Rattle.lapd_link_rows.specs.End.{begin}
+use Rattle.lapd_link_rows.specs.Input.{Give}
+use Rattle.lapd_link_machine.proofs.BetweenSteps.{end_of, shows_end, settles, stays_between, step_done, step_refused, not_full, is_full, queued_and_closed}
 use Rattle.lapd_link.specs.Link.{setup_of}
 use Rattle.lapd_link.proofs.Frames.{frames_of_machine}
 use Rattle.lapd_link.proofs.link.Link.give_into.Goals as goal
@@ -13,8 +13,8 @@ invariant_of-self c = record {
       let message = c.args.message.items in
       let shown = shows_end m c.args.self.now.between in
       let none = not_full _ _ (c.in_default.ensures message (end_of m) (sym (c.len.ensures ∙ c.args.message.ok.0)) shown) (sym c.in-Ok.ensures.full) in
-      let done = c.close.ensures.step _ (rw c.clear.ensures (c.in-Ok.ensures.ok (begin (end_of m)) _ shown)) in
-      stays_between (Give message) m _ _ _ c.args.self.now.between (step_done (Give message) (end_of m) (sym none)) (queued_and_closed _ _ message (end_of m) none done) c.close.ensures.numbers;
+      let done = c.end_step.ensures.step _ (rw c.clear.ensures (c.in-Ok.ensures.ok (begin (end_of m)) _ shown)) in
+      stays_between (Give message) m _ _ _ c.args.self.now.between (step_done (Give message) (end_of m) (sym none)) (queued_and_closed _ _ message (end_of m) none done) c.end_step.ensures.numbers;
 }
 
 pub returns-in-Some-clause-err : goal.returns-in-Some-clause-err
@@ -24,15 +24,15 @@ pub returns-in-Ok-clause-ok : goal.returns-in-Ok-clause-ok
 returns-in-Ok-clause-ok c = λ e h.
     let message = c.args.message.items in
     let none = not_full _ _ (c.in_default.ensures message e (sym (c.len.ensures ∙ c.args.message.ok.0)) h) (sym c.in-Ok.ensures.full) in
-    let done = queued_and_closed _ _ message e none (c.close.ensures.step _ (rw c.clear.ensures (c.in-Ok.ensures.ok (begin e) _ h))) in
+    let done = queued_and_closed _ _ message e none (c.end_step.ensures.step _ (rw c.clear.ensures (c.in-Ok.ensures.ok (begin e) _ h))) in
     (_, step_done (Give message) e (sym none), done.put, settles _ _ _ done)
 
 pub returns-in-Ok-clause-frames : goal.returns-in-Ok-clause-frames
-returns-in-Ok-clause-frames c = frames_of_machine (setup_of c.args.self.now) c.args.self.now.machine c.close.new.self (Give c.args.message.items) c.close.new.outs.items c.args.self.now.between
+returns-in-Ok-clause-frames c = frames_of_machine (setup_of c.args.self.now) c.args.self.now.machine c.end_step.new.self (Give c.args.message.items) c.end_step.new.outs.items c.args.self.now.between
     (λ e h.
     let message = c.args.message.items in
     let none = not_full _ _ (c.in_default.ensures message e (sym (c.len.ensures ∙ c.args.message.ok.0)) h) (sym c.in-Ok.ensures.full) in
-    let done = queued_and_closed _ _ message e none (c.close.ensures.step _ (rw c.clear.ensures (c.in-Ok.ensures.ok (begin e) _ h))) in
+    let done = queued_and_closed _ _ message e none (c.end_step.ensures.step _ (rw c.clear.ensures (c.in-Ok.ensures.ok (begin e) _ h))) in
     (_, step_done (Give message) e (sym none), done.put, settles _ _ _ done))
 
 pub returns-in-Err-clause-err : goal.returns-in-Err-clause-err

@@ -1,6 +1,6 @@
 use Rattle.std.proofs.Common.{sym, ◌∙◌}
-use Rattle.lapd_states.specs.End.{begin}
-use Rattle.lapd_machine.proofs.Tails.{tail_waiting}
+use Rattle.lapd_link_rows.specs.End.{begin}
+use Rattle.lapd_link_machine.proofs.Tails.{tail_waiting}
 use Rattle.lapd_link.proofs.link.Link.waiting.Goals as goal
 
 pub returns : goal.returns

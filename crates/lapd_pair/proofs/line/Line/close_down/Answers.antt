@@ -1,6 +1,6 @@
 use Rattle.std.proofs.Common.{◌-◌, take, ap, ◌∙◌, rules}
 use Rattle.std.proofs.lemmas.List.{with_items_is}
-use Rattle.lapd_pair.specs.Marked.{left_of}
+use Rattle.lapd_pair.specs.Marks.{left_of}
 use Rattle.lapd_pair.proofs.Lines.{octets_closed_down, counted_from}
 use Rattle.lapd_pair.proofs.line.Line.close_down.Goals as goal
 

@@ -1,5 +1,5 @@
 use Rattle.std.proofs.Common.{◌+◌, ap, ◌∙◌, arith}
-use Rattle.lapd_pair.specs.Marked.{place_of_marked}
+use Rattle.lapd_pair.specs.Marks.{place_of_marked}
 use Rattle.lapd_pair.proofs.Lines.{octets_behind, place_in_rest}
 use Rattle.lapd_pair.proofs.line.Line.marked_behind.Goals as goal
 

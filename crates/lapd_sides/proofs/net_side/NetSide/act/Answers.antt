@@ -1,6 +1,6 @@
 use Rattle.std.proofs.Common.{Err, sym, ap, ◌∙◌}
 use Rattle.lapd_frame.specs.declared.Side.TheVariants as side
-use Rattle.lapd_links.specs.declared.side_fault.SideFault.{SideFault}
+use Rattle.lapd_sides_links.specs.declared.side_fault.SideFault.{SideFault}
 use Rattle.lapd_sides.specs.Network.{link_of_network, among_links}
 use Rattle.lapd_sides.proofs.Networking.{granted, kept}
 use Rattle.lapd_sides.proofs.net_side.NetSide.act.Goals as goal

@@ -1,7 +1,7 @@
 use Rattle.lapd_frame.specs.declared.Side.TheVariants as side
 use Rattle.lapd_sides.specs.Network.{network_expires}
 use Rattle.lapd_sides.proofs.Networking.{done_or_unmoved}
-use Rattle.lapd_links.proofs.Outcomes.{ok_gives, err_gives, each_err}
+use Rattle.lapd_sides_links.proofs.Outcomes.{ok_gives, err_gives, each_err}
 use Rattle.lapd_sides.proofs.net_side.NetSide.expire.Goals as goal
 
 pub returns : goal.returns

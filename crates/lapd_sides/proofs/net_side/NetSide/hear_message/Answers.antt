@@ -5,7 +5,7 @@ use Rattle.lapd_tei.specs.declared.assigner.AssignerEvent.TheVariants as event
 use Rattle.lapd_tei.specs.declared.out.TeiOut.{TeiOut}
 use Rattle.lapd_tei.specs.Assigner.{AssignerState, assigner_step}
 use Rattle.lapd_tei.specs.Out.{tei_given}
-use Rattle.lapd_links.specs.declared.config.Config.{Config}
+use Rattle.lapd_sides_links.specs.declared.config.Config.{Config}
 use Rattle.lapd_sides.specs.Management.{links_with}
 use Rattle.lapd_sides.specs.Shows.{ShowServed}
 use Rattle.lapd_sides.proofs.Networking.{assigned_so, lacks}

@@ -1,7 +1,7 @@
 use Rattle.std.proofs.Common.{ap, ◌∙◌}
 use Rattle.lapd_timers.specs.Due.{Timers}
 use Rattle.lapd_frame.specs.declared.Side.TheVariants as side
-use Rattle.lapd_links.specs.Effects.{stopped}
+use Rattle.lapd_sides_links.specs.Effects.{stopped}
 use Rattle.lapd_sides.specs.Network.{Network, network_expires}
 use Rattle.lapd_sides.proofs.Networking.{due_so, expired_so, kept}
 use Rattle.lapd_sides.proofs.net_side.NetSide.tick.Goals as goal

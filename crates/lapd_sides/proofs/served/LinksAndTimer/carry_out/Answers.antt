@@ -1,10 +1,10 @@
 use Rattle.std.proofs.Common.{◌≡◌, ℕ, Option, Some, None, ◌++◌, refl, sym, ap, subst, ◌∙◌}
 use Rattle.std.specs.List.{filter_map}
 use Rattle.lapd_tei.specs.Out.{tei_given, tei_freed}
-use Rattle.lapd_links.specs.Effects.{outcome_of, managed}
-use Rattle.lapd_links.specs.Links.{Links}
+use Rattle.lapd_sides_links.specs.Effects.{outcome_of, managed}
+use Rattle.lapd_sides_links.specs.Links.{Links}
 use Rattle.lapd_sides.specs.Management.{links_with, links_without, told_without}
-use Rattle.lapd_links.specs.Shown.{ShowLinks}
+use Rattle.lapd_sides_links.specs.Shown.{ShowLinks}
 use Rattle.lapd_sides.proofs.Managing.{carried_out, frames_first, primitives_behind, behind_nothing}
 use Rattle.lapd_sides.proofs.served.LinksAndTimer.carry_out.Goals as goal
 

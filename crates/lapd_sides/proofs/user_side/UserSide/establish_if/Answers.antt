@@ -1,7 +1,7 @@
 use Rattle.std.proofs.Common.{[], Bool, sym, subst}
 use Rattle.lapd_frame.specs.declared.Side.{Side}
-use Rattle.lapd_states.specs.Input.{Establish}
-use Rattle.lapd_links.specs.Links.{Links, in_links, link_acts}
+use Rattle.lapd_link_rows.specs.Input.{Establish}
+use Rattle.lapd_sides_links.specs.Links.{Links, in_links, link_acts}
 use Rattle.lapd_sides.specs.ShowsUser.{HasFollowed}
 use Rattle.lapd_sides.specs.User.{link_of_user, establishes}
 use Rattle.lapd_sides.proofs.Using.{relinked, step_follows}

@@ -1,5 +1,5 @@
 use Rattle.lapd_frame.specs.declared.Side.{Side}
-use Rattle.lapd_links.specs.Links.{Links, in_links, link_expires}
+use Rattle.lapd_sides_links.specs.Links.{Links, in_links, link_expires}
 use Rattle.lapd_sides.specs.User.{user_expires}
 use Rattle.lapd_sides.proofs.Using.{step_follows, done_first}
 use Rattle.lapd_sides.proofs.user_side.UserSide.expire.Goals as goal

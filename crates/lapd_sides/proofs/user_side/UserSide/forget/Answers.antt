@@ -1,9 +1,9 @@
 use Rattle.std.proofs.Common.{ap, ◌∷◌, ◌++◌, [], ◌∙◌}
 use Rattle.lapd_tei.specs.Message.{group_tei}
-use Rattle.lapd_links.specs.Effects.{Effects}
-use Rattle.lapd_links.specs.Links.{of_sapi}
-use Rattle.lapd_links.specs.declared.primitive.Primitive.TheVariants.{Of}
-use Rattle.lapd_links.specs.declared.primitive.What.TheVariants as what
+use Rattle.lapd_sides_links.specs.Effects.{Effects}
+use Rattle.lapd_sides_links.specs.Links.{of_sapi}
+use Rattle.lapd_sides_links.specs.declared.primitive.Primitive.TheVariants.{Of}
+use Rattle.lapd_sides_links.specs.declared.primitive.What.TheVariants as what
 use Rattle.lapd_sides.proofs.Using.{forgotten}
 use Rattle.lapd_sides.proofs.user_side.UserSide.forget.Goals as goal
 

@@ -1,8 +1,8 @@
 use Rattle.std.proofs.Common.{[], Some, Err, sym, ap, ◌∙◌}
-use Rattle.lapd_states.specs.Input.{Give}
-use Rattle.lapd_states.specs.declared.event.LinkFault.TheVariants.{NotEstablished}
-use Rattle.lapd_links.specs.declared.side_fault.SideKind.TheVariants.{Link}
-use Rattle.lapd_links.specs.Links.{in_links, link_acts}
+use Rattle.lapd_link_rows.specs.Input.{Give}
+use Rattle.lapd_link_rows.specs.declared.event.LinkFault.TheVariants.{NotEstablished}
+use Rattle.lapd_sides_links.specs.declared.side_fault.SideKind.TheVariants.{Link}
+use Rattle.lapd_sides_links.specs.Links.{in_links, link_acts}
 use Rattle.lapd_sides.specs.User.{link_of_user}
 use Rattle.lapd_sides.proofs.Using.{answers_as, link_answers, is_own, is_none}
 use Rattle.lapd_sides.proofs.user_side.UserSide.give.Goals as goal

@@ -6,7 +6,7 @@ use Rattle.lapd_tei.specs.declared.phase.Phase.{Phase}
 use Rattle.lapd_tei.specs.declared.terminal.TerminalEvent.TheVariants as event
 use Rattle.lapd_tei.specs.Out.{tei_given}
 use Rattle.lapd_tei.specs.Terminal.{terminal_step}
-use Rattle.lapd_links.specs.declared.config.Config.{Config}
+use Rattle.lapd_sides_links.specs.declared.config.Config.{Config}
 use Rattle.lapd_sides.specs.Management.{links_with}
 use Rattle.lapd_sides.specs.Shows.{ShowServed}
 use Rattle.lapd_sides.proofs.Using.{acts_so, lacks, outs_of}

@@ -2,7 +2,7 @@ use Rattle.std.proofs.Common.{◌≡◌, refl, sym, ap, ◌∙◌}
 use Rattle.lapd_frame.specs.declared.Side.TheVariants as side
 use Rattle.lapd_timers.specs.Due.{at_rest}
 use Rattle.lapd_tei.specs.Terminal.{new_terminal}
-use Rattle.lapd_links.specs.Links.{no_links}
+use Rattle.lapd_sides_links.specs.Links.{no_links}
 use Rattle.lapd_sides.specs.Shows.{ShowServed}
 use Rattle.lapd_sides.specs.User.{links_of_fixed}
 use Rattle.lapd_sides.proofs.Using.{with_fixed, without_fixed}

@@ -1,7 +1,7 @@
 use Rattle.std.proofs.Common.{Err, List, length, sym, ap, subst, ◌≡◌, ◌∙◌}
 use Rattle.lapd_frame.specs.declared.Side.TheVariants as side
-use Rattle.lapd_states.specs.Input.{UnitData}
-use Rattle.lapd_links.specs.declared.side_fault.SideKind.TheVariants.{NoLink}
+use Rattle.lapd_link_rows.specs.Input.{UnitData}
+use Rattle.lapd_sides_links.specs.declared.side_fault.SideKind.TheVariants.{NoLink}
 use Rattle.lapd_sides.specs.ShowsUser.{HasGranted}
 use Rattle.lapd_sides.specs.User.{with_tei_or}
 use Rattle.lapd_sides.proofs.Using.{relinked, is_own, granted_as, link_granted, link_refused, links_kept}

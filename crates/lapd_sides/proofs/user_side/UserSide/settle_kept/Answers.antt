@@ -1,5 +1,5 @@
 use Rattle.std.proofs.Common.{refl, sym, subst}
-use Rattle.lapd_links.specs.Effects.{Effects}
+use Rattle.lapd_sides_links.specs.Effects.{Effects}
 use Rattle.lapd_sides.specs.declared.user_side.UserSide.{UserSide}
 use Rattle.lapd_sides.specs.ShowsUser.{ShowUser, HasFollowed}
 use Rattle.lapd_sides.specs.User.{establishes_kept, gives_up_kept}

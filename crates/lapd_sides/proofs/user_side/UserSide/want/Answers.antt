@@ -1,6 +1,6 @@
 use Rattle.std.proofs.Common.{true, ap, ◌∙◌}
 use Rattle.lapd_tei.specs.declared.terminal.TerminalEvent.TheVariants as event
-use Rattle.lapd_sides.specs.User.{Kept, User, keeps}
+use Rattle.lapd_sides.specs.User.{KeptEstablishments, User, keeps}
 use Rattle.lapd_sides.proofs.Using.{acts_so, want_gets_none, wanted}
 use Rattle.lapd_sides.proofs.user_side.UserSide.want.Goals as goal
 
@@ -16,7 +16,7 @@ returns c = λ config s shown.
       configured = shown.configured;
       served = shown.served;
       terminal = shown.terminal;
-      kept = c.set.ensures ∙ ap (λ (k : Kept). keeps c.args.sapi true k) shown.kept;
+      kept = c.set.ensures ∙ ap (λ (k : KeptEstablishments). keeps c.args.sapi true k) shown.kept;
       random = shown.random;
       discarded = shown.discarded;
     })))

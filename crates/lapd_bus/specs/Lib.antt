@@ -1,3 +1,0 @@
-pub mod Command
-pub mod Lines
-pub mod Moves

@@ -1,0 +1,7 @@
+pub mod Closed
+mod Framed
+mod Refusals
+mod Settling
+pub mod Digits
+mod Crossed
+mod Loops

@@ -1,0 +1,13 @@
+pub mod Answer
+pub mod Bus
+pub mod BusLines
+pub mod BusMoves
+pub mod Crossing
+pub mod Decode
+pub mod Loop
+pub mod LoopState
+pub mod Moves
+pub mod Outputs
+pub mod Pair
+pub mod StandsForWorld
+pub mod Session

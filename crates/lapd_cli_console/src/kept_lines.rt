@@ -1,0 +1,143 @@
+//! A reader that keeps the lines that were read last.
+
+ghost use Rattle.std.specs.Prelude.{◌≡◌, None};
+ghost use Rattle.std.specs.Io.{ReadsAtMost};
+ghost use Rattle.std.specs.Io.KnownBytes.{ReadConsumes};
+ghost use Rattle.lapd_cli_console.specs.Fault.{Remembers};
+
+use arrayvec::ArrayVec;
+use memchr::{memchr, memchr_iter, memrchr};
+use std::io::{self, ErrorKind, Read};
+
+/// How many octets of a read are kept: as many as a walk over a script reads at a time.
+const PART: usize = 8192;
+
+/// How many octets are kept of a line that an earlier read began.
+const HEAD: usize = 4096;
+
+/// A reader that hands on what another reader gives, and keeps the lines that were read last. What it keeps does not grow
+/// with what is read: the last 8,192 octets or fewer, and 4,096 at most of the line that goes on in them.
+#[derive(Drop)]
+pub struct KeptLines<R> {
+    reader: R,
+    // How many lines ended before that of `head`.
+    ended: u64,
+    // The front of the line that goes on in `part`, with what `part` has of it.
+    head: ArrayVec<u8, HEAD>,
+    // What was read last.
+    part: ArrayVec<u8, PART>,
+    fault: Option<ErrorKind>,
+}
+
+impl<R: Read> KeptLines<R> {
+    /// Keeps what this reader gives from now on.
+    pub fn new(reader: R) -> KeptLines<R>
+        ensures reader { result.reader ≡ reader }
+        ensures fault { result.fault ≡ None }
+    {
+        KeptLines {
+            reader,
+            ended: 0,
+            head: ArrayVec::new(),
+            part: ArrayVec::new(),
+            fault: None,
+        }
+    }
+
+    /// The line of this number, counted from 1, without its line feed and cut to 4,096 octets. Of the last line there is as
+    /// much as was read. `None` where the line is not kept.
+    pub fn line(&self, number: u64) -> Option<&[u8]> {
+        let place = number.checked_sub(1)?.checked_sub(self.ended)?;
+        if place == 0 {
+            return Some(self.head.as_slice());
+        }
+        let line = line_at(self.part.as_slice(), place)?;
+        Some(&line[..line.len().min(HEAD)])
+    }
+
+    /// How the last read failed that failed otherwise than by an interruption. `None` where none did.
+    pub fn fault(&self) -> Option<ErrorKind>
+        ensures { result ≡ self.now.fault }
+    {
+        self.fault
+    }
+
+    /// Keeps octets that were read.
+    fn keep(&mut self, octets: &[u8])
+        ensures reader { self.new.reader ≡ self.old.reader }
+        ensures fault { self.new.fault ≡ self.old.fault }
+    {
+        for part in octets.chunks(PART) {
+            self.let_go();
+            let _ = self.part.try_extend_from_slice(part);
+            lengthen(&mut self.head, first_line(part));
+        }
+    }
+
+    /// Lets go of the lines that ended in what was read last.
+    fn let_go(&mut self)
+        ensures reader { self.new.reader ≡ self.old.reader }
+        ensures fault { self.new.fault ≡ self.old.fault }
+    {
+        let part = self.part.as_slice();
+        if let Some(end) = memrchr(b'\n', part) {
+            let ended = memchr_iter(b'\n', part).count();
+            self.ended = self.ended.saturating_add(ended as u64);
+            self.head.clear();
+            lengthen(&mut self.head, &part[end + 1..]);
+        }
+        self.part.clear();
+    }
+}
+
+impl<R: Read> Read for KeptLines<R> {
+    ghost remaining = { λ kept. R.remaining kept.reader };
+
+    fn read(&mut self, octets: &mut [u8]) -> io::Result<usize>
+        ensures bound { ReadsAtMost result octets.new }
+        ensures bytes { ReadConsumes (R.remaining self.old.reader) (R.remaining self.new.reader) result octets.new }
+        ensures fault { Remembers self.old.fault self.new.fault result }
+    {
+        match self.reader.read(octets) {
+            Ok(count) => {
+                self.keep(&octets[..count]);
+                Ok(count)
+            }
+            Err(error) => {
+                if error.kind() != ErrorKind::Interrupted {
+                    self.fault = Some(error.kind());
+                }
+                Err(error)
+            }
+        }
+    }
+}
+
+/// Puts behind the front of a line as many of these octets as are kept of it.
+fn lengthen(head: &mut ArrayVec<u8, HEAD>, octets: &[u8]) {
+    let room = head.remaining_capacity();
+    let _ = head.try_extend_from_slice(&octets[..octets.len().min(room)]);
+}
+
+/// The octets behind the first line feed.
+fn behind_feed(octets: &[u8]) -> Option<&[u8]> {
+    let end = memchr(b'\n', octets)?;
+    Some(&octets[end + 1..])
+}
+
+/// The octets before the first line feed, all where there is none.
+fn first_line(octets: &[u8]) -> &[u8] {
+    match memchr(b'\n', octets) {
+        Some(end) => &octets[..end],
+        None => octets,
+    }
+}
+
+/// The line behind so many line feeds.
+fn line_at(octets: &[u8], feeds: u64) -> Option<&[u8]> {
+    let mut rest = octets;
+    for _feed in 0..feeds {
+        rest = behind_feed(rest)?;
+    }
+    Some(first_line(rest))
+}

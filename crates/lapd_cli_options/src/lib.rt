@@ -1,0 +1,83 @@
+//! The command line of the program `lapd`: what its words choose, and the texts of its help.
+//!
+//! It stands apart from the program so that neither is proved once more for the tests of the other, and so that the parser is
+//! read here alone. Begin with [`words`] and [`parse_words`].
+#![tactic(auto)]
+
+ghost use Rattle.std.specs.Prelude.{◌≡◌, ◌<◌, length, Ok, None, false};
+ghost use Rattle.lapd_cli_options.specs.CommandLine.{default_parameters};
+
+mod command_options;
+pub mod help;
+mod invocation;
+mod no_invocation;
+mod parser;
+mod program_words;
+
+use clap::{ArgMatches, Command};
+use command_options::{address_of, job_of};
+pub use invocation::{Invocation, Job};
+pub use lapd_cli_values::{NoAddress, OutOfRange, Params, Recovery, Side};
+pub use no_invocation::NoInvocation;
+use no_invocation::refused_by_parser;
+pub use parser::VERSION;
+use parser::{is_command, is_strict, program, unknown_command};
+pub use program_words::{WordsFault, words};
+use std::alloc::Global;
+use std::convert::AsStr;
+
+/// Reads the program's words, the first of which is its name. No further word means
+/// `answer --side net`.
+///
+/// # Errors
+///
+/// `Shown`, where the words ask for help or the version; `Refused`, `OutOfRange` and `NoAddress`, where they choose nothing;
+/// `Memory`.
+pub fn parse_words<'a, S: AsStr>(
+    alloc: Global,
+    words: &'a [S],
+) -> Result<Invocation<'a>, NoInvocation<'a>>
+    ensures { length words.now < 2
+        → result ≡ Ok (record { job = Job.Answer Side.Network default_parameters; address = None; strict = false }) }
+{
+    if words.len() < 2 {
+        return Ok(Invocation::by_no_word());
+    }
+    match program(alloc) {
+        Ok(mut program) => invocation_of(alloc, &mut program, words),
+        Err(error) => Err(refused_by_parser(alloc, &error)),
+    }
+}
+
+// What the words choose by this parser.
+fn invocation_of<'a, S: AsStr>(
+    alloc: Global,
+    program: &mut Command<'a>,
+    words: &'a [S],
+) -> Result<Invocation<'a>, NoInvocation<'a>> {
+    match program.try_get_matches_from_mut(words) {
+        Ok(matches) => invocation_by(alloc, program, &matches),
+        Err(error) => Err(refused_by_parser(alloc, &error)),
+    }
+}
+
+// What the words choose in which the parser found this.
+fn invocation_by<'a>(
+    alloc: Global,
+    program: &mut Command<'a>,
+    matches: &ArgMatches<'a>,
+) -> Result<Invocation<'a>, NoInvocation<'a>> {
+    match matches.subcommand() {
+        Some((name, given)) if is_command(name) => {
+            let job = job_of(name, given)?;
+            let address = address_of(name, given)?;
+            Ok(Invocation {
+                job,
+                address,
+                strict: is_strict(given),
+            })
+        }
+        Some((name, _)) => Err(unknown_command(alloc, program, name)),
+        None => Err(unknown_command(alloc, program, "")),
+    }
+}

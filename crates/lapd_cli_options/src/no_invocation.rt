@@ -1,0 +1,57 @@
+use clap::Error;
+use clap::error::ErrorKind;
+use lapd_cli_values::{NoAddress, OutOfRange};
+use std::alloc::Global;
+use std::fmt;
+
+/// Why the program's words choose nothing for it to do.
+#[derive(Debug, Drop)]
+pub enum NoInvocation<'a> {
+    /// They ask for help or the version, which is this text. It is for standard output, and the exit status is 0.
+    Shown(String),
+    /// The parser does not take them, as this text says. It is for standard error, and the exit status is 2, as with
+    /// `OutOfRange` and `NoAddress`.
+    Refused(String),
+    /// A number that is not in the range of its option.
+    OutOfRange(OutOfRange<'a>),
+    /// Something in the place of an address that is none.
+    NoAddress(NoAddress<'a>),
+    /// Memory ran out.
+    Memory,
+}
+
+/// Writes its text, with the line's end.
+impl fmt::Display for NoInvocation<'_> {
+    fn fmt<W: fmt::Write>(&self, f: &mut fmt::Formatter<W>) -> fmt::Result {
+        match self {
+            NoInvocation::Shown(text) | NoInvocation::Refused(text) => f.write_str(text.as_str()),
+            NoInvocation::OutOfRange(fault) => writeln!(f, "{fault}"),
+            NoInvocation::NoAddress(fault) => writeln!(f, "{fault}"),
+            NoInvocation::Memory => f.write_str("out of memory\n"),
+        }
+    }
+}
+
+impl<'a> From<OutOfRange<'a>> for NoInvocation<'a> {
+    fn from(fault: OutOfRange<'a>) -> Self {
+        NoInvocation::OutOfRange(fault)
+    }
+}
+
+impl<'a> From<NoAddress<'a>> for NoInvocation<'a> {
+    fn from(fault: NoAddress<'a>) -> Self {
+        NoInvocation::NoAddress(fault)
+    }
+}
+
+/// The parser's text, where memory is there for it.
+pub(crate) fn refused_by_parser<'a>(alloc: Global, error: &Error) -> NoInvocation<'a> {
+    if error.kind() == ErrorKind::OutOfMemory {
+        return NoInvocation::Memory;
+    }
+    match error.to_string(alloc) {
+        Ok(text) if error.use_stderr() => NoInvocation::Refused(text),
+        Ok(text) => NoInvocation::Shown(text),
+        Err(_) => NoInvocation::Memory,
+    }
+}

@@ -1,0 +1,92 @@
+-- A script, and what a command that goes over it prints.
+use Rattle.std.specs.Prelude.{◌≡◌, ℕ, ◌+◌, List, [], ◌∷◌, ◌++◌, Bool, true, Option, None, Some, if◌then◌else◌, ◌==◌, Result, Ok, Err, ⊤, IsNone, IsSomeAnd}
+use Rattle.std.specs.Io.KnownBytes.{Appends, Keeps}
+use Rattle.lapd_cli_script.specs.declared.script.ScriptFault.{ScriptFault}
+use Rattle.lapd_cli_script.specs.declared.script.ScriptFault.TheVariants.{BadLine, Device, Memory, Port}
+use Rattle.lapd_cli_script.specs.declared.script.LineFault.{LineFault}
+use Rattle.lapd_cli_script.specs.declared.script.LineFault.TheVariants.{Bad, Device as LineDevice, Memory as LineMemory}
+
+-- the octet at the front of the first line
+abbrev pub with_first : ℕ → List (List ℕ) → List (List ℕ)
+with_first octet [] = (octet ∷ []) ∷ []
+with_first octet (line ∷ lines) = (octet ∷ line) ∷ lines
+
+-- the lines of a script: each ends with a line feed, which the last may lack
+abbrev pub lines_of : List ℕ → List (List ℕ)
+lines_of [] = []
+lines_of (octet ∷ octets) = if octet == 10 then [] ∷ lines_of octets else with_first octet (lines_of octets)
+
+-- an empty line, or one that begins with `#`
+abbrev pub is_passed_over : List ℕ → Bool
+is_passed_over [] = true
+is_passed_over (octet ∷ octets) = octet == 35
+
+-- what a line calls for in a state: the text that is printed and the next state, or nothing, where it is no line of the command
+abbrev pub Outcome : Type 0 → Type 0
+Outcome S = Option (List ℕ × S)
+
+-- what each line calls for in each state
+abbrev pub Step : Type 0 → Type 0
+Step S = S → List ℕ → Outcome S
+
+-- the step of a whole script: a line that is passed over prints nothing and changes nothing
+abbrev pub outcome_of : {S : Type 0} → Step S → S → List ℕ → Outcome S
+outcome_of step s line = if is_passed_over line then Some ([], s) else step s line
+
+abbrev pub before_rest : {S : Type 0} → Outcome S → (S → List ℕ) → List ℕ
+before_rest None rest = []
+before_rest (Some (text, t)) rest = text ++ rest t
+
+-- the texts of the lines, up to the first bad one
+abbrev pub output_of : {S : Type 0} → Step S → S → List (List ℕ) → List ℕ
+output_of step s [] = []
+output_of step s (line ∷ lines) = before_rest (outcome_of step s line) (λ t. output_of step t lines)
+
+abbrev pub number_or : {S : Type 0} → ℕ → Outcome S → (S → Option ℕ) → Option ℕ
+number_or number None rest = Some number
+number_or number (Some (text, t)) rest = rest t
+
+-- the number of the first bad line, where the first of these lines has this number
+abbrev pub bad_from : {S : Type 0} → ℕ → Step S → S → List (List ℕ) → Option ℕ
+bad_from number step s [] = None
+bad_from number step s (line ∷ lines) = number_or number (outcome_of step s line) (λ t. bad_from (number + 1) step t lines)
+
+-- the number of the first bad line, from 1
+abbrev pub bad_line : {S : Type 0} → Step S → S → List (List ℕ) → Option ℕ
+bad_line step s lines = bad_from 1 step s lines
+
+abbrev pub state_or : {S : Type 0} → S → Outcome S → (S → S) → S
+state_or s None rest = s
+state_or s (Some (text, t)) rest = rest t
+
+-- the state after the lines, up to the first bad one
+abbrev pub state_after : {S : Type 0} → Step S → S → List (List ℕ) → S
+state_after step s [] = s
+state_after step s (line ∷ lines) = state_or s (outcome_of step s line) (λ t. state_after step t lines)
+
+-- all lines before some place are good, and the writer grew by their texts
+abbrev pub PrintsFront : {S : Type 0} → Step S → S → List (List ℕ) → Option (List ℕ) → Option (List ℕ) → Type 0
+PrintsFront step s lines old new =
+    (before : List (List ℕ)) × (after : List (List ℕ)) × (lines ≡ before ++ after) × (bad_line step s before ≡ None) × Appends old new (output_of step s before)
+
+-- how a command that goes over these lines and no port ends, and what the writer that it was given holds
+abbrev pub EndsAs : {S : Type 0} → Step S → S → Result ⊤ ScriptFault → List (List ℕ) → Option (List ℕ) → Option (List ℕ) → Type 0
+EndsAs step s (Ok done) lines old new = (bad_line step s lines ≡ None) × Appends old new (output_of step s lines)
+EndsAs step s (Err (BadLine number)) lines old new = (bad_line step s lines ≡ Some number) × Appends old new (output_of step s lines)
+EndsAs step s (Err Memory) lines old new = PrintsFront step s lines old new
+EndsAs step s (Err Device) lines old new = ⊤
+EndsAs step s (Err (Port fault)) lines old new = ⊥
+
+-- how one line of a command ends, where this is what it calls for
+abbrev pub LineEndsAs : {C S : Type 0} → (C → S → Type 0) → Outcome S → Result ⊤ LineFault → C → Option (List ℕ) → Option (List ℕ) → Type 0
+LineEndsAs stands_for outcome (Ok done) command old new = IsSomeAnd outcome (λ next. stands_for command next.1 × Appends old new next.0)
+LineEndsAs stands_for outcome (Err Bad) command old new = IsNone outcome × Keeps old new
+LineEndsAs stands_for outcome (Err LineMemory) command old new = Keeps old new
+LineEndsAs stands_for outcome (Err LineDevice) command old new = ⊤
+
+-- the exit status of the program after a fault; 2 is a fault of the command line
+abbrev pub status_of : ScriptFault → ℕ
+status_of (BadLine number) = 1
+status_of Device = 3
+status_of Memory = 4
+status_of (Port fault) = 3

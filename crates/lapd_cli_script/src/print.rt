@@ -1,0 +1,92 @@
+//! What commands print, a line at a time.
+
+ghost use Rattle.std.specs.Prelude.{◌≡◌, ◌≤◌, ◌++◌, length, OnOk, IsOkUnless};
+ghost use Rattle.std.specs.Fmt.{decimal};
+ghost use Rattle.std.specs.Io.KnownBytes.{Appends};
+ghost use Rattle.hex.specs.Hex.{encode_lower};
+ghost use Rattle.lapd_cli_script.specs.Line.{digits_of, text_line};
+
+use crate::script::LineFault;
+use std::io;
+use std::io::Write;
+
+/// Prints a line of two texts, one behind the other.
+///
+/// # Errors
+///
+/// `Device`, where the writer fails: the front of the line may be written then.
+pub fn put_line<W: Write>(front: &[u8], back: &[u8], out: &mut W) -> Result<(), LineFault>
+    ensures ok { OnOk result (Appends (W.contents out.old) (W.contents out.new) (text_line (front.now ++ back.now))) }
+    ensures err { IsOkUnless result LineFault.Device }
+{
+    out.write_all(front)?;
+    out.write_all(back)?;
+    out.write_all(b"\n")?;
+    Ok(())
+}
+
+/// Prints a line of a text and, behind it, a number in decimal digits.
+///
+/// # Errors
+///
+/// `Device`, where the writer fails: the front of the line may be written then.
+pub fn put_number<W: Write>(front: &[u8], number: u64, out: &mut W) -> Result<(), LineFault>
+    ensures ok { OnOk result (Appends (W.contents out.old) (W.contents out.new) (text_line (front.now ++ decimal number))) }
+    ensures err { IsOkUnless result LineFault.Device }
+{
+    out.write_all(front)?;
+    writeln!(out, "{number}")?;
+    Ok(())
+}
+
+/// Prints a line of a word, a space and octets in lower case hexadecimal, of the word alone where there are no octets.
+///
+/// # Errors
+///
+/// `Device`, where the writer fails: the front of the line may be written then.
+pub fn put_octets<W: Write>(word: &[u8], octets: &[u8], out: &mut W) -> Result<(), LineFault>
+    ensures ok { OnOk result (Appends (W.contents out.old) (W.contents out.new) (text_line (word.now ++ digits_of octets.now))) }
+    ensures err { IsOkUnless result LineFault.Device }
+{
+    if octets.is_empty() {
+        return put_line(word, &[], out);
+    }
+    out.write_all(word)?;
+    out.write_all(b" ")?;
+    put_hex(octets, out)?;
+    out.write_all(b"\n")?;
+    Ok(())
+}
+
+/// How many octets are printed at a time.
+const CHUNK: usize = 64;
+
+/// Prints octets in lower case hexadecimal, without spaces or a line's end. No memory is taken.
+///
+/// # Errors
+///
+/// The writer's. Some digits may be written then.
+pub fn put_hex<W: Write>(octets: &[u8], out: &mut W) -> io::Result<()>
+    ensures { OnOk result (Appends (W.contents out.old) (W.contents out.new) (encode_lower octets.now)) }
+{
+    let mut rest = octets;
+    while !rest.is_empty() {
+        let (front, left) = rest.split_at(rest.len().min(CHUNK));
+        put_hex_chunk(front, out)?;
+        rest = left;
+    }
+    Ok(())
+}
+
+// Writes at most `CHUNK` octets.
+fn put_hex_chunk<W: Write>(octets: &[u8], out: &mut W) -> io::Result<()>
+    requires { length octets.now ≤ 64 }
+    ensures { OnOk result (Appends (W.contents out.old) (W.contents out.new) (encode_lower octets.now)) }
+{
+    let mut digits = [0u8; 2 * CHUNK];
+    let text = &mut digits[..2 * octets.len()];
+    let Ok(()) = hex::encode_to_slice(octets, text) else {
+        unreachable!()
+    };
+    out.write_all(text)
+}

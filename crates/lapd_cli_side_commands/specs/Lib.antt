@@ -1,0 +1,2 @@
+pub mod SideTexts
+pub mod Wishes

@@ -1,0 +1,167 @@
+-- The lines of the commands `net` and `user`, and what each asks for.
+use Rattle.std.specs.Prelude.{◌≡◌, ℕ, ◌+◌, ◌&&◌, nat_le, if◌then◌else◌, List, [], ◌∷◌, codes, Option, Some, None, option_map, option_and_then, Result, Ok, Err, ⊤}
+use Rattle.std.specs.Str.{bytes_eq}
+use Rattle.lapd_frame.specs.declared.Side.{Side}
+use Rattle.lapd_frame.specs.declared.Side.TheVariants.{Network, User}
+use Rattle.lapd_frame.specs.declared.Sapi.{Sapi}
+use Rattle.lapd_frame.specs.Address.{sapi_at, number_at}
+use Rattle.lapd_cli_script.specs.Line.{words_of, nothing_of, number_behind, octets_behind}
+use Rattle.lapd_cli_script.specs.Script.{Step, bad_line}
+use Rattle.lapd_cli_script.specs.declared.script.ScriptFault.{ScriptFault}
+use Rattle.lapd_cli_script.specs.declared.script.ScriptFault.TheVariants.{BadLine}
+use Rattle.lapd_cli_script.specs.declared.script.LineFault.{LineFault}
+use Rattle.lapd_cli_script.specs.declared.script.LineFault.TheVariants.{Bad}
+use Rattle.lapd_table.specs.declared.link_id.LinkId.{LinkId}
+use Rattle.lapd_sides.specs.declared.request.Request.{Request}
+use Rattle.lapd_sides.specs.declared.request.Request.TheVariants as request
+use Rattle.lapd_cli_side_commands.specs.declared.side_lines.SideLine.{SideLine}
+use Rattle.lapd_cli_side_commands.specs.declared.side_lines.SideLine.TheVariants as line
+
+-- What a line asks for: one frame is read; the clock goes on by so many milliseconds; layer 3 asks for a link to be
+-- established or released, or gives a message or unit data for it; a TEI is asked for, or checked.
+pub data Wish : Type 0 where
+  Read : Wish
+  Tick : (ms : ℕ) → Wish
+  Establish : (id : LinkId) → Wish
+  Release : (id : LinkId) → Wish
+  Give : (id : LinkId) → (message : List ℕ) → Wish
+  Unit : (id : LinkId) → (octets : List ℕ) → Wish
+  Busy : Wish
+  AskTei : Wish
+  Check : (tei : ℕ) → Wish
+
+-- ---- Numbers.
+
+-- the number below 256 that a word writes in decimal digits, and a TEI, 0 to 127, and a SAPI, 0, 16 or 63, of that number
+abbrev pub octet_at : ℕ → Option ℕ
+octet_at n = if nat_le n 255 then Some n else None
+
+abbrev pub octet_said : List ℕ → Option ℕ
+octet_said word = option_and_then octet_at (number_behind (words_of word))
+
+abbrev pub tei_said : List ℕ → Option ℕ
+tei_said word = option_and_then number_at (octet_said word)
+
+abbrev pub sapi_said : List ℕ → Option Sapi
+sapi_said word = option_and_then sapi_at (octet_said word)
+
+-- a link, by its SAPI and its TEI
+abbrev pub named : Sapi → ℕ → LinkId
+named sapi tei = record { sapi = sapi; tei = tei }
+
+abbrev pub id_said : List ℕ → List ℕ → Option LinkId
+id_said sapi tei = option_and_then (λ s. option_map (named s) (tei_said tei)) (sapi_said sapi)
+
+-- the clock goes on by 1 ms to an hour
+abbrev pub span_at : ℕ → Option ℕ
+span_at ms = if nat_le 1 ms && nat_le ms 3600000 then Some ms else None
+
+-- ---- The words of a line.
+
+-- a word with nothing behind it
+abbrev pub bare_wish : Wish → List (List ℕ) → Option Wish
+bare_wish wish behind = option_map (λ none. wish) (nothing_of behind)
+
+abbrev pub tick_wish : List (List ℕ) → Option Wish
+tick_wish behind = option_map Tick (option_and_then span_at (number_behind behind))
+
+abbrev pub check_said : List ℕ → List (List ℕ) → Option Wish
+check_said word behind = option_and_then (λ none. option_map Check (tei_said word)) (nothing_of behind)
+
+abbrev pub check_wish : List (List ℕ) → Option Wish
+check_wish [] = None
+check_wish (word ∷ behind) = check_said word behind
+
+-- what a word asks for of a link, with the words behind its SAPI and TEI
+abbrev pub link_wish : List ℕ → LinkId → List (List ℕ) → Option Wish
+link_wish word id behind =
+    if bytes_eq word (codes "establish") then bare_wish (Establish id) behind else (
+    if bytes_eq word (codes "release") then bare_wish (Release id) behind else (
+    if bytes_eq word (codes "give") then option_map (Give id) (octets_behind behind) else (
+    if bytes_eq word (codes "unit") then option_map (Unit id) (octets_behind behind) else None)))
+
+abbrev pub with_tei : List ℕ → List ℕ → List (List ℕ) → Option Wish
+with_tei word sapi [] = None
+with_tei word sapi (tei ∷ behind) = option_and_then (λ id. link_wish word id behind) (id_said sapi tei)
+
+abbrev pub with_sapi : List ℕ → List (List ℕ) → Option Wish
+with_sapi word [] = None
+with_sapi word (sapi ∷ behind) = with_tei word sapi behind
+
+-- what a word asks for that the one side's script has and the other's has not
+abbrev pub own_wish : Side → List ℕ → List (List ℕ) → Option Wish
+own_wish User word behind = if bytes_eq word (codes "ask") then bare_wish AskTei behind else with_sapi word behind
+own_wish Network word behind = if bytes_eq word (codes "check") then check_wish behind else with_sapi word behind
+
+abbrev pub wish_of_word : Side → List ℕ → List (List ℕ) → Option Wish
+wish_of_word side word behind =
+    if bytes_eq word (codes "read") then bare_wish Read behind else (
+    if bytes_eq word (codes "tick") then tick_wish behind else own_wish side word behind)
+
+abbrev pub wish_of_words : Side → List (List ℕ) → Option Wish
+wish_of_words side [] = None
+wish_of_words side (word ∷ behind) = wish_of_word side word behind
+
+-- what a line of a side's script asks for
+abbrev pub wish_of_line : Side → List ℕ → Option Wish
+wish_of_line side octets = wish_of_words side (words_of octets)
+
+-- ---- The clock.
+
+-- which side goes over the script, and the moment by its clock, in milliseconds
+pub record Clocked : Type 0 where
+  pub side : Side
+  pub now : ℕ
+
+abbrev pub moment_at : ℕ → Option ℕ
+moment_at n = if nat_le n 1000000000000000 then Some n else None
+
+-- the moment after what is asked for; the clock goes on to 10^15 at most
+abbrev pub moment_after : ℕ → Wish → Option ℕ
+moment_after now (Tick ms) = moment_at (now + ms)
+moment_after now wish = Some now
+
+abbrev pub clocked : Side → ℕ → List ℕ × Clocked
+clocked side now = ([], record { side = side; now = now })
+
+-- which lines are lines of the command, and how they move the clock. What they print is not said here.
+abbrev pub clock_step : Step Clocked
+clock_step s octets = option_map (clocked s.side) (option_and_then (moment_after s.now) (wish_of_line s.side octets))
+
+-- a side that goes over a script begins at moment 0
+abbrev pub new_clock : Side → Clocked
+new_clock side = record { side = side; now = 0 }
+
+-- how a side that goes over these lines ends: it names a bad line where there is one that it comes to, and that is the first
+abbrev pub SideEndsAs : Side → Result ⊤ ScriptFault → List (List ℕ) → Type 0
+SideEndsAs side (Ok done) lines = bad_line clock_step (new_clock side) lines ≡ None
+SideEndsAs side (Err (BadLine number)) lines = bad_line clock_step (new_clock side) lines ≡ Some number
+SideEndsAs side (Err other) lines = ⊤
+
+-- how what is asked for moves the clock from one moment to another, where it is not refused as a bad line
+abbrev pub Moves : Option ℕ → Result ⊤ LineFault → ℕ → Type 0
+Moves after (Ok done) now = after ≡ Some now
+Moves after (Err Bad) now = after ≡ None
+Moves after (Err other) now = ⊤
+
+-- a line that is not bad, whether it is done or not
+abbrev pub IsGood : Result ⊤ LineFault → Type 0
+IsGood (Ok done) = ⊤
+IsGood (Err Bad) = ⊥
+IsGood (Err other) = ⊤
+
+-- ---- How the code names what is asked for.
+
+abbrev pub wish_of_request : Request → Wish
+wish_of_request (request.Establish id) = Establish id
+wish_of_request (request.Release id) = Release id
+wish_of_request (request.Unit id octets) = Unit id octets.items
+wish_of_request (request.Give id message) = Give id message.items
+wish_of_request (request.Busy id on) = Busy
+wish_of_request request.AskTei = AskTei
+wish_of_request (request.Check tei) = Check tei
+
+abbrev pub wish_of : SideLine → Wish
+wish_of line.Read = Read
+wish_of (line.Tick ms) = Tick ms
+wish_of (line.Ask r) = wish_of_request r

@@ -1,0 +1,65 @@
+//! The commands `net` and `user`.
+
+ghost use Rattle.std.specs.Prelude.{IfSome};
+ghost use Rattle.lapd_frame.specs.declared.Side.TheVariants as side;
+ghost use Rattle.lapd_cli_script.specs.Script.{lines_of};
+ghost use Rattle.lapd_cli_side_commands.specs.Wishes.{SideEndsAs};
+
+use crate::side_runner::run_side;
+use lapd_cli_script::ScriptFault;
+use lapd_port::{Port, Sink, Source};
+use lapd_sides::{Config, Durations, EitherSide, NetSide, Params, Sapi, UserSide};
+use std::alloc::Global;
+use std::io::{Read, Write};
+
+/// Goes over a script as the network side of an interface at basic access, with the user side behind a port. It serves SAPI 0
+/// and 16 and knows of no TEI. The port is handed back.
+///
+/// # Errors
+///
+/// `BadLine` at the first line that is none of the command's, `Device` where a read of the script or a write fails, `Memory`,
+/// and `Port` where the port answers S2 to S6.
+pub fn net<R: Read, W: Write, S: Source, K: Sink>(
+    alloc: Global,
+    script: &mut R,
+    out: &mut W,
+    port: Port<S, K>,
+) -> (Result<(), ScriptFault>, Port<S, K>)
+    ensures { IfSome (R.remaining script.old) (λ octets. SideEndsAs side.Network result.0 (lines_of octets)) }
+{
+    let Ok(side) = NetSide::new(alloc, basic_access(), &[]) else {
+        return (Err(ScriptFault::Memory), port);
+    };
+    run_side(alloc, EitherSide::Network(side), script, out, port)
+}
+
+/// Goes over a script as the user side of an interface at basic access, with the network side behind a port. It serves SAPI 0
+/// and 16 and has no TEI. The port is handed back.
+///
+/// # Errors
+///
+/// As [`net`].
+pub fn user<R: Read, W: Write, S: Source, K: Sink>(
+    alloc: Global,
+    script: &mut R,
+    out: &mut W,
+    port: Port<S, K>,
+) -> (Result<(), ScriptFault>, Port<S, K>)
+    ensures { IfSome (R.remaining script.old) (λ octets. SideEndsAs side.User result.0 (lines_of octets)) }
+{
+    let Ok(side) = UserSide::new(alloc, basic_access(), None) else {
+        return (Err(ScriptFault::Memory), port);
+    };
+    run_side(alloc, EitherSide::User(side), script, out, port)
+}
+
+/// What a side of an interface at basic access is made with (Q.921 5.9).
+fn basic_access() -> Config {
+    Config {
+        sapi16: true,
+        params0: Params::basic(Sapi::Call),
+        params16: Params::basic(Sapi::Packet),
+        durations: Durations::standard(),
+        seed: 921,
+    }
+}

@@ -1,0 +1,5 @@
+use Rattle.std.proofs.Common.{rules}
+use Rattle.lapd_cli_values.proofs.numbers.params_of.Goals as goal
+
+pub returns : goal.returns
+returns c = search rules

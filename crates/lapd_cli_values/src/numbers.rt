@@ -1,0 +1,28 @@
+//! The numbers of a link, read from text.
+
+ghost use Rattle.std.specs.Prelude.{◌≡◌, ◌<◌, ◌^◌, SomeIff};
+ghost use Rattle.std.specs.Str.Parse.{digits_value, IsNumeral};
+ghost use Rattle.lapd_cli_values.specs.Numerals.{parameters_written, AreWritten};
+
+use lapd_link_rows::Params;
+
+/// The parameters of a link that these texts write in decimal digits alone: its window, 1 to 127 I frames, its N200, 1
+/// to 100 times, and the room of its I queue, 1 to 1,024 messages. `None` where a text is not written so, or its number
+/// is out of its range.
+pub fn params_of(k: &str, n200: &str, room: &str) -> Option<Params>
+    ensures { SomeIff result (AreWritten k.now n200.now room.now) (parameters_written k.now n200.now room.now) }
+{
+    let k = u8::try_from(number_of(k)?).ok()?;
+    let n200 = u8::try_from(number_of(n200)?).ok()?;
+    Params::new(k, n200, number_of(room)?)
+}
+
+/// The number below 65,536 that this text writes in decimal digits alone. `None` where it writes none.
+pub fn number_of(digits: &str) -> Option<u16>
+    ensures { SomeIff result (IsNumeral 10 digits.now × (digits_value 10 digits.now < 2 ^ 16)) (digits_value 10 digits.now) }
+{
+    if digits.starts_with('+') {
+        return None;
+    }
+    digits.parse().ok()
+}

@@ -1,0 +1,89 @@
+//! The numbers that were written for options, or the fault of one that is out of its option's range.
+
+ghost use Rattle.std.specs.Prelude.{◌≡◌, MatchResult, SomeIff};
+ghost use Rattle.std.specs.Str.Parse.{digits_value};
+ghost use Rattle.lapd_cli_values.specs.Options.{IsNumberTo, IsRangeOf};
+ghost use Rattle.lapd_cli_values.specs.Numerals.{parameters_written, AreWritten};
+
+use crate::number_option::{K, N200, NumberOption, ROOM, TERMINALS};
+use crate::numbers::{number_of, params_of};
+use lapd_link_rows::Params;
+use thiserror::Error;
+
+/// What was written for an option that takes a number is none of its range.
+#[derive(Clone, Copy, Debug, Error)]
+#[error("error: invalid value '{shown}' for '--{name} <{value_name}>': not a number from 1 to {most} in decimal digits", shown = .written.escape_debug(), name = .option.name, value_name = .option.value_name, most = .option.most)]
+pub struct OutOfRange<'a> {
+    option: NumberOption,
+    written: &'a str,
+}
+
+/// The parameters of a link that these texts write, as [`params_of`] reads them.
+///
+/// # Errors
+///
+/// The first of the three that is none of its option's range.
+pub fn params_written<'a>(
+    k: &'a str,
+    n200: &'a str,
+    room: &'a str,
+) -> Result<Params, OutOfRange<'a>>
+    ensures { MatchResult result
+        (λ params. AreWritten k.now n200.now room.now × (params ≡ parameters_written k.now n200.now room.now))
+        (λ fault. IsRangeOf k.now n200.now room.now fault.option.most fault.written.now
+        × (¬ IsNumberTo fault.option.most fault.written.now)) }
+{
+    match params_of(k, n200, room) {
+        Some(params) => Ok(params),
+        None => Err(first_out_of_range(k, n200, room)),
+    }
+}
+
+// The fault of the first of these numbers that is not in the range of its option, where one is not.
+fn first_out_of_range<'a>(k: &'a str, n200: &'a str, room: &'a str) -> OutOfRange<'a>
+    requires { ¬ AreWritten k.now n200.now room.now }
+    ensures named { IsRangeOf k.now n200.now room.now result.option.most result.written.now }
+    ensures refused { ¬ IsNumberTo result.option.most result.written.now }
+{
+    if !K.takes(k) {
+        refused(K, k)
+    } else if !N200.takes(n200) {
+        refused(N200, n200)
+    } else {
+        refused(ROOM, room)
+    }
+}
+
+// The fault of what was written for this option.
+fn refused(option: NumberOption, written: &str) -> OutOfRange<'_>
+    ensures { result ≡ record { option = option; written = written.entry } }
+{
+    OutOfRange { option, written }
+}
+
+/// How many terminals this writes in decimal digits alone, 1 to 127.
+///
+/// # Errors
+///
+/// Where it is none of the range.
+pub fn terminals_written(written: &str) -> Result<u8, OutOfRange<'_>>
+    ensures { MatchResult result
+        (λ terminals. IsNumberTo 127 written.now × (terminals ≡ digits_value 10 written.now))
+        (λ fault. (fault.option.most ≡ 127) × (fault.written ≡ written.entry) × (¬ IsNumberTo 127 written.now)) }
+{
+    match terminals_of(written) {
+        Some(terminals) => Ok(terminals),
+        None => Err(refused(TERMINALS, written)),
+    }
+}
+
+// How many terminals this writes, 1 to 127.
+fn terminals_of(written: &str) -> Option<u8>
+    ensures { SomeIff result (IsNumberTo 127 written.now) (digits_value 10 written.now) }
+{
+    if TERMINALS.takes(written) {
+        u8::try_from(number_of(written)?).ok()
+    } else {
+        None
+    }
+}

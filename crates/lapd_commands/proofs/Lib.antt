@@ -1,4 +1,0 @@
-pub mod Closed
-mod Framed
-mod Refusals
-mod Settling

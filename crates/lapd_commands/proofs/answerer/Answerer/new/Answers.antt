@@ -1,5 +1,0 @@
-use Rattle.std.proofs.Common.{rules}
-use Rattle.lapd_commands.proofs.answerer.Answerer.new.Goals as goal
-
-pub returns : goal.returns
-returns c = search rules

@@ -1,0 +1,18 @@
+use Rattle.std.proofs.Common.{◌≡◌, ◌≤◌, ◌+◌, ◌-◌, if◌then◌else◌}
+use Rattle.arrayvec.specs.ArrayVec.{array_vec_len}
+use Rattle.lapd_mod128.specs.Counting.{Tagged}
+use Rattle.lapd_supervision.specs.StateVariables.{outstanding}
+use Rattle.lapd_link_rows.specs.EndOfStep.{send_all}
+use Rattle.lapd_link_rows.specs.End.{StepState, unsent}
+use Rattle.lapd_link_machine.specs.StandsFor.{StandsFor}
+use Rattle.lapd_link_machine.proofs.machine.Machine.send_all.Given as goal
+
+-- what is left to be sent is the same as from the beginning on, and there is room for all that the window lets out
+abbrev pub invariant-loop-self : goal.invariant-loop-self
+invariant-loop-self l = record {
+  room : array_vec_len l.outs + (127 - outstanding Tagged l.self.window) + (if l.self.t200 then 0 else 2) ≤ 135;
+  same : (s : StepState) → StandsFor l.initial.self l.initial.outs.items s → (t : StepState) × StandsFor l.self l.outs.items t × (send_all Tagged (unsent s.end) s ≡ send_all Tagged (unsent t.end) t);
+}
+
+abbrev pub decreases-loop-self : goal.decreases-loop-self
+decreases-loop-self l = 127 - outstanding Tagged l.self.window

@@ -1,0 +1,16 @@
+pub use Rattle.lapd_frame.specs.Control
+pub use Rattle.lapd_mod128.specs.Counting
+pub use Rattle.lapd_queue.specs.Waiting
+pub use Rattle.lapd_link_rows.specs.EndOfStep
+pub use Rattle.lapd_link_rows.specs.End
+pub use Rattle.lapd_link_rows.specs.Input
+pub use Rattle.lapd_link_rows.specs.Out
+pub use Rattle.lapd_link_rows.specs.Procedures
+pub use Rattle.lapd_link_rows.specs.Refusal
+pub use Rattle.lapd_link_rows.specs.State
+pub use Rattle.lapd_link_rows.specs.Table
+pub use Rattle.lapd_supervision.specs.StateVariables
+pub use Rattle.lapd_timers.specs.Timer
+pub mod Sent
+pub mod StandsFor
+pub mod Tail

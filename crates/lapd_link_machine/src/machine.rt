@@ -1,0 +1,55 @@
+//! What a link keeps, and what each action and row of the state table does to it.
+
+ghost use Rattle.std.specs.Prelude.{◌≡◌, ◌<◌, ◌+◌, [], ◌∷◌, ◌++◌};
+ghost use Rattle.arrayvec.specs.ArrayVec.{array_vec_len};
+
+use arrayvec::ArrayVec;
+use lapd_frame::Control;
+use lapd_link_rows::{Out, Params, State};
+use lapd_queue::IQueue;
+use lapd_supervision::Window;
+
+mod awaiting_establishment;
+mod awaiting_release;
+mod begins;
+mod dispatcher;
+mod end_of_step;
+mod established;
+mod procedures;
+mod refusals;
+mod step;
+mod tei_assigned;
+mod timer_recovery;
+
+/// What one step gives, in order. A step gives at most 136 outputs.
+pub type Outs = ArrayVec<Out, 136>;
+
+/// The variables of an end (Q.921 Annex B).
+#[derive(Drop)]
+pub struct Machine {
+    pub params: Params,
+    pub state: State,
+    /// RC: in states 5 and 6, how often the SABME or DISC was sent again; in state 8, how often T200 has expired.
+    pub rc: u8,
+    /// V(S), V(A), V(R) and the conditions.
+    pub window: Window,
+    /// Layer 3 initiated the establishment.
+    pub layer3_initiated: bool,
+    /// A release waits for the answer to the SABME.
+    pub release_pending: bool,
+    pub t200: bool,
+    pub t203: bool,
+    /// The messages neither acknowledged nor dropped.
+    pub queue: IQueue,
+}
+
+/// One more output.
+fn push(outs: &mut Outs, out: Out)
+    requires { array_vec_len outs.old < 136 }
+    ensures items { outs.new.items ≡ outs.old.items ++ out ∷ [] }
+    ensures len { array_vec_len outs.new ≡ array_vec_len outs.old + 1 }
+{
+    // The check finds the type of the fields in an output by this name.
+    let _none: Option<Control> = None;
+    outs.push(out);
+}

@@ -1,0 +1,141 @@
+//! The rows of state 5, awaiting establishment (Q.921 Figure B.5).
+
+ghost use Rattle.std.specs.Prelude.{◌≡◌};
+ghost use Rattle.lapd_link_rows.specs.AwaitingEstablishment.{release_primitive, end_establishment, confirm_or_indicate, ua_final, awaiting_establishment_t200, awaiting_establishment};
+ghost use Rattle.lapd_link_rows.specs.Input.{Heard, Establish, Release};
+
+use crate::Outs;
+use crate::machine::Machine;
+use lapd_frame::{Control, Role};
+use lapd_link_rows::{Letter, Out, State};
+
+/// What layer 3 is told of the end of a link: a release that was asked for is confirmed, any other is indicated.
+fn release_primitive(asked: bool) -> Out
+    ensures { result ≡ release_primitive asked }
+{
+    if asked {
+        Out::ReleaseConfirm
+    } else {
+        Out::Released
+    }
+}
+
+#[tactic(auto, using(crate::proofs::Rows::then_row, crate::proofs::Rows::else_row), unfolding(lapd_link_rows::specs::AwaitingEstablishment::end_establishment, lapd_link_rows::specs::AwaitingEstablishment::confirm_or_indicate, lapd_link_rows::specs::AwaitingEstablishment::ua_final, lapd_link_rows::specs::AwaitingEstablishment::awaiting_establishment_t200, lapd_link_rows::specs::AwaitingEstablishment::awaiting_establishment))]
+impl Machine {
+    ghost use Rattle.lapd_link_machine.specs.StandsFor.{Does, HasRoom, Grows};
+
+    /// A frame (Figure B.5).
+    pub(crate) fn awaiting_establishment_heard(
+        &mut self,
+        control: Control,
+        role: Role,
+        outs: &mut Outs,
+    )
+        requires room { HasRoom 6 outs.old }
+        ensures step { Does self.old outs.old self.new outs.new (awaiting_establishment (Heard control role)) }
+        ensures len { Grows 6 outs.old outs.new }
+    {
+        match (control, role) {
+            (Control::Sabme { p }, Role::Command) => {
+                self.put(Out::Send(Role::Answer, Control::Ua { f: p }), outs);
+            }
+            (Control::Disc { p }, Role::Command) => {
+                self.put(Out::Send(Role::Answer, Control::Dm { f: p }), outs);
+            }
+            (Control::Ua { f: true }, Role::Answer) => self.ua_final(outs),
+            (Control::Ua { f: false }, Role::Answer) => self.put(Out::Report(Letter::D), outs),
+            (Control::Dm { f: true }, Role::Answer) => {
+                self.discard_i_queue(outs);
+                self.stop_t200(outs);
+                self.end_establishment(outs);
+            }
+            _ => {}
+        }
+    }
+
+    /// DL-ESTABLISH request, not refused: layer 3 establishes, in place of the data link itself (Figure B.5).
+    pub(crate) fn awaiting_establishment_establish(&mut self, outs: &mut Outs)
+        requires room { HasRoom 1 outs.old }
+        ensures step { Does self.old outs.old self.new outs.new (awaiting_establishment Establish) }
+        ensures len { Grows 1 outs.old outs.new }
+    {
+        self.discard_i_queue(outs);
+        self.layer3_initiated_to(true);
+    }
+
+    /// DL-RELEASE request: the release waits for the answer to the SABME (Figure B.5).
+    pub(crate) fn awaiting_establishment_release(&mut self, outs: &mut Outs)
+        requires room { HasRoom 1 outs.old }
+        ensures step { Does self.old outs.old self.new outs.new (awaiting_establishment Release) }
+        ensures len { Grows 1 outs.old outs.new }
+    {
+        self.discard_i_queue(outs);
+        self.release_pending_to(true);
+    }
+
+    /// UA with F=1 (Figure B.5).
+    fn ua_final(&mut self, outs: &mut Outs)
+        requires room { HasRoom 4 outs.old }
+        ensures step { Does self.old outs.old self.new outs.new ua_final }
+        ensures len { Grows 4 outs.old outs.new }
+    {
+        if self.release_pending {
+            self.release_pending_to(false);
+            self.rc_to(0);
+            self.put(Out::Send(Role::Command, Control::Disc { p: true }), outs);
+            self.start_t200(outs);
+            self.state_to(State::AwaitingRelease);
+        } else {
+            self.confirm_or_indicate(outs);
+            self.zero_state_variables();
+            self.stop_t200(outs);
+            self.start_t203(outs);
+            self.state_to(State::MultipleFrameEstablished);
+        }
+    }
+
+    /// Layer 3 is told that the link is established as it asked for, or, where messages are lost, that it was
+    /// established again (Figure B.5).
+    fn confirm_or_indicate(&mut self, outs: &mut Outs)
+        requires room { HasRoom 2 outs.old }
+        ensures step { Does self.old outs.old self.new outs.new confirm_or_indicate }
+        ensures len { Grows 2 outs.old outs.new }
+    {
+        if self.layer3_initiated {
+            self.put(Out::Confirmed, outs);
+        } else {
+            self.discard_unacknowledged(outs);
+        }
+    }
+
+    /// T200 expires: the SABME is sent again, N200 times at most (Figure B.5).
+    pub(crate) fn awaiting_establishment_t200(&mut self, outs: &mut Outs)
+        requires room { HasRoom 3 outs.old }
+        ensures step { Does self.old outs.old self.new outs.new awaiting_establishment_t200 }
+        ensures len { Grows 3 outs.old outs.new }
+    {
+        if self.rc < self.params.n200() {
+            self.increment_rc();
+            self.expired_t200();
+            self.put(Out::Send(Role::Command, Control::Sabme { p: true }), outs);
+            self.start_t200(outs);
+        } else {
+            self.expired_t200();
+            self.discard_i_queue(outs);
+            self.put(Out::Report(Letter::G), outs);
+            self.end_establishment(outs);
+        }
+    }
+
+    /// The SABME was refused, or never answered (Figure B.5).
+    fn end_establishment(&mut self, outs: &mut Outs)
+        requires room { HasRoom 1 outs.old }
+        ensures step { Does self.old outs.old self.new outs.new end_establishment }
+        ensures len { Grows 1 outs.old outs.new }
+    {
+        let out = release_primitive(self.release_pending);
+        self.put(out, outs);
+        self.release_pending_to(false);
+        self.state_to(State::TeiAssigned);
+    }
+}

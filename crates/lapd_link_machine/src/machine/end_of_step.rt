@@ -1,0 +1,94 @@
+//! The end of a step: messages go out while the window is open, and then the acknowledgement that is still pending.
+
+ghost use Rattle.std.specs.Prelude.{◌≡◌, ◌≤◌, ◌<◌, ◌+◌, List, true, length};
+ghost use Rattle.arrayvec.specs.ArrayVec.{array_vec_len};
+ghost use Rattle.lapd_mod128.specs.Counting.{Tagged};
+ghost use Rattle.lapd_supervision.specs.StateVariables.{outstanding, AreTags};
+ghost use Rattle.lapd_link_rows.specs.declared.out.Out.{Out};
+ghost use Rattle.lapd_link_rows.specs.EndOfStep.{may_send_next, is_established, is_7_or_8, acknowledge_pending, end_step};
+ghost use Rattle.lapd_link_rows.specs.End.{StepState, unsent};
+
+use crate::Outs;
+use crate::machine::Machine;
+use lapd_link_rows::State;
+
+#[tactic(auto, using(crate::proofs::Rows::then_row, crate::proofs::Rows::else_row), unfolding(lapd_link_rows::specs::EndOfStep::acknowledge_pending, lapd_link_rows::specs::EndOfStep::end_step))]
+impl Machine {
+    ghost use Rattle.lapd_link_rows.specs.EndOfStep.{send_all};
+    ghost use Rattle.lapd_link_machine.specs.StandsFor.{StandsFor, Does};
+
+    /// The end of a step.
+    #[inline(always)]
+    pub fn end_step(&mut self, outs: &mut Outs)
+        requires room { array_vec_len outs.old ≤ 6 }
+        ensures step { Does self.old outs.old self.new outs.new (end_step Tagged) }
+        ensures numbers { AreTags self.new.window }
+    {
+        self.send_all(outs);
+        self.acknowledge_pending(outs);
+        self.counts_by_tags();
+    }
+
+    /// Messages go out, in state 7, while the window is open.
+    #[inline(always)]
+    fn send_all(&mut self, outs: &mut Outs)
+        requires room { array_vec_len outs.old ≤ 6 }
+        ensures step { (s : StepState) → StandsFor self.old outs.old.items s → StandsFor self.new outs.new.items (send_all Tagged (unsent s.end) s) }
+        ensures len { array_vec_len outs.new ≤ 135 }
+    {
+        while self.may_send_next() {
+            self.transmit_i_frame(outs);
+            self.ensure_t200(outs);
+        }
+    }
+
+    /// Whether one more goes out.
+    fn may_send_next(&self) -> bool
+        ensures shown { (s : StepState) (outs : List Out) → StandsFor self.now outs s → result ≡ may_send_next Tagged s }
+        ensures few { result ≡ true → outstanding Tagged self.now.window < 127 }
+        ensures unsent { result ≡ true → self.now.queue.sent < length self.now.queue.messages }
+    {
+        self.queue.sent() < self.queue.len()
+            && self.is_established()
+            && self.window.may_send(self.params.k())
+    }
+
+    /// The acknowledgement that is pending goes out.
+    fn acknowledge_pending(&mut self, outs: &mut Outs)
+        requires room { array_vec_len outs.old ≤ 135 }
+        ensures step { Does self.old outs.old self.new outs.new acknowledge_pending }
+    {
+        if self.is_7_or_8() && self.window.ack_pending() {
+            self.transmit_rr(outs);
+        }
+    }
+
+    /// V(S), V(A) and V(R) are tags (Q.921 3.5.2.1), as their type says. It does nothing when it is called.
+    #[inline(always)]
+    fn counts_by_tags(&self)
+        ensures { AreTags self.now.window }
+    {
+        let _tags = (self.window.vs(), self.window.va(), self.window.vr());
+    }
+
+    fn is_established(&self) -> bool
+        ensures { result ≡ is_established self.now.state }
+    {
+        match self.state {
+            State::MultipleFrameEstablished => true,
+            State::TeiAssigned
+            | State::AwaitingEstablishment
+            | State::AwaitingRelease
+            | State::TimerRecovery => false,
+        }
+    }
+
+    fn is_7_or_8(&self) -> bool
+        ensures { result ≡ is_7_or_8 self.now.state }
+    {
+        match self.state {
+            State::MultipleFrameEstablished | State::TimerRecovery => true,
+            State::TeiAssigned | State::AwaitingEstablishment | State::AwaitingRelease => false,
+        }
+    }
+}

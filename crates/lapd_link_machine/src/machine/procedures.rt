@@ -1,0 +1,391 @@
+//! The actions of the state table, and the procedures of Q.921 Figure B.9, each a method that does to a machine what the
+//! action does to an end.
+
+ghost use Rattle.std.specs.Prelude.{◌≡◌, ◌≤◌, ◌<◌, ◌+◌, ◌==◌, length, if◌then◌else◌, true, OnOk, OnErr, IfErr, is_err};
+ghost use Rattle.arrayvec.specs.ArrayVec.{array_vec_len};
+ghost use Rattle.lapd_mod128.specs.Counting.{Tagged};
+ghost use Rattle.lapd_supervision.specs.StateVariables.{without_exceptions, with_zero_counters, status_frame, acknowledgement, without_ack_pending, is_accepted, after_i_frame, i_frame_response, with_va, acknowledged_count, is_valid_nr, with_vs, next_i_frame, last_i_frame, after_sending, with_own_busy, with_peer_busy};
+ghost use Rattle.lapd_queue.specs.Waiting.{with_message, one_more_sent, without_first, all_unsent, emptied};
+ghost use Rattle.lapd_link_rows.specs.Procedures.{put, state_to, rc_to, increment_rc, layer3_initiated_to, release_pending_to, start, stop, expired, clear_exception_conditions, zero_state_variables, set_peer_busy, set_own_busy, enquiry_response, transmit_enquiry, queue_up, discard_i_queue, acknowledge, invoke_retransmission, i_frame_ns, discard_unacknowledged, transmit_i_frame, retransmit_last_i_frame, ensure_t200, transmit_rr, establish_data_link, reestablish_data_link, nr_error_recovery};
+
+use crate::Outs;
+use crate::machine::{Machine, push};
+use lapd_frame::{Control, Number, Role};
+use lapd_link_rows::{Letter, Out, State};
+use lapd_supervision::{Advance, Window};
+use lapd_timers::Timer;
+
+/// Actions that set one thing.
+#[tactic(auto, unfolding(lapd_link_rows::specs::Procedures::put, lapd_link_rows::specs::Procedures::state_to, lapd_link_rows::specs::Procedures::rc_to, lapd_link_rows::specs::Procedures::increment_rc, lapd_link_rows::specs::Procedures::layer3_initiated_to, lapd_link_rows::specs::Procedures::release_pending_to, lapd_link_rows::specs::Procedures::start, lapd_link_rows::specs::Procedures::stop, lapd_link_rows::specs::Procedures::expired))]
+impl Machine {
+    ghost use Rattle.lapd_link_machine.specs.Sent.{SentAreOutstanding, IsTaken};
+    ghost use Rattle.lapd_link_machine.specs.StandsFor.{Does, DoesQuietly, HasRoom, Grows};
+
+    /// An output.
+    pub(crate) fn put(&mut self, out: Out, outs: &mut Outs)
+        requires room { HasRoom 1 outs.old }
+        ensures step { Does self.old outs.old self.new outs.new (put out) }
+        ensures len { Grows 1 outs.old outs.new }
+        ensures counted { SentAreOutstanding self.old → SentAreOutstanding self.new }
+    {
+        push(outs, out);
+    }
+
+    /// The state.
+    pub(crate) fn state_to(&mut self, state: State)
+        ensures step { DoesQuietly self.old self.new (state_to state) }
+    {
+        self.state = state;
+    }
+
+    /// RC.
+    pub(crate) fn rc_to(&mut self, rc: u8)
+        ensures step { DoesQuietly self.old self.new (rc_to rc) }
+    {
+        self.rc = rc;
+    }
+
+    /// RC is one more.
+    pub(crate) fn increment_rc(&mut self)
+        requires { self.old.rc < 255 }
+        ensures step { DoesQuietly self.old self.new increment_rc }
+    {
+        self.rc += 1;
+    }
+
+    /// Whether layer 3 initiated the establishment.
+    pub(crate) fn layer3_initiated_to(&mut self, on: bool)
+        ensures step { DoesQuietly self.old self.new (layer3_initiated_to on) }
+    {
+        self.layer3_initiated = on;
+    }
+
+    /// Whether a release waits.
+    pub(crate) fn release_pending_to(&mut self, on: bool)
+        ensures step { DoesQuietly self.old self.new (release_pending_to on) }
+    {
+        self.release_pending = on;
+    }
+
+    /// START T200: it runs anew.
+    pub(crate) fn start_t200(&mut self, outs: &mut Outs)
+        requires room { HasRoom 1 outs.old }
+        ensures step { Does self.old outs.old self.new outs.new (start Timer.T200) }
+        ensures len { Grows 1 outs.old outs.new }
+        ensures window { self.new.window ≡ self.old.window }
+        ensures t200 { self.new.t200 ≡ true }
+    {
+        self.t200 = true;
+        push(outs, Out::Start(Timer::T200));
+    }
+
+    /// STOP T200: stopped where it runs.
+    pub(crate) fn stop_t200(&mut self, outs: &mut Outs)
+        requires room { HasRoom 1 outs.old }
+        ensures step { Does self.old outs.old self.new outs.new (stop Timer.T200) }
+        ensures len { Grows 1 outs.old outs.new }
+    {
+        if self.t200 {
+            self.t200 = false;
+            push(outs, Out::Stop(Timer::T200));
+        }
+    }
+
+    /// T200 has expired.
+    pub(crate) fn expired_t200(&mut self)
+        ensures queue { self.new.queue ≡ self.old.queue }
+        ensures step { DoesQuietly self.old self.new (expired Timer.T200) }
+    {
+        self.t200 = false;
+    }
+
+    /// START T203: it runs anew.
+    pub(crate) fn start_t203(&mut self, outs: &mut Outs)
+        requires room { HasRoom 1 outs.old }
+        ensures step { Does self.old outs.old self.new outs.new (start Timer.T203) }
+        ensures len { Grows 1 outs.old outs.new }
+    {
+        self.t203 = true;
+        push(outs, Out::Start(Timer::T203));
+    }
+
+    /// STOP T203: stopped where it runs.
+    pub(crate) fn stop_t203(&mut self, outs: &mut Outs)
+        requires room { HasRoom 1 outs.old }
+        ensures step { Does self.old outs.old self.new outs.new (stop Timer.T203) }
+        ensures len { Grows 1 outs.old outs.new }
+        ensures window { self.new.window ≡ self.old.window }
+    {
+        if self.t203 {
+            self.t203 = false;
+            push(outs, Out::Stop(Timer::T203));
+        }
+    }
+
+    /// T203 has expired.
+    pub(crate) fn expired_t203(&mut self)
+        ensures step { DoesQuietly self.old self.new (expired Timer.T203) }
+    {
+        self.t203 = false;
+    }
+}
+
+/// Actions of the state variables and conditions.
+#[tactic(auto, unfolding(lapd_link_rows::specs::Procedures::clear_exception_conditions, lapd_link_rows::specs::Procedures::zero_state_variables, lapd_link_rows::specs::Procedures::set_peer_busy, lapd_link_rows::specs::Procedures::set_own_busy, lapd_link_rows::specs::Procedures::enquiry_response, lapd_link_rows::specs::Procedures::transmit_enquiry, lapd_link_rows::specs::Procedures::transmit_rr, lapd_link_rows::specs::Procedures::i_frame_ns))]
+impl Machine {
+    ghost use Rattle.lapd_link_machine.specs.Sent.{SentAreOutstanding, IsTaken};
+    ghost use Rattle.lapd_link_machine.specs.StandsFor.{Does, DoesQuietly, HasRoom, Grows};
+
+    /// CLEAR EXCEPTION CONDITIONS: busy, rejecting and a pending acknowledgement are forgotten.
+    pub(crate) fn clear_exception_conditions(&mut self)
+        ensures step { DoesQuietly self.old self.new clear_exception_conditions }
+    {
+        self.window = self.window.clear();
+    }
+
+    /// V(S), V(A) and V(R) become 0, and an establishment begins.
+    pub(crate) fn zero_state_variables(&mut self)
+        ensures step { DoesQuietly self.old self.new zero_state_variables }
+    {
+        self.window = self.window.zero();
+    }
+
+    /// SET or CLEAR PEER RECEIVER BUSY.
+    pub(crate) fn set_peer_busy(&mut self, on: bool)
+        ensures step { DoesQuietly self.old self.new (set_peer_busy on) }
+        ensures counted { SentAreOutstanding self.old → SentAreOutstanding self.new }
+    {
+        self.window = self.window.peer(on);
+    }
+
+    /// SET or CLEAR OWN RECEIVER BUSY, of which the peer is told.
+    pub(crate) fn set_own_busy(&mut self, on: bool, outs: &mut Outs)
+        requires room { HasRoom 1 outs.old }
+        ensures step { Does self.old outs.old self.new outs.new (set_own_busy on) }
+        ensures len { Grows 1 outs.old outs.new }
+    {
+        let (window, control) = self.window.own(on);
+        self.window = window;
+        push(outs, Out::Send(Role::Answer, control));
+    }
+
+    /// ENQUIRY RESPONSE: a poll is answered.
+    pub(crate) fn enquiry_response(&mut self, outs: &mut Outs)
+        requires room { HasRoom 1 outs.old }
+        ensures step { Does self.old outs.old self.new outs.new enquiry_response }
+        ensures len { Grows 1 outs.old outs.new }
+        ensures counted { SentAreOutstanding self.old → SentAreOutstanding self.new }
+    {
+        let (window, control) = self.window.answer_poll();
+        self.window = window;
+        push(outs, Out::Send(Role::Answer, control));
+    }
+
+    /// TRANSMIT ENQUIRY: the peer is asked how far it is.
+    pub(crate) fn transmit_enquiry(&mut self, outs: &mut Outs)
+        requires room { HasRoom 2 outs.old }
+        ensures step { Does self.old outs.old self.new outs.new transmit_enquiry }
+        ensures len { Grows 2 outs.old outs.new }
+    {
+        let (window, control) = self.window.enquiry();
+        self.window = window;
+        self.t200 = true;
+        push(outs, Out::Send(Role::Command, control));
+        push(outs, Out::Start(Timer::T200));
+    }
+
+    /// The pending acknowledgement goes out.
+    pub(crate) fn transmit_rr(&mut self, outs: &mut Outs)
+        requires room { HasRoom 1 outs.old }
+        ensures step { Does self.old outs.old self.new outs.new transmit_rr }
+        ensures len { Grows 1 outs.old outs.new }
+    {
+        let (window, control) = self.window.acknowledge();
+        self.window = window;
+        push(outs, Out::Send(Role::Answer, control));
+    }
+
+    /// The N(S) and P of an I frame.
+    #[inline(always)]
+    pub(crate) fn i_frame_ns(&mut self, ns: Number, p: bool, outs: &mut Outs)
+        requires room { HasRoom 2 outs.old }
+        ensures step { Does self.old outs.old self.new outs.new (i_frame_ns Tagged ns p) }
+        ensures len { Grows 2 outs.old outs.new }
+        ensures counted { SentAreOutstanding self.old → SentAreOutstanding self.new }
+    {
+        let (window, receipt) = self.window.take_ns(ns, p);
+        self.window = window;
+        if receipt.accepted {
+            push(outs, Out::Up);
+        }
+        if let Some(control) = receipt.answer {
+            push(outs, Out::Send(Role::Answer, control));
+        }
+    }
+}
+
+/// Actions of the I queue.
+#[tactic(auto, using(crate::proofs::Tails::tail_waiting, crate::proofs::Tails::tail_place, crate::proofs::Tails::tail_emptied, crate::proofs::Tails::tail_acknowledged, crate::proofs::Tails::tail_gone_back, crate::proofs::Tails::tail_sent, crate::proofs::Tails::tail_given, crate::proofs::Tails::room_sent, crate::proofs::Tails::room_gone_back), unfolding(lapd_link_rows::specs::Procedures::queue_up, lapd_link_rows::specs::Procedures::discard_i_queue, lapd_link_rows::specs::Procedures::acknowledge, lapd_link_rows::specs::Procedures::invoke_retransmission, lapd_link_rows::specs::Procedures::discard_unacknowledged, lapd_link_rows::specs::Procedures::transmit_i_frame))]
+impl Machine {
+    ghost use Rattle.lapd_link_machine.specs.Sent.{SentAreOutstanding, IsTaken};
+    ghost use Rattle.lapd_link_machine.specs.StandsFor.{Does, DoesQuietly, HasRoom, Grows};
+
+    /// A message joins the queue, or is handed back where the queue is full.
+    #[inline(always)]
+    pub fn queue_up(&mut self, message: Vec<u8>) -> Result<(), Vec<u8>>
+        ensures full { is_err result ≡ (length self.old.queue.messages == self.old.queue.room) }
+        ensures ok { OnOk result (DoesQuietly self.old self.new (queue_up message.items)) }
+        ensures handed_back { IfErr result (λ back. back ≡ message) }
+        ensures unchanged { OnErr result (self.new ≡ self.old) }
+    {
+        self.queue.put(message)
+    }
+
+    /// DISCARD I QUEUE: the whole queue is dropped.
+    pub(crate) fn discard_i_queue(&mut self, outs: &mut Outs)
+        requires room { HasRoom 1 outs.old }
+        ensures step { Does self.old outs.old self.new outs.new discard_i_queue }
+        ensures len { Grows 1 outs.old outs.new }
+    {
+        let dropped = self.queue.discard();
+        if dropped > 0 {
+            push(outs, Out::Dropped(dropped));
+        }
+    }
+
+    /// V(A) = N(R): what lies before a valid N(R), which was taken, is acknowledged and leaves the queue.
+    #[inline(always)]
+    pub(crate) fn acknowledge(&mut self, nr: Number, taken: (Window, Advance), outs: &mut Outs)
+        requires room { HasRoom 1 outs.old }
+        requires taken { IsTaken nr self.old.window taken }
+        requires counted { SentAreOutstanding self.old }
+        ensures step { Does self.old outs.old self.new outs.new (acknowledge Tagged nr) }
+        ensures len { Grows 1 outs.old outs.new }
+    {
+        let count = u16::from(taken.1.count);
+        self.window = taken.0;
+        self.queue.acknowledge(count);
+        if count > 0 {
+            push(outs, Out::Acknowledged(count));
+        }
+    }
+
+    /// INVOKE RETRANSMISSION: what is left is to be sent again, from this number on.
+    pub(crate) fn invoke_retransmission(&mut self, nr: Number)
+        ensures step { DoesQuietly self.old self.new (invoke_retransmission nr) }
+    {
+        self.window = self.window.go_back(nr);
+        self.queue.go_back();
+    }
+
+    /// DISCARD I QUEUE and an indication of the establishment, where messages were sent and not acknowledged.
+    pub(crate) fn discard_unacknowledged(&mut self, outs: &mut Outs)
+        requires room { HasRoom 2 outs.old }
+        ensures step { Does self.old outs.old self.new outs.new discard_unacknowledged }
+        ensures len { Grows 2 outs.old outs.new }
+    {
+        if self.window.vs().value() != self.window.va().value() {
+            self.discard_i_queue(outs);
+            push(outs, Out::Established);
+        }
+    }
+
+    /// The first unsent message goes out.
+    pub(crate) fn transmit_i_frame(&mut self, outs: &mut Outs)
+        requires room { HasRoom 1 outs.old }
+        requires unsent { self.old.queue.sent < length self.old.queue.messages }
+        ensures step { Does self.old outs.old self.new outs.new (transmit_i_frame Tagged) }
+        ensures len { Grows 1 outs.old outs.new }
+        ensures window { self.new.window ≡ after_sending Tagged self.old.window }
+        ensures t200 { self.new.t200 ≡ self.old.t200 }
+    {
+        let place = self.queue.sent();
+        let (window, control) = self.window.send();
+        self.window = window;
+        self.queue.sent_one();
+        push(outs, Out::SendMessage(place, control));
+    }
+}
+
+/// The last sent message goes out again.
+#[tactic(auto, using(crate::proofs::Tails::tail_last_place), unfolding(lapd_link_rows::specs::Procedures::retransmit_last_i_frame))]
+impl Machine {
+    ghost use Rattle.lapd_link_machine.specs.StandsFor.{Does, HasRoom, Grows};
+
+    /// With P=1, and T200 is started.
+    pub(crate) fn retransmit_last_i_frame(&mut self, outs: &mut Outs)
+        requires room { HasRoom 2 outs.old }
+        requires sent { 0 < self.old.queue.sent }
+        ensures step { Does self.old outs.old self.new outs.new (retransmit_last_i_frame Tagged) }
+        ensures len { Grows 2 outs.old outs.new }
+    {
+        let place = self.queue.sent() - 1;
+        let (window, control) = self.window.send_last();
+        self.window = window;
+        self.t200 = true;
+        push(outs, Out::SendMessage(place, control));
+        push(outs, Out::Start(Timer::T200));
+    }
+}
+
+/// T200 guards what was sent.
+#[tactic(auto, using(crate::proofs::Guards::guard_starts, crate::proofs::Guards::guard_runs))]
+impl Machine {
+    ghost use Rattle.lapd_link_machine.specs.Sent.{SentAreOutstanding, IsTaken};
+    ghost use Rattle.lapd_link_machine.specs.StandsFor.{Does, DoesQuietly, HasRoom, Grows};
+
+    /// Where T200 does not run, T203 is stopped and it is started.
+    pub(crate) fn ensure_t200(&mut self, outs: &mut Outs)
+        requires room { array_vec_len outs.old + (if self.old.t200 then 0 else 2) ≤ 136 }
+        ensures step { Does self.old outs.old self.new outs.new ensure_t200 }
+        ensures len { array_vec_len outs.new ≤ array_vec_len outs.old + (if self.old.t200 then 0 else 2) }
+        ensures window { self.new.window ≡ self.old.window }
+        ensures t200 { self.new.t200 ≡ true }
+    {
+        if !self.t200 {
+            self.stop_t203(outs);
+            self.start_t200(outs);
+        }
+    }
+}
+
+/// Procedures made of these.
+#[tactic(auto, unfolding(lapd_link_rows::specs::Procedures::establish_data_link, lapd_link_rows::specs::Procedures::reestablish_data_link, lapd_link_rows::specs::Procedures::nr_error_recovery))]
+impl Machine {
+    ghost use Rattle.lapd_link_machine.specs.StandsFor.{Does, HasRoom, Grows};
+
+    /// ESTABLISH DATA LINK: a SABME is sent, and its answer awaited.
+    pub(crate) fn establish_data_link(&mut self, outs: &mut Outs)
+        requires room { HasRoom 3 outs.old }
+        ensures step { Does self.old outs.old self.new outs.new establish_data_link }
+        ensures len { Grows 3 outs.old outs.new }
+    {
+        self.clear_exception_conditions();
+        self.release_pending_to(false);
+        self.rc_to(0);
+        self.put(Out::Send(Role::Command, Control::Sabme { p: true }), outs);
+        self.stop_t203(outs);
+        self.start_t200(outs);
+        self.state_to(State::AwaitingEstablishment);
+    }
+
+    /// The data link initiates the establishment itself.
+    pub(crate) fn reestablish_data_link(&mut self, outs: &mut Outs)
+        requires room { HasRoom 3 outs.old }
+        ensures step { Does self.old outs.old self.new outs.new reestablish_data_link }
+        ensures len { Grows 3 outs.old outs.new }
+    {
+        self.layer3_initiated_to(false);
+        self.establish_data_link(outs);
+    }
+
+    /// N(R) ERROR RECOVERY: an N(R) that is not valid.
+    pub(crate) fn nr_error_recovery(&mut self, outs: &mut Outs)
+        requires room { HasRoom 4 outs.old }
+        ensures step { Does self.old outs.old self.new outs.new nr_error_recovery }
+        ensures len { Grows 4 outs.old outs.new }
+    {
+        self.put(Out::Report(Letter::J), outs);
+        self.reestablish_data_link(outs);
+    }
+}

@@ -1,0 +1,54 @@
+//! A step from end to end.
+
+ghost use Rattle.std.specs.Prelude.{◌≡◌, [], IfOk};
+ghost use Rattle.lapd_mod128.specs.Counting.{Tagged};
+ghost use Rattle.lapd_supervision.specs.StateVariables.{AreTags};
+ghost use Rattle.lapd_link_rows.specs.EndOfStep.{end_step};
+ghost use Rattle.lapd_link_rows.specs.End.{End, begin, new_end};
+ghost use Rattle.lapd_link_rows.specs.Input.{input_of};
+ghost use Rattle.lapd_link_rows.specs.Table.{row};
+
+use crate::Outs;
+use crate::machine::Machine;
+use lapd_link_rows::{Event, Params, State};
+use lapd_queue::IQueue;
+use lapd_supervision::Window;
+use std::alloc::{AllocError, Global};
+
+#[tactic(auto, unfolding(lapd_link_rows::specs::End::begin, lapd_queue::specs::Waiting::with_room))]
+impl Machine {
+    ghost use Rattle.lapd_link_machine.specs.Sent.{IsBetweenSteps};
+    ghost use Rattle.lapd_link_machine.specs.StandsFor.{StandsFor};
+
+    /// A machine in state 4.
+    pub fn new(alloc: Global, params: Params) -> Result<Machine, AllocError>
+        ensures end { IfOk result (λ m. StandsFor m [] (begin (new_end params))) }
+        ensures between { IfOk result IsBetweenSteps }
+    {
+        let queue = IQueue::new(alloc, params.room())?;
+        Ok(Machine {
+            params,
+            state: State::TeiAssigned,
+            rc: 0,
+            window: Window::new(),
+            layer3_initiated: false,
+            release_pending: false,
+            t200: false,
+            t203: false,
+            queue,
+        })
+    }
+
+    /// A step that is not refused: its row, and what ends it.
+    #[inline(always)]
+    pub fn step(&mut self, event: Event, outs: &mut Outs)
+        requires empty { outs.old.items ≡ [] }
+        requires between { IsBetweenSteps self.old }
+        ensures step { (e : End) → StandsFor self.old [] (begin e)
+            → StandsFor self.new outs.new.items (end_step Tagged (row Tagged e.state (input_of event.entry) (begin e))) }
+        ensures numbers { AreTags self.new.window }
+    {
+        self.row(event, outs);
+        self.end_step(outs);
+    }
+}

@@ -1,0 +1,191 @@
+//! The rows of state 8, timer recovery (Q.921 Figure B.8), that state 7 has otherwise.
+
+ghost use Rattle.std.specs.Prelude.{◌≡◌};
+ghost use Rattle.lapd_mod128.specs.Counting.{Tagged};
+ghost use Rattle.lapd_link_rows.specs.Input.{Heard};
+ghost use Rattle.lapd_link_rows.specs.TimerRecovery.{poll, is_final, i_frame_nr_in_recovery, rr_nr_in_recovery, rnr_nr_in_recovery, timer_recovery_t200, timer_recovery};
+
+use crate::Outs;
+use crate::machine::Machine;
+use lapd_frame::{Control, Number, Role};
+use lapd_link_rows::{Letter, Out, State};
+
+/// A response with F=1 answers the enquiry.
+fn is_final(role: Role, pf: bool) -> bool
+    ensures { result ≡ is_final role pf }
+{
+    match role {
+        Role::Answer => pf,
+        Role::Command => false,
+    }
+}
+
+#[tactic(auto, using(crate::proofs::Rows::then_row, crate::proofs::Rows::else_row), unfolding(lapd_link_rows::specs::TimerRecovery::i_frame_nr_in_recovery, lapd_link_rows::specs::TimerRecovery::poll, lapd_link_rows::specs::TimerRecovery::rr_nr_in_recovery, lapd_link_rows::specs::TimerRecovery::rnr_nr_in_recovery, lapd_link_rows::specs::TimerRecovery::timer_recovery_t200, lapd_link_rows::specs::TimerRecovery::timer_recovery, lapd_link_rows::specs::Established::in_7_and_8))]
+impl Machine {
+    ghost use Rattle.lapd_link_machine.specs.Sent.{SentAreOutstanding};
+    ghost use Rattle.lapd_link_machine.specs.StandsFor.{Does, HasRoom, Grows};
+
+    /// A frame (Figure B.8).
+    pub(crate) fn timer_recovery_heard(&mut self, control: Control, role: Role, outs: &mut Outs)
+        requires room { HasRoom 6 outs.old }
+        requires counted { SentAreOutstanding self.old }
+        ensures step { Does self.old outs.old self.new outs.new (timer_recovery Tagged (Heard control role)) }
+        ensures len { Grows 6 outs.old outs.new }
+    {
+        match control {
+            Control::I { ns, nr, p } => self.timer_recovery_i_frame(ns, nr, p, role, outs),
+            Control::Rr { nr, pf } => {
+                self.set_peer_busy(false);
+                self.poll(role, pf, outs);
+                self.rr_nr_in_recovery(is_final(role, pf), nr, outs);
+            }
+            Control::Rej { nr, pf } => {
+                self.set_peer_busy(false);
+                self.poll(role, pf, outs);
+                self.rr_nr_in_recovery(is_final(role, pf), nr, outs);
+            }
+            Control::Rnr { nr, pf } => {
+                self.set_peer_busy(true);
+                self.poll(role, pf, outs);
+                self.rnr_nr_in_recovery(is_final(role, pf), nr, outs);
+            }
+            Control::Dm { f } => self.timer_recovery_dm(f, role, outs),
+            Control::Sabme { .. }
+            | Control::Ui { .. }
+            | Control::Disc { .. }
+            | Control::Ua { .. }
+            | Control::Frmr { .. }
+            | Control::Xid { .. } => self.in_7_and_8_heard(control, role, outs),
+        }
+    }
+
+    /// An I frame (Figure B.8).
+    fn timer_recovery_i_frame(
+        &mut self,
+        ns: Number,
+        nr: Number,
+        p: bool,
+        role: Role,
+        outs: &mut Outs,
+    )
+        requires room { HasRoom 6 outs.old }
+        requires counted { SentAreOutstanding self.old }
+        ensures step { Does self.old outs.old self.new outs.new (timer_recovery Tagged (Heard (Control.I ns nr p) role)) }
+        ensures len { Grows 6 outs.old outs.new }
+    {
+        match role {
+            Role::Command => {
+                self.i_frame_ns(ns, p, outs);
+                self.i_frame_nr_in_recovery(nr, outs);
+            }
+            Role::Answer => {}
+        }
+    }
+
+    /// DM (Figure B.8).
+    fn timer_recovery_dm(&mut self, f: bool, role: Role, outs: &mut Outs)
+        requires room { HasRoom 4 outs.old }
+        ensures step { Does self.old outs.old self.new outs.new (timer_recovery Tagged (Heard (Control.Dm f) role)) }
+        ensures len { Grows 4 outs.old outs.new }
+    {
+        match (f, role) {
+            (true, Role::Answer) => {
+                self.put(Out::Report(Letter::B), outs);
+                self.reestablish_data_link(outs);
+            }
+            (false, Role::Answer) => {
+                self.put(Out::Report(Letter::E), outs);
+                self.reestablish_data_link(outs);
+            }
+            (true, Role::Command) | (false, Role::Command) => {}
+        }
+    }
+
+    /// A command with P=1 is answered (Figure B.8).
+    fn poll(&mut self, role: Role, pf: bool, outs: &mut Outs)
+        requires room { HasRoom 1 outs.old }
+        ensures step { Does self.old outs.old self.new outs.new (poll role pf) }
+        ensures len { Grows 1 outs.old outs.new }
+        ensures counted { SentAreOutstanding self.old → SentAreOutstanding self.new }
+    {
+        match (role, pf) {
+            (Role::Command, true) => self.enquiry_response(outs),
+            _ => {}
+        }
+    }
+
+    /// The N(R) of an I frame (Figure B.8).
+    fn i_frame_nr_in_recovery(&mut self, nr: Number, outs: &mut Outs)
+        requires room { HasRoom 4 outs.old }
+        requires counted { SentAreOutstanding self.old }
+        ensures step { Does self.old outs.old self.new outs.new (i_frame_nr_in_recovery Tagged nr) }
+        ensures len { Grows 4 outs.old outs.new }
+    {
+        match self.acknowledged_by(nr) {
+            Some(taken) => self.acknowledge(nr, taken, outs),
+            None => self.nr_error_recovery(outs),
+        }
+    }
+
+    /// The N(R) of an RR or REJ frame; a final ends the recovery (Figure B.8).
+    fn rr_nr_in_recovery(&mut self, last: bool, nr: Number, outs: &mut Outs)
+        requires room { HasRoom 4 outs.old }
+        requires counted { SentAreOutstanding self.old }
+        ensures step { Does self.old outs.old self.new outs.new (rr_nr_in_recovery Tagged last nr) }
+        ensures len { Grows 4 outs.old outs.new }
+    {
+        match self.acknowledged_by(nr) {
+            Some(taken) => {
+                if last {
+                    self.acknowledge(nr, taken, outs);
+                    self.invoke_retransmission(nr);
+                    self.stop_t200(outs);
+                    self.start_t203(outs);
+                    self.state_to(State::MultipleFrameEstablished);
+                } else {
+                    self.acknowledge(nr, taken, outs);
+                }
+            }
+            None => self.nr_error_recovery(outs),
+        }
+    }
+
+    /// The N(R) of an RNR frame; a final ends the recovery (Figure B.8).
+    fn rnr_nr_in_recovery(&mut self, last: bool, nr: Number, outs: &mut Outs)
+        requires room { HasRoom 4 outs.old }
+        requires counted { SentAreOutstanding self.old }
+        ensures step { Does self.old outs.old self.new outs.new (rnr_nr_in_recovery Tagged last nr) }
+        ensures len { Grows 4 outs.old outs.new }
+    {
+        match self.acknowledged_by(nr) {
+            Some(taken) => {
+                if last {
+                    self.acknowledge(nr, taken, outs);
+                    self.invoke_retransmission(nr);
+                    self.start_t200(outs);
+                    self.state_to(State::MultipleFrameEstablished);
+                } else {
+                    self.acknowledge(nr, taken, outs);
+                }
+            }
+            None => self.nr_error_recovery(outs),
+        }
+    }
+
+    /// T200 expires: the enquiry is sent again, N200 times at most (Figure B.8).
+    pub(crate) fn timer_recovery_t200(&mut self, outs: &mut Outs)
+        requires room { HasRoom 4 outs.old }
+        ensures step { Does self.old outs.old self.new outs.new timer_recovery_t200 }
+        ensures len { Grows 4 outs.old outs.new }
+    {
+        if self.rc < self.params.n200() {
+            self.increment_rc();
+            self.expired_t200();
+            self.transmit_enquiry(outs);
+        } else {
+            self.expired_t200();
+            self.put(Out::Report(Letter::I), outs);
+            self.reestablish_data_link(outs);
+        }
+    }
+}

@@ -1,5 +1,0 @@
-use Rattle.std.proofs.Common.{rules}
-use Rattle.lapd_links.proofs.expiry.is_no_later_link.Goals as goal
-
-pub returns : goal.returns
-returns c = search rules

@@ -1,7 +1,0 @@
-pub mod Effects
-pub mod Expiries
-pub mod Links
-pub mod Shown
-pub mod Places
-pub mod Placed
-pub mod Told

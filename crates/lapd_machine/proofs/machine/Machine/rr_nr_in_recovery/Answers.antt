@@ -1,8 +1,0 @@
-use Rattle.std.proofs.Common.{rules}
-use Rattle.lapd_states.specs.TimerRecovery.{rr_nr_in_recovery}
-use Rattle.lapd_machine.proofs.Rows.{then_row, else_row}
-use Rattle.lapd_machine.proofs.machine.Machine.rr_nr_in_recovery.Goals as goal
-
-pub returns-then-last-clause-step : goal.returns-then-last-clause-step
-unfolding rr_nr_in_recovery
-returns-then-last-clause-step c = search (rules, then_row, else_row)

@@ -1,5 +1,0 @@
-use Rattle.std.proofs.Common.{rules}
-use Rattle.lapd_pair.proofs.history.History.discard_rest.Goals as goal
-
-pub returns-clause-history : goal.returns-clause-history
-returns-clause-history c = search rules

@@ -1,6 +1,0 @@
-use Rattle.std.proofs.Common.{arith}
-use Rattle.std.proofs.lemmas.Grind.{common_steps}
-use Rattle.lapd_pair.proofs.history.History.end_first.Goals as goal
-
-pub returns-clause-fates : goal.returns-clause-fates
-returns-clause-fates c = grind (arith, common_steps)

@@ -1,0 +1,232 @@
+//! One side of a pair: its end of the link, and what is written down of it.
+
+ghost use Rattle.std.specs.Prelude.{◌≡◌, ◌≤◌, ◌+◌, ◌==◌, not, ℕ, List, [], ◌∷◌, Option, Vec, IfOk, IfErr, IfSome, OnOk, OnErr, length};
+ghost use Rattle.std.specs.declared.alloc.Global.{Global};
+ghost use Rattle.lapd_frame.specs.declared.Side.{Side};
+ghost use Rattle.lapd_frame.specs.Frame.{n201};
+ghost use Rattle.lapd_link.specs.Link.{LinkStandsFor, setup_of, IsForLink};
+ghost use Rattle.lapd_mod128.specs.Counting.{Tagged};
+ghost use Rattle.lapd_link_rows.specs.declared.out.Out as states;
+ghost use Rattle.lapd_link_rows.specs.Counts.{ups, unit_ups};
+ghost use Rattle.lapd_link_rows.specs.End.{End, new_end};
+ghost use Rattle.lapd_link_rows.specs.Input.{Give, input_of};
+ghost use Rattle.lapd_link_rows.specs.Table.{step};
+ghost use Rattle.lapd_pair_world.specs.Histories.{Occasion, Story, told, with_beginning};
+ghost use Rattle.lapd_pair_world.specs.Histories as histories;
+ghost use Rattle.lapd_pair_world.specs.Kept.{IsKept};
+ghost use Rattle.lapd_pair_world.specs.Line.{Flight};
+ghost use Rattle.lapd_pair_world.specs.Move as world;
+ghost use Rattle.lapd_pair_world.specs.Move.{View, stepped};
+ghost use Rattle.lapd_pair_world.specs.World.{new_station};
+ghost use Rattle.lapd_pair.specs.Line.{IsOn, HasRoomFor};
+ghost use Rattle.lapd_pair.specs.Setup.{setup_for};
+
+use crate::line::Line;
+use crate::log::Log;
+use crate::pair_fault::PairFault;
+use lapd_frame::{Sapi, Side, Tei};
+use lapd_link::{Event, Link, Out, Outs, Params};
+use std::alloc::{AllocError, Global};
+
+/// How many outputs a step gives at most, and so how many frames.
+const MOST_FRAMES: usize = 136;
+
+/// One side: its end of the link, and what is written down of it.
+#[derive(Drop)]
+pub struct RecordedLink {
+    pub link: Link,
+    pub history: Log,
+}
+
+/// A link of this side as it is made, of SAPI 0 and TEI 64.
+pub fn new_link(alloc: Global, side: Side, params: Params) -> Result<Link, AllocError>
+    ensures end { IfOk result (λ link. LinkStandsFor link (new_end params)) }
+    ensures setup { IfOk result (λ link. setup_of link ≡ setup_for side) }
+{
+    let tei = Tei::new(64).unwrap();
+    Link::new(alloc, side, Sapi::Call, tei, params)
+}
+
+impl RecordedLink {
+    ghost use Rattle.lapd_pair.specs.Histories.{IsHistory, HasRoom, step_room, data_room, message_room};
+    ghost use Rattle.lapd_pair.specs.Station.{IsStation, IsActed, IsHanded, with_outs};
+    ghost use Rattle.lapd_pair.specs.Moves.{IsRefusedAs};
+    ghost use Rattle.lapd_pair.specs.Telling.{IsTelling, IsCopy, flight_of, with_sent, history_told};
+
+    /// A side in state 4 to which nothing has happened yet.
+    pub fn new(alloc: Global, side: Side, params: Params) -> Result<RecordedLink, AllocError>
+        ensures station { IfOk result (λ s. IsStation side s (new_station params)) }
+        ensures window { params.k ≤ 127 }
+        ensures some { 1 ≤ params.k }
+    {
+        Ok(RecordedLink {
+            link: new_link(alloc, side, params)?,
+            history: Log::new(alloc),
+        })
+    }
+
+    /// Takes the room that one step may need, on the line and in what is written down.
+    pub fn make_room(&mut self, outward: &mut Line) -> Result<(), AllocError>
+        ensures line_room { OnOk result (HasRoomFor 136 outward.new) }
+        ensures history_room { OnOk result (HasRoom step_room self.new.history) }
+        ensures station { (side : Side) (t : world.Station) → IsStation side self.old t → IsStation side self.new t }
+        ensures line { (from : Side) (frames : List Flight) → IsOn from outward.old frames → IsOn from outward.new frames }
+        ensures link { self.new.link ≡ self.old.link }
+    {
+        outward.reserve(MOST_FRAMES)?;
+        self.history.reserve()
+    }
+
+    /// Takes the room that a message needs, on the line and in what is written down.
+    pub fn make_room_for_message(&mut self, outward: &mut Line) -> Result<(), AllocError>
+        ensures line_room { OnOk result (HasRoomFor 136 outward.new) }
+        ensures history_room { OnOk result (HasRoom message_room self.new.history) }
+        ensures station { (side : Side) (t : world.Station) → IsStation side self.old t → IsStation side self.new t }
+        ensures line { (from : Side) (frames : List Flight) → IsOn from outward.old frames → IsOn from outward.new frames }
+        ensures link { self.new.link ≡ self.old.link }
+    {
+        outward.reserve(MOST_FRAMES)?;
+        self.history.reserve_given()
+    }
+
+    /// Puts the frame of an output on the line, where it is one.
+    #[inline(always)]
+    fn put_sent(&self, out: &Out, octets: &[u8], outward: &mut Line)
+        requires { HasRoomFor 1 outward.old }
+        ensures shows { (side : Side) (e : End) (o : Occasion) (rest : List states.Out) (copy : Option (Vec ℕ Global)) (t : Story) → octets.now ≡ o.octets
+            → IsTelling side e o (out.now ∷ rest) self.now outward.old copy t → IsOn side outward.new (with_sent (flight_of o t.history.passed out.now) t.line) }
+        ensures room { (n : ℕ) → HasRoomFor (n + 1) outward.old → HasRoomFor n outward.new }
+    {
+        if let Some(frame) = self.link.frame(out, octets) {
+            outward.put(self.link.side(), &frame);
+        }
+    }
+
+    /// Writes down what an output says. The copy of the octets just delivered is handed on where they go up.
+    #[inline(always)]
+    fn write_down(&mut self, out: &Out, copy: &mut Option<Vec<u8>>)
+        requires { IfSome copy.old (λ _. HasRoom data_room self.old.history) }
+        ensures shows { (side : Side) (e : End) (o : Occasion) (rest : List states.Out) (line : Line) (t : Story)
+            → IsTelling side e o (out.now ∷ rest) self.old line copy.old t → IsHistory self.new.history e.given (history_told o out.now t.history) }
+        ensures copied { (octets : List ℕ) (rest : List states.Out) → IsCopy octets (ups (out.now ∷ rest) + unit_ups (out.now ∷ rest)) copy.old → IsCopy octets (ups rest + unit_ups rest) copy.new }
+        ensures room { IfSome copy.new (λ _. HasRoom data_room self.new.history) }
+        ensures link { self.new.link ≡ self.old.link }
+    {
+        match out {
+            Out::SendMessage(place, _) => self.history.send(*place),
+            Out::Up => {
+                if let Some(octets) = copy.take() {
+                    self.history.receive(octets);
+                }
+            }
+            Out::UnitUp => {
+                if let Some(octets) = copy.take() {
+                    self.history.receive_unit(octets);
+                }
+            }
+            Out::Acknowledged(n) => self.history.acknowledge(*n),
+            Out::Dropped(n) => self.history.discard(*n),
+            Out::Send(_, _)
+            | Out::SendUnit
+            | Out::Established
+            | Out::Confirmed
+            | Out::Released
+            | Out::ReleaseConfirm
+            | Out::Start(_)
+            | Out::Stop(_)
+            | Out::Report(_) => {}
+        }
+    }
+
+    /// Tells all outputs of a step, one after another.
+    #[inline(always)]
+    fn carry_out(
+        &mut self,
+        outs: &[Out],
+        octets: &[u8],
+        copy: &mut Option<Vec<u8>>,
+        outward: &mut Line,
+    )
+        requires line_room { HasRoomFor (length outs.now) outward.old }
+        requires history_room { IfSome copy.old (λ _. HasRoom data_room self.old.history) }
+        ensures shows { (side : Side) (e : End) (o : Occasion) (t : Story) → octets.now ≡ o.octets
+            → IsTelling side e o outs.now self.old outward.old copy.old t → IsTelling side e o [] self.new outward.new copy.new (told o outs.now t) }
+        ensures link { self.new.link ≡ self.old.link }
+    {
+        for out in outs {
+            self.put_sent(out, octets, outward);
+            self.write_down(out, copy);
+        }
+    }
+
+    /// Where an establishment begins, writes it down.
+    fn note_beginning(&mut self, begins: bool)
+        requires { HasRoom step_room self.old.history }
+        ensures shows { (messages : List (List ℕ)) (h : histories.Log) (before now : ℕ) → begins ≡ not (before == now)
+            → IsHistory self.old.history messages h → IsHistory self.new.history messages (with_beginning before now h) }
+        ensures room { HasRoom data_room self.new.history }
+        ensures link { self.new.link ≡ self.old.link }
+    {
+        if begins {
+            self.history.begin();
+        }
+    }
+
+    /// One step of the state table, for any event. The frames of its outputs go on the line, and the rest is written down.
+    /// `octets` are those of the frame that is heard, with a copy of them for layer 3, or the unit data to be sent.
+    #[inline(always)]
+    pub fn step(
+        &mut self,
+        event: Event,
+        octets: &[u8],
+        copy: Option<Vec<u8>>,
+        outward: &mut Line,
+        outs: &mut Outs,
+    ) -> Result<(), PairFault>
+        requires for_link { IsForLink self.old.link event }
+        requires line_room { HasRoomFor 136 outward.old }
+        requires history_room { HasRoom step_room self.old.history }
+        ensures ok { IfOk (with_outs result outs.new) (λ outs. (side : Side) (place : ℕ) (v : View) → IsKept Tagged v.station → IsStation side self.old v.station → IsOn side outward.old v.outgoing
+            → length octets.now ≤ n201 → IsHanded (input_of event.entry) octets.now copy
+            → IsActed side self.new outward.new (stepped octets.now place v (step Tagged (input_of event.entry) v.station.end)) outs.items) }
+        ensures err { IfErr (with_outs result outs.new) (λ fault. (octets : List ℕ) (place : ℕ) (side : Side) (v : View) → IsStation side self.old v.station → IsRefusedAs fault (stepped octets place v (step Tagged (input_of event.entry) v.station.end))) }
+        ensures unchanged { OnErr (with_outs result outs.new) ((self.new ≡ self.old) × (outward.new ≡ outward.old)) }
+    {
+        let mut copy = copy;
+        let begins = self.link.begins(&event);
+        match self.link.handle_into(event, outs) {
+            Ok(()) => {
+                self.note_beginning(begins);
+                self.carry_out(outs.as_slice(), octets, &mut copy, outward);
+                Ok(())
+            }
+            Err(fault) => Err(PairFault::Refused(fault)),
+        }
+    }
+
+    /// A message of layer 3, of which the history gets a copy.
+    pub fn give(
+        &mut self,
+        message: Vec<u8>,
+        copy: Vec<u8>,
+        outward: &mut Line,
+        outs: &mut Outs,
+    ) -> Result<(), PairFault>
+        requires line_room { HasRoomFor 136 outward.old }
+        requires history_room { HasRoom message_room self.old.history }
+        ensures ok { IfOk (with_outs result outs.new) (λ outs. (side : Side) (v : View) → IsKept Tagged v.station → IsStation side self.old v.station → IsOn side outward.old v.outgoing
+            → copy.items ≡ message.items
+            → IsActed side self.new outward.new (stepped [] 0 v (step Tagged (Give message.items) v.station.end)) outs.items) }
+        ensures err { IfErr (with_outs result outs.new) (λ fault. (side : Side) (v : View) → IsStation side self.old v.station → IsRefusedAs fault (stepped [] 0 v (step Tagged (Give message.items) v.station.end))) }
+        ensures unchanged { OnErr (with_outs result outs.new) ((self.new ≡ self.old) × (outward.new ≡ outward.old)) }
+    {
+        match self.link.give_into(message, outs) {
+            Ok(()) => {
+                self.history.give(copy);
+                self.carry_out(outs.as_slice(), &[], &mut None, outward);
+                Ok(())
+            }
+            Err(refused) => Err(PairFault::Refused(refused.fault)),
+        }
+    }
+}

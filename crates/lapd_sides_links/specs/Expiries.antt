@@ -1,0 +1,75 @@
+-- Which timer of a side is due: of those that run with a deadline that is past, the one with the least deadline; of several
+-- with the same, the first of T200, T201, T202, T203, then the one of the lowest SAPI, then of the lowest TEI (Q.921 5.9).
+use Rattle.std.specs.Prelude.{◌≡◌, ℕ, ◌<◌, ◌≤◌, Option, Some, None, option_map, ◌⊎◌, ⊤}
+use Rattle.lapd_timers.specs.declared.timer.Timer.{Timer}
+use Rattle.lapd_timers.specs.Due.{Timers, deadline_of, place}
+use Rattle.lapd_frame.specs.Address.{sapi_value}
+use Rattle.lapd_table.specs.declared.link_id.LinkId.{LinkId}
+use Rattle.lapd_sides_links.specs.declared.running_timer.RunningTimer.{RunningTimer}
+use Rattle.lapd_sides_links.specs.Links.{Links, Linked, IsOfLink}
+use Rattle.lapd_sides_links.specs.Links.{Served}
+
+-- ---- The timers that run. They are named by the link that they are of, or by none where they are TEI management's.
+
+-- a link has T200 and T203, and TEI management any
+abbrev pub IsTimerOf : Option LinkId → Timer → Type 0
+IsTimerOf None timer = ⊤
+IsTimerOf (Some id) timer = IsOfLink timer
+
+-- a timer runs with this deadline, where these are the timers that there are
+pub record Runs (timers : Option LinkId → Option Timers) (e : RunningTimer) : Type 0 where
+  pub its : Timers
+  pub there : timers e.of ≡ Some its
+  pub own : IsTimerOf e.of e.timer
+  pub until : deadline_of e.timer its ≡ Some e.deadline
+
+pub record IsPast (now : ℕ) (timers : Option LinkId → Option Timers) (e : RunningTimer) : Type 0 where
+  pub runs : Runs timers e
+  pub is_past : e.deadline ≤ now
+
+-- those of the links that are there
+abbrev pub of_links : Links → Option LinkId → Option Timers
+of_links links None = None
+of_links links (Some id) = option_map (λ (l : Linked). l.timers) (links id)
+
+-- those of TEI management
+abbrev pub of_management : Timers → Option LinkId → Option Timers
+of_management timers None = Some timers
+of_management timers (Some id) = None
+
+-- those of both
+abbrev pub of_served : Served → Option LinkId → Option Timers
+of_served s None = Some s.timers
+of_served s (Some id) = of_links s.links (Some id)
+
+-- ---- Which comes first.
+
+-- the order of links: by SAPI, then by TEI; TEI management, whose timers links do not have, before them
+abbrev pub IsNoLaterLink : Option LinkId → Option LinkId → Type 0
+IsNoLaterLink None b = ⊤
+IsNoLaterLink (Some a) None = ⊥
+IsNoLaterLink (Some a) (Some b) = (sapi_value a.sapi < sapi_value b.sapi) ⊎ ((sapi_value a.sapi ≡ sapi_value b.sapi) × (a.tei ≤ b.tei))
+
+-- by deadline, then by timer, then by link
+abbrev pub IsNoLater : RunningTimer → RunningTimer → Type 0
+IsNoLater a b = (a.deadline < b.deadline) ⊎ ((a.deadline ≡ b.deadline) × ((place a.timer < place b.timer) ⊎ ((place a.timer ≡ place b.timer) × IsNoLaterLink a.of b.of)))
+
+-- the first of some of them, or none where there are none
+abbrev pub IsFirst : (RunningTimer → Type 0) → Option RunningTimer → Type 0
+IsFirst Among None = (e : RunningTimer) → Among e → ⊥
+IsFirst Among (Some e) = Among e × ((other : RunningTimer) → Among other → IsNoLater e other)
+
+-- what is due now on a side
+abbrev pub IsDue : ℕ → Served → Option RunningTimer → Type 0
+IsDue now s = IsFirst (IsPast now (of_served s))
+
+-- before this moment nothing is due on a side, and at it something is
+pub record IsNextMoment (s : Served) (moment : ℕ) : Type 0 where
+  pub before : (now : ℕ) → now < moment → IsDue now s None
+  pub expiry : RunningTimer
+  pub due : IsDue moment s (Some expiry)
+
+-- the next moment at which something is due, or none where nothing ever is, as long as no timer is started
+abbrev pub IsNextDeadline : Served → Option ℕ → Type 0
+IsNextDeadline s None = (now : ℕ) → IsDue now s None
+IsNextDeadline s (Some moment) = IsNextMoment s moment

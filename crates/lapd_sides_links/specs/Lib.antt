@@ -1,0 +1,7 @@
+pub mod Effects
+pub mod Expiries
+pub mod Links
+pub mod Shown
+pub mod Places
+pub mod TimersAtPlaces
+pub mod Texts

@@ -1,0 +1,159 @@
+-- The links of a side, each with its timers, and what one step of one of them comes to. The step itself is the state table's.
+use Rattle.std.specs.Prelude.{ℕ, ◌==◌, ◌&&◌, nat_lt, if◌then◌else◌, Bool, true, false, List, [], ◌∷◌, ◌++◌, Option, Some, None, Result, Ok, Err, ⊤}
+use Rattle.lapd_timers.specs.declared.timer.Timer.{Timer}
+use Rattle.lapd_timers.specs.declared.timer.Timer.TheVariants.{T200, T201, T202, T203}
+use Rattle.lapd_timers.specs.Due.{Timers, at_rest}
+use Rattle.lapd_timers.specs.Durations.{Lengths}
+use Rattle.lapd_frame.specs.declared.Sapi.{Sapi}
+use Rattle.lapd_frame.specs.declared.Sapi.TheVariants.{Call, Packet, Management}
+use Rattle.lapd_frame.specs.declared.Side.{Side}
+use Rattle.lapd_mod128.specs.Counting.{Tagged}
+use Rattle.lapd_link_rows.specs.declared.event.LinkFault.{LinkFault}
+use Rattle.lapd_link_rows.specs.declared.state.State.{State}
+use Rattle.lapd_link_rows.specs.declared.state.State.TheVariants as state
+use Rattle.lapd_link_rows.specs.End.{End, StepState, new_end}
+use Rattle.lapd_link_rows.specs.Input.{Input, Expiry}
+use Rattle.lapd_link_rows.specs.Parameters.{Parameters}
+use Rattle.lapd_link_rows.specs.Table.{step}
+use Rattle.lapd_tei.specs.Assigner.{is_held}
+use Rattle.lapd_tei.specs.Message.{group_tei}
+use Rattle.lapd_table.specs.declared.link_id.LinkId.{LinkId}
+use Rattle.lapd_table.specs.LinkId.{id_eq}
+use Rattle.lapd_sides_links.specs.declared.config.Config.{Config}
+use Rattle.lapd_sides_links.specs.declared.primitive.Primitive.{Primitive}
+use Rattle.lapd_sides_links.specs.declared.primitive.Primitive.TheVariants.{Of}
+use Rattle.lapd_sides_links.specs.declared.primitive.What.{What}
+use Rattle.lapd_sides_links.specs.declared.primitive.What.TheVariants as what
+use Rattle.lapd_sides_links.specs.declared.side_fault.SideKind.{SideKind}
+use Rattle.lapd_sides_links.specs.declared.side_fault.SideKind.TheVariants.{NoLink, Link}
+use Rattle.lapd_sides_links.specs.Effects.{Effects, effects_of_link, timed, stopped}
+
+-- a link: its end of the state table, and its timers
+pub record Linked : Type 0 where
+  pub end : End
+  pub timers : Timers
+
+-- the links that are there, by their names
+abbrev pub Links : Type 0
+Links = LinkId → Option Linked
+
+-- what both sides have: their links, and the timer of TEI management
+pub record Served : Type 0 where
+  pub links : Links
+  pub timers : Timers
+
+-- what a step leaves, and what it gives
+pub record Reaction (S : Type 0) : Type 0 where
+  pub after : S
+  pub effects : Effects
+
+-- ---- Names.
+
+abbrev pub of_sapi : Sapi → ℕ → LinkId
+of_sapi sapi tei = record { sapi = sapi; tei = tei }
+
+-- call control is served, and packet communication where it is configured; management has no links (Q.921 Table 2)
+abbrev pub is_served : Config → Sapi → Bool
+is_served config Call = true
+is_served config Packet = config.sapi16
+is_served config Management = false
+
+abbrev pub parameters_for : Config → Sapi → Parameters
+parameters_for config Packet = config.params16
+parameters_for config sapi = config.params0
+
+-- ---- One step of one link.
+
+-- What the state table makes of an input: `octets` are the information of the frame that was heard, or the unit data that is
+-- to be sent.
+abbrev pub acted : Side → LinkId → ℕ → List ℕ → Timers → Result StepState LinkFault → Result (Reaction Linked) LinkFault
+acted side id now octets timers (Ok s) = Ok (record { after = record { end = s.end; timers = timed now s.outs timers }; effects = effects_of_link side id s.end octets s.outs })
+acted side id now octets timers (Err fault) = Err fault
+
+unfoldable pub link_acts : Side → LinkId → ℕ → Input → List ℕ → Linked → Result (Reaction Linked) LinkFault
+link_acts side id now input octets l = acted side id now octets l.timers (step Tagged input l.end)
+
+-- a link has T200 and T203
+abbrev pub IsOfLink : Timer → Type 0
+IsOfLink T200 = ⊤
+IsOfLink T201 = ⊥
+IsOfLink T202 = ⊥
+IsOfLink T203 = ⊤
+
+-- a timer that has expired no longer runs
+abbrev pub expired : Timer → Linked → Linked
+expired timer l = record l { timers = stopped timer l.timers }
+
+unfoldable pub link_expires : Side → LinkId → ℕ → Timer → Linked → Result (Reaction Linked) LinkFault
+link_expires side id now timer l = link_acts side id now (Expiry timer) [] (expired timer l)
+
+-- ---- Among the other links.
+
+-- one link is changed, and all others keep what they are
+abbrev pub with_link : LinkId → Option Linked → Links → Links
+with_link id l links = λ other. if id_eq other id then l else links other
+
+abbrev pub in_place : LinkId → Links → Result (Reaction Linked) LinkFault → Result (Reaction Links) SideKind
+in_place id links (Ok a) = Ok (record { after = with_link id (Some a.after) links; effects = a.effects })
+in_place id links (Err fault) = Err (Link fault)
+
+-- a link does what it does, where it is there
+abbrev pub where_there : LinkId → Links → Option Linked → (Linked → Result (Reaction Linked) LinkFault) → Result (Reaction Links) SideKind
+where_there id links None does = Err NoLink
+where_there id links (Some l) does = in_place id links (does l)
+
+unfoldable pub in_links : LinkId → (Linked → Result (Reaction Linked) LinkFault) → Links → Result (Reaction Links) SideKind
+in_links id does links = where_there id links (links id) does
+
+-- ---- Links come and go with their TEI (Q.921 5.3).
+
+-- in state 4 as new, with no timer running
+abbrev pub new_linked : Parameters → Lengths → Linked
+new_linked parameters lengths = record { end = new_end parameters; timers = at_rest lengths }
+
+-- the links of a TEI: of SAPI 0, and of SAPI 16 where it is served
+abbrev pub is_link_of : Config → ℕ → LinkId → Bool
+is_link_of config tei id = is_served config id.sapi && (id.tei == tei)
+
+unfoldable pub with_tei : Config → ℕ → Links → Links
+with_tei config tei links = λ id. if is_link_of config tei id then Some (new_linked (parameters_for config id.sapi) config.durations) else links id
+
+unfoldable pub without_tei : ℕ → Links → Links
+without_tei tei links = λ id. if id.tei == tei then None else links id
+
+-- What layer 3 is told of a link that goes: it is released, as was asked for where that was asked for; nothing where it was
+-- released before.
+abbrev pub parting : State → Bool → Option What
+parting state.TeiAssigned release_pending = None
+parting state.AwaitingEstablishment true = Some what.ReleaseConfirm
+parting state.AwaitingEstablishment false = Some what.Released
+parting state.AwaitingRelease release_pending = Some what.ReleaseConfirm
+parting state.MultipleFrameEstablished release_pending = Some what.Released
+parting state.TimerRecovery release_pending = Some what.Released
+
+abbrev pub parting_of : LinkId → Option What → List Primitive
+parting_of id None = []
+parting_of id (Some w) = Of id w ∷ []
+
+abbrev pub told_at_parting : LinkId → Option Linked → List Primitive
+told_at_parting id None = []
+told_at_parting id (Some l) = parting_of id (parting l.end.state l.end.release_pending)
+
+-- of both links of a TEI, by rising SAPI
+unfoldable pub told_of_tei : ℕ → Links → List Primitive
+told_of_tei tei links = told_at_parting (of_sapi Call tei) (links (of_sapi Call tei)) ++ told_at_parting (of_sapi Packet tei) (links (of_sapi Packet tei))
+
+-- no links
+abbrev pub no_links : Links
+no_links = λ id. None
+
+-- those of the TEIs below n that are held
+abbrev pub is_held_below : List Bool → ℕ → ℕ → Bool
+is_held_below held n tei = nat_lt tei n && is_held held tei
+
+unfoldable pub links_below : Config → List Bool → ℕ → Links
+links_below config held n = λ id. if is_served config id.sapi && is_held_below held n id.tei then Some (new_linked (parameters_for config id.sapi) config.durations) else None
+
+-- those of all TEIs that are held; the group TEI has none
+abbrev pub links_of_held : Config → List Bool → Links
+links_of_held config held = links_below config held group_tei

@@ -1,0 +1,115 @@
+ghost use Rattle.std.specs.Prelude.{◌≡◌, ◌≤◌, ◌<◌, ◌+◌, ◌++◌, ◌∷◌, [], length, map, IfOk};
+ghost use Rattle.std.specs.List.{All};
+ghost use Rattle.lapd_frame.specs.Frame.{spelling};
+ghost use Rattle.lapd_sides_links.specs.Effects.{HasLeastOctets, no_effects};
+ghost use Rattle.lapd_tei.specs.Message.{frame_of_message};
+
+use crate::Primitive;
+use arrayvec::ArrayVec;
+use lapd_frame::{Frame, MOST_OCTETS, Side, write_over};
+use lapd_tei::TeiMessage;
+use std::alloc::{AllocError, Global};
+use std::marker::Model;
+
+/// How many frames there is room for: those of one step of each of two links, and of TEI management.
+pub const MOST_FRAMES: usize = 280;
+
+/// How many primitives there is room for: those of one step of each of two links, and of TEI management.
+pub const MOST_PRIMITIVES: usize = 280;
+
+/// What a call of a side gives: the frames that are to be sent, as octets, and what the layers above are told, each in order.
+#[derive(Drop)]
+pub struct Acts {
+    frames: Vec<ArrayVec<u8, MOST_OCTETS>>,
+    primitives: Vec<Primitive>,
+}
+
+impl Model for Acts {
+    ghost use Rattle.std.specs.Prelude.{◌≤◌, map};
+    ghost use Rattle.std.specs.List.{All};
+    ghost use Rattle.std.specs.Vec.{vec_capacity};
+    ghost use Rattle.lapd_sides_links.specs.Effects.{Effects, HasLeastOctets};
+
+    ghost Value = { Effects };
+
+    ghost view = { λ a. record { frames = map (λ f. f.items) a.frames.items; primitives = a.primitives.items } };
+
+    ghost invariant = { λ a. (280 ≤ vec_capacity a.frames) × (280 ≤ vec_capacity a.primitives)
+        × All (λ f. HasLeastOctets f.items) a.frames.items };
+}
+
+impl Acts {
+    /// No frames and no primitives, with room for as many as a call of a side may give.
+    ///
+    /// # Errors
+    ///
+    /// `AllocError` where memory was refused.
+    pub fn new(alloc: Global) -> Result<Acts, AllocError>
+        ensures { IfOk result (λ acts. acts ≡ no_effects) }
+    {
+        Ok(Acts {
+            frames: Vec::with_capacity(alloc, MOST_FRAMES)?,
+            primitives: Vec::with_capacity(alloc, MOST_PRIMITIVES)?,
+        })
+    }
+
+    /// The frames that are to be sent, as octets, in order. Each has 3 to 264 of them.
+    pub fn frames(&self) -> &[ArrayVec<u8, MOST_OCTETS>]
+        ensures frames { map (λ f. f.items) result.now ≡ self.now.frames }
+        ensures least { All (λ f. HasLeastOctets f.items) result.now }
+    {
+        self.frames.as_slice()
+    }
+
+    /// What the layers above are told, in order.
+    pub fn primitives(&self) -> &[Primitive]
+        ensures { result.now ≡ self.now.primitives }
+    {
+        self.primitives.as_slice()
+    }
+
+    /// Forgets all.
+    pub fn clear(&mut self)
+        ensures { self.new ≡ no_effects }
+    {
+        self.frames.clear();
+        self.primitives.clear();
+    }
+
+    /// Puts the octets of a frame behind the others, as this side sends it.
+    pub fn put(&mut self, from: Side, frame: &Frame<'_>)
+        requires { length self.old.frames < 280 }
+        ensures { self.new ≡ record self.old { frames = self.old.frames ++ spelling from frame.now ∷ [] } }
+    {
+        let mut spelled = ArrayVec::new();
+        write_over(frame, from, &mut spelled);
+        let Ok(()) = self.frames.push(spelled) else {
+            unreachable!()
+        };
+    }
+
+    /// Puts the octets of a message of TEI management behind the others, as this side sends it.
+    pub fn put_message(&mut self, from: Side, message: &TeiMessage)
+        requires room { length self.old.frames < 280 }
+        requires in_range { message.now.ai ≤ 127 }
+        ensures { self.new ≡ record self.old { frames = self.old.frames ++ spelling from (frame_of_message message.now) ∷ [] } }
+    {
+        let mut spelled = ArrayVec::new();
+        let Ok(()) = spelled.try_extend_from_slice(&message.frame(from)) else {
+            unreachable!()
+        };
+        let Ok(()) = self.frames.push(spelled) else {
+            unreachable!()
+        };
+    }
+
+    /// Puts a primitive behind the others.
+    pub fn tell(&mut self, primitive: Primitive)
+        requires { length self.old.primitives < 280 }
+        ensures { self.new ≡ record self.old { primitives = self.old.primitives ++ primitive ∷ [] } }
+    {
+        let Ok(()) = self.primitives.push(primitive) else {
+            unreachable!()
+        };
+    }
+}

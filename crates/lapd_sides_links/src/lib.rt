@@ -1,0 +1,31 @@
+//! The data links of one side of an ISDN D channel interface, each with its timers (Q.921 clause 5): which are there, what a
+//! step of one of them gives, and which timer is due.
+//!
+//! [`LinkSet`] is the links of a side: begin there. [`Acts`] takes what a call of a side gives.
+#![tactic(auto)]
+
+mod acts;
+mod config;
+mod deadlines;
+mod firsts;
+mod links;
+mod octets;
+mod places;
+mod primitive;
+mod running_timer;
+mod side_fault;
+mod telling;
+mod timings;
+
+pub use acts::Acts;
+pub use config::Config;
+pub use deadlines::{due, next_deadline};
+pub use lapd_link::{Letter, LinkFault, Params, Sapi, Side, Tei};
+pub use lapd_table::{LinkId, LinkTable};
+pub use lapd_tei::{TeiMessage, TeiOut};
+pub use lapd_timers::{Durations, Timer, TimerSet};
+pub use links::LinkSet;
+pub use octets::Octets;
+pub use primitive::{Primitive, What};
+pub use running_timer::RunningTimer;
+pub use side_fault::{SideFault, SideKind, refused};

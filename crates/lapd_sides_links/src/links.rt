@@ -1,0 +1,421 @@
+//! The links of a side with their timers.
+
+ghost use Rattle.std.specs.Prelude.{◌≡◌, ◌≢◌, ◌≤◌, ◌<◌, ◌+◌, ◌++◌, length, map, option_map, [], IsSome, is_some, Some, None, IfSome, option_copied, IfOk, IfErr, OnOk, OnErr, Err};
+ghost use Rattle.std.specs.List.{filter_map};
+ghost use Rattle.lapd_frame.specs.declared.Side.{Side};
+ghost use Rattle.lapd_link.specs.Link.{LinkStandsFor};
+ghost use Rattle.lapd_link.specs.declared.link.Link.{Link};
+ghost use Rattle.lapd_link_rows.specs.End.{End};
+ghost use Rattle.lapd_link_rows.specs.State.{state_number};
+ghost use Rattle.lapd_link_rows.specs.declared.state.State.{State};
+ghost use Rattle.lapd_link_rows.specs.Input.{input_of, Give, UnitData};
+ghost use Rattle.lapd_link_rows.specs.Input as input;
+ghost use Rattle.lapd_table.specs.declared.link_id.LinkId.{LinkId};
+ghost use Rattle.lapd_table.specs.LinkTable.{link_at, side_of, IsFor};
+ghost use Rattle.lapd_table.specs.LinkId.{setup_for};
+ghost use Rattle.lapd_sides_links.specs.declared.primitive.Primitive.TheVariants.{Of};
+ghost use Rattle.lapd_sides_links.specs.Effects.{timed, what_of};
+ghost use Rattle.lapd_sides_links.specs.Expiries.{IsFirst, IsPast, IsTimerOf, Runs, of_links};
+ghost use Rattle.lapd_sides_links.specs.Links.{Links, IsOfLink, no_links, of_sapi, with_link, with_tei, without_tei, new_linked, parting, parting_of, told_at_parting, told_of_tei, links_of_held, in_links, link_acts, link_expires};
+
+use crate::side_fault::refused;
+use crate::telling::{put_frames, tell_all};
+use crate::timings::Timings;
+use crate::{Acts, Config, Primitive, RunningTimer, SideFault, SideKind, What};
+use lapd_frame::N201;
+use lapd_link::{Event, Link, LinkFault, Outs, Params, Sapi, Side, Tei};
+use lapd_table::{LinkId, LinkTable};
+use lapd_tei::Assigner;
+use lapd_timers::{Durations, Timer, TimerSet};
+use std::alloc::{AllocError, Global};
+
+/// The links of a side with their timers, by SAPI and TEI.
+#[derive(Drop)]
+pub struct LinkSet {
+    pub table: LinkTable,
+    timings: Timings,
+    /// What the last step of a link gave: lent to each step, as new ones would be filled each time.
+    outs: Outs,
+}
+
+impl LinkSet {
+    ghost use Rattle.lapd_sides_links.specs.Shown.{timers_at, made_by, ShowLinks, HaveActed};
+
+    /// No links, with room for the timers of all that may come. That room is taken here.
+    ///
+    /// # Errors
+    ///
+    /// `AllocError` where memory was refused.
+    pub fn new(alloc: Global, side: Side) -> Result<LinkSet, AllocError>
+        ensures { IfOk result (λ s. ShowLinks side s no_links) }
+    {
+        Ok(LinkSet {
+            table: LinkTable::new(alloc, side),
+            timings: Timings::new(alloc)?,
+            outs: Outs::new(),
+        })
+    }
+
+    /// Adds a link in state 4, of SAPI 0 or 16 and a TEI of 0 to 126, with no timer running. None may be there.
+    ///
+    /// # Errors
+    ///
+    /// `AllocError` where memory was refused. Nothing is changed.
+    fn add(
+        &mut self,
+        alloc: Global,
+        id: LinkId,
+        params: Params,
+        durations: Durations,
+    ) -> Result<(), AllocError>
+        requires sapi { id.sapi ≢ Sapi.Management }
+        requires tei { id.tei < 127 }
+        ensures ok { OnOk result ((side : Side) (links : Links) → ShowLinks side self.old links → ShowLinks side self.new (with_link id (Some (new_linked params durations)) links)) }
+        ensures unchanged { OnErr result ((side : Side) (links : Links) → ShowLinks side self.old links → ShowLinks side self.new links) }
+        ensures new { OnOk result (link_at self.old.table id ≡ None) }
+    {
+        let rested = id;
+        let link = Link::new(alloc, self.table.side(), id.sapi, id.tei, params)?;
+        let Ok(()) = self.table.add(link) else {
+            return Err(AllocError);
+        };
+        self.timings.rest(&rested, durations);
+        Ok(())
+    }
+
+    /// Adds the links of a TEI, which has none: of SAPI 0, and of SAPI 16 where it is served.
+    ///
+    /// # Errors
+    ///
+    /// `AllocError` where memory was refused. Nothing is changed.
+    pub fn add_tei(&mut self, alloc: Global, config: &Config, tei: Tei) -> Result<(), AllocError>
+        requires tei { tei < 127 }
+        ensures ok { OnOk result ((side : Side) (links : Links) → ShowLinks side self.old links → ShowLinks side self.new (with_tei config.now tei links)) }
+        ensures unchanged { OnErr result ((side : Side) (links : Links) → ShowLinks side self.old links → ShowLinks side self.new links) }
+    {
+        let call = name(Sapi::Call, tei);
+        self.add(alloc, call, config.params0, config.durations)?;
+        if config.sapi16 {
+            let packet = name(Sapi::Packet, tei);
+            let Ok(()) = self.add(alloc, packet, config.params16, config.durations) else {
+                self.remove(name(Sapi::Call, tei));
+                return Err(AllocError);
+            };
+        }
+        Ok(())
+    }
+
+    /// Adds the links of the TEIs that are held, where no links are there.
+    ///
+    /// # Errors
+    ///
+    /// `AllocError` where memory was refused. Some may have been added.
+    pub fn add_held(
+        &mut self,
+        alloc: Global,
+        config: &Config,
+        assigner: &Assigner,
+    ) -> Result<(), AllocError>
+        ensures { OnOk result ((side : Side) → ShowLinks side self.old no_links → ShowLinks side self.new (links_of_held config.now assigner.now.held)) }
+    {
+        for tei in 0..127 {
+            let tei = own_tei(tei);
+            if assigner.holds(tei) {
+                self.add_tei(alloc, config, tei)?;
+            }
+        }
+        Ok(())
+    }
+
+    /// Takes the links of a TEI out, and tells what becomes of them, by rising SAPI.
+    pub fn remove_tei(&mut self, tei: Tei, acts: &mut Acts)
+        requires room { length acts.old.primitives ≤ 144 }
+        ensures shown { (side : Side) (links : Links) → ShowLinks side self.old links → ShowLinks side self.new (without_tei tei links) }
+        ensures told { (side : Side) (links : Links) → ShowLinks side self.old links → acts.new.primitives ≡ acts.old.primitives ++ told_of_tei tei links }
+        ensures frames { acts.new.frames ≡ acts.old.frames }
+        ensures at_most { length acts.new.primitives ≤ length acts.old.primitives + 2 }
+    {
+        self.part(name(Sapi::Call, tei), acts);
+        self.part(name(Sapi::Packet, tei), acts);
+    }
+
+    /// Takes the link with this name out, and tells what becomes of it.
+    fn part(&mut self, id: LinkId, acts: &mut Acts)
+        requires room { length acts.old.primitives < 280 }
+        ensures shown { (side : Side) (links : Links) → ShowLinks side self.old links → ShowLinks side self.new (with_link id None links) }
+        ensures told { (side : Side) (links : Links) → ShowLinks side self.old links → acts.new.primitives ≡ acts.old.primitives ++ told_at_parting id (links id) }
+        ensures frames { acts.new.frames ≡ acts.old.frames }
+        ensures room { length acts.new.primitives ≤ length acts.old.primitives + 1 }
+    {
+        let named = id;
+        let removed = id;
+        if let Some(link) = self.table.link(id) {
+            tell_parting(&named, link, acts);
+        }
+        self.remove(removed);
+    }
+
+    /// Takes the link with this name out, and stops its timers.
+    fn remove(&mut self, id: LinkId)
+        ensures { (side : Side) (links : Links) → ShowLinks side self.old links → ShowLinks side self.new (with_link id None links) }
+    {
+        let halted = id;
+        let _link = self.table.remove(id);
+        self.timings.halt(&halted);
+    }
+
+    /// The timers of the link with this name; `None` where it is not there.
+    pub fn timers(&self, id: LinkId) -> Option<&TimerSet>
+        ensures { (side : Side) (links : Links) → ShowLinks side self.now links → option_copied result ≡ of_links links (Some id) }
+    {
+        let named = id;
+        match self.table.link(id) {
+            Some(_) => self.timings.get(&named),
+            None => None,
+        }
+    }
+
+    /// The first of the timers of links that run.
+    pub fn first(&self) -> Option<RunningTimer>
+        ensures { (side : Side) (links : Links) → ShowLinks side self.now links → IsFirst (Runs (of_links links)) result }
+    {
+        self.timings.first()
+    }
+
+    /// The first of the timers of links that are due at the moment `now`. The links stay as they are.
+    pub fn due(&mut self, now: u64) -> Option<RunningTimer>
+        ensures first { (side : Side) (links : Links) → ShowLinks side self.old links → IsFirst (IsPast now (of_links links)) result }
+        ensures own { IfSome result (λ e. IsTimerOf e.of e.timer) }
+        ensures shown { (side : Side) (links : Links) → ShowLinks side self.old links → ShowLinks side self.new links }
+    {
+        self.timings.due(now)
+    }
+
+    /// What the step of a link gives, by its outputs: its frames and primitives, and its timers.
+    fn carry_out(&mut self, id: LinkId, octets: &[u8], now: u64, acts: &mut Acts)
+        requires there { IsSome (link_at self.old.table id) }
+        requires fits { length octets.now ≤ 260 }
+        requires frame_room { length acts.old.frames ≤ 144 }
+        requires primitive_room { length acts.old.primitives ≤ 144 }
+        ensures frames { (link : Link) (e : End) → link_at self.old.table id ≡ Some link → LinkStandsFor link e
+            → acts.new.frames ≡ acts.old.frames ++ filter_map (made_by (setup_for (side_of self.old.table) id) e octets.now) self.old.outs.items }
+        ensures primitives { acts.new.primitives ≡ acts.old.primitives ++ map (Of id) (filter_map (what_of octets.now) self.old.outs.items) }
+        ensures most_frames { length acts.new.frames ≤ length acts.old.frames + 136 }
+        ensures most_primitives { length acts.new.primitives ≤ length acts.old.primitives + 136 }
+        ensures own { timers_at self.new.timings id ≡ option_map (timed now self.old.outs.items) (timers_at self.old.timings id) }
+        ensures others { (other : LinkId) → other ≢ id → timers_at self.new.timings other ≡ timers_at self.old.timings other }
+        ensures table { self.new.table ≡ self.old.table }
+    {
+        let timed = id;
+        let outs = self.outs.as_slice();
+        put_frames(&self.table, &timed, octets, outs, acts);
+        tell_all(id, octets, outs, acts);
+        self.timings.time(&timed, outs, now);
+    }
+
+    /// An event for the link with this name, at the moment `now`; `octets` are the information of the frame that is heard,
+    /// or the unit data that is to be sent. What it gives goes behind what `acts` has.
+    ///
+    /// # Errors
+    ///
+    /// B1 where the link is not there, and L1 to L5 where it refuses. Nothing is changed.
+    pub fn act(
+        &mut self,
+        id: LinkId,
+        event: Event,
+        octets: &[u8],
+        now: u64,
+        acts: &mut Acts,
+    ) -> Result<(), SideKind>
+        requires for_link { IsFor id event }
+        requires fits { length octets.now ≤ 260 }
+        requires frame_room { length acts.old.frames ≤ 144 }
+        requires primitive_room { length acts.old.primitives ≤ 144 }
+        ensures ok { OnOk result ((side : Side) (links : Links) → ShowLinks side self.old links
+            → HaveActed side self.new acts.old acts.new (in_links id (link_acts side id now (input_of event.entry) octets.now) links)) }
+        ensures err { IfErr result (λ kind. (side : Side) (links : Links) → ShowLinks side self.old links
+            → in_links id (link_acts side id now (input_of event.entry) octets.now) links ≡ Err kind) }
+        ensures unchanged { OnErr result ((side : Side) (links : Links) → ShowLinks side self.old links → ShowLinks side self.new links) }
+        ensures nothing { OnErr result (acts.new ≡ acts.old) }
+        ensures most_frames { length acts.new.frames ≤ length acts.old.frames + 136 }
+        ensures most_primitives { length acts.new.primitives ≤ length acts.old.primitives + 136 }
+    {
+        let acting = id;
+        let carried = id;
+        let Some(_) = self.table.link(id) else {
+            return Err(SideKind::NoLink);
+        };
+        match self.table.handle_into(acting, event, &mut self.outs) {
+            Ok(()) => {
+                self.carry_out(carried, octets, now, acts);
+                Ok(())
+            }
+            Err(fault) => Err(SideKind::Link(fault)),
+        }
+    }
+
+    /// Unit data for the link with this name, at the moment `now`. What it gives goes behind what `acts` has.
+    ///
+    /// # Errors
+    ///
+    /// B1 where the link is not there, and L3 for more than 260 octets. Nothing is changed.
+    pub fn send_unit(
+        &mut self,
+        id: LinkId,
+        octets: &[u8],
+        now: u64,
+        acts: &mut Acts,
+    ) -> Result<(), SideKind>
+        requires frame_room { length acts.old.frames ≤ 144 }
+        requires primitive_room { length acts.old.primitives ≤ 144 }
+        ensures ok { OnOk result ((side : Side) (links : Links) → ShowLinks side self.old links
+            → HaveActed side self.new acts.old acts.new (in_links id (link_acts side id now (UnitData (length octets.now)) octets.now) links)) }
+        ensures err { IfErr result (λ kind. (side : Side) (links : Links) → ShowLinks side self.old links
+            → in_links id (link_acts side id now (UnitData (length octets.now)) octets.now) links ≡ Err kind) }
+        ensures unchanged { OnErr result ((side : Side) (links : Links) → ShowLinks side self.old links → ShowLinks side self.new links) }
+        ensures nothing { OnErr result (acts.new ≡ acts.old) }
+    {
+        let acting = id;
+        let Some(_) = self.table.link(id) else {
+            return Err(SideKind::NoLink);
+        };
+        if octets.len() > N201 {
+            return Err(SideKind::Link(LinkFault::TooLong));
+        }
+        self.act(acting, Event::Unit(octets.len()), octets, now, acts)
+    }
+
+    /// A message of layer 3 for the link with this name, at the moment `now`. What it gives goes behind what `acts` has.
+    ///
+    /// # Errors
+    ///
+    /// B1 where the link is not there, and L1 to L5 where it refuses. The message is handed back, and nothing is changed.
+    pub fn give(
+        &mut self,
+        id: LinkId,
+        message: Vec<u8>,
+        now: u64,
+        acts: &mut Acts,
+    ) -> Result<(), SideFault>
+        requires frame_room { length acts.old.frames ≤ 144 }
+        requires primitive_room { length acts.old.primitives ≤ 144 }
+        ensures ok { OnOk result ((side : Side) (links : Links) → ShowLinks side self.old links
+            → HaveActed side self.new acts.old acts.new (in_links id (link_acts side id now (Give message.items) []) links)) }
+        ensures err { IfErr result (λ fault. (side : Side) (links : Links) → ShowLinks side self.old links
+            → in_links id (link_acts side id now (Give message.items) []) links ≡ Err fault.kind) }
+        ensures handed_back { IfErr result (λ fault. fault.message ≡ Some message) }
+        ensures unchanged { OnErr result ((side : Side) (links : Links) → ShowLinks side self.old links → ShowLinks side self.new links) }
+        ensures nothing { OnErr result (acts.new ≡ acts.old) }
+    {
+        let giving = id;
+        let carried = id;
+        let Some(_) = self.table.link(id) else {
+            return Err(refused(SideKind::NoLink, message));
+        };
+        match self.table.give_into(giving, message, &mut self.outs) {
+            Ok(()) => {
+                self.carry_out(carried, &[], now, acts);
+                Ok(())
+            }
+            Err(back) => Err(refused(SideKind::Link(back.fault), back.message)),
+        }
+    }
+
+    /// T200 or T203 of the link with this name has expired, at the moment `now`, and no longer runs. What comes of it goes
+    /// behind what `acts` has.
+    ///
+    /// # Errors
+    ///
+    /// B1 where the link is not there. Nothing is changed.
+    pub fn expire(
+        &mut self,
+        id: LinkId,
+        timer: Timer,
+        now: u64,
+        acts: &mut Acts,
+    ) -> Result<(), SideKind>
+        requires of_link { IsOfLink timer }
+        requires frame_room { length acts.old.frames ≤ 144 }
+        requires primitive_room { length acts.old.primitives ≤ 144 }
+        ensures ok { OnOk result ((side : Side) (links : Links) → ShowLinks side self.old links
+            → HaveActed side self.new acts.old acts.new (in_links id (link_expires side id now timer) links)) }
+        ensures err { IfErr result (λ kind. (side : Side) (links : Links) → ShowLinks side self.old links
+            → in_links id (link_expires side id now timer) links ≡ Err kind) }
+        ensures unchanged { OnErr result ((side : Side) (links : Links) → ShowLinks side self.old links → ShowLinks side self.new links) }
+        ensures nothing { OnErr result (acts.new ≡ acts.old) }
+    {
+        let expiring = id;
+        let stopping = id;
+        let carried = id;
+        let Some(_) = self.table.link(id) else {
+            return Err(SideKind::NoLink);
+        };
+        match self
+            .table
+            .handle_into(expiring, expiry_of(timer), &mut self.outs)
+        {
+            Ok(()) => {
+                self.timings.stop(&stopping, timer);
+                self.carry_out(carried, &[], now, acts);
+                Ok(())
+            }
+            Err(fault) => Err(SideKind::Link(fault)),
+        }
+    }
+}
+
+/// What a link hears of its timer.
+fn expiry_of<'a>(timer: Timer) -> Event<'a>
+    requires { IsOfLink timer }
+    ensures input { input_of result ≡ input.Expiry timer }
+    ensures any { (id : LinkId) → IsFor id result }
+{
+    match timer {
+        Timer::T200 => Event::T200,
+        Timer::T203 => Event::T203,
+        Timer::T201 | Timer::T202 => unreachable!(),
+    }
+}
+
+/// A TEI of one terminal.
+fn own_tei(tei: u8) -> Tei
+    requires { tei < 127 }
+    ensures { result ≡ tei }
+{
+    match Tei::new(tei) {
+        Some(tei) => tei,
+        None => unreachable!(),
+    }
+}
+
+/// The name of a link.
+fn name(sapi: Sapi, tei: Tei) -> LinkId
+    ensures { result ≡ of_sapi sapi tei }
+{
+    LinkId { sapi, tei }
+}
+
+/// Tells what becomes of a link that goes.
+fn tell_parting(id: &LinkId, link: &Link, acts: &mut Acts)
+    requires room { length acts.old.primitives < 280 }
+    ensures told { (e : End) → LinkStandsFor link.now e
+        → acts.new.primitives ≡ acts.old.primitives ++ parting_of id.now (parting e.state e.release_pending) }
+    ensures frames { acts.new.frames ≡ acts.old.frames }
+    ensures room { length acts.new.primitives ≤ length acts.old.primitives + 1 }
+{
+    if let Some(what) = parting(link.state(), link.release_pending()) {
+        acts.tell(Primitive::Of(*id, what));
+    }
+}
+
+/// What layer 3 is told of a link that goes in the state with this number.
+fn parting(state: u8, release_pending: bool) -> Option<What>
+    ensures { (s : State) → state ≡ state_number s → result ≡ parting s release_pending }
+{
+    match state {
+        4 => None,
+        5 if !release_pending => Some(What::Released),
+        5 | 6 => Some(What::ReleaseConfirm),
+        _ => Some(What::Released),
+    }
+}

@@ -1,0 +1,86 @@
+//! What a side tells the layers above it.
+
+ghost use Rattle.std.specs.Prelude.{Some};
+ghost use Rattle.lapd_sides_links.specs.Texts.{primitive_text, what_text};
+
+use crate::Octets;
+use lapd_link::Letter;
+use lapd_table::LinkId;
+use lapd_tei::TeiOut;
+use std::fmt;
+
+/// What layer 3 or management is told of a link (Q.921 4.1). It prints as the programs `net` and `user` print it, as in
+/// `established` and `data 0801`.
+#[derive(Debug, Drop)]
+pub enum What {
+    /// A message of the peer came (DL-DATA indication).
+    Up(Octets),
+    /// Unit data of the peer came (DL-UNIT DATA indication).
+    UnitUp(Octets),
+    /// The link is established (DL-ESTABLISH indication).
+    Established,
+    /// The link is established as was asked for (DL-ESTABLISH confirm).
+    Confirmed,
+    /// The link is released (DL-RELEASE indication).
+    Released,
+    /// The link is released as was asked for (DL-RELEASE confirm).
+    ReleaseConfirm,
+    /// So many messages were acknowledged, at least one.
+    Acknowledged(u16),
+    /// So many messages were dropped, at least one.
+    Dropped(u16),
+    /// An error is reported (MDL-ERROR indication, Q.921 Appendix II).
+    Report(Letter),
+}
+
+/// What a side tells the layers above it. It prints as the programs `net` and `user` print it, as in `0 64 established` and
+/// `tei given 64`.
+#[derive(Debug, Drop)]
+pub enum Primitive {
+    /// Of the link with this name. Unit data to the group, and what is told of a SAPI while there is no TEI, name TEI 127.
+    Of(LinkId, What),
+    /// An outcome of TEI management: never a message, nor the start or stop of a timer.
+    Management(TeiOut),
+}
+
+impl fmt::Display for What {
+    ghost output = { λ what. Some (what_text what) };
+
+    fn fmt<W: fmt::Write>(&self, f: &mut fmt::Formatter<W>) -> fmt::Result {
+        match self {
+            What::Up(octets) if octets.as_slice().is_empty() => write!(f, "data"),
+            What::Up(octets) => write!(f, "data {octets}"),
+            What::UnitUp(octets) if octets.as_slice().is_empty() => write!(f, "unit"),
+            What::UnitUp(octets) => write!(f, "unit {octets}"),
+            What::Established => write!(f, "established"),
+            What::Confirmed => write!(f, "confirmed"),
+            What::Released => write!(f, "released"),
+            What::ReleaseConfirm => write!(f, "release-confirmed"),
+            What::Acknowledged(n) => write!(f, "acknowledged {n}"),
+            What::Dropped(n) => write!(f, "dropped {n}"),
+            What::Report(letter) => write!(f, "report {}", letter.name()),
+        }
+    }
+}
+
+impl fmt::Display for Primitive {
+    ghost output = { λ primitive. Some (primitive_text primitive) };
+
+    fn fmt<W: fmt::Write>(&self, f: &mut fmt::Formatter<W>) -> fmt::Result {
+        match self {
+            Primitive::Of(id, what) => {
+                let sapi = id.sapi;
+                let tei = id.tei;
+                write!(f, "{sapi} {tei} {what}")
+            }
+            Primitive::Management(TeiOut::Given(tei)) => write!(f, "tei given {tei}"),
+            Primitive::Management(TeiOut::Got(tei)) => write!(f, "tei got {tei}"),
+            Primitive::Management(TeiOut::Gone(tei)) => write!(f, "tei gone {tei}"),
+            Primitive::Management(TeiOut::Failed) => write!(f, "tei failed"),
+            Primitive::Management(TeiOut::Free(tei)) => write!(f, "tei free {tei}"),
+            Primitive::Management(TeiOut::InUse(tei)) => write!(f, "tei in-use {tei}"),
+            Primitive::Management(TeiOut::Doubled(tei)) => write!(f, "tei doubled {tei}"),
+            Primitive::Management(TeiOut::Send(_) | TeiOut::Start(_) | TeiOut::Stop(_)) => Ok(()),
+        }
+    }
+}

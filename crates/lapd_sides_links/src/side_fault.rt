@@ -1,0 +1,62 @@
+//! Why a side refuses.
+
+ghost use Rattle.std.specs.Prelude.{◌≡◌, Some};
+ghost use Rattle.lapd_sides_links.specs.Texts.{kind_text};
+
+use lapd_link::LinkFault;
+use std::error::Error;
+use std::fmt;
+
+/// Why a side refuses. It is unchanged.
+#[derive(Clone, Copy, Debug, PartialEq, Eq)]
+pub enum SideKind {
+    /// B1: no link has this name.
+    NoLink,
+    /// B3: no memory was found for a link that is to be added.
+    Memory,
+    /// L1 to L5: the link refuses.
+    Link(LinkFault),
+}
+
+/// A refusal, with the message or unit data that was handed in, as it came.
+#[derive(Debug, Drop)]
+pub struct SideFault {
+    /// Why.
+    pub kind: SideKind,
+    /// The octets of a message or of unit data; `None` where neither was handed in.
+    pub message: Option<Vec<u8>>,
+}
+
+impl fmt::Display for SideKind {
+    ghost output = { λ kind. Some (kind_text kind) };
+
+    fn fmt<W: fmt::Write>(&self, f: &mut fmt::Formatter<W>) -> fmt::Result {
+        match self {
+            SideKind::NoLink => write!(f, "B1 NoLink"),
+            SideKind::Memory => write!(f, "B3 Memory"),
+            SideKind::Link(fault) => write!(f, "{}", fault.name()),
+        }
+    }
+}
+
+impl Error for SideKind {}
+
+impl fmt::Display for SideFault {
+    ghost output = { λ fault. Some (kind_text fault.kind) };
+
+    fn fmt<W: fmt::Write>(&self, f: &mut fmt::Formatter<W>) -> fmt::Result {
+        let kind = self.kind;
+        write!(f, "{kind}")
+    }
+}
+
+impl Error for SideFault {}
+
+/// A refusal that hands the message back.
+pub fn refused(kind: SideKind, message: Vec<u8>) -> SideFault
+    ensures kind { result.kind ≡ kind }
+    ensures message { result.message ≡ Some message }
+{
+    let message = Some(message);
+    SideFault { kind, message }
+}

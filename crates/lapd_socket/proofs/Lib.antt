@@ -1,4 +1,0 @@
-pub mod Clocks
-mod Crossed
-mod Loops
-pub mod SideWalks

@@ -1,5 +1,0 @@
-use Rattle.lapd_states.proofs.NearNumbers.{numbers_within_are_near}
-use Rattle.lapd_states.proofs.laws.numbers_within_are_near.Goals as goal
-
-pub returns : goal.returns
-returns c = numbers_within_are_near
