@@ -162,7 +162,7 @@ impl RecordedLink {
     /// Where an establishment begins, writes it down.
     fn note_beginning(&mut self, begins: bool)
         requires { HasRoom step_room self.old.history }
-        ensures shows { (messages : List (List ℕ)) (h : histories.Log) (before now : ℕ) → begins ≡ not (before == now)
+        ensures shows { (messages : List (List ℕ)) (h : histories.History) (before now : ℕ) → begins ≡ not (before == now)
             → IsHistory self.old.history messages h → IsHistory self.new.history messages (with_beginning before now h) }
         ensures room { HasRoom data_room self.new.history }
         ensures link { self.new.link ≡ self.old.link }
