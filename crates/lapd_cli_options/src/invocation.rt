@@ -36,7 +36,11 @@ pub enum Job {
 impl Invocation<'_> {
     /// What the program does that is called with no word.
     pub(crate) fn by_no_word() -> Invocation<'static>
-        ensures { result ≡ record { job = Job.Answer Side.Network default_parameters; address = None; strict = false } }
+        ensures { result ≡ record {
+          job = Job.Answer Side.Network default_parameters;
+          address = None;
+          strict = false;
+        } }
     {
         let params = Params::basic(Sapi::Call);
         Invocation {

@@ -38,7 +38,11 @@ pub fn parse_words<'a, S: AsStr>(
     words: &'a [S],
 ) -> Result<Invocation<'a>, NoInvocation<'a>>
     ensures { length words.now < 2
-        → result ≡ Ok (record { job = Job.Answer Side.Network default_parameters; address = None; strict = false }) }
+        → result ≡ Ok (record {
+          job = Job.Answer Side.Network default_parameters;
+          address = None;
+          strict = false;
+        }) }
 {
     if words.len() < 2 {
         return Ok(Invocation::by_no_word());

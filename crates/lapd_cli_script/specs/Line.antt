@@ -15,7 +15,8 @@ octets_of (digit ∷ digits) = result_ok (decode_of (digit ∷ digits))
 -- the words of a line, which single spaces part
 abbrev pub words_of : List ℕ → List (List ℕ)
 words_of [] = [] ∷ []
-words_of (octet ∷ octets) = if octet == 32 then [] ∷ words_of octets else with_first octet (words_of octets)
+words_of (octet ∷ octets) = if octet == 32 then [] ∷ words_of octets
+    else with_first octet (words_of octets)
 
 -- no octet is a space
 abbrev pub HasNoSpace : List ℕ → Type 0
@@ -45,7 +46,8 @@ is_digit octet = nat_le 48 octet && nat_le octet 57
 -- the number that decimal digits write behind those of n; none where one is no digit
 abbrev pub digits_behind : ℕ → List ℕ → Option ℕ
 digits_behind n [] = Some n
-digits_behind n (digit ∷ digits) = if is_digit digit then digits_behind (n * 10 + (digit - 48)) digits else None
+digits_behind n (digit ∷ digits) = if is_digit digit
+    then digits_behind (n * 10 + (digit - 48)) digits else None
 
 -- a number below 2^64
 abbrev pub below_2_64 : ℕ → Option ℕ
@@ -53,7 +55,8 @@ below_2_64 n = if nat_lt n (2 ^ 64) then Some n else None
 
 -- the number below 2^64 that decimal digits write, at least one of them
 abbrev pub number_said : List ℕ → Option ℕ
-number_said digits = if length digits == 0 then None else option_and_then below_2_64 (digits_behind 0 digits)
+number_said digits = if length digits == 0 then None
+    else option_and_then below_2_64 (digits_behind 0 digits)
 
 -- such a number in the last word
 abbrev pub number_behind : List (List ℕ) → Option ℕ

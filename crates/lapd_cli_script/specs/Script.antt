@@ -14,7 +14,8 @@ with_first octet (line ∷ lines) = (octet ∷ line) ∷ lines
 -- the lines of a script: each ends with a line feed, which the last may lack
 abbrev pub lines_of : List ℕ → List (List ℕ)
 lines_of [] = []
-lines_of (octet ∷ octets) = if octet == 10 then [] ∷ lines_of octets else with_first octet (lines_of octets)
+lines_of (octet ∷ octets) = if octet == 10 then [] ∷ lines_of octets
+    else with_first octet (lines_of octets)
 
 -- an empty line, or one that begins with `#`
 abbrev pub is_passed_over : List ℕ → Bool
@@ -49,7 +50,8 @@ number_or number (Some (text, t)) rest = rest t
 -- the number of the first bad line, where the first of these lines has this number
 abbrev pub bad_from : {S : Type 0} → ℕ → Step S → S → List (List ℕ) → Option ℕ
 bad_from number step s [] = None
-bad_from number step s (line ∷ lines) = number_or number (outcome_of step s line) (λ t. bad_from (number + 1) step t lines)
+bad_from number step s (line ∷ lines) = number_or number (outcome_of step s line)
+    (λ t. bad_from (number + 1) step t lines)
 
 -- the number of the first bad line, from 1
 abbrev pub bad_line : {S : Type 0} → Step S → S → List (List ℕ) → Option ℕ
@@ -62,24 +64,32 @@ state_or s (Some (text, t)) rest = rest t
 -- the state after the lines, up to the first bad one
 abbrev pub state_after : {S : Type 0} → Step S → S → List (List ℕ) → S
 state_after step s [] = s
-state_after step s (line ∷ lines) = state_or s (outcome_of step s line) (λ t. state_after step t lines)
+state_after step s (line ∷ lines) = state_or s (outcome_of step s line)
+    (λ t. state_after step t lines)
 
 -- all lines before some place are good, and the writer grew by their texts
-abbrev pub PrintsFront : {S : Type 0} → Step S → S → List (List ℕ) → Option (List ℕ) → Option (List ℕ) → Type 0
+abbrev pub PrintsFront : {S : Type 0} → Step S → S → List (List ℕ) → Option (List ℕ)
+    → Option (List ℕ) → Type 0
 PrintsFront step s lines old new =
-    (before : List (List ℕ)) × (after : List (List ℕ)) × (lines ≡ before ++ after) × (bad_line step s before ≡ None) × Appends old new (output_of step s before)
+    (before : List (List ℕ)) × (after : List (List ℕ)) × (lines ≡ before ++ after)
+    × (bad_line step s before ≡ None) × Appends old new (output_of step s before)
 
 -- how a command that goes over these lines and no port ends, and what the writer that it was given holds
-abbrev pub EndsAs : {S : Type 0} → Step S → S → Result ⊤ ScriptFault → List (List ℕ) → Option (List ℕ) → Option (List ℕ) → Type 0
-EndsAs step s (Ok done) lines old new = (bad_line step s lines ≡ None) × Appends old new (output_of step s lines)
-EndsAs step s (Err (BadLine number)) lines old new = (bad_line step s lines ≡ Some number) × Appends old new (output_of step s lines)
+abbrev pub EndsAs : {S : Type 0} → Step S → S → Result ⊤ ScriptFault → List (List ℕ)
+    → Option (List ℕ) → Option (List ℕ) → Type 0
+EndsAs step s (Ok done) lines old new = (bad_line step s lines ≡ None)
+    × Appends old new (output_of step s lines)
+EndsAs step s (Err (BadLine number)) lines old new = (bad_line step s lines ≡ Some number)
+    × Appends old new (output_of step s lines)
 EndsAs step s (Err Memory) lines old new = PrintsFront step s lines old new
 EndsAs step s (Err Device) lines old new = ⊤
 EndsAs step s (Err (Port fault)) lines old new = ⊥
 
 -- how one line of a command ends, where this is what it calls for
-abbrev pub LineEndsAs : {C S : Type 0} → (C → S → Type 0) → Outcome S → Result ⊤ LineFault → C → Option (List ℕ) → Option (List ℕ) → Type 0
-LineEndsAs stands_for outcome (Ok done) command old new = IsSomeAnd outcome (λ next. stands_for command next.1 × Appends old new next.0)
+abbrev pub LineEndsAs : {C S : Type 0} → (C → S → Type 0) → Outcome S → Result ⊤ LineFault → C
+    → Option (List ℕ) → Option (List ℕ) → Type 0
+LineEndsAs stands_for outcome (Ok done) command old new =
+    IsSomeAnd outcome (λ next. stands_for command next.1 × Appends old new next.0)
 LineEndsAs stands_for outcome (Err Bad) command old new = IsNone outcome × Keeps old new
 LineEndsAs stands_for outcome (Err LineMemory) command old new = Keeps old new
 LineEndsAs stands_for outcome (Err LineDevice) command old new = ⊤

@@ -26,10 +26,12 @@ walk_lines octets = map without_comment (lines_of octets)
 -- the lines, all of them good, print this text and lead to the state t
 abbrev pub Ran : {S : Type 0} → Step S → S → List (List ℕ) → List ℕ → S → Type 0
 Ran step s [] text t = (text ≡ []) × (t ≡ s)
-Ran {S} step s (line ∷ lines) text t = IsSomeAnd (outcome_of step s line) (λ next. (rest : List ℕ) × (text ≡ next.0 ++ rest) × Ran step next.1 lines rest t)
+Ran {S} step s (line ∷ lines) text t = IsSomeAnd (outcome_of step s line)
+    (λ next. (rest : List ℕ) × (text ≡ next.0 ++ rest) × Ran step next.1 lines rest t)
 
 -- a walk came from the lines to more of them and from the count n to m, did each line between, and the writer grew by their texts
-pub record Walk {S : Type 0} (step : Step S) (s : S) (lines more : List (List ℕ)) (t : S) (n m : ℕ) (old new : Option (List ℕ)) : Type 0 where
+pub record Walk {S : Type 0} (step : Step S) (s : S) (lines more : List (List ℕ)) (t : S) (n m : ℕ)
+    (old new : Option (List ℕ)) : Type 0 where
   pub finished : List (List ℕ)
   pub text : List ℕ
   pub parted : lines ≡ finished ++ more
@@ -38,10 +40,14 @@ pub record Walk {S : Type 0} (step : Step S) (s : S) (lines more : List (List �
   pub grew : Appends old new text
 
 -- how a walk over the lines, which is to leave the last ones, ends
-abbrev pub WalkEnds : {C S : Type 0} → (C → S → Type 0) → Step S → S → Result ⊤ ScriptFault → List (List ℕ) → List (List ℕ) → C → ℕ → ℕ → Option (List ℕ) → Option (List ℕ) → Type 0
-WalkEnds {C} {S} stands_for step s (Ok done) lines last command n m old new = (t : S) × stands_for command t × Walk step s lines last t n m old new
+abbrev pub WalkEnds : {C S : Type 0} → (C → S → Type 0) → Step S → S → Result ⊤ ScriptFault
+    → List (List ℕ) → List (List ℕ) → C → ℕ → ℕ → Option (List ℕ) → Option (List ℕ) → Type 0
+WalkEnds {C} {S} stands_for step s (Ok done) lines last command n m old new = (t : S)
+    × stands_for command t × Walk step s lines last t n m old new
 WalkEnds {C} {S} stands_for step s (Err (BadLine number)) lines last command n m old new =
-    (t : S) × (line : List ℕ) × (more : List (List ℕ)) × (i : ℕ) × Walk step s lines (line ∷ more) t n i old new × (outcome_of step t line ≡ None) × (number ≡ i + 1)
+    (t : S) × (line : List ℕ) × (more : List (List ℕ)) × (i : ℕ)
+    × Walk step s lines (line ∷ more) t n i old new × (outcome_of step t line ≡ None)
+    × (number ≡ i + 1)
 WalkEnds {C} {S} stands_for step s (Err Memory) lines last command n m old new =
     (t : S) × (more : List (List ℕ)) × (i : ℕ) × Walk step s lines more t n i old new
 WalkEnds {C} {S} stands_for step s (Err Device) lines last command n m old new = ⊤
@@ -52,6 +58,8 @@ abbrev pub KeepsFault : Result ⊤ ScriptFault → Result ⊤ ScriptFault → Ty
 KeepsFault ended result = (result ≡ ended) ⊎ (result ≡ Err Device)
 
 -- the walk came to what was cut off and what the reader has left
-abbrev pub Came : {C S : Type 0} → (C → S → Type 0) → Step S → S → Option (List ℕ) → Option (List ℕ) → C → List ℕ → ℕ → Option (List ℕ) → Option (List ℕ) → Type 0
+abbrev pub Came : {C S : Type 0} → (C → S → Type 0) → Step S → S → Option (List ℕ) → Option (List ℕ)
+    → C → List ℕ → ℕ → Option (List ℕ) → Option (List ℕ) → Type 0
 Came {C} {S} stands_for step s initial now command cut n a b = IfSome initial
-    (λ octets. (rest : List ℕ) × (t : S) × (now ≡ Some rest) × stands_for command t × Walk step s (walk_lines octets) (walk_lines (cut ++ rest)) t 0 n a b)
+    (λ octets. (rest : List ℕ) × (t : S) × (now ≡ Some rest) × stands_for command t
+    × Walk step s (walk_lines octets) (walk_lines (cut ++ rest)) t 0 n a b)

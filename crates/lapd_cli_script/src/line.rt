@@ -98,7 +98,8 @@ impl<'a> Words<'a> {
 /// The first word, and what stands behind its space, where there is one.
 #[tactic(auto, using(crate::proofs::WordsOf::words_behind, crate::proofs::WordsOf::one_word))]
 fn first_word(line: &[u8]) -> (&[u8], Option<&[u8]>)
-    ensures { MatchOption result.1 (words_of line.now ≡ result.0.now ∷ []) (λ rest. words_of line.now ≡ result.0.now ∷ words_of rest.now) }
+    ensures { MatchOption result.1 (words_of line.now ≡ result.0.now ∷ [])
+        (λ rest. words_of line.now ≡ result.0.now ∷ words_of rest.now) }
 {
     cut_at_space(line)
 }
@@ -106,7 +107,8 @@ fn first_word(line: &[u8]) -> (&[u8], Option<&[u8]>)
 /// The octets before the first space, and those behind it.
 fn cut_at_space(line: &[u8]) -> (&[u8], Option<&[u8]>)
     ensures word { HasNoSpace result.0.now }
-    ensures parts { MatchOption result.1 (line.now ≡ result.0.now) (λ rest. line.now ≡ result.0.now ++ 32 ∷ rest.now) }
+    ensures parts { MatchOption result.1 (line.now ≡ result.0.now)
+        (λ rest. line.now ≡ result.0.now ++ 32 ∷ rest.now) }
 {
     match memchr(b' ', line) {
         None => (line, None),

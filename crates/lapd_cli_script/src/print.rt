@@ -16,7 +16,8 @@ use std::io::Write;
 ///
 /// `Device`, where the writer fails: the front of the line may be written then.
 pub fn put_line<W: Write>(front: &[u8], back: &[u8], out: &mut W) -> Result<(), LineFault>
-    ensures ok { OnOk result (Appends (W.contents out.old) (W.contents out.new) (text_line (front.now ++ back.now))) }
+    ensures ok { OnOk result (Appends (W.contents out.old) (W.contents out.new)
+        (text_line (front.now ++ back.now))) }
     ensures err { IsOkUnless result LineFault.Device }
 {
     out.write_all(front)?;
@@ -31,7 +32,8 @@ pub fn put_line<W: Write>(front: &[u8], back: &[u8], out: &mut W) -> Result<(), 
 ///
 /// `Device`, where the writer fails: the front of the line may be written then.
 pub fn put_number<W: Write>(front: &[u8], number: u64, out: &mut W) -> Result<(), LineFault>
-    ensures ok { OnOk result (Appends (W.contents out.old) (W.contents out.new) (text_line (front.now ++ decimal number))) }
+    ensures ok { OnOk result (Appends (W.contents out.old) (W.contents out.new)
+        (text_line (front.now ++ decimal number))) }
     ensures err { IsOkUnless result LineFault.Device }
 {
     out.write_all(front)?;
@@ -45,7 +47,8 @@ pub fn put_number<W: Write>(front: &[u8], number: u64, out: &mut W) -> Result<()
 ///
 /// `Device`, where the writer fails: the front of the line may be written then.
 pub fn put_octets<W: Write>(word: &[u8], octets: &[u8], out: &mut W) -> Result<(), LineFault>
-    ensures ok { OnOk result (Appends (W.contents out.old) (W.contents out.new) (text_line (word.now ++ digits_of octets.now))) }
+    ensures ok { OnOk result (Appends (W.contents out.old) (W.contents out.new)
+        (text_line (word.now ++ digits_of octets.now))) }
     ensures err { IsOkUnless result LineFault.Device }
 {
     if octets.is_empty() {
@@ -67,7 +70,8 @@ const CHUNK: usize = 64;
 ///
 /// The writer's. Some digits may be written then.
 pub fn put_hex<W: Write>(octets: &[u8], out: &mut W) -> io::Result<()>
-    ensures { OnOk result (Appends (W.contents out.old) (W.contents out.new) (encode_lower octets.now)) }
+    ensures { OnOk result (Appends (W.contents out.old) (W.contents out.new)
+        (encode_lower octets.now)) }
 {
     let mut rest = octets;
     while !rest.is_empty() {
@@ -81,7 +85,8 @@ pub fn put_hex<W: Write>(octets: &[u8], out: &mut W) -> io::Result<()>
 // Writes at most `CHUNK` octets.
 fn put_hex_chunk<W: Write>(octets: &[u8], out: &mut W) -> io::Result<()>
     requires { length octets.now ≤ 64 }
-    ensures { OnOk result (Appends (W.contents out.old) (W.contents out.new) (encode_lower octets.now)) }
+    ensures { OnOk result (Appends (W.contents out.old) (W.contents out.new)
+        (encode_lower octets.now)) }
 {
     let mut digits = [0u8; 2 * CHUNK];
     let text = &mut digits[..2 * octets.len()];

@@ -80,7 +80,8 @@ pub trait Command {
     /// `Bad`, where the line is no line of the command; `Device`, where a write failed; `Memory`.
     fn run<W: Write>(&mut self, line: &[u8], out: &mut W) -> Result<(), LineFault>
         ensures { (s : State) → stands_for self.old s
-            → LineEndsAs stands_for (step s line.now) result self.new (W.contents out.old) (W.contents out.new) };
+            → LineEndsAs stands_for (step s line.now) result self.new (W.contents out.old)
+            (W.contents out.new) };
 }
 
 /// How many reads of a script are made.
@@ -104,9 +105,11 @@ pub fn walk<C: Command, R: Read, W: Write>(
     out: &mut W,
 ) -> Result<(), ScriptFault>
     ensures ended { (s : C.State) → C.stands_for command.old s → IfSome (R.remaining script.old)
-        (λ octets. EndsAs C.step s result (lines_of octets) (W.contents out.old) (W.contents out.new)) }
+        (λ octets. EndsAs C.step s result (lines_of octets) (W.contents out.old)
+        (W.contents out.new)) }
     ensures state { (s : C.State) → C.stands_for command.old s → IfSome (R.remaining script.old)
-        (λ octets. OnOk result (C.stands_for command.new (state_after C.step s (lines_of octets)))) }
+        (λ octets. OnOk result (C.stands_for command.new
+        (state_after C.step s (lines_of octets)))) }
 {
     let ended = walk_script(alloc, command, script, out);
     hand_out(ended, out)
@@ -120,7 +123,8 @@ fn walk_script<C: Command, R: Read, W: Write>(
     out: &mut W,
 ) -> Result<(), ScriptFault>
     ensures { (s : C.State) → C.stands_for command.old s → IfSome (R.remaining script.old)
-        (λ octets. (m : ℕ) × WalkEnds C.stands_for C.step s result (walk_lines octets) [] command.new 0 m
+        (λ octets. (m : ℕ) × WalkEnds C.stands_for C.step s result
+        (walk_lines octets) [] command.new 0 m
         (W.contents out.old) (W.contents out.new)) }
 {
     let mut number: u64 = 0;
@@ -183,7 +187,8 @@ fn walk_whole<C: Command, W: Write>(
     ensures used { OnOk result (cut.new.items ≡ []) }
     ensures ended { (s : C.State) (left after : List ℕ) → C.stands_for command.old s
         → WalkEnds C.stands_for C.step s result
-        (walk_lines (cut.old.items ++ (line.now ++ 10 ∷ left) ++ after)) (walk_lines (left ++ after))
+        (walk_lines (cut.old.items ++ (line.now ++ 10 ∷ left) ++ after))
+        (walk_lines (left ++ after))
         command.new number.old number.new (W.contents out.old) (W.contents out.new) }
 {
     if cut.is_empty() {
@@ -205,7 +210,8 @@ fn walk_last<C: Command, W: Write>(
     requires room { number.old + 1 < 2 ^ 64 }
     requires no_feed { HasNoFeed cut.now }
     ensures { (s : C.State) → C.stands_for command.old s
-        → WalkEnds C.stands_for C.step s result (walk_lines cut.now) [] command.new number.old number.new
+        → WalkEnds C.stands_for C.step s result (walk_lines cut.now) [] command.new number.old
+        number.new
         (W.contents out.old) (W.contents out.new) }
 {
     if cut.is_empty() {
@@ -224,7 +230,8 @@ fn walk_line<C: Command, W: Write>(
     requires { number.old + 1 < 2 ^ 64 }
     ensures count { number.new ≡ number.old + 1 }
     ensures ended { (s : C.State) (more : List (List ℕ)) → C.stands_for command.old s
-        → WalkEnds C.stands_for C.step s result (without_comment line.now ∷ more) more command.new number.old number.new
+        → WalkEnds C.stands_for C.step s result (without_comment line.now ∷ more) more command.new
+        number.old number.new
         (W.contents out.old) (W.contents out.new) }
 {
     *number += 1;
@@ -248,7 +255,8 @@ fn is_passed_over(line: &[u8]) -> bool
 
 // The octets before the first line feed, and those after it.
 fn first_line(octets: &[u8]) -> Option<(&[u8], &[u8])>
-    ensures found { IfSome result (λ parts. HasNoFeed parts.0.now × (octets.now ≡ parts.0.now ++ 10 ∷ parts.1.now)) }
+    ensures found { IfSome result (λ parts. HasNoFeed parts.0.now
+        × (octets.now ≡ parts.0.now ++ 10 ∷ parts.1.now)) }
     ensures none { IfNone result (HasNoFeed octets.now) }
 {
     let end = memchr(b'\n', octets)?;

@@ -6,7 +6,12 @@ use Rattle.lapd_link_rows.specs.Parameters.{Parameters, AreInRange}
 
 -- the parameters with the numbers that these texts, which are decimal digits, write
 abbrev pub parameters_written : List ℕ → List ℕ → List ℕ → Parameters
-parameters_written k n200 room = record { k = digits_value 10 k; n200 = digits_value 10 n200; room = digits_value 10 room; recovery = Enquiry }
+parameters_written k n200 room = record {
+  k = digits_value 10 k;
+  n200 = digits_value 10 n200;
+  room = digits_value 10 room;
+  recovery = Enquiry;
+}
 
 -- all three are written in decimal digits alone, and in their ranges
 pub record AreWritten (k n200 room : List ℕ) : Type 0 where

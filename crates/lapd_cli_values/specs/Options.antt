@@ -10,4 +10,5 @@ pub record IsNumberTo (most : ℕ) (text : List ℕ) : Type 0 where
 
 -- one of the three, and the last number of its range
 abbrev pub IsRangeOf : List ℕ → List ℕ → List ℕ → ℕ → List ℕ → Type 0
-IsRangeOf k n200 room most text = ((text ≡ k) × (most ≡ 127)) ⊎ ((text ≡ n200) × (most ≡ 100)) ⊎ ((text ≡ room) × (most ≡ 1024))
+IsRangeOf k n200 room most text = ((text ≡ k) × (most ≡ 127)) ⊎ ((text ≡ n200) × (most ≡ 100))
+    ⊎ ((text ≡ room) × (most ≡ 1024))

@@ -1,5 +1,7 @@
 //! The options that take an address.
 
+ghost use Rattle.std.specs.Prelude.{◌≡◌, IfOk, IfErr};
+
 use thiserror::Error;
 
 /// An option that takes an address and a port.
@@ -30,7 +32,10 @@ impl AddressOption {
     /// # Errors
     ///
     /// Where it has not: nothing can be listened on there, or connected to.
-    pub fn address(self, written: &str) -> Result<&str, NoAddress<'_>> {
+    pub fn address(self, written: &str) -> Result<&str, NoAddress<'_>>
+        ensures ok { IfOk result (λ address. address.now ≡ written.now) }
+        ensures err { IfErr result (λ none. none ≡ record { option = self; written = written.entry }) }
+    {
         if is_address(written) {
             Ok(written)
         } else {

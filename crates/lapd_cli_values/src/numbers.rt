@@ -10,7 +10,8 @@ use lapd_link_rows::Params;
 /// to 100 times, and the room of its I queue, 1 to 1,024 messages. `None` where a text is not written so, or its number
 /// is out of its range.
 pub fn params_of(k: &str, n200: &str, room: &str) -> Option<Params>
-    ensures { SomeIff result (AreWritten k.now n200.now room.now) (parameters_written k.now n200.now room.now) }
+    ensures { SomeIff result (AreWritten k.now n200.now room.now)
+        (parameters_written k.now n200.now room.now) }
 {
     let k = u8::try_from(number_of(k)?).ok()?;
     let n200 = u8::try_from(number_of(n200)?).ok()?;
@@ -19,7 +20,8 @@ pub fn params_of(k: &str, n200: &str, room: &str) -> Option<Params>
 
 /// The number below 65,536 that this text writes in decimal digits alone. `None` where it writes none.
 pub fn number_of(digits: &str) -> Option<u16>
-    ensures { SomeIff result (IsNumeral 10 digits.now × (digits_value 10 digits.now < 2 ^ 16)) (digits_value 10 digits.now) }
+    ensures { SomeIff result (IsNumeral 10 digits.now × (digits_value 10 digits.now < 2 ^ 16))
+        (digits_value 10 digits.now) }
 {
     if digits.starts_with('+') {
         return None;

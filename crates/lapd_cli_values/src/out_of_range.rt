@@ -29,7 +29,8 @@ pub fn params_written<'a>(
     room: &'a str,
 ) -> Result<Params, OutOfRange<'a>>
     ensures { MatchResult result
-        (λ params. AreWritten k.now n200.now room.now × (params ≡ parameters_written k.now n200.now room.now))
+        (λ params. AreWritten k.now n200.now room.now
+        × (params ≡ parameters_written k.now n200.now room.now))
         (λ fault. IsRangeOf k.now n200.now room.now fault.option.most fault.written.now
         × (¬ IsNumberTo fault.option.most fault.written.now)) }
 {
@@ -69,7 +70,8 @@ fn refused(option: NumberOption, written: &str) -> OutOfRange<'_>
 pub fn terminals_written(written: &str) -> Result<u8, OutOfRange<'_>>
     ensures { MatchResult result
         (λ terminals. IsNumberTo 127 written.now × (terminals ≡ digits_value 10 written.now))
-        (λ fault. (fault.option.most ≡ 127) × (fault.written ≡ written.entry) × (¬ IsNumberTo 127 written.now)) }
+        (λ fault. (fault.option.most ≡ 127) × (fault.written ≡ written.entry)
+        × (¬ IsNumberTo 127 written.now)) }
 {
     match terminals_of(written) {
         Some(terminals) => Ok(terminals),

@@ -27,7 +27,8 @@ sapi_value Management = 63
 
 -- the service access point of a number, where it is served
 abbrev pub sapi_at : ℕ → Option Sapi
-sapi_at n = if n == 0 then Some Call else (if n == 16 then Some Packet else (if n == 63 then Some Management else None))
+sapi_at n = if n == 0 then Some Call else (if n == 16 then Some Packet
+    else (if n == 63 then Some Management else None))
 
 -- a TEI (Q.921 3.3.4) or a sequence number (Q.921 3.5.2.1) of this value: seven bits
 abbrev pub number_at : ℕ → Option ℕ
@@ -68,4 +69,5 @@ with_sapi (Some sapi) tei role = Ok (record { sapi = sapi; tei = tei; role = rol
 abbrev pub address_at : Side → List ℕ → Result Address FieldFault
 address_at from [] = Err BadAddress
 address_at from (first ∷ []) = Err BadAddress
-address_at from (first ∷ second ∷ rest) = if is_badly_extended first second then Err BadAddress else with_sapi (sapi_at (first / 4)) (second / 2) (role_of from (first / 2 % 2 == 1))
+address_at from (first ∷ second ∷ rest) = if is_badly_extended first second then Err BadAddress
+    else with_sapi (sapi_at (first / 4)) (second / 2) (role_of from (first / 2 % 2 == 1))

@@ -66,7 +66,8 @@ unnumbered_at first =
     if first == 0x43 then Some (Disc false) else (if first == 0x53 then Some (Disc true) else (
     if first == 0x63 then Some (Ua false) else (if first == 0x73 then Some (Ua true) else (
     if first == 0x87 then Some (Frmr false) else (if first == 0x97 then Some (Frmr true) else (
-    if first == 0xAF then Some (Xid false) else (if first == 0xBF then Some (Xid true) else None)))))))))))))
+    if first == 0xAF then Some (Xid false) else (if first == 0xBF then Some (Xid true)
+    else None)))))))))))))
 
 -- the field of two octets
 abbrev pub numbered_at : ℕ → ℕ → Option Control
@@ -88,4 +89,5 @@ with_second first (second ∷ rest) = with_length (numbered_at first second) 2
 -- the field at the front of these octets and how many it takes, or what is wrong with it
 abbrev pub control_at : List ℕ → Result (Control × ℕ) FieldFault
 control_at [] = Err TooShort
-control_at (first ∷ rest) = if has_second first then with_second first rest else with_length (unnumbered_at first) 1
+control_at (first ∷ rest) = if has_second first then with_second first rest
+    else with_length (unnumbered_at first) 1

@@ -20,7 +20,8 @@ impl Address {
     pub fn read(octets: [u8; 2], from: Side) -> Result<Address, FieldFault>
         ensures exact { result ≡ address_at from octets }
         ensures found { IfOk result (λ a. IsAddress a × (octets ≡ address_octets from a)) }
-        ensures only { (a : Address) → IsAddress a → octets ≡ address_octets from a → result ≡ Ok a }
+        ensures only { (a : Address) → IsAddress a → octets ≡ address_octets from a
+            → result ≡ Ok a }
     {
         let [first, second] = octets;
         if first % 2 == 1 || second % 2 == 0 {

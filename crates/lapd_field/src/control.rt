@@ -38,8 +38,10 @@ impl Control {
     #[inline(always)]
     pub fn read(octets: &[u8]) -> Result<(Control, usize), FieldFault>
         ensures exact { result ≡ control_at octets.now }
-        ensures found { IfOk result (λ r. IsControl r.0 × (r.1 ≡ length (control_octets r.0)) × (take r.1 octets.now ≡ control_octets r.0)) }
-        ensures only { (c : Control) (rest : List ℕ) → IsControl c → octets.now ≡ control_octets c ++ rest
+        ensures found { IfOk result (λ r. IsControl r.0 × (r.1 ≡ length (control_octets r.0))
+            × (take r.1 octets.now ≡ control_octets r.0)) }
+        ensures only { (c : Control) (rest : List ℕ) → IsControl c
+            → octets.now ≡ control_octets c ++ rest
             → result ≡ Ok (c, length (control_octets c)) }
     {
         let (control, taken) = match octets {

@@ -66,5 +66,9 @@ pub record IsFrame (f : Fields) : Type 0 where
 
 -- what stands between these parts and a frame, or the frame
 abbrev pub frame_of : Address → Control → List ℕ → Option FaultKind → Result Fields FaultKind
-frame_of address control info None = Ok (record { address = address; control = control; info = info })
+frame_of address control info None = Ok (record {
+  address = address;
+  control = control;
+  info = info;
+})
 frame_of address control info (Some fault) = Err fault

@@ -28,19 +28,24 @@ fault_for_link address (Err kind) = Err (record { kind = kind; address = Some ad
 
 -- What an address field, the control field behind it, which takes some of the octets, and the information after it
 -- come to.
-abbrev pub frame_of_fields : Result Address FieldFault → Result (Control × ℕ) FieldFault → List ℕ → Result Fields FrameFault
+abbrev pub frame_of_fields : Result Address FieldFault → Result (Control × ℕ) FieldFault → List ℕ
+    → Result Fields FrameFault
 frame_of_fields (Err field.BadAddress) control octets = fault_for_no_link BadAddress
 frame_of_fields address (Err field.TooShort) octets = fault_for_no_link TooShort
 frame_of_fields (Err fault) control octets = fault_for_no_link SapiNotServed
 frame_of_fields (Ok address) (Err fault) octets = fault_for_link address (Err Undefined)
-frame_of_fields (Ok address) (Ok (control, taken)) octets = fault_for_link address (frame_of address control (drop taken octets) (content_fault address.role control (length (drop taken octets))))
+frame_of_fields (Ok address) (Ok (control, taken)) octets =
+    fault_for_link address (frame_of address control (drop taken octets)
+    (content_fault address.role control (length (drop taken octets))))
 
 -- the frame that these octets of this sender are, or why they are none
 abbrev pub frame_at : Side → List ℕ → Result Fields FrameFault
 frame_at from [] = fault_for_no_link TooShort
 frame_at from (first ∷ []) = fault_for_no_link TooShort
 frame_at from (first ∷ second ∷ []) = fault_for_no_link TooShort
-frame_at from (first ∷ second ∷ third ∷ rest) = frame_of_fields (address_at from (first ∷ second ∷ [])) (control_at (third ∷ rest)) (third ∷ rest)
+frame_at from (first ∷ second ∷ third ∷ rest) =
+    frame_of_fields (address_at from (first ∷ second ∷ [])) (control_at (third ∷ rest))
+    (third ∷ rest)
 
 abbrev pub is_nil : List ℕ → Bool
 is_nil [] = true
@@ -48,7 +53,8 @@ is_nil (octet ∷ octets) = false
 
 -- a fault carries the address of the octets exactly where it is of a link
 abbrev pub address_of : Side → List ℕ → FaultKind → Option Address
-address_of from octets kind = if is_for_link kind then result_ok (address_at from (take 2 octets)) else None
+address_of from octets kind = if is_for_link kind then result_ok (address_at from (take 2 octets))
+    else None
 
 -- ---- The first fault: the least line that holds of the octets.
 
@@ -74,21 +80,25 @@ is_command Answer = false
 
 -- the control field is one of the table, for this role
 abbrev pub is_defined : Role → ℕ → Bool
-is_defined role first = if first % 2 == 0 then is_command role else (if first % 4 == 1 then is_among supervisory_octets first else is_among (unnumbered_octets role) first)
+is_defined role first = if first % 2 == 0 then is_command role
+    else (if first % 4 == 1 then is_among supervisory_octets first
+    else is_among (unnumbered_octets role) first)
 
 abbrev pub is_supervisory : ℕ → Bool
 is_supervisory first = not (first % 2 == 0) && is_among supervisory_octets first
 
 -- SABME, DISC, DM and UA
 abbrev pub is_without_information : ℕ → Bool
-is_without_information first = not (first % 2 == 0) && is_among (0x6F ∷ 0x7F ∷ 0x43 ∷ 0x53 ∷ 0x0F ∷ 0x1F ∷ 0x63 ∷ 0x73 ∷ []) first
+is_without_information first = not (first % 2 == 0)
+    && is_among (0x6F ∷ 0x7F ∷ 0x43 ∷ 0x53 ∷ 0x0F ∷ 0x1F ∷ 0x63 ∷ 0x73 ∷ []) first
 
 abbrev pub is_frame_reject : ℕ → Bool
 is_frame_reject first = not (first % 2 == 0) && is_among (0x87 ∷ 0x97 ∷ []) first
 
 -- an S frame has no information, a FRMR frame five octets of it
 abbrev pub is_wrong_size : ℕ → ℕ → Bool
-is_wrong_size first len = if is_frame_reject first then not (len == 5) else (is_supervisory first && nat_lt 0 len)
+is_wrong_size first len = if is_frame_reject first then not (len == 5)
+    else (is_supervisory first && nat_lt 0 len)
 
 -- I, UI and XID
 abbrev pub is_with_information : ℕ → Bool

@@ -38,7 +38,8 @@ impl<'a> Model for Frame<'a> {
 impl<'a> Frame<'a> {
     /// The frame of these parts, or the first of F4 to F7 that keeps them from being one.
     pub fn new(address: Address, control: Control, info: &'a [u8]) -> Result<Frame<'a>, FaultKind>
-        ensures { result ≡ frame_of address control info.now (content_fault address.role control (length info.now)) }
+        ensures { result ≡ frame_of address control info.now
+            (content_fault address.role control (length info.now)) }
     {
         match content_fault(address.role, &control, info.len()) {
             Some(fault) => Err(fault),
@@ -151,7 +152,8 @@ fn append(out: &mut ArrayVec<u8, MOST_OCTETS>, octets: &[u8])
 
 /// Writes a control field at the third octet of `out`, and tells its length in octets.
 fn put_control(out: &mut [u8; 264], control: &Control) -> usize
-    ensures written { out.new ≡ take 2 out.old ++ control_octets control.now ++ drop (2 + result) out.old }
+    ensures written { out.new ≡ take 2 out.old ++ control_octets control.now
+        ++ drop (2 + result) out.old }
     ensures len { result ≡ length (control_octets control.now) }
     ensures at_most { result ≤ 2 }
     ensures grammar { IsControl control.now }

@@ -12,10 +12,12 @@ pub fn read_as_spelled()
 
 /// One spelling: the only octets that are read as a frame are those that it is written as.
 pub fn one_spelling()
-    ensures { (from : Side) (octets : List ℕ) (f : Fields) → frame_at from octets ≡ Ok f → octets ≡ spelling from f }
+    ensures { (from : Side) (octets : List ℕ) (f : Fields) → frame_at from octets ≡ Ok f
+        → octets ≡ spelling from f }
 {}
 
 /// One frame: two frames that are written alike by one side are the same.
 pub fn one_frame()
-    ensures { (from : Side) (f g : Fields) → IsFrame f → IsFrame g → spelling from f ≡ spelling from g → f ≡ g }
+    ensures { (from : Side) (f g : Fields) → IsFrame f → IsFrame g
+        → spelling from f ≡ spelling from g → f ≡ g }
 {}

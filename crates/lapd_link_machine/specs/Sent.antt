@@ -34,7 +34,8 @@ pub record IsBetweenSteps (m : Machine) : Type 0 where
   pub short : All (λ message. length message ≤ n201) m.queue.messages
 
 -- What a valid N(R) leaves of the window, and what it acknowledges.
-pub record IsTaken (nr : ℕ) (before : StateVariables) (taken : StateVariables × Advance) : Type 0 where
+pub record IsTaken (nr : ℕ) (before : StateVariables) (taken : StateVariables × Advance) :
+    Type 0 where
   pub valid : is_valid_nr Tagged nr before ≡ true
   pub window : taken.0 ≡ with_va nr before
   pub count : taken.1.count ≡ acknowledged_count Tagged nr before

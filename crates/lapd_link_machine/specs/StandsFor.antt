@@ -23,11 +23,13 @@ pub record StandsFor (m : Machine) (outs : List Out) (s : StepState) : Type 0 wh
 
 -- a method does to the machine and its outputs what the action does to the end, whatever end that is
 abbrev pub Does : Machine → ArrayVec Out → Machine → ArrayVec Out → (StepState → StepState) → Type 0
-Does old old_outs new new_outs action = (s : StepState) → StandsFor old old_outs.items s → StandsFor new new_outs.items (action s)
+Does old old_outs new new_outs action = (s : StepState) → StandsFor old old_outs.items s
+    → StandsFor new new_outs.items (action s)
 
 -- the same of an action that gives no output
 abbrev pub DoesQuietly : Machine → Machine → (StepState → StepState) → Type 0
-DoesQuietly old new action = (s : StepState) (outs : List Out) → StandsFor old outs s → StandsFor new outs (action s)
+DoesQuietly old new action = (s : StepState) (outs : List Out) → StandsFor old outs s
+    → StandsFor new outs (action s)
 
 -- so many outputs more have room
 abbrev pub HasRoom : ℕ → ArrayVec Out → Type 0

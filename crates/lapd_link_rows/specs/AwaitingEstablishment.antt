@@ -18,18 +18,22 @@ release_primitive false = Released
 
 -- the SABME was refused, or never answered
 unfoldable pub end_establishment : StepState → StepState
-end_establishment s = s ▷ put (release_primitive s.end.release_pending) ▷ release_pending_to false ▷ state_to TeiAssigned
+end_establishment s = s ▷ put (release_primitive s.end.release_pending) ▷ release_pending_to false ▷
+    state_to TeiAssigned
 
 -- layer 3 initiated: confirmed; else, where V(S) = V(A) does not hold, messages are lost and layer 3 is told
 unfoldable pub confirm_or_indicate : StepState → StepState
-confirm_or_indicate s = if s.end.layer3_initiated then s ▷ put Confirmed else s ▷ discard_unacknowledged
+confirm_or_indicate s = if s.end.layer3_initiated then s ▷ put Confirmed
+    else s ▷ discard_unacknowledged
 
 -- UA with F=1: a release that waits goes out now, else the link is established
 unfoldable pub ua_final : StepState → StepState
 ua_final s =
     if s.end.release_pending
-    then s ▷ release_pending_to false ▷ rc_to 0 ▷ put (Send Command (Disc true)) ▷ start T200 ▷ state_to AwaitingRelease
-    else s ▷ confirm_or_indicate ▷ zero_state_variables ▷ stop T200 ▷ start T203 ▷ state_to MultipleFrameEstablished
+    then s ▷ release_pending_to false ▷ rc_to 0 ▷ put
+    (Send Command (Disc true)) ▷ start T200 ▷ state_to AwaitingRelease
+    else s ▷ confirm_or_indicate ▷ zero_state_variables ▷ stop T200 ▷ start T203 ▷ state_to
+    MultipleFrameEstablished
 
 -- T200 expires: the SABME is sent again, N200 times at most (5.5.1.3)
 unfoldable pub awaiting_establishment_t200 : StepState → StepState
@@ -46,6 +50,7 @@ awaiting_establishment (Heard (Sabme p) Command) s = s ▷ put (Send Answer (Ua 
 awaiting_establishment (Heard (Disc p) Command) s = s ▷ put (Send Answer (Dm p))
 awaiting_establishment (Heard (Ua true) Answer) s = s ▷ ua_final
 awaiting_establishment (Heard (Ua false) Answer) s = s ▷ put (Report letter.D)
-awaiting_establishment (Heard (Dm true) Answer) s = s ▷ discard_i_queue ▷ stop T200 ▷ end_establishment
+awaiting_establishment (Heard (Dm true) Answer) s =
+    s ▷ discard_i_queue ▷ stop T200 ▷ end_establishment
 awaiting_establishment (Expiry T200) s = s ▷ awaiting_establishment_t200
 awaiting_establishment input s = s

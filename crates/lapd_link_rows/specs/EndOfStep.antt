@@ -21,7 +21,8 @@ is_7_or_8 state = false
 
 -- one more may go out: the peer is not busy, fewer than k I frames are outstanding, and a message is unsent
 abbrev pub may_send_next : Reading → StepState → Bool
-may_send_next r s = is_established s.end.state && (may_send r s.end.parameters.k s.end.window && nat_lt s.end.next (length s.end.given))
+may_send_next r s = is_established s.end.state
+    && (may_send r s.end.parameters.k s.end.window && nat_lt s.end.next (length s.end.given))
 
 abbrev pub send_next : Reading → StepState → StepState
 send_next r s = s ▷ transmit_i_frame r ▷ ensure_t200
@@ -32,7 +33,8 @@ send_all r zero s = s
 send_all r (suc n) s = if may_send_next r s then send_all r n (send_next r s) else s
 
 unfoldable pub acknowledge_pending : StepState → StepState
-acknowledge_pending s = if is_7_or_8 s.end.state && s.end.window.ack_pending then s ▷ transmit_rr else s
+acknowledge_pending s = if is_7_or_8 s.end.state && s.end.window.ack_pending then s ▷ transmit_rr
+    else s
 
 unfoldable pub end_step : Reading → StepState → StepState
 end_step r s = s ▷ send_all r (unsent s.end) ▷ acknowledge_pending

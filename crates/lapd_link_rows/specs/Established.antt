@@ -27,13 +27,17 @@ busy_off s = if s.end.window.own_busy then s ▷ set_own_busy false else s
 
 unfoldable pub in_7_and_8 : Input → StepState → StepState
 in_7_and_8 Establish s = s ▷ discard_i_queue ▷ layer3_initiated_to true ▷ establish_data_link
-in_7_and_8 Release s = s ▷ discard_i_queue ▷ rc_to 0 ▷ put (Send Command (Disc true)) ▷ stop T203 ▷ start T200 ▷ state_to AwaitingRelease
+in_7_and_8 Release s = s ▷ discard_i_queue ▷ rc_to 0 ▷ put
+    (Send Command (Disc true)) ▷ stop T203 ▷ start T200 ▷ state_to AwaitingRelease
 in_7_and_8 (Give message) s = s ▷ queue_up message
 in_7_and_8 BusyOn s = s ▷ busy_on
 in_7_and_8 BusyOff s = s ▷ busy_off
 in_7_and_8 (Heard (Sabme p) Command) s =
-    s ▷ put (Send Answer (Ua p)) ▷ clear_exception_conditions ▷ put (Report letter.F) ▷ discard_unacknowledged ▷ stop T200 ▷ start T203 ▷ zero_state_variables ▷ state_to MultipleFrameEstablished
-in_7_and_8 (Heard (Disc p) Command) s = s ▷ discard_i_queue ▷ put (Send Answer (Ua p)) ▷ put Released ▷ stop T200 ▷ stop T203 ▷ state_to TeiAssigned
+    s ▷ put (Send Answer (Ua p)) ▷ clear_exception_conditions ▷ put
+    (Report letter.F) ▷ discard_unacknowledged ▷ stop T200 ▷ start T203 ▷ zero_state_variables ▷
+    state_to MultipleFrameEstablished
+in_7_and_8 (Heard (Disc p) Command) s = s ▷ discard_i_queue ▷ put
+    (Send Answer (Ua p)) ▷ put Released ▷ stop T200 ▷ stop T203 ▷ state_to TeiAssigned
 in_7_and_8 (Heard (Ua f) Answer) s = s ▷ put (Report (unsolicited_ua f))
 in_7_and_8 (Heard (Dm false) Answer) s = s ▷ put (Report letter.E) ▷ reestablish_data_link
 in_7_and_8 (Heard (Frmr f) Answer) s = s ▷ put (Report letter.K) ▷ reestablish_data_link
@@ -63,16 +67,19 @@ i_frame_nr r nr s =
 
 -- the N(R) of an RR frame
 unfoldable pub rr_nr : Reading → ℕ → StepState → StepState
-rr_nr r nr s = if is_valid_nr r nr s.end.window then s ▷ acknowledge_with_timers r nr else s ▷ nr_error_recovery
+rr_nr r nr s = if is_valid_nr r nr s.end.window then s ▷ acknowledge_with_timers r nr
+    else s ▷ nr_error_recovery
 
 -- the N(R) of a REJ frame
 unfoldable pub rej_nr : Reading → ℕ → StepState → StepState
 rej_nr r nr s =
-    if is_valid_nr r nr s.end.window then s ▷ acknowledge r nr ▷ invoke_retransmission nr ▷ stop T200 ▷ start T203 else s ▷ nr_error_recovery
+    if is_valid_nr r nr s.end.window then s ▷ acknowledge r nr ▷ invoke_retransmission nr ▷ stop
+    T200 ▷ start T203 else s ▷ nr_error_recovery
 
 -- the N(R) of an RNR frame
 unfoldable pub rnr_nr : Reading → ℕ → StepState → StepState
-rnr_nr r nr s = if is_valid_nr r nr s.end.window then s ▷ acknowledge r nr ▷ stop T203 ▷ start T200 else s ▷ nr_error_recovery
+rnr_nr r nr s = if is_valid_nr r nr s.end.window then s ▷ acknowledge r nr ▷ stop T203 ▷ start T200
+    else s ▷ nr_error_recovery
 
 -- the recovery is LastMessage, the peer is not busy, and a message is outstanding
 abbrev pub sends_last : Recovery → StateVariables → Bool
@@ -89,9 +96,13 @@ established_t200 r s =
 unfoldable pub multiple_frame_established : Reading → Input → StepState → StepState
 multiple_frame_established r (Heard (I ns nr p) Command) s = s ▷ i_frame_ns r ns p ▷ i_frame_nr r nr
 multiple_frame_established r (Heard (Dm true) Answer) s = s ▷ put (Report letter.B)
-multiple_frame_established r (Heard (Rr nr pf) role) s = s ▷ set_peer_busy false ▷ poll_or_final role pf ▷ rr_nr r nr
-multiple_frame_established r (Heard (Rej nr pf) role) s = s ▷ set_peer_busy false ▷ poll_or_final role pf ▷ rej_nr r nr
-multiple_frame_established r (Heard (Rnr nr pf) role) s = s ▷ set_peer_busy true ▷ poll_or_final role pf ▷ rnr_nr r nr
-multiple_frame_established r (Expiry T203) s = s ▷ expired T203 ▷ rc_to 0 ▷ transmit_enquiry ▷ state_to TimerRecovery
+multiple_frame_established r (Heard (Rr nr pf) role) s =
+    s ▷ set_peer_busy false ▷ poll_or_final role pf ▷ rr_nr r nr
+multiple_frame_established r (Heard (Rej nr pf) role) s =
+    s ▷ set_peer_busy false ▷ poll_or_final role pf ▷ rej_nr r nr
+multiple_frame_established r (Heard (Rnr nr pf) role) s =
+    s ▷ set_peer_busy true ▷ poll_or_final role pf ▷ rnr_nr r nr
+multiple_frame_established r (Expiry T203) s =
+    s ▷ expired T203 ▷ rc_to 0 ▷ transmit_enquiry ▷ state_to TimerRecovery
 multiple_frame_established r (Expiry T200) s = s ▷ established_t200 r
 multiple_frame_established r input s = s ▷ in_7_and_8 input

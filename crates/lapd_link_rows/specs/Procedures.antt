@@ -63,7 +63,10 @@ start timer s = record { end = with_timer timer true s.end; outs = s.outs ++ Sta
 
 -- STOP: a timer that runs is stopped
 unfoldable pub stop : Timer → StepState → StepState
-stop timer s = record { end = with_timer timer false s.end; outs = s.outs ++ out_where (runs timer s.end) (Stop timer) }
+stop timer s = record {
+  end = with_timer timer false s.end;
+  outs = s.outs ++ out_where (runs timer s.end) (Stop timer);
+}
 
 -- a timer that has expired no longer runs
 unfoldable pub expired : Timer → StepState → StepState
@@ -73,52 +76,96 @@ expired timer s = record { end = with_timer timer false s.end; outs = s.outs }
 
 -- CLEAR EXCEPTION CONDITIONS: peer busy, own busy, rejecting and acknowledge pending
 unfoldable pub clear_exception_conditions : StepState → StepState
-clear_exception_conditions s = record { end = record (s.end) { window = without_exceptions s.end.window }; outs = s.outs }
+clear_exception_conditions s =
+    record { end = record (s.end) { window = without_exceptions s.end.window }; outs = s.outs }
 
 -- V(S) = V(A) = V(R) = 0, and with it an establishment begins (5.5.1.2)
 unfoldable pub zero_state_variables : StepState → StepState
-zero_state_variables s = record { end = record (s.end) { window = with_zero_counters s.end.window; establishments = s.end.establishments + 1 }; outs = s.outs }
+zero_state_variables s = record {
+  end = record (s.end) {
+    window = with_zero_counters s.end.window;
+    establishments = s.end.establishments + 1;
+  };
+  outs = s.outs;
+}
 
 -- SET or CLEAR PEER RECEIVER BUSY
 unfoldable pub set_peer_busy : Bool → StepState → StepState
-set_peer_busy on s = record { end = record (s.end) { window = with_peer_busy on s.end.window }; outs = s.outs }
+set_peer_busy on s = record {
+  end = record (s.end) { window = with_peer_busy on s.end.window };
+  outs = s.outs;
+}
 
 -- SET or CLEAR OWN RECEIVER BUSY, of which the peer is told (5.6.6)
 unfoldable pub set_own_busy : Bool → StepState → StepState
-set_own_busy on s = record { end = record (s.end) { window = with_own_busy on s.end.window }; outs = s.outs ++ Send Answer (status_frame false (with_own_busy on s.end.window)) ∷ [] }
+set_own_busy on s = record {
+  end = record (s.end) { window = with_own_busy on s.end.window };
+  outs = s.outs ++ Send Answer (status_frame false (with_own_busy on s.end.window)) ∷ [];
+}
 
 -- ENQUIRY RESPONSE: a poll is answered
 unfoldable pub enquiry_response : StepState → StepState
-enquiry_response s = record { end = record (s.end) { window = without_ack_pending s.end.window }; outs = s.outs ++ Send Answer (status_frame true s.end.window) ∷ [] }
+enquiry_response s = record {
+  end = record (s.end) { window = without_ack_pending s.end.window };
+  outs = s.outs ++ Send Answer (status_frame true s.end.window) ∷ [];
+}
 
 -- TRANSMIT ENQUIRY: the peer is polled, and T200 started
 unfoldable pub transmit_enquiry : StepState → StepState
-transmit_enquiry s = record { end = record (s.end) { window = without_ack_pending s.end.window; t200 = true }; outs = s.outs ++ Send Command (status_frame true s.end.window) ∷ Start T200 ∷ [] }
+transmit_enquiry s = record {
+  end = record (s.end) {
+    window = without_ack_pending s.end.window;
+    t200 = true;
+  };
+  outs = s.outs ++ Send Command (status_frame true s.end.window) ∷ Start T200
+      ∷ [];
+}
 
 -- the acknowledgement that is pending goes out
 unfoldable pub transmit_rr : StepState → StepState
-transmit_rr s = record { end = record (s.end) { window = without_ack_pending s.end.window }; outs = s.outs ++ Send Answer (acknowledgement s.end.window) ∷ [] }
+transmit_rr s = record {
+  end = record (s.end) { window = without_ack_pending s.end.window };
+  outs = s.outs ++ Send Answer (acknowledgement s.end.window) ∷ [];
+}
 
 -- ---- The I queue.
 
 -- a message of layer 3 joins it
 unfoldable pub queue_up : List ℕ → StepState → StepState
-queue_up message s = record { end = record (s.end) { given = s.end.given ++ message ∷ [] }; outs = s.outs }
+queue_up message s = record {
+  end = record (s.end) { given = s.end.given ++ message ∷ [] };
+  outs = s.outs;
+}
 
 -- DISCARD I QUEUE
 unfoldable pub discard_i_queue : StepState → StepState
-discard_i_queue s = record { end = record (s.end) { first = length s.end.given; next = length s.end.given }; outs = s.outs ++ counted (waiting s.end) Dropped }
+discard_i_queue s = record {
+  end = record (s.end) {
+    first = length s.end.given;
+    next = length s.end.given;
+  };
+  outs = s.outs ++ counted (waiting s.end) Dropped;
+}
 
 -- V(A) = N(R): the messages before it are acknowledged and leave the queue (5.6.3.2)
 unfoldable pub acknowledge : Reading → ℕ → StepState → StepState
 acknowledge r nr s = record {
-  end = record (s.end) { window = with_va nr s.end.window; first = s.end.first + acknowledged_count r nr s.end.window };
+  end = record (s.end) {
+    window = with_va nr s.end.window;
+    first = s.end.first + acknowledged_count r nr s.end.window;
+  };
   outs = s.outs ++ counted (acknowledged_count r nr s.end.window) Acknowledged;
 }
 
 -- INVOKE RETRANSMISSION, after V(A) = N(R): V(S) = N(R), and all messages left are to be sent again
 unfoldable pub invoke_retransmission : ℕ → StepState → StepState
-invoke_retransmission nr s = record { end = record (s.end) { window = with_vs nr s.end.window; next = s.end.first }; outs = s.outs }
+invoke_retransmission nr s = record {
+  end = record (s.end) {
+    window = with_vs nr s.end.window;
+    next = s.end.first;
+  };
+  outs = s.outs;
+}
 
 -- where V(S) = V(A) does not hold, DISCARD I QUEUE and an indication of the establishment
 unfoldable pub discard_unacknowledged : StepState → StepState
@@ -127,14 +174,16 @@ discard_unacknowledged s = record {
     first = if s.end.window.vs == s.end.window.va then s.end.first else length s.end.given;
     next = if s.end.window.vs == s.end.window.va then s.end.next else length s.end.given;
   };
-  outs = s.outs ++ (if s.end.window.vs == s.end.window.va then [] else counted (waiting s.end) Dropped ++ Established ∷ []);
+  outs = s.outs ++ (if s.end.window.vs == s.end.window.va then []
+      else counted (waiting s.end) Dropped ++ Established ∷ []);
 }
 
 -- The N(S) of an I frame: the frame is accepted, rejected or discarded, and its poll is answered (5.6.2, 5.6.6, 5.8.1).
 unfoldable pub i_frame_ns : Reading → ℕ → Bool → StepState → StepState
 i_frame_ns r ns p s = record {
   end = record (s.end) { window = after_i_frame r ns p s.end.window };
-  outs = s.outs ++ out_where (is_accepted ns s.end.window) Up ++ response_of (i_frame_response r ns p s.end.window);
+  outs = s.outs ++ out_where (is_accepted ns s.end.window) Up
+      ++ response_of (i_frame_response r ns p s.end.window);
 }
 
 -- the first unsent message goes out in an I frame (5.6.1)
@@ -148,21 +197,24 @@ transmit_i_frame r s = record {
 unfoldable pub retransmit_last_i_frame : Reading → StepState → StepState
 retransmit_last_i_frame r s = record {
   end = record (s.end) { window = without_ack_pending s.end.window; t200 = true };
-  outs = s.outs ++ SendMessage (s.end.next - 1 - s.end.first) (last_i_frame r s.end.window) ∷ Start T200 ∷ [];
+  outs = s.outs ++ SendMessage (s.end.next - 1 - s.end.first) (last_i_frame r s.end.window)
+      ∷ Start T200 ∷ [];
 }
 
 -- where T200 does not run, STOP T203 and START T200
 unfoldable pub ensure_t200 : StepState → StepState
 ensure_t200 s = record {
   end = record (s.end) { t200 = true; t203 = s.end.t200 && s.end.t203 };
-  outs = s.outs ++ (if s.end.t200 then [] else out_where s.end.t203 (Stop T203)) ++ (if s.end.t200 then [] else Start T200 ∷ []);
+  outs = s.outs ++ (if s.end.t200 then [] else out_where s.end.t203 (Stop T203))
+      ++ (if s.end.t200 then [] else Start T200 ∷ []);
 }
 
 -- ---- Procedures made of these.
 
 -- ESTABLISH DATA LINK
 unfoldable pub establish_data_link : StepState → StepState
-establish_data_link s = s ▷ clear_exception_conditions ▷ release_pending_to false ▷ rc_to 0 ▷ put (Send Command (Sabme true)) ▷ stop T203 ▷ start T200 ▷ state_to AwaitingEstablishment
+establish_data_link s = s ▷ clear_exception_conditions ▷ release_pending_to false ▷ rc_to 0 ▷ put
+    (Send Command (Sabme true)) ▷ stop T203 ▷ start T200 ▷ state_to AwaitingEstablishment
 
 -- the data link initiates the establishment itself
 unfoldable pub reestablish_data_link : StepState → StepState

@@ -42,7 +42,8 @@ establish_refused MultipleFrameEstablished release_pending = None
 establish_refused TimerRecovery release_pending = None
 
 abbrev pub refused : Input → End → Option LinkFault
-refused (Give message) e = if nat_lt n201 (length message) then Some TooLong else give_refused e.state e.release_pending e.layer3_initiated (waiting e == e.parameters.room)
+refused (Give message) e = if nat_lt n201 (length message) then Some TooLong
+    else give_refused e.state e.release_pending e.layer3_initiated (waiting e == e.parameters.room)
 refused (UnitData len) e = refused_when_long len
 refused Establish e = establish_refused e.state e.release_pending
 refused input e = None

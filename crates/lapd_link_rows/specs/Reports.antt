@@ -70,7 +70,8 @@ IsNumberedIn r state control m = Unit {0}
 -- no fault in a frame
 abbrev pub IsDueIn : Reading → State → Input → StateVariables → Type 0
 IsDueIn r state (Heard control Command) m = IsNumberedIn r state control m
-IsDueIn r state (Heard control Answer) m = (is_unasked control state ≡ false) × IsNumberedIn r state control m
+IsDueIn r state (Heard control Answer) m = (is_unasked control state ≡ false)
+    × IsNumberedIn r state control m
 IsDueIn r state (Faulty kind) m = ⊥
 IsDueIn r state input m = Unit {0}
 

@@ -27,10 +27,13 @@ AreAwaiting r false false first next given va vs = AreOutstanding r first next g
 
 abbrev pub IsSoundIn : Reading → State → End → Type 0
 IsSoundIn r TeiAssigned e = AreUnsent e.first e.next (length e.given)
-IsSoundIn r AwaitingEstablishment e = AreAwaiting r e.layer3_initiated e.release_pending e.first e.next (length e.given) e.window.va e.window.vs
+IsSoundIn r AwaitingEstablishment e = AreAwaiting r e.layer3_initiated e.release_pending e.first
+    e.next (length e.given) e.window.va e.window.vs
 IsSoundIn r AwaitingRelease e = AreUnsent e.first e.next (length e.given)
-IsSoundIn r MultipleFrameEstablished e = AreOutstanding r e.first e.next (length e.given) e.window.va e.window.vs
-IsSoundIn r TimerRecovery e = AreOutstanding r e.first e.next (length e.given) e.window.va e.window.vs
+IsSoundIn r MultipleFrameEstablished e = AreOutstanding r e.first e.next
+    (length e.given) e.window.va e.window.vs
+IsSoundIn r TimerRecovery e = AreOutstanding r e.first e.next
+    (length e.given) e.window.va e.window.vs
 
 abbrev pub IsSound : Reading → End → Type 0
 IsSound r e = IsSoundIn r e.state e

@@ -41,8 +41,10 @@ fault_letter kind = letter.O
 
 -- a fault is reported, and breaks an established link (5.8.5)
 unfoldable pub report_fault : State → FaultKind → StepState → StepState
-report_fault state.MultipleFrameEstablished kind s = s ▷ put (Report (fault_letter kind)) ▷ reestablish_data_link
-report_fault state.TimerRecovery kind s = s ▷ put (Report (fault_letter kind)) ▷ reestablish_data_link
+report_fault state.MultipleFrameEstablished kind s =
+    s ▷ put (Report (fault_letter kind)) ▷ reestablish_data_link
+report_fault state.TimerRecovery kind s = s ▷ put
+    (Report (fault_letter kind)) ▷ reestablish_data_link
 report_fault state kind s = s ▷ put (Report (fault_letter kind))
 
 -- UI
@@ -52,7 +54,8 @@ is_unit_data control role = false
 
 -- unit data passes in every state (5.2), and a timer that does not run does not expire
 unfoldable pub row : Reading → State → Input → StepState → StepState
-row r state (Heard control role) s = if is_unit_data control role then s ▷ put UnitUp else s ▷ by_state r state (Heard control role)
+row r state (Heard control role) s = if is_unit_data control role then s ▷ put UnitUp
+    else s ▷ by_state r state (Heard control role)
 row r state (UnitData len) s = s ▷ put SendUnit
 row r state (Faulty kind) s = s ▷ report_fault state kind
 row r state (Expiry timer) s = if runs timer s.end then s ▷ by_state r state (Expiry timer) else s

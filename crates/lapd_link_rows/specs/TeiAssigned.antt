@@ -19,7 +19,9 @@ unsolicited_ua false = letter.D
 unfoldable pub tei_assigned : Input → StepState → StepState
 tei_assigned Establish s = s ▷ discard_i_queue ▷ layer3_initiated_to true ▷ establish_data_link
 tei_assigned Release s = s ▷ put ReleaseConfirm
-tei_assigned (Heard (Sabme p) Command) s = s ▷ put (Send Answer (Ua p)) ▷ clear_exception_conditions ▷ zero_state_variables ▷ put Established ▷ start T203 ▷ state_to MultipleFrameEstablished
+tei_assigned (Heard (Sabme p) Command) s = s ▷ put
+    (Send Answer (Ua p)) ▷ clear_exception_conditions ▷ zero_state_variables ▷ put Established ▷
+    start T203 ▷ state_to MultipleFrameEstablished
 tei_assigned (Heard (Disc p) Command) s = s ▷ put (Send Answer (Dm p))
 tei_assigned (Heard (Ua f) Answer) s = s ▷ put (Report (unsolicited_ua f))
 tei_assigned input s = s

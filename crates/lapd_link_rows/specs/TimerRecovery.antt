@@ -27,20 +27,23 @@ is_final Command poll = false
 
 -- the N(R) of an I frame
 unfoldable pub i_frame_nr_in_recovery : Reading → ℕ → StepState → StepState
-i_frame_nr_in_recovery r nr s = if is_valid_nr r nr s.end.window then s ▷ acknowledge r nr else s ▷ nr_error_recovery
+i_frame_nr_in_recovery r nr s = if is_valid_nr r nr s.end.window then s ▷ acknowledge r nr
+    else s ▷ nr_error_recovery
 
 -- the N(R) of an RR or REJ frame; a final ends the recovery
 unfoldable pub rr_nr_in_recovery : Reading → Bool → ℕ → StepState → StepState
 rr_nr_in_recovery r final nr s =
     if is_valid_nr r nr s.end.window
-    then (if final then s ▷ acknowledge r nr ▷ invoke_retransmission nr ▷ stop T200 ▷ start T203 ▷ state_to MultipleFrameEstablished else s ▷ acknowledge r nr)
+    then (if final then s ▷ acknowledge r nr ▷ invoke_retransmission nr ▷ stop T200 ▷ start T203 ▷
+    state_to MultipleFrameEstablished else s ▷ acknowledge r nr)
     else s ▷ nr_error_recovery
 
 -- the N(R) of an RNR frame
 unfoldable pub rnr_nr_in_recovery : Reading → Bool → ℕ → StepState → StepState
 rnr_nr_in_recovery r final nr s =
     if is_valid_nr r nr s.end.window
-    then (if final then s ▷ acknowledge r nr ▷ invoke_retransmission nr ▷ start T200 ▷ state_to MultipleFrameEstablished else s ▷ acknowledge r nr)
+    then (if final then s ▷ acknowledge r nr ▷ invoke_retransmission nr ▷ start T200 ▷ state_to
+    MultipleFrameEstablished else s ▷ acknowledge r nr)
     else s ▷ nr_error_recovery
 
 -- T200 expires: the enquiry is sent again, N200 times at most (5.6.7)
@@ -53,8 +56,11 @@ timer_recovery_t200 s =
 unfoldable pub timer_recovery : Reading → Input → StepState → StepState
 timer_recovery r (Heard (I ns nr p) Command) s = s ▷ i_frame_ns r ns p ▷ i_frame_nr_in_recovery r nr
 timer_recovery r (Heard (Dm true) Answer) s = s ▷ put (Report letter.B) ▷ reestablish_data_link
-timer_recovery r (Heard (Rr nr pf) role) s = s ▷ set_peer_busy false ▷ poll role pf ▷ rr_nr_in_recovery r (is_final role pf) nr
-timer_recovery r (Heard (Rej nr pf) role) s = s ▷ set_peer_busy false ▷ poll role pf ▷ rr_nr_in_recovery r (is_final role pf) nr
-timer_recovery r (Heard (Rnr nr pf) role) s = s ▷ set_peer_busy true ▷ poll role pf ▷ rnr_nr_in_recovery r (is_final role pf) nr
+timer_recovery r (Heard (Rr nr pf) role) s = s ▷ set_peer_busy false ▷ poll role pf ▷
+    rr_nr_in_recovery r (is_final role pf) nr
+timer_recovery r (Heard (Rej nr pf) role) s =
+    s ▷ set_peer_busy false ▷ poll role pf ▷ rr_nr_in_recovery r (is_final role pf) nr
+timer_recovery r (Heard (Rnr nr pf) role) s =
+    s ▷ set_peer_busy true ▷ poll role pf ▷ rnr_nr_in_recovery r (is_final role pf) nr
 timer_recovery r (Expiry T200) s = s ▷ timer_recovery_t200
 timer_recovery r input s = s ▷ in_7_and_8 input

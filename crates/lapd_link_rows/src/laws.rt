@@ -28,7 +28,8 @@ pub fn all_sent_are_outstanding()
 
 /// No step changes the parameters of an end.
 pub fn parameters_stay()
-    ensures { (r : Reading) (input : Input) (e : End) (s : StepState) → step r input e ≡ Ok s → s.end.parameters ≡ e.parameters }
+    ensures { (r : Reading) (input : Input) (e : End) (s : StepState) → step r input e ≡ Ok s
+        → s.end.parameters ≡ e.parameters }
 {}
 
 /// A step on tags is the tag of the step on whole numbers: refused for the same reason, or with the same outputs and the
@@ -36,13 +37,15 @@ pub fn parameters_stay()
 /// sent messages outstanding, and in states 7 and 8 with an N(S) within 127 of V(R) and an N(R) within 127 of V(A) and
 /// of V(S) (Q.921 3.5.2, 5.9.5).
 pub fn tags_decide()
-    ensures { (input : Input) (e : End) → IsNear input e → step Tagged (tag_input input) (tag_end e) ≡ tag_result (step Whole input e) }
+    ensures { (input : Input) (e : End) → IsNear input e
+        → step Tagged (tag_input input) (tag_end e) ≡ tag_result (step Whole input e) }
 {}
 
 /// In states 7 and 8 numbers are near where an N(S) lies at most one below V(R) and less than k above it, and an N(R) from
 /// V(A) to V(S): k is the window of the sender, up to 127, and all sent messages are outstanding (Q.921 3.5.2, 5.9.5).
 pub fn numbers_within_are_near()
-    ensures { (k : ℕ) (control : Control) (e : End) → k ≤ 127 → IsSound Whole e → is_7_or_8 e.state ≡ true
+    ensures { (k : ℕ) (control : Control) (e : End) → k ≤ 127 → IsSound Whole e
+        → is_7_or_8 e.state ≡ true
         → HasNumbersWithin k control e.window → HasNearNumbers control e.window }
 {}
 
@@ -50,31 +53,38 @@ pub fn numbers_within_are_near()
 /// up to 260 octets. And messages stay so short: where all given ones are, all are after a step (Q.921 Table 5, 5.9.3).
 /// That numbers are below 128 is left to tags.
 pub fn sent_frames_are_in_the_grammar()
-    ensures sent { (r : Reading) (input : Input) (e : End) (s : StepState) → step r input e ≡ Ok s → AreSpoken s.outs }
-    ensures short { (r : Reading) (input : Input) (e : End) (s : StepState) → AreShort e.given → step r input e ≡ Ok s → AreShort s.end.given }
+    ensures sent { (r : Reading) (input : Input) (e : End) (s : StepState) → step r input e ≡ Ok s
+        → AreSpoken s.outs }
+    ensures short { (r : Reading) (input : Input) (e : End) (s : StepState) → AreShort e.given
+        → step r input e ≡ Ok s → AreShort s.end.given }
 {}
 
 /// Each message that goes out is there: its place, counted from the first that waits, is one of so many as wait after the
 /// step. So it is where all sent messages are outstanding and the state variables are numbers of the reading, in windows of
 /// up to 127 (Q.921 5.6.1, 5.6.7).
 pub fn sent_messages_are_there()
-    ensures { (r : Reading) (input : Input) (e : End) (s : StepState) → e.parameters.k ≤ 127 → IsSound r e → AreNumbers r e.window
+    ensures { (r : Reading) (input : Input) (e : End) (s : StepState) → e.parameters.k ≤ 127
+        → IsSound r e → AreNumbers r e.window
         → step r input e ≡ Ok s → ArePlaced (length s.end.given - s.end.first) s.outs }
 {}
 
 /// On tags, the state variables stay tags and each frame that goes out carries tags, where those that come do (Q.921
 /// 3.5.2.1). On whole numbers this says nothing.
 pub fn numbers_stay()
-    ensures own { (r : Reading) (input : Input) (e : End) (s : StepState) → AreNumbers r e.window → HearsNumbers r input → step r input e ≡ Ok s → AreNumbers r s.end.window }
-    ensures sent { (r : Reading) (input : Input) (e : End) (s : StepState) → AreNumbers r e.window → HearsNumbers r input → step r input e ≡ Ok s → AreNumbered r s.outs }
+    ensures own { (r : Reading) (input : Input) (e : End) (s : StepState) → AreNumbers r e.window
+        → HearsNumbers r input → step r input e ≡ Ok s → AreNumbers r s.end.window }
+    ensures sent { (r : Reading) (input : Input) (e : End) (s : StepState) → AreNumbers r e.window
+        → HearsNumbers r input → step r input e ≡ Ok s → AreNumbered r s.outs }
 {}
 
 /// A step begins one establishment or none: one by a SABME command in states 4, 7 and 8, and by a UA with F=1 in state 5
 /// where no release waits for it (Q.921 5.5.1.2). Then the end is in state 7 with V(A) and V(R) at 0.
 pub fn establishments_are_counted()
-    ensures begun { (r : Reading) (input : Input) (e : End) (s : StepState) → begins e.state e.release_pending input ≡ true
+    ensures begun { (r : Reading) (input : Input) (e : End) (s : StepState)
+        → begins e.state e.release_pending input ≡ true
         → step r input e ≡ Ok s → HasBegun e s.end }
-    ensures none { (r : Reading) (input : Input) (e : End) (s : StepState) → begins e.state e.release_pending input ≡ false
+    ensures none { (r : Reading) (input : Input) (e : End) (s : StepState)
+        → begins e.state e.release_pending input ≡ false
         → step r input e ≡ Ok s → s.end.establishments ≡ e.establishments }
 {}
 
@@ -83,12 +93,17 @@ pub fn establishments_are_counted()
 /// of an I frame goes to layer 3 once where states 7 and 8 accept it, that of a UI once, and else never (Q.921 5.6.2,
 /// 5.6.3.2).
 pub fn messages_are_counted()
-    ensures given { (r : Reading) (input : Input) (e : End) (s : StepState) → step r input e ≡ Ok s → s.end.given ≡ e.given ++ messages_of input }
-    ensures first { (r : Reading) (input : Input) (e : End) (s : StepState) → e.first ≤ length e.given → step r input e ≡ Ok s
+    ensures given { (r : Reading) (input : Input) (e : End) (s : StepState) → step r input e ≡ Ok s
+        → s.end.given ≡ e.given ++ messages_of input }
+    ensures first { (r : Reading) (input : Input) (e : End) (s : StepState)
+        → e.first ≤ length e.given → step r input e ≡ Ok s
         → s.end.first ≡ e.first + leaving s.outs }
-    ensures order { (r : Reading) (input : Input) (e : End) (s : StepState) → step r input e ≡ Ok s → AreCountedFirst s.outs }
-    ensures unit { (r : Reading) (input : Input) (e : End) (s : StepState) → step r input e ≡ Ok s → unit_ups s.outs ≡ (if hears_unit input then 1 else 0) }
-    ensures up { (r : Reading) (input : Input) (e : End) (s : StepState) → step r input e ≡ Ok s → ups s.outs ≡ (if accepts input e then 1 else 0) }
+    ensures order { (r : Reading) (input : Input) (e : End) (s : StepState) → step r input e ≡ Ok s
+        → AreCountedFirst s.outs }
+    ensures unit { (r : Reading) (input : Input) (e : End) (s : StepState) → step r input e ≡ Ok s
+        → unit_ups s.outs ≡ (if hears_unit input then 1 else 0) }
+    ensures up { (r : Reading) (input : Input) (e : End) (s : StepState) → step r input e ≡ Ok s
+        → ups s.outs ≡ (if accepts input e then 1 else 0) }
 {}
 
 /// Of all error reports a step makes only F, the peer establishes the link again, and G, H and I, N200 is reached: those to
@@ -96,6 +111,8 @@ pub fn messages_are_counted()
 /// no frame has a fault (Q.921 5.8, Appendix II). On whole numbers and on tags; and what is due on whole numbers is due on
 /// tags, where numbers are near.
 pub fn reports_are_expected()
-    ensures expected { (r : Reading) (input : Input) (e : End) (s : StepState) → IsDue r input e → step r input e ≡ Ok s → AreExpected s.outs }
-    ensures tags { (input : Input) (e : End) → IsNear input e → IsDue Whole input e → IsDue Tagged (tag_input input) (tag_end e) }
+    ensures expected { (r : Reading) (input : Input) (e : End) (s : StepState) → IsDue r input e
+        → step r input e ≡ Ok s → AreExpected s.outs }
+    ensures tags { (input : Input) (e : End) → IsNear input e → IsDue Whole input e
+        → IsDue Tagged (tag_input input) (tag_end e) }
 {}

@@ -22,7 +22,12 @@ impl Model for Params {
 
     ghost view = { λ p. record { k = p.k; n200 = p.n200; room = p.room; recovery = p.recovery } };
 
-    ghost invariant = { λ p. AreInRange (record { k = p.k; n200 = p.n200; room = p.room; recovery = p.recovery }) };
+    ghost invariant = { λ p. AreInRange (record {
+      k = p.k;
+      n200 = p.n200;
+      room = p.room;
+      recovery = p.recovery;
+    }) };
 
     ghost inverse = { λ n. record { k = n.k; n200 = n.n200; room = n.room; recovery = n.recovery } };
 }

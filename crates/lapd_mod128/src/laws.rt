@@ -31,14 +31,16 @@ pub fn fewer_is_counting()
 /// The steps to a number between and those from it add up.
 #[tactic(auto, using(crate::proofs::Steps::steps_add_up))]
 pub fn steps_add_up()
-    ensures { (r : Reading) (a x b : ℕ) → lies_within r a x b ≡ true → steps r a x + steps r x b ≡ steps r a b }
+    ensures { (r : Reading) (a x b : ℕ) → lies_within r a x b ≡ true
+        → steps r a x + steps r x b ≡ steps r a b }
 {}
 
 /// No steps lead from a number to itself, and to no other.
 #[tactic(auto, using(crate::proofs::Steps::no_steps, crate::proofs::Steps::no_steps_is_same))]
 pub fn no_steps()
     ensures none { (r : Reading) (a : ℕ) → steps r a a ≡ 0 }
-    ensures same { (r : Reading) (a b : ℕ) → IsNumber r a → IsNumber r b → reaches r a b ≡ true → steps r a b ≡ 0 → a ≡ b }
+    ensures same { (r : Reading) (a b : ℕ) → IsNumber r a → IsNumber r b → reaches r a b ≡ true
+        → steps r a b ≡ 0 → a ≡ b }
 {}
 
 /// One step on is one step more from where one counts, one step less to where one counts to, and none between two
@@ -48,7 +50,8 @@ pub fn one_step_on()
     ensures more { (r : Reading) (a b : ℕ) → reaches r a b ≡ true → steps r a b < 127 →
         steps r a (after r b) ≡ steps r a b + 1 }
     ensures more_whole { (a b : ℕ) → a ≤ b → steps Whole a (after Whole b) ≡ steps Whole a b + 1 }
-    ensures less { (r : Reading) (a b : ℕ) → 0 < steps r a b → steps r (after r a) b + 1 ≡ steps r a b }
+    ensures less { (r : Reading) (a b : ℕ) → 0 < steps r a b
+        → steps r (after r a) b + 1 ≡ steps r a b }
     ensures stay { (r : Reading) (a b : ℕ) → steps r (after r a) (after r b) ≡ steps r a b }
 {}
 
@@ -57,7 +60,8 @@ pub fn one_step_on()
 pub fn bounds_lie_within()
     ensures first { (r : Reading) (a b : ℕ) → reaches r a b ≡ true → lies_within r a a b ≡ true }
     ensures last { (r : Reading) (a b : ℕ) → reaches r a b ≡ true → lies_within r a b b ≡ true }
-    ensures alone { (r : Reading) (a x : ℕ) → IsNumber r a → IsNumber r x → lies_within r a x a ≡ true → a ≡ x }
+    ensures alone { (r : Reading) (a x : ℕ) → IsNumber r a → IsNumber r x
+        → lies_within r a x a ≡ true → a ≡ x }
 {}
 
 /// What lies between stays between, where the last number goes one step on, where the first moves no further than to
@@ -66,8 +70,10 @@ pub fn bounds_lie_within()
 pub fn between_stays()
     ensures one_more { (r : Reading) (a x b : ℕ) → lies_within r a x b ≡ true → steps r a b < 127 →
         lies_within r a x (after r b) ≡ true }
-    ensures rest { (r : Reading) (a x y b : ℕ) → lies_within r a y b ≡ true → lies_within r a x y ≡ true → lies_within r x y b ≡ true }
-    ensures widened { (r : Reading) (a x y b : ℕ) → lies_within r a x b ≡ true → lies_within r x y b ≡ true → lies_within r a y b ≡ true }
+    ensures rest { (r : Reading) (a x y b : ℕ) → lies_within r a y b ≡ true
+        → lies_within r a x y ≡ true → lies_within r x y b ≡ true }
+    ensures widened { (r : Reading) (a x y b : ℕ) → lies_within r a x b ≡ true
+        → lies_within r x y b ≡ true → lies_within r a y b ≡ true }
 {}
 
 /// The tag of a number is its remainder by 128, to which as many steps lead from the tag 0.

@@ -9,4 +9,5 @@ ended ending fate = record fate { end = ending }
 
 -- from this place on so many have this ending, and the others are as they were
 abbrev pub with_endings : Ending → ℕ → ℕ → List Fate → List Fate
-with_endings ending first n fates = take first fates ++ map (ended ending) (take n (drop first fates)) ++ drop (first + n) fates
+with_endings ending first n fates = take first fates
+    ++ map (ended ending) (take n (drop first fates)) ++ drop (first + n) fates

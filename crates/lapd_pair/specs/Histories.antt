@@ -13,7 +13,8 @@ use Rattle.lapd_pair.specs.declared.fate.Ending.TheVariants.{Waiting, Acked, Dro
 
 -- what became of the message at this place, as far as acknowledgements and drops are written down
 abbrev pub ending_at : world.History → ℕ → Ending
-ending_at h place = if is_one_of h.acked place then Acked else (if is_one_of h.dropped place then Dropped else Waiting)
+ending_at h place = if is_one_of h.acked place then Acked
+    else (if is_one_of h.dropped place then Dropped else Waiting)
 
 -- and in which establishment it was last sent
 abbrev pub fate_at : world.History → ℕ → Fate
@@ -101,8 +102,13 @@ pub record HasRoom (room : Room) (h : Log) : Type 0 where
 
 -- there is less than before by so much, at most
 pub record TakesRoom (room : Room) (old new : Log) : Type 0 where
-  pub given : vec_len new.given + vec_capacity old.given ≤ vec_len old.given + vec_capacity new.given + room.messages
-  pub fates : vec_len new.fates + vec_capacity old.fates ≤ vec_len old.fates + vec_capacity new.fates + room.messages
-  pub received : vec_len new.received + vec_capacity old.received ≤ vec_len old.received + vec_capacity new.received + room.receipts
-  pub units : vec_len new.units + vec_capacity old.units ≤ vec_len old.units + vec_capacity new.units + room.unit_data
-  pub begun : vec_len new.begun + vec_capacity old.begun ≤ vec_len old.begun + vec_capacity new.begun + room.beginnings
+  pub given : vec_len new.given + vec_capacity old.given
+      ≤ vec_len old.given + vec_capacity new.given + room.messages
+  pub fates : vec_len new.fates + vec_capacity old.fates
+      ≤ vec_len old.fates + vec_capacity new.fates + room.messages
+  pub received : vec_len new.received + vec_capacity old.received
+      ≤ vec_len old.received + vec_capacity new.received + room.receipts
+  pub units : vec_len new.units + vec_capacity old.units
+      ≤ vec_len old.units + vec_capacity new.units + room.unit_data
+  pub begun : vec_len new.begun + vec_capacity old.begun
+      ≤ vec_len old.begun + vec_capacity new.begun + room.beginnings

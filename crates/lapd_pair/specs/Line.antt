@@ -16,7 +16,11 @@ link_address role = record { sapi = Call; tei = 64; role = role }
 
 -- the parts of a frame on its way
 abbrev pub fields_of : Flight → Fields
-fields_of frame = record { address = link_address frame.role; control = frame.control; info = frame.info }
+fields_of frame = record {
+  address = link_address frame.role;
+  control = frame.control;
+  info = frame.info;
+}
 
 -- all are frames of the grammar
 abbrev pub AreFrames : List Flight → Type 0
@@ -49,4 +53,5 @@ HasRoomFor n line = line.end + n ≤ vec_capacity line.frames
 -- these are the octets of the first frame on its way
 abbrev pub IsFirst : Side → List ℕ → List Flight → Type 0
 IsFirst from octets [] = ⊥
-IsFirst from octets (frame ∷ rest) = (octets ≡ spelling from (fields_of frame)) × IsFrame (fields_of frame)
+IsFirst from octets (frame ∷ rest) = (octets ≡ spelling from (fields_of frame))
+    × IsFrame (fields_of frame)

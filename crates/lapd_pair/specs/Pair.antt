@@ -13,7 +13,8 @@ use Rattle.lapd_pair.specs.declared.recorded_link.RecordedLink.{RecordedLink}
 
 -- Both sides show those of the world, and what is on the line are the world's frames, spelled. What a world keeps under all
 -- moves holds of it.
-pub record StandForWorld (user_side network_side : RecordedLink) (line_to_user line_to_network : Line) (w : World) : Type 0 where
+pub record StandForWorld (user_side network_side : RecordedLink)
+    (line_to_user line_to_network : Line) (w : World) : Type 0 where
   pub user : IsStation User user_side w.user
   pub network : IsStation Network network_side w.network
   pub to_user : IsOn Network line_to_user w.to_user
@@ -21,7 +22,8 @@ pub record StandForWorld (user_side network_side : RecordedLink) (line_to_user l
   pub kept : IsKeptWorld Tagged w
 
 -- The world that some moves lead to, from a new one, in windows of up to 127.
-pub record IsReached (user_side network_side : RecordedLink) (line_to_user line_to_network : Line) : Type 0 where
+pub record IsReached (user_side network_side : RecordedLink) (line_to_user line_to_network : Line) :
+    Type 0 where
   pub user : Parameters
   pub network : Parameters
   pub few_of_user : user.k ≤ 127
@@ -29,4 +31,5 @@ pub record IsReached (user_side network_side : RecordedLink) (line_to_user line_
   pub some_of_user : 1 ≤ user.k
   pub some_of_network : 1 ≤ network.k
   pub moves : List Move
-  pub stand : StandForWorld user_side network_side line_to_user line_to_network (run Tagged moves (new_world user network))
+  pub stand : StandForWorld user_side network_side line_to_user line_to_network
+      (run Tagged moves (new_world user network))

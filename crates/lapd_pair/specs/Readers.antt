@@ -55,22 +55,27 @@ end_at fates place = option_map (λ fate. fate.end) (slice_get fates place)
 --   acknowledged_was_received  each that is acknowledged was received.
 -- And there is a fate for each message given, and each message received has the number of the establishment that was then
 -- the last to begin.
-pub record IsSafeReading (given : List (Vec ℕ Global)) (fates : List Fate) (received : List Received) (begun : List ℕ) : Type 0 where
+pub record IsSafeReading (given : List (Vec ℕ Global)) (fates : List Fate)
+    (received : List Received) (begun : List ℕ) : Type 0 where
   pub places : List ℕ
-  pub octet_for_octet : map (octets_at given) places ≡ map (λ message. Some message.octets.items) received
+  pub octet_for_octet : map (octets_at given) places
+      ≡ map (λ message. Some message.octets.items) received
   pub in_order_once_each : RiseFrom 0 places
   pub nothing_between : (n : ℕ) → establishment_at received (n + 1) ≡ establishment_at received n
       → slice_get places (n + 1) ≡ option_map (λ place. place + 1) (slice_get places n)
   pub nothing_skipped : (place smaller : ℕ) → IsAmong place places → smaller < place
       → sent_in_at fates smaller ≡ sent_in_at fates place → IsAmong smaller places
-  pub acknowledged_was_received : (place : ℕ) → end_at fates place ≡ Some Acked → IsAmong place places
+  pub acknowledged_was_received : (place : ℕ) → end_at fates place ≡ Some Acked
+      → IsAmong place places
   pub fate_of_each : length fates ≡ length given
-  pub numbered : (n : ℕ) → n < length received → establishment_at received n ≡ Some (begun_at begun n)
+  pub numbered : (n : ℕ) → n < length received → establishment_at received n
+      ≡ Some (begun_at begun n)
 
 -- what the receiver has received, of what the sender was given
 abbrev pub IsSafelyReadFrom : Side → Side → Pair → Type 0
 IsSafelyReadFrom sender receiver p =
-    IsSafeReading (given_by sender p) (fates_by sender p) (received_by receiver p) (begun_by receiver p)
+    IsSafeReading (given_by sender p) (fates_by sender p) (received_by receiver p)
+    (begun_by receiver p)
 
 -- each side against the other
 abbrev pub AreSafeReadings : Pair → Type 0

@@ -18,7 +18,8 @@ abbrev pub PairStandsFor : Pair → World → Type 0
 PairStandsFor p w = StandForWorld p.user p.network p.to_user p.to_network w
 
 -- the move was admitted, with these outputs, and the pair stands for the world after it
-pub record HasHappened (p : Pair) (outcome : Result Happened Refusal) (outs : List Out) : Type 0 where
+pub record HasHappened (p : Pair) (outcome : Result Happened Refusal) (outs : List Out) :
+    Type 0 where
   pub happened : Happened
   pub is : outcome ≡ Ok happened
   pub same : happened.outs ≡ outs
@@ -31,7 +32,8 @@ refused_of (Err refusal) = 1
 
 abbrev pub refusals : List world.Move → World → ℕ
 refusals [] w = 0
-refusals (move ∷ moves) w = refused_of (happens Tagged move w) + refusals moves (world_after w (happens Tagged move w))
+refusals (move ∷ moves) w = refused_of (happens Tagged move w)
+    + refusals moves (world_after w (happens Tagged move w))
 
 -- A run found no memory for the move at this place: the pair stands for the world that the moves before it lead to, and
 -- that move is admitted there.
@@ -56,7 +58,9 @@ pub record IsSafePair (p : Pair) : Type 0 where
   pub network : Parameters
   pub moves : List world.Move
   pub stands : PairStandsFor p (run Tagged moves (new_world user network))
-  pub same : run Tagged moves (new_world user network) ≡ tag_world (run Whole moves (new_world user network))
-  pub same_outcomes : outcomes Tagged moves (new_world user network) ≡ map tag_outcome (outcomes Whole moves (new_world user network))
+  pub same : run Tagged moves (new_world user network)
+      ≡ tag_world (run Whole moves (new_world user network))
+  pub same_outcomes : outcomes Tagged moves (new_world user network)
+      ≡ map tag_outcome (outcomes Whole moves (new_world user network))
   pub safe : AreSafe (run Tagged moves (new_world user network))
   pub reports : AllReportsExpected (outcomes Tagged moves (new_world user network))

@@ -32,7 +32,8 @@ pub record IsView (side : Side) (s : RecordedLink) (inward outward : Line) (v : 
   pub outgoing : IsOn side outward v.outgoing
 
 -- A deed was admitted: it came to this, with these outputs, and the side and what it sends on show it.
-pub record IsActed (side : Side) (s : RecordedLink) (outward : Line) (outcome : Result Turn Refusal) (outs : List Out) : Type 0 where
+pub record IsActed (side : Side) (s : RecordedLink) (outward : Line) (outcome : Result Turn Refusal)
+    (outs : List Out) : Type 0 where
   pub acted : Turn
   pub is : outcome ≡ Ok acted
   pub same : acted.outs ≡ outs
@@ -40,7 +41,8 @@ pub record IsActed (side : Side) (s : RecordedLink) (outward : Line) (outcome : 
   pub outgoing : IsOn side outward acted.view.outgoing
 
 -- the same with what is on its way to the side
-pub record IsDone (side : Side) (s : RecordedLink) (inward outward : Line) (outcome : Result Turn Refusal) (outs : List Out) : Type 0 where
+pub record IsDone (side : Side) (s : RecordedLink) (inward outward : Line)
+    (outcome : Result Turn Refusal) (outs : List Out) : Type 0 where
   pub acted : Turn
   pub is : outcome ≡ Ok acted
   pub same : acted.outs ≡ outs
@@ -68,25 +70,35 @@ with_outs (Err fault) outs = Err fault
 -- ---- How the moves of a side are stated, whatever side of the world it showed before.
 
 -- what a side does to itself and to what it sends, without what it hears
-abbrev pub Acts : RecordedLink → Line → RecordedLink → Line → (Side → View → Result Turn Refusal) → ArrayVec Out → Type 0
+abbrev pub Acts : RecordedLink → Line → RecordedLink → Line → (Side → View → Result Turn Refusal)
+    → ArrayVec Out → Type 0
 Acts old outward_old new outward_new deed outs =
-    (side : Side) (v : View) → IsKept Tagged v.station → IsStation side old v.station → IsOn side outward_old v.outgoing → IsActed side new outward_new (deed side v) outs.items
+    (side : Side) (v : View) → IsKept Tagged v.station → IsStation side old v.station
+    → IsOn side outward_old v.outgoing → IsActed side new outward_new (deed side v) outs.items
 
 abbrev pub RefusesAs : RecordedLink → (Side → View → Result Turn Refusal) → PairFault → Type 0
-RefusesAs old deed fault = (side : Side) (v : View) → IsStation side old v.station → IsRefusedAs fault (deed side v)
+RefusesAs old deed fault = (side : Side) (v : View) → IsStation side old v.station
+    → IsRefusedAs fault (deed side v)
 
 -- it shows all that it showed before, and so does the line that it sends on
-pub record ShowsAsBefore (old : RecordedLink) (outward_old : Line) (new : RecordedLink) (outward_new : Line) : Type 0 where
+pub record ShowsAsBefore (old : RecordedLink) (outward_old : Line) (new : RecordedLink)
+    (outward_new : Line) : Type 0 where
   pub station : (side : Side) (t : world.Station) → IsStation side old t → IsStation side new t
-  pub line : (from : Side) (frames : List Flight) → IsOn from outward_old frames → IsOn from outward_new frames
+  pub line : (from : Side) (frames : List Flight) → IsOn from outward_old frames
+      → IsOn from outward_new frames
 
 -- the same with what is on its way to it
-abbrev pub ActsInView : RecordedLink → Line → Line → RecordedLink → Line → Line → (Side → View → Result Turn Refusal) → ArrayVec Out → Type 0
+abbrev pub ActsInView : RecordedLink → Line → Line → RecordedLink → Line → Line
+    → (Side → View → Result Turn Refusal) → ArrayVec Out → Type 0
 ActsInView old inward_old outward_old new inward_new outward_new deed outs =
-    (side : Side) (v : View) → IsKept Tagged v.station → IsView side old inward_old outward_old v → IsDone side new inward_new outward_new (deed side v) outs.items
+    (side : Side) (v : View) → IsKept Tagged v.station → IsView side old inward_old outward_old v
+    → IsDone side new inward_new outward_new (deed side v) outs.items
 
-abbrev pub RefusesInView : RecordedLink → Line → Line → (Side → View → Result Turn Refusal) → PairFault → Type 0
-RefusesInView old inward_old outward_old deed fault = (side : Side) (v : View) → IsView side old inward_old outward_old v → IsRefusedAs fault (deed side v)
+abbrev pub RefusesInView : RecordedLink → Line → Line → (Side → View → Result Turn Refusal)
+    → PairFault → Type 0
+RefusesInView old inward_old outward_old deed fault = (side : Side) (v : View)
+    → IsView side old inward_old outward_old v → IsRefusedAs fault (deed side v)
 
 abbrev pub ShowsViewAsBefore : RecordedLink → Line → Line → RecordedLink → Line → Line → Type 0
-ShowsViewAsBefore old inward_old outward_old new inward_new outward_new = (side : Side) (v : View) → IsView side old inward_old outward_old v → IsView side new inward_new outward_new v
+ShowsViewAsBefore old inward_old outward_old new inward_new outward_new = (side : Side) (v : View)
+    → IsView side old inward_old outward_old v → IsView side new inward_new outward_new v

@@ -34,7 +34,11 @@ with_sent (Some flight) line = sent_behind line flight
 -- what it writes down
 abbrev pub history_told : Occasion → Out → History → History
 history_told o (SendMessage n control) h = with_sending (h.passed + n) o.establishment h
-history_told o Up h = with_receipt (record { octets = o.octets; establishment = o.establishment; place = o.place }) h
+history_told o Up h = with_receipt (record {
+  octets = o.octets;
+  establishment = o.establishment;
+  place = o.place;
+}) h
 history_told o UnitUp h = with_unit o.octets h
 history_told o (Acknowledged n) h = with_acked n h
 history_told o (Dropped n) h = with_dropped n h
@@ -47,7 +51,8 @@ IsCopy octets n (Some copy) = (n ≤ 1) × (copy.items ≡ octets)
 
 -- While `rest` is still to be told: `e` is the end after the step, `t` is what was told so far, and `copy` is held for what
 -- goes up.
-pub record IsTelling (side : Side) (e : End) (o : Occasion) (rest : List Out) (s : RecordedLink) (outward : Line) (copy : Option (Vec ℕ Global)) (t : Story) : Type 0 where
+pub record IsTelling (side : Side) (e : End) (o : Occasion) (rest : List Out) (s : RecordedLink)
+    (outward : Line) (copy : Option (Vec ℕ Global)) (t : Story) : Type 0 where
   pub link : LinkStandsFor s.link e
   pub setup : setup_of s.link ≡ setup_for side
   pub history : IsHistory s.history e.given t.history

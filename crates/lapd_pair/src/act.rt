@@ -33,9 +33,14 @@ impl RecordedLink {
         outward: &mut Line,
         outs: &mut Outs,
     ) -> Result<(), PairFault>
-        ensures ok { IfOk (with_outs result outs.new) (ActsInView self.old inward.old outward.old self.new inward.new outward.new (λ side v. acts Tagged side (move_of deed.now).deed v)) }
-        ensures err { IfErr (with_outs result outs.new) (RefusesInView self.old inward.old outward.old (λ side v. acts Tagged side (move_of deed.now).deed v)) }
-        ensures unchanged { OnErr (with_outs result outs.new) (ShowsViewAsBefore self.old inward.old outward.old self.new inward.new outward.new) }
+        ensures ok { IfOk (with_outs result outs.new)
+            (ActsInView self.old inward.old outward.old self.new inward.new outward.new
+            (λ side v. acts Tagged side (move_of deed.now).deed v)) }
+        ensures err { IfErr (with_outs result outs.new)
+            (RefusesInView self.old inward.old outward.old
+            (λ side v. acts Tagged side (move_of deed.now).deed v)) }
+        ensures unchanged { OnErr (with_outs result outs.new)
+            (ShowsViewAsBefore self.old inward.old outward.old self.new inward.new outward.new) }
     {
         match deed {
             Move::Give(_, message) => self.take_message(alloc, message, outward, outs),
@@ -60,9 +65,13 @@ impl RecordedLink {
         outs: &mut Outs,
     ) -> Result<(), PairFault>
         requires asked { IsAsked (input_of event) octets.now }
-        ensures ok { IfOk (with_outs result outs.new) (Acts self.old outward.old self.new outward.new (λ side v. takes Tagged (input_of event.entry) octets.now v)) }
-        ensures err { IfErr (with_outs result outs.new) (RefusesAs self.old (λ side v. takes Tagged (input_of event.entry) octets.now v)) }
-        ensures unchanged { OnErr (with_outs result outs.new) (ShowsAsBefore self.old outward.old self.new outward.new) }
+        ensures ok { IfOk (with_outs result outs.new)
+            (Acts self.old outward.old self.new outward.new
+            (λ side v. takes Tagged (input_of event.entry) octets.now v)) }
+        ensures err { IfErr (with_outs result outs.new)
+            (RefusesAs self.old (λ side v. takes Tagged (input_of event.entry) octets.now v)) }
+        ensures unchanged { OnErr (with_outs result outs.new)
+            (ShowsAsBefore self.old outward.old self.new outward.new) }
     {
         if let Some(fault) = self.link.refusal(&event) {
             return Err(PairFault::Refused(fault));
@@ -75,9 +84,13 @@ impl RecordedLink {
 
     /// Its receiver becomes busy, or is no longer.
     fn set_busy(&mut self, on: bool, outward: &mut Line, outs: &mut Outs) -> Result<(), PairFault>
-        ensures ok { IfOk (with_outs result outs.new) (Acts self.old outward.old self.new outward.new (λ side v. takes Tagged (busy_input on) [] v)) }
-        ensures err { IfErr (with_outs result outs.new) (RefusesAs self.old (λ side v. takes Tagged (busy_input on) [] v)) }
-        ensures unchanged { OnErr (with_outs result outs.new) (ShowsAsBefore self.old outward.old self.new outward.new) }
+        ensures ok { IfOk (with_outs result outs.new)
+            (Acts self.old outward.old self.new outward.new
+            (λ side v. takes Tagged (busy_input on) [] v)) }
+        ensures err { IfErr (with_outs result outs.new)
+            (RefusesAs self.old (λ side v. takes Tagged (busy_input on) [] v)) }
+        ensures unchanged { OnErr (with_outs result outs.new)
+            (ShowsAsBefore self.old outward.old self.new outward.new) }
     {
         if on {
             self.take(Event::BusyOn, &[], outward, outs)
@@ -93,9 +106,14 @@ impl RecordedLink {
         outward: &mut Line,
         outs: &mut Outs,
     ) -> Result<(), PairFault>
-        ensures ok { IfOk (with_outs result outs.new) (Acts self.old outward.old self.new outward.new (λ side v. takes Tagged (UnitData (length octets.now)) octets.now v)) }
-        ensures err { IfErr (with_outs result outs.new) (RefusesAs self.old (λ side v. takes Tagged (UnitData (length octets.now)) octets.now v)) }
-        ensures unchanged { OnErr (with_outs result outs.new) (ShowsAsBefore self.old outward.old self.new outward.new) }
+        ensures ok { IfOk (with_outs result outs.new)
+            (Acts self.old outward.old self.new outward.new
+            (λ side v. takes Tagged (UnitData (length octets.now)) octets.now v)) }
+        ensures err { IfErr (with_outs result outs.new)
+            (RefusesAs self.old (λ side v. takes Tagged
+            (UnitData (length octets.now)) octets.now v)) }
+        ensures unchanged { OnErr (with_outs result outs.new)
+            (ShowsAsBefore self.old outward.old self.new outward.new) }
     {
         self.take(Event::Unit(octets.len()), octets, outward, outs)
     }
@@ -108,9 +126,13 @@ impl RecordedLink {
         outward: &mut Line,
         outs: &mut Outs,
     ) -> Result<(), PairFault>
-        ensures ok { IfOk (with_outs result outs.new) (Acts self.old outward.old self.new outward.new (λ side v. takes Tagged (Give message.now) [] v)) }
-        ensures err { IfErr (with_outs result outs.new) (RefusesAs self.old (λ side v. takes Tagged (Give message.now) [] v)) }
-        ensures unchanged { OnErr (with_outs result outs.new) (ShowsAsBefore self.old outward.old self.new outward.new) }
+        ensures ok { IfOk (with_outs result outs.new)
+            (Acts self.old outward.old self.new outward.new
+            (λ side v. takes Tagged (Give message.now) [] v)) }
+        ensures err { IfErr (with_outs result outs.new)
+            (RefusesAs self.old (λ side v. takes Tagged (Give message.now) [] v)) }
+        ensures unchanged { OnErr (with_outs result outs.new)
+            (ShowsAsBefore self.old outward.old self.new outward.new) }
     {
         if let Some(fault) = self.link.give_refusal(message.len()) {
             return Err(PairFault::Refused(fault));
@@ -136,9 +158,15 @@ impl RecordedLink {
         outs: &mut Outs,
     ) -> Result<(), PairFault>
         requires for_link { is_address_of (setup_of self.old.link) frame.now.address ≡ true }
-        ensures ok { IfOk (with_outs result outs.new) (λ outs. (flight : Flight) → fields_of flight ≡ frame.now → length flight.info ≤ n201 → Acts self.old outward.old self.new outward.new (λ side v. hears Tagged flight v) outs) }
-        ensures err { IfErr (with_outs result outs.new) (λ fault. (flight : Flight) → fields_of flight ≡ frame.now → RefusesAs self.old (λ side v. hears Tagged flight v) fault) }
-        ensures unchanged { OnErr (with_outs result outs.new) (ShowsAsBefore self.old outward.old self.new outward.new) }
+        ensures ok { IfOk (with_outs result outs.new)
+            (λ outs. (flight : Flight) → fields_of flight ≡ frame.now → length flight.info ≤ n201
+            → Acts self.old outward.old self.new outward.new
+            (λ side v. hears Tagged flight v) outs) }
+        ensures err { IfErr (with_outs result outs.new)
+            (λ fault. (flight : Flight) → fields_of flight ≡ frame.now
+            → RefusesAs self.old (λ side v. hears Tagged flight v) fault) }
+        ensures unchanged { OnErr (with_outs result outs.new)
+            (ShowsAsBefore self.old outward.old self.new outward.new) }
     {
         let Ok(copy) = Vec::from_slice(alloc, frame.info()) else {
             return Err(PairFault::Memory);
@@ -157,9 +185,14 @@ impl RecordedLink {
         outward: &mut Line,
         outs: &mut Outs,
     ) -> Result<(), PairFault>
-        ensures ok { IfOk (with_outs result outs.new) (ActsInView self.old inward.old outward.old self.new inward.new outward.new (λ side v. delivers Tagged v.incoming v)) }
-        ensures err { IfErr (with_outs result outs.new) (RefusesInView self.old inward.old outward.old (λ side v. delivers Tagged v.incoming v)) }
-        ensures unchanged { OnErr (with_outs result outs.new) (ShowsViewAsBefore self.old inward.old outward.old self.new inward.new outward.new) }
+        ensures ok { IfOk (with_outs result outs.new)
+            (ActsInView self.old inward.old outward.old self.new inward.new outward.new
+            (λ side v. delivers Tagged v.incoming v)) }
+        ensures err { IfErr (with_outs result outs.new)
+            (RefusesInView self.old inward.old outward.old
+            (λ side v. delivers Tagged v.incoming v)) }
+        ensures unchanged { OnErr (with_outs result outs.new)
+            (ShowsViewAsBefore self.old inward.old outward.old self.new inward.new outward.new) }
     {
         let Some(octets) = inward.first() else {
             return Err(PairFault::NothingThere);
@@ -211,9 +244,12 @@ impl RecordedLink {
 
     /// T203 expires, where it runs.
     fn expire_203(&mut self, outward: &mut Line, outs: &mut Outs) -> Result<(), PairFault>
-        ensures ok { IfOk (with_outs result outs.new) (Acts self.old outward.old self.new outward.new (λ side v. expires_203 Tagged v)) }
-        ensures err { IfErr (with_outs result outs.new) (RefusesAs self.old (λ side v. expires_203 Tagged v)) }
-        ensures unchanged { OnErr (with_outs result outs.new) (ShowsAsBefore self.old outward.old self.new outward.new) }
+        ensures ok { IfOk (with_outs result outs.new)
+            (Acts self.old outward.old self.new outward.new (λ side v. expires_203 Tagged v)) }
+        ensures err { IfErr (with_outs result outs.new)
+            (RefusesAs self.old (λ side v. expires_203 Tagged v)) }
+        ensures unchanged { OnErr (with_outs result outs.new)
+            (ShowsAsBefore self.old outward.old self.new outward.new) }
     {
         if !self.link.running(Timer::T203) {
             return Err(PairFault::NotRunning);
@@ -229,9 +265,13 @@ impl RecordedLink {
         outward: &mut Line,
         outs: &mut Outs,
     ) -> Result<(), PairFault>
-        ensures ok { IfOk (with_outs result outs.new) (ActsInView self.old inward.old outward.old self.new inward.new outward.new (λ side v. quietly (restarts v))) }
-        ensures err { IfErr (with_outs result outs.new) (RefusesInView self.old inward.old outward.old (λ side v. quietly (restarts v))) }
-        ensures unchanged { OnErr (with_outs result outs.new) (ShowsViewAsBefore self.old inward.old outward.old self.new inward.new outward.new) }
+        ensures ok { IfOk (with_outs result outs.new)
+            (ActsInView self.old inward.old outward.old self.new inward.new outward.new
+            (λ side v. quietly (restarts v))) }
+        ensures err { IfErr (with_outs result outs.new)
+            (RefusesInView self.old inward.old outward.old (λ side v. quietly (restarts v))) }
+        ensures unchanged { OnErr (with_outs result outs.new)
+            (ShowsViewAsBefore self.old inward.old outward.old self.new inward.new outward.new) }
     {
         let Ok(link) = new_link(alloc, self.link.side(), self.link.params()) else {
             return Err(PairFault::Memory);
@@ -252,8 +292,11 @@ impl RecordedLink {
         outward: &Line,
         outs: &mut Outs,
     ) -> Result<(), PairFault>
-        ensures ok { IfOk (with_outs result outs.new) (ActsInView self.now inward.old outward.now self.now inward.new outward.now (λ side v. loses place v)) }
-        ensures err { IfErr (with_outs result outs.new) (RefusesInView self.now inward.old outward.now (λ side v. loses place v)) }
+        ensures ok { IfOk (with_outs result outs.new)
+            (ActsInView self.now inward.old outward.now self.now inward.new outward.now
+            (λ side v. loses place v)) }
+        ensures err { IfErr (with_outs result outs.new)
+            (RefusesInView self.now inward.old outward.now (λ side v. loses place v)) }
         ensures unchanged { OnErr (with_outs result outs.new) (inward.new ≡ inward.old) }
     {
         if inward.lose(place) {

@@ -12,7 +12,8 @@ ghost use Rattle.lapd_pair_world.specs.World.{World, Happened, happens, view_of}
 /// Each output of a move that is sent has its frame, of the side that makes it, as it stands afterwards: the message that it
 /// carries is there, and its parts are a frame of the control table (Q.921 Table 5, 5.6.1, 5.9.3).
 pub fn sent_outputs_of_moves_have_frames()
-    ensures { (move : Move) (w : World) (happened : Happened) → IsKeptWorld Tagged w → happens Tagged move w ≡ Ok happened
+    ensures { (move : Move) (w : World) (happened : Happened) → IsKeptWorld Tagged w
+        → happens Tagged move w ≡ Ok happened
         → let e : End = (view_of move.side happened.world).station.end in
         HaveFrames (setup_for move.side) (drop e.first e.given) happened.outs }
 {}

@@ -68,7 +68,8 @@ impl Line {
     pub fn reserve(&mut self, additional: usize) -> Result<(), AllocError>
         ensures room { OnOk result (HasRoomFor additional self.new) }
         ensures octets { octets_on self.new ≡ octets_on self.old }
-        ensures shows { (from : Side) (frames : List Flight) → IsOn from self.old frames → IsOn from self.new frames }
+        ensures shows { (from : Side) (frames : List Flight) → IsOn from self.old frames
+            → IsOn from self.new frames }
         ensures no_less { (n : ℕ) → HasRoomFor n self.old → HasRoomFor n self.new }
     {
         self.frames.try_reserve(additional)
@@ -79,7 +80,8 @@ impl Line {
     pub fn put(&mut self, from: Side, frame: &Frame<'_>)
         requires { HasRoomFor 1 self.old }
         ensures octets { octets_on self.new ≡ octets_on self.old ++ spelling from frame.now ∷ [] }
-        ensures shows { (frames : List Flight) (sent : Flight) → IsOn from self.old frames → fields_of sent ≡ frame.now → IsOn from self.new (sent_behind frames sent) }
+        ensures shows { (frames : List Flight) (sent : Flight) → IsOn from self.old frames
+            → fields_of sent ≡ frame.now → IsOn from self.new (sent_behind frames sent) }
         ensures room { (n : ℕ) → HasRoomFor (n + 1) self.old → HasRoomFor n self.new }
     {
         self.make_place();
@@ -105,8 +107,10 @@ impl Line {
 
     /// The octets of the first frame, where there is one.
     pub fn first(&self) -> Option<&[u8]>
-        ensures none { IfNone result ((from : Side) (frames : List Flight) → IsOn from self.now frames → frames ≡ []) }
-        ensures some { IfSome result (λ octets. (from : Side) (frames : List Flight) → IsOn from self.now frames → IsFirst from octets.now frames) }
+        ensures none { IfNone result ((from : Side) (frames : List Flight)
+            → IsOn from self.now frames → frames ≡ []) }
+        ensures some { IfSome result (λ octets. (from : Side) (frames : List Flight)
+            → IsOn from self.now frames → IsFirst from octets.now frames) }
     {
         self.frames().first().map(FrameOctets::as_slice)
     }
@@ -114,7 +118,8 @@ impl Line {
     /// Takes the first frame off. Nothing changes where there is none.
     pub fn take_first(&mut self)
         ensures octets { octets_on self.new ≡ drop 1 (octets_on self.old) }
-        ensures shows { (from : Side) (frame : Flight) (rest : List Flight) → IsOn from self.old (frame ∷ rest) → IsOn from self.new rest }
+        ensures shows { (from : Side) (frame : Flight) (rest : List Flight)
+            → IsOn from self.old (frame ∷ rest) → IsOn from self.new rest }
     {
         if self.first < self.end {
             self.first += 1;
@@ -142,8 +147,10 @@ impl Line {
 
     /// Loses the frame at this place, counted from 0, and tells whether there is one. Where there is none, nothing changes.
     pub fn lose(&mut self, place: usize) -> bool
-        ensures there { (from : Side) (frames : List Flight) → IsOn from self.old frames → result ≡ nat_lt place (length frames) }
-        ensures shows { (from : Side) (frames : List Flight) → IsOn from self.old frames → result ≡ true → IsOn from self.new (without_lost place frames) }
+        ensures there { (from : Side) (frames : List Flight) → IsOn from self.old frames
+            → result ≡ nat_lt place (length frames) }
+        ensures shows { (from : Side) (frames : List Flight) → IsOn from self.old frames
+            → result ≡ true → IsOn from self.new (without_lost place frames) }
         ensures unchanged { result ≡ false → self.new ≡ self.old }
     {
         if place < self.frames().len() {

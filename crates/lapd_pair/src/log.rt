@@ -49,7 +49,8 @@ impl Log {
         ensures ok { OnOk result (HasRoom step_room self.new) }
         ensures room { TakesRoom no_room self.old self.new }
         ensures same { AreSame self.old self.new }
-        ensures history { (messages : List (List ℕ)) (h : world.History) → IsHistory self.old messages h → IsHistory self.new messages h }
+        ensures history { (messages : List (List ℕ)) (h : world.History)
+            → IsHistory self.old messages h → IsHistory self.new messages h }
     {
         self.received.try_reserve(1)?;
         self.units.try_reserve(1)?;
@@ -61,7 +62,8 @@ impl Log {
         ensures ok { OnOk result (HasRoom message_room self.new) }
         ensures room { TakesRoom no_room self.old self.new }
         ensures same { AreSame self.old self.new }
-        ensures history { (messages : List (List ℕ)) (h : world.History) → IsHistory self.old messages h → IsHistory self.new messages h }
+        ensures history { (messages : List (List ℕ)) (h : world.History)
+            → IsHistory self.old messages h → IsHistory self.new messages h }
     {
         self.given.try_reserve(1)?;
         self.fates.try_reserve(1)
@@ -71,7 +73,8 @@ impl Log {
     pub(crate) fn give(&mut self, message: Vec<u8>)
         requires { HasRoom message_room self.old }
         ensures room { TakesRoom message_room self.old self.new }
-        ensures history { (messages : List (List ℕ)) (h : world.History) → AreSettled h → h.sent_in (length messages) ≡ None → IsHistory self.old messages h
+        ensures history { (messages : List (List ℕ)) (h : world.History) → AreSettled h
+            → h.sent_in (length messages) ≡ None → IsHistory self.old messages h
             → IsHistory self.new (messages ++ message.items ∷ []) h }
     {
         let Ok(()) = self.given.push(message) else {
@@ -86,7 +89,8 @@ impl Log {
     pub(crate) fn begin(&mut self)
         requires { HasRoom beginning_room self.old }
         ensures room { TakesRoom beginning_room self.old self.new }
-        ensures history { (messages : List (List ℕ)) (h : world.History) → IsHistory self.old messages h
+        ensures history { (messages : List (List ℕ)) (h : world.History)
+            → IsHistory self.old messages h
             → IsHistory self.new messages (record h { begun = h.begun ++ length h.received ∷ [] }) }
     {
         let before = self.received.len() as u64;
@@ -99,8 +103,10 @@ impl Log {
     pub(crate) fn receive(&mut self, octets: Vec<u8>)
         requires { HasRoom receipt_room self.old }
         ensures room { TakesRoom receipt_room self.old self.new }
-        ensures history { (messages : List (List ℕ)) (h : world.History) (establishment place : ℕ) → length h.begun ≡ establishment → IsHistory self.old messages h
-            → IsHistory self.new messages (with_receipt (record { octets = octets.items; establishment = establishment; place = place }) h) }
+        ensures history { (messages : List (List ℕ)) (h : world.History) (establishment place : ℕ)
+            → length h.begun ≡ establishment → IsHistory self.old messages h
+            → IsHistory self.new messages (with_receipt
+            (record { octets = octets.items; establishment = establishment; place = place }) h) }
     {
         let establishment = self.establishment();
         let Ok(()) = self.received.push(Received {
@@ -116,7 +122,9 @@ impl Log {
     pub(crate) fn receive_unit(&mut self, octets: Vec<u8>)
         requires { HasRoom unit_room self.old }
         ensures room { TakesRoom unit_room self.old self.new }
-        ensures history { (messages : List (List ℕ)) (h : world.History) → IsHistory self.old messages h → IsHistory self.new messages (with_unit octets.items h) }
+        ensures history { (messages : List (List ℕ)) (h : world.History)
+            → IsHistory self.old messages h → IsHistory self.new messages
+            (with_unit octets.items h) }
     {
         let Ok(()) = self.units.push(octets) else {
             unreachable!()
@@ -127,7 +135,8 @@ impl Log {
     /// waits, and where no message waits at this one nothing is written down.
     pub(crate) fn send(&mut self, place: u16)
         ensures room { TakesRoom no_room self.old self.new }
-        ensures history { (messages : List (List ℕ)) (h : world.History) (establishment : ℕ) → length h.begun ≡ establishment → AreSettled h → IsHistory self.old messages h
+        ensures history { (messages : List (List ℕ)) (h : world.History) (establishment : ℕ)
+            → length h.begun ≡ establishment → AreSettled h → IsHistory self.old messages h
             → IsHistory self.new messages (with_sending (h.passed + place) establishment h) }
     {
         let place = usize::from(place);
@@ -142,7 +151,8 @@ impl Log {
     /// The first `n` messages that wait are acknowledged; all of them where fewer wait. The cost grows with `n` alone.
     pub(crate) fn acknowledge(&mut self, n: u16)
         ensures room { TakesRoom no_room self.old self.new }
-        ensures history { (messages : List (List ℕ)) (h : world.History) → AreSettled h → h.passed + n ≤ length messages → IsHistory self.old messages h
+        ensures history { (messages : List (List ℕ)) (h : world.History) → AreSettled h
+            → h.passed + n ≤ length messages → IsHistory self.old messages h
             → IsHistory self.new messages (with_acked n h) }
     {
         self.acknowledge_first(usize::from(n).min(self.waiting()));
@@ -151,7 +161,8 @@ impl Log {
     /// The first `n` messages that wait are dropped; all of them where fewer wait. The cost grows with `n` alone.
     pub(crate) fn discard(&mut self, n: u16)
         ensures room { TakesRoom no_room self.old self.new }
-        ensures history { (messages : List (List ℕ)) (h : world.History) → AreSettled h → h.passed + n ≤ length messages → IsHistory self.old messages h
+        ensures history { (messages : List (List ℕ)) (h : world.History) → AreSettled h
+            → h.passed + n ≤ length messages → IsHistory self.old messages h
             → IsHistory self.new messages (with_dropped n h) }
     {
         self.drop_first(usize::from(n).min(self.waiting()));
@@ -160,7 +171,8 @@ impl Log {
     /// All messages that wait are dropped.
     pub(crate) fn discard_rest(&mut self)
         ensures room { TakesRoom no_room self.old self.new }
-        ensures history { (messages : List (List ℕ)) (h : world.History) → AreSettled h → IsHistory self.old messages h
+        ensures history { (messages : List (List ℕ)) (h : world.History) → AreSettled h
+            → IsHistory self.old messages h
             → IsHistory self.new messages (with_rest_dropped (length messages) h) }
     {
         self.drop_first(self.waiting());
@@ -169,15 +181,18 @@ impl Log {
     /// How many messages are acknowledged or dropped: the place of the first that waits.
     pub(crate) fn settled(&self) -> usize
         ensures counted { result ≡ self.now.acknowledged + self.now.dropped }
-        ensures history { (messages : List (List ℕ)) (h : world.History) → AreSettled h → IsHistory self.now messages h → result ≡ h.passed }
+        ensures history { (messages : List (List ℕ)) (h : world.History) → AreSettled h
+            → IsHistory self.now messages h → result ≡ h.passed }
     {
         (self.acknowledged + self.dropped) as usize
     }
 
     /// How many messages wait: given, and neither acknowledged nor dropped.
     pub(crate) fn waiting(&self) -> usize
-        ensures counted { self.now.acknowledged + self.now.dropped + result ≡ vec_len self.now.fates }
-        ensures history { (messages : List (List ℕ)) (h : world.History) → AreSettled h → IsHistory self.now messages h → result ≡ length messages - h.passed }
+        ensures counted { self.now.acknowledged + self.now.dropped + result
+            ≡ vec_len self.now.fates }
+        ensures history { (messages : List (List ℕ)) (h : world.History) → AreSettled h
+            → IsHistory self.now messages h → result ≡ length messages - h.passed }
     {
         self.fates.len() - self.settled()
     }
@@ -193,7 +208,8 @@ impl Log {
     fn acknowledge_first(&mut self, n: usize)
         requires { self.old.acknowledged + self.old.dropped + n ≤ vec_len self.old.fates }
         ensures room { TakesRoom no_room self.old self.new }
-        ensures history { (messages : List (List ℕ)) (h : world.History) → AreSettled h → IsHistory self.old messages h → IsHistory self.new messages (with_acked n h) }
+        ensures history { (messages : List (List ℕ)) (h : world.History) → AreSettled h
+            → IsHistory self.old messages h → IsHistory self.new messages (with_acked n h) }
     {
         self.end_first(n, Ending::Acked);
         self.acknowledged += n as u64;
@@ -203,7 +219,8 @@ impl Log {
     fn drop_first(&mut self, n: usize)
         requires { self.old.acknowledged + self.old.dropped + n ≤ vec_len self.old.fates }
         ensures room { TakesRoom no_room self.old self.new }
-        ensures history { (messages : List (List ℕ)) (h : world.History) → AreSettled h → IsHistory self.old messages h → IsHistory self.new messages (with_dropped n h) }
+        ensures history { (messages : List (List ℕ)) (h : world.History) → AreSettled h
+            → IsHistory self.old messages h → IsHistory self.new messages (with_dropped n h) }
     {
         self.end_first(n, Ending::Dropped);
         self.dropped += n as u64;
@@ -212,7 +229,8 @@ impl Log {
     // Of the messages that wait, the first `n` have this ending. They are not yet counted.
     fn end_first(&mut self, n: usize, ending: Ending)
         requires { self.old.acknowledged + self.old.dropped + n ≤ vec_len self.old.fates }
-        ensures fates { self.new.fates.items ≡ with_endings ending (self.old.acknowledged + self.old.dropped) n self.old.fates.items }
+        ensures fates { self.new.fates.items ≡ with_endings ending
+            (self.old.acknowledged + self.old.dropped) n self.old.fates.items }
         ensures room { TakesRoom no_room self.old self.new }
         ensures rest { AreSameButFates self.old self.new }
     {

@@ -69,9 +69,12 @@ impl Pair {
     /// it waits for is on the line, P4 where the link refuses, and P5, after these, where memory was refused. The pair is
     /// unchanged.
     pub fn apply(&mut self, deed: &Move) -> Result<Outs, PairFault>
-        ensures ok { IfOk result (λ outs. (w : World) → PairStandsFor self.old w → HasHappened self.new (happens Tagged (move_of deed.now) w) outs.items) }
-        ensures err { IfErr result (λ fault. (w : World) → PairStandsFor self.old w → IsRefusedAs fault (happens Tagged (move_of deed.now) w)) }
-        ensures unchanged { OnErr result ((w : World) → PairStandsFor self.old w → PairStandsFor self.new w) }
+        ensures ok { IfOk result (λ outs. (w : World) → PairStandsFor self.old w
+            → HasHappened self.new (happens Tagged (move_of deed.now) w) outs.items) }
+        ensures err { IfErr result (λ fault. (w : World) → PairStandsFor self.old w
+            → IsRefusedAs fault (happens Tagged (move_of deed.now) w)) }
+        ensures unchanged { OnErr result ((w : World) → PairStandsFor self.old w
+            → PairStandsFor self.new w) }
         ensures reports { IfOk result (λ outs. AreExpected outs.items) }
         ensures safe { ∥ IsSafePair self.new ∥₁ }
         ensures readers { AreSafeReadings self.new }
@@ -89,9 +92,14 @@ impl Pair {
     ///
     /// As [`Pair::apply`]. What is then in `outs` is not told.
     pub fn apply_into(&mut self, deed: &Move, outs: &mut Outs) -> Result<(), PairFault>
-        ensures ok { IfOk (with_outs result outs.new) (λ made. (w : World) → PairStandsFor self.old w → HasHappened self.new (happens Tagged (move_of deed.now) w) made.items) }
-        ensures err { IfErr (with_outs result outs.new) (λ fault. (w : World) → PairStandsFor self.old w → IsRefusedAs fault (happens Tagged (move_of deed.now) w)) }
-        ensures unchanged { OnErr (with_outs result outs.new) ((w : World) → PairStandsFor self.old w → PairStandsFor self.new w) }
+        ensures ok { IfOk (with_outs result outs.new)
+            (λ made. (w : World) → PairStandsFor self.old w
+            → HasHappened self.new (happens Tagged (move_of deed.now) w) made.items) }
+        ensures err { IfErr (with_outs result outs.new)
+            (λ fault. (w : World) → PairStandsFor self.old w
+            → IsRefusedAs fault (happens Tagged (move_of deed.now) w)) }
+        ensures unchanged { OnErr (with_outs result outs.new)
+            ((w : World) → PairStandsFor self.old w → PairStandsFor self.new w) }
         ensures reports { IfOk (with_outs result outs.new) (λ made. AreExpected made.items) }
         ensures safe { ∥ IsSafePair self.new ∥₁ }
         ensures readers { AreSafeReadings self.new }
@@ -122,8 +130,10 @@ impl Pair {
     /// `RunFault` where memory was refused, with the place of that move. What was done before stands.
     pub fn run(&mut self, moves: &[Move]) -> Result<u64, RunFault>
         ensures ok { IfOk result (λ refused. (w : World) → PairStandsFor self.old w
-            → PairStandsFor self.new (run Tagged (map move_of moves.now) w) × (refused ≡ refusals (map move_of moves.now) w)) }
-        ensures err { IfErr result (λ fault. (w : World) → PairStandsFor self.old w → HasStoppedAt fault.at (map move_of moves.now) self.new w) }
+            → PairStandsFor self.new (run Tagged (map move_of moves.now) w)
+            × (refused ≡ refusals (map move_of moves.now) w)) }
+        ensures err { IfErr result (λ fault. (w : World) → PairStandsFor self.old w
+            → HasStoppedAt fault.at (map move_of moves.now) self.new w) }
         ensures reports { (w : World) → PairStandsFor self.old w
             → AllReportsExpected (outcomes Tagged (moves_made result (map move_of moves.now)) w) }
         ensures safe { ∥ IsSafePair self.new ∥₁ }
@@ -161,7 +171,8 @@ impl Pair {
 
     /// This side.
     fn station(&self, side: Side) -> &RecordedLink
-        ensures shows { (w : World) → PairStandsFor self.now w → IsStation side result.now (view_of side w).station }
+        ensures shows { (w : World) → PairStandsFor self.now w
+            → IsStation side result.now (view_of side w).station }
         ensures history { result.now.history ≡ history_of side self.now }
     {
         match side {
@@ -172,7 +183,8 @@ impl Pair {
 
     /// The messages that this side's layer 3 gave and that were accepted, in order.
     pub fn given(&self, side: Side) -> &[Vec<u8>]
-        ensures shows { (w : World) → PairStandsFor self.now w → map (λ message. message.items) result.now ≡ (view_of side w).station.end.given }
+        ensures shows { (w : World) → PairStandsFor self.now w
+            → map (λ message. message.items) result.now ≡ (view_of side w).station.end.given }
         ensures now { result.now ≡ given_by side self.now }
     {
         self.station(side).history.given()
@@ -180,7 +192,9 @@ impl Pair {
 
     /// The messages that this side's layer 3 received, in order.
     pub fn received(&self, side: Side) -> &[Received]
-        ensures shows { (w : World) → PairStandsFor self.now w → map of_received result.now ≡ map octets_and_establishment (view_of side w).station.history.received }
+        ensures shows { (w : World) → PairStandsFor self.now w
+            → map of_received result.now ≡ map octets_and_establishment
+            (view_of side w).station.history.received }
         ensures now { result.now ≡ received_by side self.now }
     {
         self.station(side).history.received()
@@ -188,14 +202,17 @@ impl Pair {
 
     /// The unit data that this side's layer 3 received, in order.
     pub fn units(&self, side: Side) -> &[Vec<u8>]
-        ensures { (w : World) → PairStandsFor self.now w → map (λ unit. unit.items) result.now ≡ (view_of side w).station.history.units }
+        ensures { (w : World) → PairStandsFor self.now w
+            → map (λ unit. unit.items) result.now ≡ (view_of side w).station.history.units }
     {
         self.station(side).history.units()
     }
 
     /// What became of each message of [`Pair::given`].
     pub fn fates(&self, side: Side) -> &[Fate]
-        ensures shows { (w : World) → PairStandsFor self.now w → result.now ≡ fates_of (length (view_of side w).station.end.given) (view_of side w).station.history }
+        ensures shows { (w : World) → PairStandsFor self.now w
+            → result.now ≡ fates_of (length (view_of side w).station.end.given)
+            (view_of side w).station.history }
         ensures now { result.now ≡ fates_by side self.now }
     {
         self.station(side).history.fates()
@@ -203,7 +220,8 @@ impl Pair {
 
     /// For each establishment of this side, how many messages it had received before it.
     pub fn begun(&self, side: Side) -> &[u64]
-        ensures shows { (w : World) → PairStandsFor self.now w → result.now ≡ (view_of side w).station.history.begun }
+        ensures shows { (w : World) → PairStandsFor self.now w
+            → result.now ≡ (view_of side w).station.history.begun }
         ensures now { result.now ≡ begun_by side self.now }
     {
         self.station(side).history.begun()
@@ -211,14 +229,16 @@ impl Pair {
 
     /// How many messages of this side were acknowledged.
     pub fn acknowledged(&self, side: Side) -> u64
-        ensures { (w : World) → PairStandsFor self.now w → result ≡ length (view_of side w).station.history.acked }
+        ensures { (w : World) → PairStandsFor self.now w
+            → result ≡ length (view_of side w).station.history.acked }
     {
         self.station(side).history.acknowledged()
     }
 
     /// How many messages of this side were dropped. They may or may not have been received.
     pub fn dropped(&self, side: Side) -> u64
-        ensures { (w : World) → PairStandsFor self.now w → result ≡ length (view_of side w).station.history.dropped }
+        ensures { (w : World) → PairStandsFor self.now w
+            → result ≡ length (view_of side w).station.history.dropped }
     {
         self.station(side).history.dropped()
     }
@@ -232,7 +252,9 @@ impl Pair {
 
     /// The octets of the frames on their way to this side, the first of them first.
     pub fn line(&self, to: Side) -> &[FrameOctets]
-        ensures { (w : World) → PairStandsFor self.now w → map (λ frame. frame.items) result.now ≡ map (λ frame. spelling (other_side to) (fields_of frame)) (view_of to w).incoming }
+        ensures { (w : World) → PairStandsFor self.now w
+            → map (λ frame. frame.items) result.now ≡ map
+            (λ frame. spelling (other_side to) (fields_of frame)) (view_of to w).incoming }
     {
         match to {
             Side::User => self.to_user.frames(),
@@ -242,8 +264,10 @@ impl Pair {
 
     /// This side's end of the link, of SAPI 0 and TEI 64.
     pub fn link(&self, side: Side) -> &Link
-        ensures end { (w : World) → PairStandsFor self.now w → LinkStandsFor result.now (view_of side w).station.end }
-        ensures setup { (w : World) → PairStandsFor self.now w → setup_of result.now ≡ setup_for side }
+        ensures end { (w : World) → PairStandsFor self.now w
+            → LinkStandsFor result.now (view_of side w).station.end }
+        ensures setup { (w : World) → PairStandsFor self.now w
+            → setup_of result.now ≡ setup_for side }
     {
         &self.station(side).link
     }

@@ -69,8 +69,10 @@ impl RecordedLink {
     pub fn make_room(&mut self, outward: &mut Line) -> Result<(), AllocError>
         ensures line_room { OnOk result (HasRoomFor 136 outward.new) }
         ensures history_room { OnOk result (HasRoom step_room self.new.history) }
-        ensures station { (side : Side) (t : world.Station) → IsStation side self.old t → IsStation side self.new t }
-        ensures line { (from : Side) (frames : List Flight) → IsOn from outward.old frames → IsOn from outward.new frames }
+        ensures station { (side : Side) (t : world.Station) → IsStation side self.old t
+            → IsStation side self.new t }
+        ensures line { (from : Side) (frames : List Flight) → IsOn from outward.old frames
+            → IsOn from outward.new frames }
         ensures link { self.new.link ≡ self.old.link }
     {
         outward.reserve(MOST_FRAMES)?;
@@ -81,8 +83,10 @@ impl RecordedLink {
     pub fn make_room_for_message(&mut self, outward: &mut Line) -> Result<(), AllocError>
         ensures line_room { OnOk result (HasRoomFor 136 outward.new) }
         ensures history_room { OnOk result (HasRoom message_room self.new.history) }
-        ensures station { (side : Side) (t : world.Station) → IsStation side self.old t → IsStation side self.new t }
-        ensures line { (from : Side) (frames : List Flight) → IsOn from outward.old frames → IsOn from outward.new frames }
+        ensures station { (side : Side) (t : world.Station) → IsStation side self.old t
+            → IsStation side self.new t }
+        ensures line { (from : Side) (frames : List Flight) → IsOn from outward.old frames
+            → IsOn from outward.new frames }
         ensures link { self.new.link ≡ self.old.link }
     {
         outward.reserve(MOST_FRAMES)?;
@@ -93,8 +97,10 @@ impl RecordedLink {
     #[inline(always)]
     fn put_sent(&self, out: &Out, octets: &[u8], outward: &mut Line)
         requires { HasRoomFor 1 outward.old }
-        ensures shows { (side : Side) (e : End) (o : Occasion) (rest : List states.Out) (copy : Option (Vec ℕ Global)) (t : Story) → octets.now ≡ o.octets
-            → IsTelling side e o (out.now ∷ rest) self.now outward.old copy t → IsOn side outward.new (with_sent (flight_of o t.history.passed out.now) t.line) }
+        ensures shows { (side : Side) (e : End) (o : Occasion) (rest : List states.Out)
+            (copy : Option (Vec ℕ Global)) (t : Story) → octets.now ≡ o.octets
+            → IsTelling side e o (out.now ∷ rest) self.now outward.old copy t
+            → IsOn side outward.new (with_sent (flight_of o t.history.passed out.now) t.line) }
         ensures room { (n : ℕ) → HasRoomFor (n + 1) outward.old → HasRoomFor n outward.new }
     {
         if let Some(frame) = self.link.frame(out, octets) {
@@ -106,9 +112,13 @@ impl RecordedLink {
     #[inline(always)]
     fn write_down(&mut self, out: &Out, copy: &mut Option<Vec<u8>>)
         requires { IfSome copy.old (λ _. HasRoom data_room self.old.history) }
-        ensures shows { (side : Side) (e : End) (o : Occasion) (rest : List states.Out) (line : Line) (t : Story)
-            → IsTelling side e o (out.now ∷ rest) self.old line copy.old t → IsHistory self.new.history e.given (history_told o out.now t.history) }
-        ensures copied { (octets : List ℕ) (rest : List states.Out) → IsCopy octets (ups (out.now ∷ rest) + unit_ups (out.now ∷ rest)) copy.old → IsCopy octets (ups rest + unit_ups rest) copy.new }
+        ensures shows { (side : Side) (e : End) (o : Occasion) (rest : List states.Out)
+            (line : Line) (t : Story)
+            → IsTelling side e o (out.now ∷ rest) self.old line copy.old t
+            → IsHistory self.new.history e.given (history_told o out.now t.history) }
+        ensures copied { (octets : List ℕ) (rest : List states.Out)
+            → IsCopy octets (ups (out.now ∷ rest) + unit_ups (out.now ∷ rest)) copy.old
+            → IsCopy octets (ups rest + unit_ups rest) copy.new }
         ensures room { IfSome copy.new (λ _. HasRoom data_room self.new.history) }
         ensures link { self.new.link ≡ self.old.link }
     {
@@ -150,7 +160,8 @@ impl RecordedLink {
         requires line_room { HasRoomFor (length outs.now) outward.old }
         requires history_room { IfSome copy.old (λ _. HasRoom data_room self.old.history) }
         ensures shows { (side : Side) (e : End) (o : Occasion) (t : Story) → octets.now ≡ o.octets
-            → IsTelling side e o outs.now self.old outward.old copy.old t → IsTelling side e o [] self.new outward.new copy.new (told o outs.now t) }
+            → IsTelling side e o outs.now self.old outward.old copy.old t
+            → IsTelling side e o [] self.new outward.new copy.new (told o outs.now t) }
         ensures link { self.new.link ≡ self.old.link }
     {
         for out in outs {
@@ -162,8 +173,10 @@ impl RecordedLink {
     /// Where an establishment begins, writes it down.
     fn note_beginning(&mut self, begins: bool)
         requires { HasRoom step_room self.old.history }
-        ensures shows { (messages : List (List ℕ)) (h : histories.History) (before now : ℕ) → begins ≡ not (before == now)
-            → IsHistory self.old.history messages h → IsHistory self.new.history messages (with_beginning before now h) }
+        ensures shows { (messages : List (List ℕ)) (h : histories.History) (before now : ℕ)
+            → begins ≡ not (before == now)
+            → IsHistory self.old.history messages h → IsHistory self.new.history messages
+            (with_beginning before now h) }
         ensures room { HasRoom data_room self.new.history }
         ensures link { self.new.link ≡ self.old.link }
     {
@@ -186,11 +199,18 @@ impl RecordedLink {
         requires for_link { IsForLink self.old.link event }
         requires line_room { HasRoomFor 136 outward.old }
         requires history_room { HasRoom step_room self.old.history }
-        ensures ok { IfOk (with_outs result outs.new) (λ outs. (side : Side) (place : ℕ) (v : View) → IsKept Tagged v.station → IsStation side self.old v.station → IsOn side outward.old v.outgoing
+        ensures ok { IfOk (with_outs result outs.new)
+            (λ outs. (side : Side) (place : ℕ) (v : View) → IsKept Tagged v.station
+            → IsStation side self.old v.station → IsOn side outward.old v.outgoing
             → length octets.now ≤ n201 → IsHanded (input_of event.entry) octets.now copy
-            → IsActed side self.new outward.new (stepped octets.now place v (step Tagged (input_of event.entry) v.station.end)) outs.items) }
-        ensures err { IfErr (with_outs result outs.new) (λ fault. (octets : List ℕ) (place : ℕ) (side : Side) (v : View) → IsStation side self.old v.station → IsRefusedAs fault (stepped octets place v (step Tagged (input_of event.entry) v.station.end))) }
-        ensures unchanged { OnErr (with_outs result outs.new) ((self.new ≡ self.old) × (outward.new ≡ outward.old)) }
+            → IsActed side self.new outward.new (stepped octets.now place v
+            (step Tagged (input_of event.entry) v.station.end)) outs.items) }
+        ensures err { IfErr (with_outs result outs.new)
+            (λ fault. (octets : List ℕ) (place : ℕ) (side : Side) (v : View)
+            → IsStation side self.old v.station → IsRefusedAs fault
+            (stepped octets place v (step Tagged (input_of event.entry) v.station.end))) }
+        ensures unchanged { OnErr (with_outs result outs.new)
+            ((self.new ≡ self.old) × (outward.new ≡ outward.old)) }
     {
         let mut copy = copy;
         let begins = self.link.begins(&event);
@@ -214,11 +234,17 @@ impl RecordedLink {
     ) -> Result<(), PairFault>
         requires line_room { HasRoomFor 136 outward.old }
         requires history_room { HasRoom message_room self.old.history }
-        ensures ok { IfOk (with_outs result outs.new) (λ outs. (side : Side) (v : View) → IsKept Tagged v.station → IsStation side self.old v.station → IsOn side outward.old v.outgoing
+        ensures ok { IfOk (with_outs result outs.new)
+            (λ outs. (side : Side) (v : View) → IsKept Tagged v.station
+            → IsStation side self.old v.station → IsOn side outward.old v.outgoing
             → copy.items ≡ message.items
-            → IsActed side self.new outward.new (stepped [] 0 v (step Tagged (Give message.items) v.station.end)) outs.items) }
-        ensures err { IfErr (with_outs result outs.new) (λ fault. (side : Side) (v : View) → IsStation side self.old v.station → IsRefusedAs fault (stepped [] 0 v (step Tagged (Give message.items) v.station.end))) }
-        ensures unchanged { OnErr (with_outs result outs.new) ((self.new ≡ self.old) × (outward.new ≡ outward.old)) }
+            → IsActed side self.new outward.new (stepped [] 0 v
+            (step Tagged (Give message.items) v.station.end)) outs.items) }
+        ensures err { IfErr (with_outs result outs.new)
+            (λ fault. (side : Side) (v : View) → IsStation side self.old v.station
+            → IsRefusedAs fault (stepped [] 0 v (step Tagged (Give message.items) v.station.end))) }
+        ensures unchanged { OnErr (with_outs result outs.new)
+            ((self.new ≡ self.old) × (outward.new ≡ outward.old)) }
     {
         match self.link.give_into(message, outs) {
             Ok(()) => {

@@ -33,8 +33,11 @@ pub fn ends_rest_between_moves()
 /// three messages that were lost, with either recovery; and a busy network, where nothing drains.
 pub fn settling_is_computed()
     ensures new_pair { (r : Reading) → outcome_of r (new_pair 3 Enquiry) ≡ nothing_to_do }
-    ensures sabme { (r : Reading) → outcome_of r (run r sabme_lost (new_pair 3 Enquiry)) ≡ established }
-    ensures three { (r : Reading) → outcome_of r (run r three_lost (new_pair 3 Enquiry)) ≡ recovered }
-    ensures three_by_last { (r : Reading) → outcome_of r (run r three_lost (new_pair 3 LastMessage)) ≡ recovered }
+    ensures sabme { (r : Reading) → outcome_of r (run r sabme_lost (new_pair 3 Enquiry))
+        ≡ established }
+    ensures three { (r : Reading) → outcome_of r (run r three_lost (new_pair 3 Enquiry))
+        ≡ recovered }
+    ensures three_by_last { (r : Reading) → outcome_of r (run r three_lost (new_pair 3 LastMessage))
+        ≡ recovered }
     ensures busy { (r : Reading) → outcome_of r (run r busy (new_pair 1 Enquiry)) ≡ held_up }
 {}

@@ -37,13 +37,15 @@ places_of received = map (λ message. message.place) received
 -- each message received is what was given at its place
 abbrev pub AreGiven : List (List ℕ) → List Receipt → Type 0
 AreGiven given [] = Unit {0}
-AreGiven given (message ∷ received) = (slice_get given message.place ≡ Some message.octets) × AreGiven given received
+AreGiven given (message ∷ received) = (slice_get given message.place ≡ Some message.octets)
+    × AreGiven given received
 
 -- the places rise from `next` on, and one that was received in the same establishment as the one before it is the very next
 abbrev pub IsRow : ℕ → ℕ → List Receipt → Type 0
 IsRow next establishment [] = Unit {0}
 IsRow next establishment (message ∷ received) =
-    (next ≤ message.place) × (message.establishment ≡ establishment → message.place ≡ next) × IsRow (message.place + 1) message.establishment received
+    (next ≤ message.place) × (message.establishment ≡ establishment → message.place ≡ next)
+    × IsRow (message.place + 1) message.establishment received
 
 -- this place was received
 abbrev pub HasPlace : ℕ → List Receipt → Type 0
@@ -95,7 +97,8 @@ is_holding state asked leaving = false
 
 -- a place was sent in no later establishment than the present, and in the present one not below its base
 abbrev pub IsPast : Sender → Type 0
-IsPast s = (place era : ℕ) → s.sent_in place ≡ Some era → (era ≤ s.era) × (era ≡ s.era → s.base ≤ place)
+IsPast s = (place era : ℕ) → s.sent_in place ≡ Some era
+    → (era ≤ s.era) × (era ≡ s.era → s.base ≤ place)
 
 -- ---- The messages that are heard.
 
@@ -121,7 +124,8 @@ IsRun low end (m ∷ ms) = IsNext m.polled low end m.number ms (IsRun (m.number 
 -- before these there may be some above `low`, which were on their way when the sender went back
 abbrev pub IsJunkThenRun : ℕ → ℕ → List Message → Type 0
 IsJunkThenRun low end [] = Unit {0}
-IsJunkThenRun low end (m ∷ ms) = IsRun low end (m ∷ ms) ⊎ ((low < m.number) × (m.polled ≡ false) × IsJunkThenRun low end ms)
+IsJunkThenRun low end (m ∷ ms) = IsRun low end (m ∷ ms)
+    ⊎ ((low < m.number) × (m.polled ≡ false) × IsJunkThenRun low end ms)
 
 -- a hearer that is rejecting may hear such
 abbrev pub IsInOrder : Bool → ℕ → ℕ → List Message → Type 0
@@ -139,7 +143,8 @@ HasSome [] = ⊥
 HasSome (m ∷ ms) = Unit {0}
 
 -- the messages that are heard, under V(R) and the reject condition of the hearer
-pub record IsStream (speaking : Bool) (s : Sender) (received : List Receipt) (vr : ℕ) (rejecting : Bool) (ms : List Message) : Type 0 where
+pub record IsStream (speaking : Bool) (s : Sender) (received : List Receipt) (vr : ℕ)
+    (rejecting : Bool) (ms : List Message) : Type 0 where
   pub placed : Each (IsPlaced s) ms
   pub near : Each (IsNearTo vr s.k) ms
   pub order : IsInOrder rejecting vr s.vs ms
@@ -154,7 +159,8 @@ IsClimb low top [] = low ≤ top
 IsClimb low top (n ∷ ns) = (low ≤ n) × IsClimb n top ns
 
 -- from V(A) to V(S) of the hearer; the speaker has received all that they acknowledge; an open speaker's go up to its V(R)
-pub record AreAcknowledging (speaking : Bool) (r : Receiver) (base va vs : ℕ) (ns : List ℕ) : Type 0 where
+pub record AreAcknowledging (speaking : Bool) (r : Receiver) (base va vs : ℕ) (ns : List ℕ) :
+    Type 0 where
   pub climb : IsClimb va vs ns
   pub known : Each (λ nr. IsGot base nr r.received) ns
   pub top : speaking ≡ true → IsClimb va r.vr ns × (r.vr ≤ vs)
@@ -201,7 +207,8 @@ pub record IsAwaiting (nr : ℕ) (h : Hearing) : Type 0 where
   pub at : h.vr ≡ nr
   pub above : Each (λ m. m.polled ≡ false → nr < m.number) (messages h.frames)
 
-pub record IsSentBack (vs base : ℕ) (received : List Receipt) (waiting : Option Hearing) (nr : ℕ) : Type 0 where
+pub record IsSentBack (vs base : ℕ) (received : List Receipt) (waiting : Option Hearing) (nr : ℕ) :
+    Type 0 where
   pub below : nr < vs
   pub names : high received ≤ base + nr
   pub waits : OnHearing (IsAwaiting nr) waiting
@@ -215,16 +222,19 @@ abbrev pub AreRejected : State → ℕ → ℕ → List Receipt → Option Heari
 AreRejected TeiAssigned vs base received waiting ns = Unit {0}
 AreRejected AwaitingEstablishment vs base received waiting ns = ns ≡ []
 AreRejected AwaitingRelease vs base received waiting ns = Unit {0}
-AreRejected MultipleFrameEstablished vs base received waiting ns = AtMostOne (IsSentBack vs base received waiting) ns
+AreRejected MultipleFrameEstablished vs base received waiting ns =
+    AtMostOne (IsSentBack vs base received waiting) ns
 AreRejected TimerRecovery vs base received waiting ns = Unit {0}
 
 -- ---- All that y hears of x, where `waiting` is what x hears of y.
 
 pub record IsHeard (x y : Party) (waiting : Option Hearing) (h : Hearing) : Type 0 where
-  pub stream : IsStream (is_7_or_8 x.state) x.sends y.takes.received h.vr h.rejecting (messages h.frames)
+  pub stream : IsStream (is_7_or_8 x.state) x.sends y.takes.received h.vr h.rejecting
+      (messages h.frames)
   pub acks : AreAcknowledging (is_7_or_8 x.state) x.takes y.sends.base h.va h.vs (numbers h.frames)
   pub asked : AreAsked y.state y.sends.base x.takes.received (frames_heard waiting) h.frames
-  pub rejected : AreRejected y.state y.sends.vs y.sends.base x.takes.received waiting (rejections h.frames)
+  pub rejected : AreRejected y.state y.sends.vs y.sends.base x.takes.received waiting
+      (rejections h.frames)
 
 -- ---- SABME and DISC, and their answers.
 
@@ -249,8 +259,10 @@ pub record IsExchange (most : ℕ) (out back : List Kind) : Type 0 where
 
 -- ---- The histories of a sender and a receiver, from which they are safe.
 
-pub record AreHistories (given : List (List ℕ)) (sent_in : ℕ → Option ℕ) (acked : List ℕ) (received : List Receipt) : Type 0 where
+pub record AreHistories (given : List (List ℕ)) (sent_in : ℕ → Option ℕ) (acked : List ℕ)
+    (received : List Receipt) : Type 0 where
   pub as_given : AreGiven given received
   pub row : IsRow 0 0 received
-  pub prefix : (place smaller : ℕ) → HasPlace place received → smaller < place → sent_in smaller ≡ sent_in place → HasPlace smaller received
+  pub prefix : (place smaller : ℕ) → HasPlace place received → smaller < place
+      → sent_in smaller ≡ sent_in place → HasPlace smaller received
   pub arrived : (place : ℕ) → IsAmong place acked → HasPlace place received

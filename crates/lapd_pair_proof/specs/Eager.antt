@@ -29,7 +29,8 @@ awaited_in v = awaited v.station.end.state (kinds v.outgoing) (kinds v.incoming)
 
 -- T200 expires where it runs and nothing is awaited; else the move is as it was
 unfoldable pub expires_eagerly : Reading → Side → View → Result Turn Refusal
-expires_eagerly r side v = if v.station.end.t200 && (awaited_in v == 0) then takes r (Expiry T200) [] v else expires_200 r side v
+expires_eagerly r side v = if v.station.end.t200 && (awaited_in v == 0)
+    then takes r (Expiry T200) [] v else expires_200 r side v
 
 -- and so is every other deed
 abbrev pub acts_eagerly : Reading → Side → Deed → View → Result Turn Refusal
@@ -37,7 +38,8 @@ acts_eagerly r side Expire200 v = expires_eagerly r side v
 acts_eagerly r side deed v = acts r side deed v
 
 unfoldable pub happens_eagerly : Reading → Move → World → Result Happened Refusal
-happens_eagerly r move w = in_world move.side w (acts_eagerly r move.side move.deed (view_of move.side w))
+happens_eagerly r move w = in_world move.side w
+    (acts_eagerly r move.side move.deed (view_of move.side w))
 
 abbrev pub run_eagerly : Reading → List Move → World → World
 run_eagerly r [] w = w
@@ -53,15 +55,37 @@ outcomes_eagerly r (move ∷ moves) w =
 -- The network establishes again while an enquiry of the user is on its way, which it will pass over in state 5. The user
 -- answers the SABME, and sends a message, which is lost: T200 guards that message now, and waits for no answer.
 abbrev pub passed_over : List Move
-passed_over = establishing ++ of_user Expire203 ∷ of_network Establish ∷ of_user Deliver ∷ of_user (Give (1 ∷ [])) ∷ of_network (Lose 2) ∷ []
+passed_over = establishing ++ of_user Expire203 ∷ of_network Establish ∷ of_user Deliver
+    ∷ of_user (Give (1 ∷ [])) ∷ of_network (Lose 2) ∷ []
 
 -- T200 expires; behind the first enquiry and the UA a second enquiry comes, which is answered, and the message is sent again
 abbrev pub second_enquiry : List Move
-second_enquiry = of_user Expire200 ∷ of_network Deliver ∷ of_network Deliver ∷ of_network Deliver ∷ of_user Deliver ∷ of_network Deliver ∷ of_user Deliver ∷ []
+second_enquiry = of_user Expire200 ∷ of_network Deliver ∷ of_network Deliver ∷ of_network Deliver
+    ∷ of_user Deliver ∷ of_network Deliver ∷ of_user Deliver ∷ []
 
 -- it is received once, and acknowledged
 abbrev pub user_at_end : Figures
-user_at_end = record { state = MultipleFrameEstablished; vs = 1; va = 1; vr = 0; received = []; acked = 0 ∷ []; dropped = []; begun = 0 ∷ 0 ∷ []; sent_in = Some 2 ∷ None ∷ None ∷ None ∷ [] }
+user_at_end = record {
+  state = MultipleFrameEstablished;
+  vs = 1;
+  va = 1;
+  vr = 0;
+  received = [];
+  acked = 0 ∷ [];
+  dropped = [];
+  begun = 0 ∷ 0 ∷ [];
+  sent_in = Some 2 ∷ None ∷ None ∷ None ∷ [];
+}
 
 abbrev pub network_at_end : Figures
-network_at_end = record { state = MultipleFrameEstablished; vs = 0; va = 0; vr = 1; received = receipt 0 2 (1 ∷ []) ∷ []; acked = []; dropped = []; begun = 0 ∷ 0 ∷ []; sent_in = None ∷ None ∷ None ∷ None ∷ [] }
+network_at_end = record {
+  state = MultipleFrameEstablished;
+  vs = 0;
+  va = 0;
+  vr = 1;
+  received = receipt 0 2 (1 ∷ []) ∷ [];
+  acked = [];
+  dropped = [];
+  begun = 0 ∷ 0 ∷ [];
+  sent_in = None ∷ None ∷ None ∷ None ∷ [];
+}

@@ -11,13 +11,15 @@ use Rattle.lapd_pair_world.specs.World.{World}
 
 -- an I frame with the message at this place was last sent in the present establishment of this sender
 abbrev pub IsFresh : Station → Role → Control → ℕ → Type 0
-IsFresh sender Command (I ns nr p) place = sender.history.sent_in place ≡ Some sender.end.establishments
+IsFresh sender Command (I ns nr p) place = sender.history.sent_in place
+    ≡ Some sender.end.establishments
 IsFresh sender role control place = Unit {0}
 
 -- and so was each of these
 abbrev pub AreFresh : Station → List Flight → Type 0
 AreFresh sender [] = Unit {0}
-AreFresh sender (frame ∷ rest) = IsFresh sender frame.role frame.control frame.place × AreFresh sender rest
+AreFresh sender (frame ∷ rest) = IsFresh sender frame.role frame.control frame.place
+    × AreFresh sender rest
 
 -- those on their way to an end in state 7 or 8, in both directions
 pub record ComeFresh (w : World) : Type 0 where

@@ -30,7 +30,8 @@ pub data Kind : Type 0 where
 
 -- the kind of a command with this control field, information and place, and of a response
 abbrev pub kind_of : Role → Control → List ℕ → ℕ → Kind
-kind_of Command (I ns nr p) info place = Numbered (record { number = ns; polled = p; place = place; octets = info }) nr
+kind_of Command (I ns nr p) info place = Numbered
+    (record { number = ns; polled = p; place = place; octets = info }) nr
 kind_of Command (Rr nr true) info place = Enquiry nr
 kind_of Command (Rnr nr true) info place = Enquiry nr
 kind_of Command (Sabme true) info place = Asks

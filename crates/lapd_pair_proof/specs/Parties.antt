@@ -57,7 +57,13 @@ receiver_of e h = record { vr = e.window.vr; rejecting = e.window.rejecting; rec
 
 -- the party of an end with its history, where message number 0 of the present establishment stands at place `base`
 abbrev pub party_of : ℕ → End → History → Party
-party_of base e h = record { state = e.state; asked = e.layer3_initiated; leaving = e.release_pending; sends = sender_of base e h; takes = receiver_of e h }
+party_of base e h = record {
+  state = e.state;
+  asked = e.layer3_initiated;
+  leaving = e.release_pending;
+  sends = sender_of base e h;
+  takes = receiver_of e h;
+}
 
 abbrev pub party : ℕ → Station → Party
 party base s = party_of base s.end s.history
@@ -83,7 +89,13 @@ behind_acceptance (k ∷ ks) = behind (is_acceptance k) ks (behind_acceptance ks
 
 -- in an open link, all frames under its numbers
 abbrev pub hearing_now : Party → List Kind → Hearing
-hearing_now y ks = record { vs = y.sends.vs; va = y.sends.va; vr = y.takes.vr; rejecting = y.takes.rejecting; frames = ks }
+hearing_now y ks = record {
+  vs = y.sends.vs;
+  va = y.sends.va;
+  vr = y.takes.vr;
+  rejecting = y.takes.rejecting;
+  frames = ks;
+}
 
 -- in an establishment that is about to begin, with all numbers at 0
 abbrev pub hearing_to_come : List Kind → Hearing

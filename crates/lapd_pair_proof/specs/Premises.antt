@@ -24,9 +24,15 @@ heard_at (Some frame) at v = hears Whole frame (record v { incoming = without_lo
 
 abbrev pub freely : Free → World → Result Happened Refusal
 freely (Admitted move) w = happens Whole move w
-freely (Expires s) w = in_world s w (if (view_of s w).station.end.t200 then takes Whole (Expiry T200) [] (view_of s w) else Err NotRunning)
-freely (StartsAnew s) w = in_world s w (quietly (record (restarts (view_of s w)) { incoming = (view_of s w).incoming; outgoing = (view_of s w).outgoing }))
-freely (Overtakes s at) w = in_world s w (heard_at (slice_get (view_of s w).incoming at) at (view_of s w))
+freely (Expires s) w = in_world s w (if (view_of s w).station.end.t200
+    then takes Whole (Expiry T200) [] (view_of s w) else Err NotRunning)
+freely (StartsAnew s) w = in_world s w (quietly
+    (record (restarts (view_of s w)) {
+      incoming = (view_of s w).incoming;
+      outgoing = (view_of s w).outgoing;
+    }))
+freely (Overtakes s at) w = in_world s w (heard_at
+    (slice_get (view_of s w).incoming at) at (view_of s w))
 
 abbrev pub run_freely : List Free → World → World
 run_freely [] w = w
@@ -38,13 +44,18 @@ admitted moves = map (λ move. Admitted move) moves
 -- T200 expires while the answer to the SABME is on its way: the second SABME begins another establishment of the network,
 -- and the user takes the message of the first for the message of the second
 abbrev pub hasty : List Free
-hasty = admitted (of_user Establish ∷ of_network Deliver ∷ of_network (Give (1 ∷ [])) ∷ []) ++ Expires side.User ∷ admitted (of_network Deliver ∷ of_user Deliver ∷ of_network (Give (2 ∷ [])) ∷ of_user Deliver ∷ of_network Deliver ∷ [])
+hasty = admitted (of_user Establish ∷ of_network Deliver ∷ of_network (Give (1 ∷ [])) ∷ [])
+    ++ Expires side.User ∷ admitted (of_network Deliver ∷ of_user Deliver
+    ∷ of_network (Give (2 ∷ [])) ∷ of_user Deliver ∷ of_network Deliver ∷ [])
 
 -- the network starts anew, and the answer to its SABME from before comes
 abbrev pub stale : List Free
 stale = admitted (of_network Establish ∷ of_user Deliver ∷ []) ++ StartsAnew side.Network
-    ∷ admitted (of_network Establish ∷ of_user (Give (1 ∷ [])) ∷ of_user Deliver ∷ of_user (Give (2 ∷ [])) ∷ of_network Deliver ∷ of_network Deliver ∷ of_user Deliver ∷ [])
+    ∷ admitted (of_network Establish ∷ of_user (Give (1 ∷ [])) ∷ of_user Deliver
+    ∷ of_user (Give (2 ∷ [])) ∷ of_network Deliver ∷ of_network Deliver ∷ of_user Deliver ∷ [])
 
 -- a SABME of the network overtakes its acknowledgement
 abbrev pub overtaken : List Free
-overtaken = admitted (establishing ++ of_user (Give (1 ∷ [])) ∷ of_network Deliver ∷ of_network Establish ∷ []) ++ Overtakes side.User 1 ∷ admitted (of_user (Give (2 ∷ [])) ∷ of_user Deliver ∷ [])
+overtaken = admitted (establishing ++ of_user (Give (1 ∷ [])) ∷ of_network Deliver
+    ∷ of_network Establish ∷ []) ++ Overtakes side.User 1
+    ∷ admitted (of_user (Give (2 ∷ [])) ∷ of_user Deliver ∷ [])

@@ -57,7 +57,8 @@ pub fn every_eager_run_is_safe()
     ensures safe { (r : Reading) (user network : Parameters) → user.k ≤ 127 → network.k ≤ 127
         → (moves : List Move) → AreSafe (run_eagerly r moves (new_world user network)) }
     ensures reports { (r : Reading) (user network : Parameters) → user.k ≤ 127 → network.k ≤ 127
-        → (moves : List Move) → AllReportsExpected (outcomes_eagerly r moves (new_world user network)) }
+        → (moves : List Move) → AllReportsExpected
+        (outcomes_eagerly r moves (new_world user network)) }
     ensures due { (r : Reading) (user network : Parameters) → user.k ≤ 127 → network.k ≤ 127
         → (moves : List Move) → AreFirstDue r (run_eagerly r moves (new_world user network)) }
     ensures fresh { (r : Reading) (user network : Parameters) → user.k ≤ 127 → network.k ≤ 127
@@ -82,23 +83,31 @@ pub fn eager_schedule_is_computed()
     ensures user { (r : Reading)
         → figures (run_eagerly r (passed_over ++ second_enquiry) worked.start).user ≡ user_at_end }
     ensures network { (r : Reading)
-        → figures (run_eagerly r (passed_over ++ second_enquiry) worked.start).network ≡ network_at_end }
+        → figures (run_eagerly r (passed_over ++ second_enquiry) worked.start).network
+        ≡ network_at_end }
 {}
 
 /// A run on tags is the run on whole numbers, each number in its tag: in what each move comes to, and in the world that is
 /// left. In windows of up to 127 tags decide as whole numbers do (Q.921 3.5.2, 5.9.5).
 pub fn every_run_is_the_same_on_tags()
-    ensures worlds { (user network : Parameters) → user.k ≤ 127 → network.k ≤ 127 → (moves : List Move)
-        → run Tagged moves (new_world user network) ≡ tag_world (run Whole moves (new_world user network)) }
-    ensures outcomes { (user network : Parameters) → user.k ≤ 127 → network.k ≤ 127 → (moves : List Move)
-        → outcomes Tagged moves (new_world user network) ≡ map tag_outcome (outcomes Whole moves (new_world user network)) }
+    ensures worlds { (user network : Parameters) → user.k ≤ 127 → network.k ≤ 127
+        → (moves : List Move)
+        → run Tagged moves (new_world user network)
+        ≡ tag_world (run Whole moves (new_world user network)) }
+    ensures outcomes { (user network : Parameters) → user.k ≤ 127 → network.k ≤ 127
+        → (moves : List Move)
+        → outcomes Tagged moves (new_world user network)
+        ≡ map tag_outcome (outcomes Whole moves (new_world user network)) }
 {}
 
 /// The invariant holds of a new world, each move keeps it, and so does every run.
 pub fn the_invariant_is_kept()
-    ensures begins { (user network : Parameters) → user.k ≤ 127 → network.k ≤ 127 → IsInvariant (new_world user network) }
-    ensures stays { (move : Move) (w : World) → IsInvariant w → IsInvariant (world_after w (happens Whole move w)) }
-    ensures runs { (moves : List Move) (w : World) → IsInvariant w → IsInvariant (run Whole moves w) }
+    ensures begins { (user network : Parameters) → user.k ≤ 127 → network.k ≤ 127
+        → IsInvariant (new_world user network) }
+    ensures stays { (move : Move) (w : World) → IsInvariant w
+        → IsInvariant (world_after w (happens Whole move w)) }
+    ensures runs { (moves : List Move) (w : World) → IsInvariant w
+        → IsInvariant (run Whole moves w) }
 {}
 
 /// Where it holds, the histories are safe; a move reports nothing but F, G, H and I; no old message comes; and the first frame
@@ -106,11 +115,13 @@ pub fn the_invariant_is_kept()
 /// whole numbers.
 pub fn the_invariant_tells()
     ensures safe { (w : World) → IsInvariant w → AreSafe w }
-    ensures reports { (move : Move) (w : World) → IsInvariant w → ReportsExpected (happens Whole move w) }
+    ensures reports { (move : Move) (w : World) → IsInvariant w
+        → ReportsExpected (happens Whole move w) }
     ensures due { (w : World) → IsInvariant w → AreFirstDue Whole w }
     ensures fresh { (w : World) → IsInvariant w → ComeFresh w }
     ensures within { (w : World) → IsInvariant w → AreFirstWithin w }
-    ensures near { (moves : List Move) (w : World) → IsInvariant w → IsKeptWorld Whole w → AreNearMoves moves w }
+    ensures near { (moves : List Move) (w : World) → IsInvariant w → IsKeptWorld Whole w
+        → AreNearMoves moves w }
 {}
 
 /// Each premise is needed: where T200 expires although the answer that it waits for is on its way, where what is on the line

@@ -33,13 +33,24 @@ pub record History : Type 0 where
 
 -- as a side begins
 abbrev pub new_history : History
-new_history = record { sent_in = λ place. None; acked = []; dropped = []; passed = 0; received = []; units = []; begun = [] }
+new_history = record {
+  sent_in = λ place. None;
+  acked = [];
+  dropped = [];
+  passed = 0;
+  received = [];
+  units = [];
+  begun = [];
+}
 
 -- ---- What is written down.
 
 -- the message at this place goes out in this establishment
 abbrev pub with_sending : ℕ → ℕ → History → History
-with_sending at establishment h = record h { sent_in = λ place. if place == at then Some establishment else h.sent_in place }
+with_sending at establishment h = record h {
+  sent_in = λ place.
+      if place == at then Some establishment else h.sent_in place;
+}
 
 -- the next n places are acknowledged
 abbrev pub with_acked : ℕ → History → History
@@ -47,7 +58,10 @@ with_acked n h = record h { acked = h.acked ++ range_with_len h.passed n; passed
 
 -- the next n places are dropped
 abbrev pub with_dropped : ℕ → History → History
-with_dropped n h = record h { dropped = h.dropped ++ range_with_len h.passed n; passed = h.passed + n }
+with_dropped n h = record h {
+  dropped = h.dropped ++ range_with_len h.passed n;
+  passed = h.passed + n;
+}
 
 -- of so many messages given, all that were neither acknowledged nor dropped are dropped
 abbrev pub with_rest_dropped : ℕ → History → History
@@ -63,7 +77,10 @@ with_unit octets h = record h { units = h.units ++ octets ∷ [] }
 
 -- where the number of establishments is another than before, an establishment begins
 abbrev pub with_beginning : ℕ → ℕ → History → History
-with_beginning before now h = record h { begun = if before == now then h.begun else h.begun ++ length h.received ∷ [] }
+with_beginning before now h = record h {
+  begun = if before == now then h.begun
+      else h.begun ++ length h.received ∷ [];
+}
 
 -- ---- The outputs of a step are told, one after another.
 
@@ -83,7 +100,12 @@ pub record Story : Type 0 where
 
 -- the I frame with the message at this place
 abbrev pub message_frame : Occasion → Control → ℕ → Flight
-message_frame o control at = record { role = Command; control = control; info = get_or o.given at []; place = at }
+message_frame o control at = record {
+  role = Command;
+  control = control;
+  info = get_or o.given at [];
+  place = at;
+}
 
 -- the UI frame with this unit data
 abbrev pub unit_frame : List ℕ → Flight
@@ -93,9 +115,16 @@ unit_frame octets = record { role = Command; control = Ui false; info = octets; 
 -- goes up; messages are acknowledged or dropped. No other output is written down.
 abbrev pub tell : Occasion → Out → Story → Story
 tell o (Send role control) t = record t { line = sent_behind t.line (without_info role control) }
-tell o (SendMessage n control) t = record { line = sent_behind t.line (message_frame o control (t.history.passed + n)); history = with_sending (t.history.passed + n) o.establishment t.history }
+tell o (SendMessage n control) t = record {
+  line = sent_behind t.line
+      (message_frame o control (t.history.passed + n));
+  history = with_sending (t.history.passed + n) o.establishment t.history;
+}
 tell o SendUnit t = record t { line = sent_behind t.line (unit_frame o.octets) }
-tell o Up t = record t { history = with_receipt (record { octets = o.octets; establishment = o.establishment; place = o.place }) t.history }
+tell o Up t = record t {
+  history = with_receipt
+      (record { octets = o.octets; establishment = o.establishment; place = o.place }) t.history;
+}
 tell o UnitUp t = record t { history = with_unit o.octets t.history }
 tell o (Acknowledged n) t = record t { history = with_acked n t.history }
 tell o (Dropped n) t = record t { history = with_dropped n t.history }

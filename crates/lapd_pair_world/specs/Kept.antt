@@ -22,7 +22,8 @@ is_one_of places place = list_any (λ p. p == place) places
 -- places acknowledged or dropped are those before `passed`, each once
 pub record AreSettled (h : History) : Type 0 where
   pub counted : h.passed ≡ length h.acked + length h.dropped
-  pub settled : (place : ℕ) → (is_one_of h.acked place || is_one_of h.dropped place) ≡ nat_lt place h.passed
+  pub settled : (place : ℕ) → (is_one_of h.acked place || is_one_of h.dropped place)
+      ≡ nat_lt place h.passed
 
 -- Of a side: its sent messages are outstanding, its window has at most 127 places, its numbers are those of the reading, and
 -- its messages have at most N201 octets. Its history agrees with its end: the place of the first message that waits, and the
@@ -41,7 +42,8 @@ pub record IsKept (r : Reading) (s : Station) : Type 0 where
 -- each is a frame of the control table, with as much information as it may have (Q.921 Table 5)
 abbrev pub AreProper : List Flight → Type 0
 AreProper [] = Unit {0}
-AreProper (frame ∷ frames) = (content_fault frame.role frame.control (length frame.info) ≡ None) × AreProper frames
+AreProper (frame ∷ frames) = (content_fault frame.role frame.control (length frame.info) ≡ None)
+    × AreProper frames
 
 -- each carries numbers of the reading
 abbrev pub CarryNumbers : Reading → List Flight → Type 0

@@ -64,9 +64,18 @@ pub record Turn : Type 0 where
 -- delivered; of a request, `octets` are its unit data.
 unfoldable pub story_after : List ℕ → ℕ → View → StepState → Story
 story_after octets place v s = told
-    (record { given = s.end.given; establishment = s.end.establishments; octets = octets; place = place })
+    (record {
+      given = s.end.given;
+      establishment = s.end.establishments;
+      octets = octets;
+      place = place;
+    })
     s.outs
-    (record { line = v.outgoing; history = with_beginning v.station.end.establishments s.end.establishments v.station.history })
+    (record {
+      line = v.outgoing;
+      history = with_beginning v.station.end.establishments s.end.establishments
+          v.station.history;
+    })
 
 -- the end is the one after the step, with the history so told, and the frames of its outputs are behind those on their way
 unfoldable pub view_after : List ℕ → ℕ → View → StepState → View
@@ -83,7 +92,8 @@ stepped octets place v (Err fault) = Err (Refused fault)
 
 -- one step, of a frame that has just been delivered
 unfoldable pub hears : Reading → Flight → View → Result Turn Refusal
-hears r frame v = stepped frame.info frame.place v (step r (input.Heard frame.control frame.role) v.station.end)
+hears r frame v = stepped frame.info frame.place v
+    (step r (input.Heard frame.control frame.role) v.station.end)
 
 -- one step, of a request or an expiry
 unfoldable pub takes : Reading → Input → List ℕ → View → Result Turn Refusal
@@ -102,7 +112,8 @@ delivers r (frame ∷ rest) v = hears r frame (record v { incoming = rest })
 
 -- the frame at this position is taken off the line, and no one hears it
 unfoldable pub loses : ℕ → View → Result Turn Refusal
-loses at v = if nat_lt at (length v.incoming) then quietly (record v { incoming = without_lost at v.incoming }) else Err NothingThere
+loses at v = if nat_lt at (length v.incoming)
+    then quietly (record v { incoming = without_lost at v.incoming }) else Err NothingThere
 
 -- No command of this side with P=1 is on its way to the other side, and no response with F=1 on its way to this one; by the
 -- position of the first of each. Else the move is refused with the first such frame, the commands looked at first.
@@ -115,7 +126,8 @@ unless_under_way side None None outcome = outcome
 unfoldable pub expires_200 : Reading → Side → View → Result Turn Refusal
 expires_200 r side v =
     if v.station.end.t200
-    then unless_under_way side (first_poll v.outgoing) (first_final v.incoming) (takes r (input.Expiry T200) [] v)
+    then unless_under_way side (first_poll v.outgoing) (first_final v.incoming)
+    (takes r (input.Expiry T200) [] v)
     else Err NotRunning
 
 -- T203 expires where it runs
@@ -124,12 +136,20 @@ expires_203 r v = if v.station.end.t203 then takes r (input.Expiry T203) [] v el
 
 -- in state 4 as new; its number of establishments goes on, and what was left of its messages is dropped
 abbrev pub restarted : End → End
-restarted e = record (new_end e.parameters) { establishments = e.establishments; given = e.given; first = length e.given; next = length e.given }
+restarted e = record (new_end e.parameters) {
+  establishments = e.establishments;
+  given = e.given;
+  first = length e.given;
+  next = length e.given;
+}
 
 -- a side starts anew, and what is on the line is dropped in both directions
 unfoldable pub restarts : View → View
 restarts v = record {
-  station = record { end = restarted v.station.end; history = with_rest_dropped (length v.station.end.given) v.station.history };
+  station = record {
+    end = restarted v.station.end;
+    history = with_rest_dropped (length v.station.end.given) v.station.history;
+  };
   incoming = [];
   outgoing = [];
 }

@@ -21,13 +21,15 @@ abbrev pub AreNeighboursAfter : ℕ → ℕ → List ℕ → List Receipt → Ty
 AreNeighboursAfter before establishment [] received = Unit {0}
 AreNeighboursAfter before establishment (place ∷ places) [] = Unit {0}
 AreNeighboursAfter before establishment (place ∷ places) (message ∷ received) =
-    (message.establishment ≡ establishment → place ≡ before + 1) × AreNeighboursAfter place message.establishment places received
+    (message.establishment ≡ establishment → place ≡ before + 1)
+    × AreNeighboursAfter place message.establishment places received
 
 -- the first has none before it
 abbrev pub AreNeighbours : List ℕ → List Receipt → Type 0
 AreNeighbours [] received = Unit {0}
 AreNeighbours (place ∷ places) [] = Unit {0}
-AreNeighbours (place ∷ places) (message ∷ received) = AreNeighboursAfter place message.establishment places received
+AreNeighbours (place ∷ places) (message ∷ received) =
+    AreNeighboursAfter place message.establishment places received
 
 -- Of a sender: the messages that it was given, in which establishment each was last sent, and the places that it counts as
 -- acknowledged. Of the receiver: what it received. There is one list of places among the messages given, such that:
@@ -36,17 +38,21 @@ AreNeighbours (place ∷ places) (message ∷ received) = AreNeighboursAfter pla
 --   neighbours    two neighbours that were received in the same establishment of the receiver are neighbouring places;
 --   prefix        with a place, each smaller one that was last sent in the same establishment of the sender is in the list;
 --   acknowledged  each acknowledged place is in the list.
-pub record IsSafe (given : List (List ℕ)) (sent_in : ℕ → Option ℕ) (acked : List ℕ) (received : List Receipt) : Type 0 where
+pub record IsSafe (given : List (List ℕ)) (sent_in : ℕ → Option ℕ) (acked : List ℕ)
+    (received : List Receipt) : Type 0 where
   pub places : List ℕ
   pub rising : RiseFrom 0 places
-  pub same : map (λ place. slice_get given place) places ≡ map (λ message. Some message.octets) received
+  pub same : map (λ place. slice_get given place) places
+      ≡ map (λ message. Some message.octets) received
   pub neighbours : AreNeighbours places received
-  pub prefix : (place smaller : ℕ) → IsAmong place places → smaller < place → sent_in smaller ≡ sent_in place → IsAmong smaller places
+  pub prefix : (place smaller : ℕ) → IsAmong place places → smaller < place
+      → sent_in smaller ≡ sent_in place → IsAmong smaller places
   pub acknowledged : (place : ℕ) → IsAmong place acked → IsAmong place places
 
 -- what this side received is safe, of what that side gave
 abbrev pub IsSafeFrom : Station → Station → Type 0
-IsSafeFrom sender receiver = IsSafe sender.end.given sender.history.sent_in sender.history.acked receiver.history.received
+IsSafeFrom sender receiver = IsSafe sender.end.given sender.history.sent_in sender.history.acked
+    receiver.history.received
 
 -- each side against the other
 abbrev pub AreSafe : World → Type 0

@@ -71,12 +71,17 @@ figures s = record {
   acked = s.history.acked;
   dropped = s.history.dropped;
   begun = s.history.begun;
-  sent_in = s.history.sent_in 0 ∷ s.history.sent_in 1 ∷ s.history.sent_in 2 ∷ s.history.sent_in 3 ∷ [];
+  sent_in = s.history.sent_in 0 ∷ s.history.sent_in 1 ∷ s.history.sent_in 2 ∷ s.history.sent_in 3
+      ∷ [];
 }
 
 -- a message received, at a place
 abbrev pub receipt : ℕ → ℕ → List ℕ → Receipt
-receipt place establishment octets = record { octets = octets; establishment = establishment; place = place }
+receipt place establishment octets = record {
+  octets = octets;
+  establishment = establishment;
+  place = place;
+}
 
 -- one message, two, and three, of one octet each
 abbrev pub one_message : List (List ℕ)
@@ -100,18 +105,58 @@ in_first place = Some 1
 
 -- while the enquiry is on its way
 abbrev pub user_in_recovery : Figures
-user_in_recovery = record { state = TimerRecovery; vs = 1; va = 0; vr = 0; received = []; acked = []; dropped = []; begun = 0 ∷ []; sent_in = Some 1 ∷ None ∷ None ∷ None ∷ [] }
+user_in_recovery = record {
+  state = TimerRecovery;
+  vs = 1;
+  va = 0;
+  vr = 0;
+  received = [];
+  acked = [];
+  dropped = [];
+  begun = 0 ∷ [];
+  sent_in = Some 1 ∷ None ∷ None ∷ None ∷ [];
+}
 
 -- at the end
 abbrev pub user_at_end : Figures
-user_at_end = record { state = MultipleFrameEstablished; vs = 1; va = 1; vr = 0; received = receipt 0 1 (5 ∷ []) ∷ []; acked = 0 ∷ 2 ∷ []; dropped = 1 ∷ []; begun = 0 ∷ 1 ∷ []; sent_in = Some 1 ∷ Some 1 ∷ Some 2 ∷ None ∷ [] }
+user_at_end = record {
+  state = MultipleFrameEstablished;
+  vs = 1;
+  va = 1;
+  vr = 0;
+  received = receipt 0 1 (5 ∷ []) ∷ [];
+  acked = 0 ∷ 2 ∷ [];
+  dropped = 1 ∷ [];
+  begun = 0 ∷ 1 ∷ [];
+  sent_in = Some 1 ∷ Some 1 ∷ Some 2 ∷ None ∷ [];
+}
 
 abbrev pub network_at_end : Figures
-network_at_end = record { state = MultipleFrameEstablished; vs = 0; va = 0; vr = 1; received = receipt 0 1 (8 ∷ 1 ∷ []) ∷ receipt 2 2 (8 ∷ 3 ∷ []) ∷ []; acked = 0 ∷ []; dropped = []; begun = 0 ∷ 1 ∷ []; sent_in = Some 1 ∷ None ∷ None ∷ None ∷ [] }
+network_at_end = record {
+  state = MultipleFrameEstablished;
+  vs = 0;
+  va = 0;
+  vr = 1;
+  received = receipt 0 1 (8 ∷ 1 ∷ []) ∷ receipt 2 2 (8 ∷ 3 ∷ []) ∷ [];
+  acked = 0 ∷ [];
+  dropped = [];
+  begun = 0 ∷ 1 ∷ [];
+  sent_in = Some 1 ∷ None ∷ None ∷ None ∷ [];
+}
 
 -- the user starts anew while its message is on the way
 abbrev pub restarting : List Move
 restarting = establishing ++ of_user (Give (8 ∷ 1 ∷ [])) ∷ of_user Restart ∷ []
 
 abbrev pub user_restarted : Figures
-user_restarted = record { state = TeiAssigned; vs = 0; va = 0; vr = 0; received = []; acked = []; dropped = 0 ∷ []; begun = 0 ∷ []; sent_in = Some 1 ∷ None ∷ None ∷ None ∷ [] }
+user_restarted = record {
+  state = TeiAssigned;
+  vs = 0;
+  va = 0;
+  vr = 0;
+  received = [];
+  acked = [];
+  dropped = 0 ∷ [];
+  begun = 0 ∷ [];
+  sent_in = Some 1 ∷ None ∷ None ∷ None ∷ [];
+}

@@ -17,11 +17,19 @@ abbrev pub tag_station : Station → Station
 tag_station s = record s { end = tag_end s.end }
 
 abbrev pub tag_world : World → World
-tag_world w = record { user = tag_station w.user; network = tag_station w.network; to_user = map tag_flight w.to_user; to_network = map tag_flight w.to_network }
+tag_world w = record {
+  user = tag_station w.user;
+  network = tag_station w.network;
+  to_user = map tag_flight w.to_user;
+  to_network = map tag_flight w.to_network;
+}
 
 -- what an admitted move leaves and puts out; a refusal names no number
 abbrev pub tag_outcome : Result Happened Refusal → Result Happened Refusal
-tag_outcome (Ok happened) = Ok (record { world = tag_world happened.world; outs = map tag_out happened.outs })
+tag_outcome (Ok happened) = Ok (record {
+  world = tag_world happened.world;
+  outs = map tag_out happened.outs;
+})
 tag_outcome (Err refusal) = Err refusal
 
 -- ---- Where a move on tags does what it does on whole numbers.
@@ -42,7 +50,8 @@ IsNearMove move w = IsNearDeed move.deed (view_of move.side w)
 -- each of these moves, one after another
 abbrev pub AreNearMoves : List Move → World → Type 0
 AreNearMoves [] w = Unit {0}
-AreNearMoves (move ∷ moves) w = IsNearMove move w × AreNearMoves moves (world_after w (happens Whole move w))
+AreNearMoves (move ∷ moves) w = IsNearMove move w
+    × AreNearMoves moves (world_after w (happens Whole move w))
 
 -- ---- Bounds by which each move is near.
 
@@ -50,7 +59,8 @@ AreNearMoves (move ∷ moves) w = IsNearMove move w × AreNearMoves moves (world
 -- its sender
 abbrev pub IsFirstWithin : ℕ → List Flight → End → Type 0
 IsFirstWithin k [] e = Unit {0}
-IsFirstWithin k (frame ∷ rest) e = is_7_or_8 e.state ≡ true → HasNumbersWithin k frame.control e.window
+IsFirstWithin k (frame ∷ rest) e = is_7_or_8 e.state ≡ true
+    → HasNumbersWithin k frame.control e.window
 
 -- in both directions
 pub record AreFirstWithin (w : World) : Type 0 where

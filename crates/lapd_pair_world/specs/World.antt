@@ -22,21 +22,45 @@ abbrev pub new_station : Parameters → Station
 new_station parameters = record { end = new_end parameters; history = new_history }
 
 abbrev pub new_world : Parameters → Parameters → World
-new_world user_parameters network_parameters = record { user = new_station user_parameters; network = new_station network_parameters; to_user = []; to_network = [] }
+new_world user_parameters network_parameters = record {
+  user = new_station user_parameters;
+  network = new_station network_parameters;
+  to_user = [];
+  to_network = [];
+}
 
 -- the two sides exchanged
 abbrev pub swapped : World → World
-swapped w = record { user = w.network; network = w.user; to_user = w.to_network; to_network = w.to_user }
+swapped w = record {
+  user = w.network;
+  network = w.user;
+  to_user = w.to_network;
+  to_network = w.to_user;
+}
 
 -- what a side sees of it
 abbrev pub view_of : Side → World → View
 view_of side.User w = record { station = w.user; incoming = w.to_user; outgoing = w.to_network }
-view_of side.Network w = record { station = w.network; incoming = w.to_network; outgoing = w.to_user }
+view_of side.Network w = record {
+  station = w.network;
+  incoming = w.to_network;
+  outgoing = w.to_user;
+}
 
 -- the world with what a side sees changed to this
 abbrev pub with_view : Side → View → World → World
-with_view side.User v w = record { user = v.station; network = w.network; to_user = v.incoming; to_network = v.outgoing }
-with_view side.Network v w = record { user = w.user; network = v.station; to_user = v.outgoing; to_network = v.incoming }
+with_view side.User v w = record {
+  user = v.station;
+  network = w.network;
+  to_user = v.incoming;
+  to_network = v.outgoing;
+}
+with_view side.Network v w = record {
+  user = w.user;
+  network = v.station;
+  to_user = v.outgoing;
+  to_network = v.incoming;
+}
 
 -- the world after an admitted move, and what the move put out
 pub record Happened : Type 0 where
@@ -68,7 +92,8 @@ outcomes r (move ∷ moves) w = happens r move w ∷ outcomes r moves (world_aft
 
 -- how many of a side's messages are neither acknowledged nor dropped
 abbrev pub left_of : Station → ℕ
-left_of s = length (filter (λ place. not (list_any (λ p. p == place) s.history.acked) && not (list_any (λ p. p == place) s.history.dropped)) (range_with_len 0 (length s.end.given)))
+left_of s = length (filter (λ place. not (list_any (λ p. p == place) s.history.acked)
+    && not (list_any (λ p. p == place) s.history.dropped)) (range_with_len 0 (length s.end.given)))
 
 -- of both sides
 abbrev pub left : World → ℕ

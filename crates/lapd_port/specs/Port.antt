@@ -13,14 +13,17 @@ Shows rest answer = IfSome rest (λ octets. next_frame octets ≡ answer)
 
 -- octets are taken from a source that are less than the text of a frame
 abbrev pub TakesPart : Option (List ℕ) → Option (List ℕ) → Type 0
-TakesPart old new = (part : List ℕ) × Consumes old new part × ((next_frame part ≡ Err End) ⊎ (next_frame part ≡ Err Cut))
+TakesPart old new = (part : List ℕ) × Consumes old new part
+    × ((next_frame part ≡ Err End) ⊎ (next_frame part ≡ Err Cut))
 
 -- a read that answers none of S4 to S6 answers what the source shows next; a frame's text is taken from the source, and
 -- no octet more; at S1 nothing is taken, at S2 a length, at S3 all, and at S4 and S5 less than a frame's text
 abbrev pub ReadsNext : Option (List ℕ) → Option (List ℕ) → Result ℕ PortFault → List ℕ → Type 0
-ReadsNext old new (Ok count) buffer = Shows old (Ok (take count buffer)) × Consumes old new (frame_text (take count buffer))
+ReadsNext old new (Ok count) buffer = Shows old (Ok (take count buffer))
+    × Consumes old new (frame_text (take count buffer))
 ReadsNext old new (Err End) buffer = Shows old (Err End) × Consumes old new []
-ReadsNext old new (Err BadLength) buffer = Shows old (Err BadLength) × ((count : ℕ) × Consumes old new (length_octets count))
+ReadsNext old new (Err BadLength) buffer = Shows old (Err BadLength)
+    × ((count : ℕ) × Consumes old new (length_octets count))
 ReadsNext old new (Err Cut) buffer = Shows old (Err Cut) × IsAtEnd new
 ReadsNext old new (Err Device) buffer = TakesPart old new
 ReadsNext old new (Err TooManyTurns) buffer = TakesPart old new
@@ -29,7 +32,8 @@ ReadsNext old new (Err Failed) buffer = ⊤
 -- a write appends the whole text, or, at a fault, a front of it and not the whole
 abbrev pub WritesText : Option (List ℕ) → Option (List ℕ) → Result ⊤ PortFault → List ℕ → Type 0
 WritesText old new (Ok done) text = Appends old new text
-WritesText old new (Err fault) text = (front : List ℕ) × (missing : List ℕ) × (text ≡ front ++ missing) × (0 < length missing) × Appends old new front
+WritesText old new (Err fault) text = (front : List ℕ) × (missing : List ℕ)
+    × (text ≡ front ++ missing) × (0 < length missing) × Appends old new front
 
 -- S4 stands where a call of the device failed, and only there: its count of failures rose then, or stood at its greatest
 -- value
@@ -45,7 +49,8 @@ CountsAsDevice (Err Failed) old new = new ≡ old
 -- a call of a port makes at most 4,096 turns, and answers S5 only where it made them all
 abbrev pub MakesTurns : {D T : Type 0} → (D → D → Type 0) → Result T PortFault → D → D → Type 0
 MakesTurns turn result old new =
-    (count : ℕ) × Turns turn count old new × (count ≤ 4096) × (result ≡ Err TooManyTurns → count ≡ 4096)
+    (count : ℕ) × Turns turn count old new × (count ≤ 4096)
+    × (result ≡ Err TooManyTurns → count ≡ 4096)
 
 -- the answer makes a port fail: S2 to S5, and S6 of one that failed before
 abbrev pub is_failure : {T : Type 0} → Result T PortFault → Bool
@@ -70,6 +75,8 @@ IsApartFromInput Failed = ⊤
 
 -- of a source that shows a frame and then others, that frame is read and the text of the others is left, or S4 to S6 is
 -- answered
-abbrev pub ReadsFirst : List ℕ → List (List ℕ) → Option (List ℕ) → Result ℕ PortFault → List ℕ → Type 0
-ReadsFirst frame frames left (Ok count) buffer = (take count buffer ≡ frame) × (left ≡ Some (socket_text frames))
+abbrev pub ReadsFirst : List ℕ → List (List ℕ) → Option (List ℕ) → Result ℕ PortFault → List ℕ
+    → Type 0
+ReadsFirst frame frames left (Ok count) buffer = (take count buffer ≡ frame)
+    × (left ≡ Some (socket_text frames))
 ReadsFirst frame frames left (Err fault) buffer = IsApartFromInput fault

@@ -28,7 +28,8 @@ socket_text (frame ∷ frames) = frame_text frame ++ socket_text frames
 -- the frame of this length at the front of the octets, or the fault that stands in its place
 abbrev pub frame_of_length : ℕ → List ℕ → Result (List ℕ) PortFault
 frame_of_length n octets =
-    if not (is_frame_length n) then Err BadLength else if nat_lt (length octets) n then Err Cut else Ok (take n octets)
+    if not (is_frame_length n) then Err BadLength else if nat_lt (length octets) n then Err Cut
+    else Ok (take n octets)
 
 -- the next frame of an input, or the fault that stands in its place
 abbrev pub next_frame : List ℕ → Result (List ℕ) PortFault

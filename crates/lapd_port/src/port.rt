@@ -53,12 +53,14 @@ impl<R: Source, W: Sink> Port<R, W> {
     /// S1 to S6. After S1 the port goes on; after each other it has failed.
     pub fn read_frame(&mut self, frame: &mut [u8; MOST_OCTETS]) -> Result<usize, PortFault>
         ensures length { IfOk result IsFrameLength }
-        ensures next { ReadsNext (R.rest self.old.source) (R.rest self.new.source) result frame.new }
+        ensures next { ReadsNext (R.rest self.old.source)
+            (R.rest self.new.source) result frame.new }
         ensures first { (front : List ℕ) (frames : List (List ℕ)) → IsFrameLength (length front)
             → R.rest self.old.source ≡ Some (socket_text (front ∷ frames))
             → ReadsFirst front frames (R.rest self.new.source) result frame.new }
         ensures behind { IfOk result (λ count. drop count frame.new ≡ drop count frame.old) }
-        ensures device { CountsAsDevice result (R.failure_count self.old.source) (R.failure_count self.new.source) }
+        ensures device { CountsAsDevice result (R.failure_count self.old.source)
+            (R.failure_count self.new.source) }
         ensures turns { MakesTurns R.turn result self.old.source self.new.source }
         ensures failed { (result ≡ Err PortFault.Failed) ↔ IsTrue self.old.failed }
         ensures untouched { IsTrue self.old.failed → self.new ≡ self.old }
@@ -80,10 +82,14 @@ impl<R: Source, W: Sink> Port<R, W> {
     /// S4 to S6. The port has failed then. A front of the frame's length and octets was written, and not all of them.
     pub fn write_frame(&mut self, frame: &[u8]) -> Result<(), PortFault>
         requires { IsFrameLength (length frame.now) }
-        ensures text { WritesText (W.written self.old.sink) (W.written self.new.sink) result (frame_text frame.now) }
-        ensures list { (frames : List (List ℕ)) → W.written self.old.sink ≡ Some (socket_text frames)
-            → OnOk result (W.written self.new.sink ≡ Some (socket_text (frames ++ frame.now ∷ []))) }
-        ensures device { CountsAsDevice result (W.failure_count self.old.sink) (W.failure_count self.new.sink) }
+        ensures text { WritesText (W.written self.old.sink) (W.written self.new.sink) result
+            (frame_text frame.now) }
+        ensures list { (frames : List (List ℕ)) → W.written self.old.sink
+            ≡ Some (socket_text frames)
+            → OnOk result (W.written self.new.sink ≡ Some
+            (socket_text (frames ++ frame.now ∷ []))) }
+        ensures device { CountsAsDevice result (W.failure_count self.old.sink)
+            (W.failure_count self.new.sink) }
         ensures turns { MakesTurns W.turn result self.old.sink self.new.sink }
         ensures failed { (result ≡ Err PortFault.Failed) ↔ IsTrue self.old.failed }
         ensures untouched { IsTrue self.old.failed → self.new ≡ self.old }

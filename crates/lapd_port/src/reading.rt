@@ -19,7 +19,8 @@ pub(crate) fn read_next<R: Source>(
     ensures length { IfOk result IsFrameLength }
     ensures next { ReadsNext (R.rest source.old) (R.rest source.new) result frame.new }
     ensures behind { IfOk result (λ count. drop count frame.new ≡ drop count frame.old) }
-    ensures device { CountsAsDevice result (R.failure_count source.old) (R.failure_count source.new) }
+    ensures device { CountsAsDevice result (R.failure_count source.old)
+        (R.failure_count source.new) }
     ensures turns { MakesTurns R.turn result source.old source.new }
     ensures not_failed { IfErr result (λ fault. fault ≢ PortFault.Failed) }
 {
@@ -59,15 +60,19 @@ fn is_frame_length(count: usize) -> bool
 fn fill<R: Source>(source: &mut R, octets: &mut [u8], turns: &mut u16) -> Result<usize, PortFault>
     requires { turns.old ≤ 4096 }
     ensures bound { IfOk result (λ count. count ≤ length octets.new) }
-    ensures octets { IfOk result (λ count. Consumes (R.rest source.old) (R.rest source.new) (take count octets.new)
+    ensures octets { IfOk result (λ count. Consumes (R.rest source.old) (R.rest source.new)
+        (take count octets.new)
         × (count < length octets.new → IsAtEnd (R.rest source.new))) }
     ensures part { IfErr result (λ fault. (count : ℕ) × (count < length octets.new)
         × Consumes (R.rest source.old) (R.rest source.new) (take count octets.new)) }
-    ensures device { CountsAsDevice result (R.failure_count source.old) (R.failure_count source.new) }
-    ensures turns { (count : ℕ) × Turns R.turn count source.old source.new × (turns.new ≡ turns.old + count) }
+    ensures device { CountsAsDevice result (R.failure_count source.old)
+        (R.failure_count source.new) }
+    ensures turns { (count : ℕ) × Turns R.turn count source.old source.new
+        × (turns.new ≡ turns.old + count) }
     ensures most { turns.new ≤ 4096 }
     ensures all_made { result ≡ Err PortFault.TooManyTurns → turns.new ≡ 4096 }
-    ensures faults { IfErr result (λ fault. (fault ≡ PortFault.Device) ⊎ (fault ≡ PortFault.TooManyTurns)) }
+    ensures faults { IfErr result (λ fault. (fault ≡ PortFault.Device)
+        ⊎ (fault ≡ PortFault.TooManyTurns)) }
 {
     let mut filled = 0;
     while filled < octets.len() {

@@ -13,10 +13,12 @@ use arrayvec::ArrayVec;
 // Writes a frame behind its length.
 pub(crate) fn write_next<W: Sink>(sink: &mut W, frame: &[u8]) -> Result<(), PortFault>
     requires { IsFrameLength (length frame.now) }
-    ensures text { WritesText (W.written sink.old) (W.written sink.new) result (frame_text frame.now) }
+    ensures text { WritesText (W.written sink.old) (W.written sink.new) result
+        (frame_text frame.now) }
     ensures device { CountsAsDevice result (W.failure_count sink.old) (W.failure_count sink.new) }
     ensures turns { MakesTurns W.turn result sink.old sink.new }
-    ensures faults { IfErr result (λ fault. (fault ≡ PortFault.Device) ⊎ (fault ≡ PortFault.TooManyTurns)) }
+    ensures faults { IfErr result (λ fault. (fault ≡ PortFault.Device)
+        ⊎ (fault ≡ PortFault.TooManyTurns)) }
 {
     let text = text_of(frame);
     write_all(sink, text.as_slice())
@@ -51,7 +53,8 @@ fn write_all<W: Sink>(sink: &mut W, octets: &[u8]) -> Result<(), PortFault>
     ensures text { WritesText (W.written sink.old) (W.written sink.new) result octets.now }
     ensures device { CountsAsDevice result (W.failure_count sink.old) (W.failure_count sink.new) }
     ensures turns { MakesTurns W.turn result sink.old sink.new }
-    ensures faults { IfErr result (λ fault. (fault ≡ PortFault.Device) ⊎ (fault ≡ PortFault.TooManyTurns)) }
+    ensures faults { IfErr result (λ fault. (fault ≡ PortFault.Device)
+        ⊎ (fault ≡ PortFault.TooManyTurns)) }
 {
     let mut rest = octets;
     for _turn in 0..MOST_TURNS {

@@ -20,7 +20,11 @@ impl Model for IQueue {
 
     ghost Value = { Waiting };
 
-    ghost view = { λ q. record { messages = map (λ m. m.items) q.messages.items; sent = q.sent; room = q.messages.capacity } };
+    ghost view = { λ q. record {
+      messages = map (λ m. m.items) q.messages.items;
+      sent = q.sent;
+      room = q.messages.capacity;
+    } };
 
     ghost invariant = { λ q. IsSound q.sent (length q.messages.items) q.messages.capacity };
 }

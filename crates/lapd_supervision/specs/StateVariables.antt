@@ -23,11 +23,24 @@ AreTags m = (m.vs < 128) × (m.va < 128) × (m.vr < 128)
 
 -- all 0, and no condition
 unfoldable pub initial_variables : StateVariables
-initial_variables = record { vs = 0; va = 0; vr = 0; peer_busy = false; own_busy = false; rejecting = false; ack_pending = false }
+initial_variables = record {
+  vs = 0;
+  va = 0;
+  vr = 0;
+  peer_busy = false;
+  own_busy = false;
+  rejecting = false;
+  ack_pending = false;
+}
 
 -- no exception condition, and nothing to acknowledge (Q.921 5.5.1.2: existing exception conditions are cleared)
 unfoldable pub without_exceptions : StateVariables → StateVariables
-without_exceptions m = record m { peer_busy = false; own_busy = false; rejecting = false; ack_pending = false }
+without_exceptions m = record m {
+  peer_busy = false;
+  own_busy = false;
+  rejecting = false;
+  ack_pending = false;
+}
 
 -- numbering begins anew (Q.921 5.5.1.2: V(S), V(R) and V(A) are set to 0)
 unfoldable pub with_zero_counters : StateVariables → StateVariables
@@ -73,10 +86,12 @@ after_i_frame r ns p m = record m {
 
 -- its answer: the REJ, with F as its P, else what answers a poll afterwards
 unfoldable pub i_frame_response : Reading → ℕ → Bool → StateVariables → Option Control
-i_frame_response r ns p m = if is_rejected ns m then Some (Rej m.vr p) else poll_response p (after_i_frame r ns p m)
+i_frame_response r ns p m = if is_rejected ns m then Some (Rej m.vr p)
+    else poll_response p (after_i_frame r ns p m)
 
 -- what an I frame leaves, whether it is accepted, and its answer
-pub record Receives (r : Reading) (ns : ℕ) (p : Bool) (m afterwards : StateVariables) (accepted : Bool) (answer : Option Control) : Type 0 where
+pub record Receives (r : Reading) (ns : ℕ) (p : Bool) (m afterwards : StateVariables)
+    (accepted : Bool) (answer : Option Control) : Type 0 where
   pub variables : after_i_frame r ns p m ≡ afterwards
   pub taken : is_accepted ns m ≡ accepted
   pub answered : i_frame_response r ns p m ≡ answer

@@ -11,24 +11,30 @@ ghost use Rattle.lapd_supervision.specs.Tags.{tag_variables, tag_control, IsWind
 pub fn cases_of_an_i_frame()
     ensures busy { (r : Reading) (ns : ℕ) (p : Bool) (m : StateVariables) →
         m.own_busy ≡ true →
-        Receives r ns p m (record m { ack_pending = not p && m.ack_pending }) false (poll_response p m) }
+        Receives r ns p m (record m { ack_pending = not p && m.ack_pending }) false
+        (poll_response p m) }
     ensures in_sequence { (r : Reading) (ns : ℕ) (p : Bool) (m : StateVariables) →
         m.own_busy ≡ false → ns ≡ m.vr →
-        Receives r ns p m (record m { vr = after r m.vr; rejecting = false; ack_pending = not p }) true
+        Receives r ns p m (record m { vr = after r m.vr; rejecting = false; ack_pending = not p })
+        true
         (if p then Some (Rr (after r m.vr) true) else None) }
     ensures out_of_sequence { (r : Reading) (ns : ℕ) (p : Bool) (m : StateVariables) →
         m.own_busy ≡ false → ns ≢ m.vr → m.rejecting ≡ false →
-        Receives r ns p m (record m { rejecting = true; ack_pending = false }) false (Some (Rej m.vr p)) }
+        Receives r ns p m (record m { rejecting = true; ack_pending = false }) false
+        (Some (Rej m.vr p)) }
     ensures rejecting { (r : Reading) (ns : ℕ) (p : Bool) (m : StateVariables) →
         m.own_busy ≡ false → ns ≢ m.vr → m.rejecting ≡ true →
-        Receives r ns p m (record m { ack_pending = not p && m.ack_pending }) false (poll_response p m) }
+        Receives r ns p m (record m { ack_pending = not p && m.ack_pending }) false
+        (poll_response p m) }
 {}
 
 /// The status is RNR in the own receiver busy condition, and else RR; N(R) is V(R) (Q.921 5.6.6).
 #[tactic(auto, using(crate::proofs::Receiving::status_while_busy, crate::proofs::Receiving::status_while_free))]
 pub fn status_by_the_busy_condition()
-    ensures busy { (pf : Bool) (m : StateVariables) → m.own_busy ≡ true → status_frame pf m ≡ Rnr m.vr pf }
-    ensures free { (pf : Bool) (m : StateVariables) → m.own_busy ≡ false → status_frame pf m ≡ Rr m.vr pf }
+    ensures busy { (pf : Bool) (m : StateVariables) → m.own_busy ≡ true
+        → status_frame pf m ≡ Rnr m.vr pf }
+    ensures free { (pf : Bool) (m : StateVariables) → m.own_busy ≡ false
+        → status_frame pf m ≡ Rr m.vr pf }
 {}
 
 /// A valid N(R) takes as many I frames from those outstanding as it acknowledges, and where it is V(S) or V(S) is set
@@ -37,16 +43,20 @@ pub fn status_by_the_busy_condition()
 pub fn what_an_nr_acknowledges()
     ensures part { (r : Reading) (nr : ℕ) (m : StateVariables) → is_valid_nr r nr m ≡ true →
         outstanding r (with_va nr m) + acknowledged_count r nr m ≡ outstanding r m }
-    ensures all { (r : Reading) (nr : ℕ) (m : StateVariables) → acknowledges_all nr m ≡ true → outstanding r (with_va nr m) ≡ 0 }
-    ensures back { (r : Reading) (nr : ℕ) (m : StateVariables) → outstanding r (with_vs nr (with_va nr m)) ≡ 0 }
+    ensures all { (r : Reading) (nr : ℕ) (m : StateVariables) → acknowledges_all nr m ≡ true
+        → outstanding r (with_va nr m) ≡ 0 }
+    ensures back { (r : Reading) (nr : ℕ) (m : StateVariables)
+        → outstanding r (with_vs nr (with_va nr m)) ≡ 0 }
 {}
 
 /// An I frame that may be sent is one more outstanding, and at most k are (Q.921 5.9.5).
 #[tactic(auto, using(crate::proofs::Outstanding::outstanding_after_sending, crate::proofs::Outstanding::at_most_k_after_sending))]
 pub fn at_most_k_are_outstanding()
-    ensures more { (r : Reading) (m : StateVariables) → reaches r m.va m.vs ≡ true → outstanding r m < 127 →
+    ensures more { (r : Reading) (m : StateVariables) → reaches r m.va m.vs ≡ true
+        → outstanding r m < 127 →
         outstanding r (after_sending r m) ≡ outstanding r m + 1 }
-    ensures at_most { (r : Reading) (k : ℕ) (m : StateVariables) → reaches r m.va m.vs ≡ true → k ≤ 127 →
+    ensures at_most { (r : Reading) (k : ℕ) (m : StateVariables) → reaches r m.va m.vs ≡ true
+        → k ≤ 127 →
         may_send r k m ≡ true → outstanding r (after_sending r m) ≤ k }
 {}
 
@@ -55,9 +65,11 @@ pub fn receiving_on_tags()
     ensures accepted { (ns : ℕ) (m : StateVariables) → AreNear ns m.vr →
         is_accepted (tag ns) (tag_variables m) ≡ is_accepted ns m }
     ensures variables { (ns : ℕ) (p : Bool) (m : StateVariables) → AreNear ns m.vr →
-        tag_variables (after_i_frame Whole ns p m) ≡ after_i_frame Tagged (tag ns) p (tag_variables m) }
+        tag_variables (after_i_frame Whole ns p m)
+        ≡ after_i_frame Tagged (tag ns) p (tag_variables m) }
     ensures answer { (ns : ℕ) (p : Bool) (m : StateVariables) → AreNear ns m.vr →
-        option_map tag_control (i_frame_response Whole ns p m) ≡ i_frame_response Tagged (tag ns) p (tag_variables m) }
+        option_map tag_control (i_frame_response Whole ns p m)
+        ≡ i_frame_response Tagged (tag ns) p (tag_variables m) }
 {}
 
 /// An N(R) from V(A) to V(S) lies within 127 of both, where at most 127 I frames are outstanding (Q.921 3.5.2.3, 5.9.5).
@@ -73,11 +85,14 @@ pub fn acknowledging_on_tags()
         is_valid_nr Tagged (tag nr) (tag_variables m) ≡ is_valid_nr Whole nr m }
     ensures count { (nr : ℕ) (m : StateVariables) → m.va ≤ nr → nr ≤ m.va + 127 →
         acknowledged_count Tagged (tag nr) (tag_variables m) ≡ acknowledged_count Whole nr m }
-    ensures all { (nr : ℕ) (m : StateVariables) → AreNear nr m.vs → acknowledges_all (tag nr) (tag_variables m) ≡ acknowledges_all nr m }
+    ensures all { (nr : ℕ) (m : StateVariables) → AreNear nr m.vs
+        → acknowledges_all (tag nr) (tag_variables m) ≡ acknowledges_all nr m }
 {}
 
 /// I frames go out on tags as on whole numbers, where at most 127 are outstanding.
 pub fn sending_on_tags()
-    ensures allowed { (k : ℕ) (m : StateVariables) → IsWindow m.va m.vs → may_send Tagged k (tag_variables m) ≡ may_send Whole k m }
-    ensures variables { (m : StateVariables) → tag_variables (after_sending Whole m) ≡ after_sending Tagged (tag_variables m) }
+    ensures allowed { (k : ℕ) (m : StateVariables) → IsWindow m.va m.vs
+        → may_send Tagged k (tag_variables m) ≡ may_send Whole k m }
+    ensures variables { (m : StateVariables) → tag_variables (after_sending Whole m)
+        ≡ after_sending Tagged (tag_variables m) }
 {}

@@ -263,7 +263,11 @@ impl Window {
 
     /// Takes the I frame that is the next one.
     fn accept(self, p: bool) -> (Window, Receipt)
-        ensures window { result.0 ≡ record self { vr = after Tagged self.vr; rejecting = false; ack_pending = not p } }
+        ensures window { result.0 ≡ record self {
+          vr = after Tagged self.vr;
+          rejecting = false;
+          ack_pending = not p;
+        } }
         ensures accepted { result.1.accepted ≡ true }
         ensures answer { result.1.answer ≡ poll_response p result.0 }
     {

@@ -54,7 +54,10 @@ least_free held = first_free 64 (drop 64 held)
 
 -- a request is served: the TEI is held and assigned, or denied where none is left (5.3.2)
 abbrev pub serves : ℕ → Option ℕ → AssignerState → AssignerStep
-serves ri (Some tei) a = record { now = record { held = set a.held tei true; check = a.check }; outs = Send (assigned ri tei) ∷ Given tei ∷ [] }
+serves ri (Some tei) a = record {
+  now = record { held = set a.held tei true; check = a.check };
+  outs = Send (assigned ri tei) ∷ Given tei ∷ [];
+}
 serves ri None a = record { now = a; outs = Send (denied ri) ∷ [] }
 
 -- the check of a TEI
@@ -64,7 +67,13 @@ checking tei nth count = record { tei = tei; round = nth; responses = count }
 -- a check begins, where none runs (5.3.3, 5.3.5); the group is not checked
 abbrev pub begins_check : ℕ → Option Check → AssignerState → AssignerStep
 begins_check tei None a =
-    if nat_lt tei group_tei then record { now = record { held = a.held; check = Some (checking tei round.First responses.Nobody) }; outs = Send (check_request tei) ∷ Start T201 ∷ [] }
+    if nat_lt tei group_tei then record {
+      now = record {
+        held = a.held;
+        check = Some (checking tei round.First responses.Nobody);
+      };
+      outs = Send (check_request tei) ∷ Start T201 ∷ [];
+    }
     else stays a
 begins_check tei (Some check) a = stays a
 
@@ -77,7 +86,13 @@ one_more responses.Several = responses.Several
 abbrev pub counts_response : ℕ → Option Check → AssignerState → AssignerStep
 counts_response tei None a = stays a
 counts_response tei (Some check) a =
-    if tei == check.tei then record { now = record { held = a.held; check = Some (checking check.tei check.round (one_more check.responses)) }; outs = [] }
+    if tei == check.tei then record {
+      now = record {
+        held = a.held;
+        check = Some (checking check.tei check.round (one_more check.responses));
+      };
+      outs = [];
+    }
     else stays a
 
 -- the check ends, and its TEI stays held, or is freed
@@ -85,15 +100,27 @@ abbrev pub without_check : AssignerState → List TeiOut → AssignerStep
 without_check a outs = record { now = record { held = a.held; check = None }; outs = outs }
 
 abbrev pub freed_by_check : ℕ → AssignerState → List TeiOut → AssignerStep
-freed_by_check tei a outs = record { now = record { held = set a.held tei false; check = None }; outs = outs }
+freed_by_check tei a outs = record {
+  now = record { held = set a.held tei false; check = None };
+  outs = outs;
+}
 
 -- T201 expires: without a response the terminals are asked once more, and then the TEI is free; one response says that it is
 -- in use; two that it is assigned more than once, and it is removed (5.3.3.2)
 abbrev pub round_ends : ℕ → Round → Responses → AssignerState → AssignerStep
-round_ends tei round.First responses.Nobody a = record { now = record { held = a.held; check = Some (checking tei round.Second responses.Nobody) }; outs = Send (check_request tei) ∷ Start T201 ∷ [] }
+round_ends tei round.First responses.Nobody a =
+    record {
+      now = record {
+        held = a.held;
+        check = Some
+            (checking tei round.Second responses.Nobody);
+      };
+      outs = Send (check_request tei) ∷ Start T201 ∷ [];
+    }
 round_ends tei round.Second responses.Nobody a = freed_by_check tei a (Free tei ∷ [])
 round_ends tei nth responses.One a = without_check a (InUse tei ∷ [])
-round_ends tei nth responses.Several a = freed_by_check tei a (Send (remove tei) ∷ Send (remove tei) ∷ Doubled tei ∷ [])
+round_ends tei nth responses.Several a = freed_by_check tei a
+    (Send (remove tei) ∷ Send (remove tei) ∷ Doubled tei ∷ [])
 
 abbrev pub timer_ends : Option Check → AssignerState → AssignerStep
 timer_ends None a = stays a

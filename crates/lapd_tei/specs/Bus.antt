@@ -39,7 +39,12 @@ pub record BusStep : Type 0 where
 
 -- so many terminals, all without a TEI, and nothing held
 abbrev pub new_bus : ℕ → BusState
-new_bus terminals = record { terminals = replicate terminals Unassigned; assigner = nothing_held; down = []; up = [] }
+new_bus terminals = record {
+  terminals = replicate terminals Unassigned;
+  assigner = nothing_held;
+  down = [];
+  up = [];
+}
 
 -- a message that is broadcast now: nobody has heard it
 abbrev pub broadcast : ℕ → TeiMessage → Broadcast
@@ -48,14 +53,24 @@ broadcast terminals m = record { message = m; heard = replicate terminals false 
 -- what a terminal at this place did: its messages go up, behind the others
 abbrev pub terminal_did : BusState → ℕ → TerminalStep → BusStep
 terminal_did b t done = record {
-  now = record { terminals = set b.terminals t done.now; assigner = b.assigner; down = b.down; up = b.up ++ sent done.outs };
+  now = record {
+    terminals = set b.terminals t done.now;
+    assigner = b.assigner;
+    down = b.down;
+    up = b.up ++ sent done.outs;
+  };
   outs = done.outs;
 }
 
 -- what the assigner did: its messages go down
 abbrev pub assigner_did : BusState → AssignerStep → BusStep
 assigner_did b done = record {
-  now = record { terminals = b.terminals; assigner = done.now; down = b.down ++ map (broadcast (length b.terminals)) (sent done.outs); up = b.up };
+  now = record {
+    terminals = b.terminals;
+    assigner = done.now;
+    down = b.down ++ map (broadcast (length b.terminals)) (sent done.outs);
+    up = b.up;
+  };
   outs = done.outs;
 }
 
@@ -69,7 +84,8 @@ to_terminal b t e = terminal_has b t (slice_get b.terminals t) e
 
 -- T202 runs while a TEI is awaited
 abbrev pub t202_expires : BusState → ℕ → ℕ → Option Phase → Result BusStep BusFault
-t202_expires b t ri (Some (Awaiting purpose count own)) = Ok (terminal_did b t (terminal_step (Awaiting purpose count own) (event.T202 ri)))
+t202_expires b t ri (Some (Awaiting purpose count own)) =
+    Ok (terminal_did b t (terminal_step (Awaiting purpose count own) (event.T202 ri)))
 t202_expires b t ri other = Err NothingThere
 
 abbrev pub expire_t202 : BusState → ℕ → ℕ → Result BusStep BusFault
@@ -88,15 +104,23 @@ abbrev pub heard_by : ℕ → Broadcast → Broadcast
 heard_by t f = record { message = f.message; heard = set f.heard t true }
 
 abbrev pub with_mark : BusState → ℕ → ℕ → Broadcast → BusState
-with_mark b i t f = record { terminals = b.terminals; assigner = b.assigner; down = set b.down i (heard_by t f); up = b.up }
+with_mark b i t f = record {
+  terminals = b.terminals;
+  assigner = b.assigner;
+  down = set b.down i (heard_by t f);
+  up = b.up;
+}
 
 abbrev pub hears : BusState → ℕ → ℕ → ℕ → Broadcast → Phase → Bool → Result BusStep BusFault
 hears b i t ri f phase true = Err HeardBefore
-hears b i t ri f phase false = Ok (terminal_did (with_mark b i t f) t (terminal_step phase (event.Heard f.message ri)))
+hears b i t ri f phase false = Ok (terminal_did (with_mark b i t f) t
+    (terminal_step phase (event.Heard f.message ri)))
 
 -- the terminal hears a message, where both are there and it did not hear it before
-abbrev pub terminal_hears : BusState → ℕ → ℕ → ℕ → Option Broadcast → Option Phase → Result BusStep BusFault
-terminal_hears b i t ri (Some f) (Some phase) = hears b i t ri f phase (slice_index_or f.heard t false)
+abbrev pub terminal_hears : BusState → ℕ → ℕ → ℕ → Option Broadcast → Option Phase
+    → Result BusStep BusFault
+terminal_hears b i t ri (Some f) (Some phase) =
+    hears b i t ri f phase (slice_index_or f.heard t false)
 terminal_hears b i t ri f phase = Err NothingThere
 
 abbrev pub hear : BusState → ℕ → ℕ → ℕ → Result BusStep BusFault
@@ -105,13 +129,27 @@ hear b i t ri = terminal_hears b i t ri (slice_get b.down i) (slice_get b.termin
 -- a message is dropped, where it is there
 abbrev pub drops_down : BusState → ℕ → Option Broadcast → Result BusStep BusFault
 drops_down b i None = Err NothingThere
-drops_down b i (Some f) = Ok (record { now = record { terminals = b.terminals; assigner = b.assigner; down = remove b.down i; up = b.up }; outs = [] })
+drops_down b i (Some f) =
+    Ok (record {
+      now = record {
+        terminals = b.terminals;
+        assigner = b.assigner;
+        down = remove b.down i;
+        up = b.up;
+      };
+      outs = [];
+    })
 
 abbrev pub drop_down : BusState → ℕ → Result BusStep BusFault
 drop_down b i = drops_down b i (slice_get b.down i)
 
 abbrev pub without_up : BusState → ℕ → BusState
-without_up b i = record { terminals = b.terminals; assigner = b.assigner; down = b.down; up = remove b.up i }
+without_up b i = record {
+  terminals = b.terminals;
+  assigner = b.assigner;
+  down = b.down;
+  up = remove b.up i;
+}
 
 abbrev pub drops_up : BusState → ℕ → Option TeiMessage → Result BusStep BusFault
 drops_up b i None = Err NothingThere
@@ -123,7 +161,8 @@ drop_up b i = drops_up b i (slice_get b.up i)
 -- the assigner hears a message, which leaves
 abbrev pub network_hears : BusState → ℕ → Option TeiMessage → Result BusStep BusFault
 network_hears b i None = Err NothingThere
-network_hears b i (Some m) = Ok (assigner_did (without_up b i) (assigner_step b.assigner (assigner.Heard m)))
+network_hears b i (Some m) = Ok (assigner_did (without_up b i)
+    (assigner_step b.assigner (assigner.Heard m)))
 
 abbrev pub hear_up : BusState → ℕ → Result BusStep BusFault
 hear_up b i = network_hears b i (slice_get b.up i)

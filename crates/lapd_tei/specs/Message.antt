@@ -44,7 +44,8 @@ may_name_the_group kind = true
 
 -- the five octets: the management entity, Ri high and low, the message type, and Ai with its extension bit set (5.3.6)
 abbrev pub message_octets : TeiMessage → List ℕ
-message_octets m = management_entity ∷ (m.ri / 256) ∷ (m.ri % 256) ∷ kind_number m.kind ∷ (m.ai * 2 + 1) ∷ []
+message_octets m = management_entity ∷ (m.ri / 256) ∷ (m.ri % 256) ∷ kind_number m.kind
+    ∷ (m.ai * 2 + 1) ∷ []
 
 abbrev pub permits : TeiKind → ℕ → Bool
 permits kind ai = may_name_the_group kind || not (ai == group_tei)
@@ -57,7 +58,8 @@ pub record IsMessage (m : TeiMessage) : Type 0 where
 
 -- the message that five octets are, or the first of the faults M1 to M4 of octets that are none
 abbrev pub with_ai : ℕ → TeiKind → ℕ → Result TeiMessage TeiFault
-with_ai ri kind last = if (last % 2 == 1) && permits kind (last / 2) then Ok (record { ri = ri; kind = kind; ai = last / 2 }) else Err BadAi
+with_ai ri kind last = if (last % 2 == 1) && permits kind (last / 2)
+    then Ok (record { ri = ri; kind = kind; ai = last / 2 }) else Err BadAi
 
 abbrev pub with_kind : ℕ → Option TeiKind → ℕ → Result TeiMessage TeiFault
 with_kind ri None last = Err BadKind
@@ -69,11 +71,20 @@ behind_entity octets = Err BadLength
 
 abbrev pub message_at : List ℕ → Result TeiMessage TeiFault
 message_at [] = Err NotManagement
-message_at (entity ∷ rest) = if entity == management_entity then behind_entity rest else Err NotManagement
+message_at (entity ∷ rest) = if entity == management_entity then behind_entity rest
+    else Err NotManagement
 
 -- the UI command, SAPI 63 and the group TEI, that carries a message (5.3.6.1)
 abbrev pub frame_of_message : TeiMessage → Fields
-frame_of_message m = record { address = record { sapi = Management; tei = group_tei; role = Command }; control = Ui false; info = message_octets m }
+frame_of_message m = record {
+  address = record {
+    sapi = Management;
+    tei = group_tei;
+    role = Command;
+  };
+  control = Ui false;
+  info = message_octets m;
+}
 
 abbrev pub tei_fault_name : TeiFault → List ℕ
 tei_fault_name NotManagement = codes "M1 NotManagement"

@@ -64,7 +64,8 @@ pub record IsNobodys (b : BusState) (n : ℕ) : Type 0 where
 
 abbrev pub FreesNobodys : BusState → List BusMove → Type 0
 FreesNobodys b [] = Unit {0}
-FreesNobodys b (m ∷ ms) = AllByRecursion (IsNobodys b) (freed (moved b m).outs) × FreesNobodys (moved b m).now ms
+FreesNobodys b (m ∷ ms) = AllByRecursion (IsNobodys b) (freed (moved b m).outs)
+    × FreesNobodys (moved b m).now ms
 
 -- both, over these moves from a new bus of so many terminals on
 pub record MeetsPremises (terminals : ℕ) (moves : List BusMove) : Type 0 where

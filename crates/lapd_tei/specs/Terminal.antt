@@ -46,7 +46,8 @@ asks purpose ri = goes_to (Awaiting purpose 1 ri) (Send (request ri) ∷ Start T
 -- T202 expires: the TEI is asked for again with a new reference, N202 times in all (5.3.2.1)
 abbrev pub asks_again : Purpose → ℕ → ℕ → ℕ → TerminalStep
 asks_again purpose count ri new =
-    if nat_lt count n202 then goes_to (Awaiting purpose (count + 1) new) (Send (request new) ∷ Start T202 ∷ [])
+    if nat_lt count n202 then goes_to (Awaiting purpose (count + 1) new)
+    (Send (request new) ∷ Start T202 ∷ [])
     else goes_to Unassigned (Failed ∷ [])
 
 -- While a TEI is awaited: an assignment with the outstanding reference gives it (5.3.2). A denial and all else change
@@ -61,9 +62,11 @@ awaiting_hears purpose count ri other its ai = goes_to (Awaiting purpose count r
 -- (5.3.4).
 abbrev pub assigned_hears : Option ℕ → ℕ → TeiKind → ℕ → ℕ → ℕ → TerminalStep
 assigned_hears by tei kind.Assigned its ai new =
-    if (ai == tei) && not (is_got_by by its) then goes_to Unassigned (Gone tei ∷ []) else goes_to (Assigned by tei) []
+    if (ai == tei) && not (is_got_by by its) then goes_to Unassigned (Gone tei ∷ [])
+    else goes_to (Assigned by tei) []
 assigned_hears by tei kind.CheckRequest its ai new =
-    if names ai tei then goes_to (Assigned by tei) (Send (check_response new tei) ∷ []) else goes_to (Assigned by tei) []
+    if names ai tei then goes_to (Assigned by tei) (Send (check_response new tei) ∷ [])
+    else goes_to (Assigned by tei) []
 assigned_hears by tei kind.Remove its ai new =
     if names ai tei then goes_to Unassigned (Gone tei ∷ []) else goes_to (Assigned by tei) []
 assigned_hears by tei other its ai new = goes_to (Assigned by tei) []
@@ -72,8 +75,10 @@ assigned_hears by tei other its ai new = goes_to (Assigned by tei) []
 abbrev pub terminal_step : Phase → TerminalEvent → TerminalStep
 terminal_step Unassigned (event.Ask ri) = asks Assignment ri
 terminal_step Unassigned (event.Want ri) = asks Establishment ri
-terminal_step (Awaiting purpose count ri) (event.Want new) = goes_to (Awaiting Establishment count ri) []
-terminal_step (Awaiting purpose count ri) (event.Heard m new) = awaiting_hears purpose count ri m.kind m.ri m.ai
+terminal_step (Awaiting purpose count ri) (event.Want new) =
+    goes_to (Awaiting Establishment count ri) []
+terminal_step (Awaiting purpose count ri) (event.Heard m new) =
+    awaiting_hears purpose count ri m.kind m.ri m.ai
 terminal_step (Awaiting purpose count ri) (event.T202 new) = asks_again purpose count ri new
 terminal_step (Assigned by tei) (event.Heard m new) = assigned_hears by tei m.kind m.ri m.ai new
 terminal_step (Awaiting purpose count ri) event.Leave = goes_to Unassigned (Stop T202 ∷ [])

@@ -21,7 +21,8 @@ results b (m ∷ ms) = given_by (bus_step b m) ∷ results (moved b m).now ms
 
 -- two terminals ask, and the second hears what is for the first too; then the TEI of the first is checked in vain
 abbrev pub two_ask : List BusMove
-two_ask = Ask 0 0x1234 ∷ Ask 1 0x5678 ∷ HearUp 0 ∷ Hear 0 1 1 ∷ Hear 0 0 2 ∷ Hear 0 0 3 ∷ HearUp 0 ∷ Hear 1 1 4 ∷ []
+two_ask = Ask 0 0x1234 ∷ Ask 1 0x5678 ∷ HearUp 0 ∷ Hear 0 1 1 ∷ Hear 0 0 2 ∷ Hear 0 0 3 ∷ HearUp 0
+    ∷ Hear 1 1 4 ∷ []
 
 abbrev pub vain_check : List BusMove
 vain_check = Check 64 ∷ T201 ∷ T201 ∷ []
@@ -52,7 +53,8 @@ check_with n = event.Check 64 ∷ responded n
 
 -- a TEI is got, given up, freed by a check, and got by another terminal
 abbrev pub got_by_another : List BusMove
-got_by_another = Ask 0 1 ∷ HearUp 0 ∷ Hear 0 0 2 ∷ Leave 0 ∷ Drop 0 ∷ Check 64 ∷ T201 ∷ T201 ∷ Ask 1 3 ∷ HearUp 0 ∷ Hear 2 1 4 ∷ []
+got_by_another = Ask 0 1 ∷ HearUp 0 ∷ Hear 0 0 2 ∷ Leave 0 ∷ Drop 0 ∷ Check 64 ∷ T201 ∷ T201
+    ∷ Ask 1 3 ∷ HearUp 0 ∷ Hear 2 1 4 ∷ []
 
 -- two terminals ask by one reference
 abbrev pub one_reference : List BusMove
@@ -60,8 +62,10 @@ one_reference = Ask 0 7 ∷ Ask 1 7 ∷ HearUp 0 ∷ Hear 0 0 1 ∷ Hear 0 1 2 �
 
 -- a check frees a TEI that a terminal holds, as the terminal does not hear it
 abbrev pub freed_while_held : List BusMove
-freed_while_held = Ask 0 1 ∷ HearUp 0 ∷ Hear 0 0 2 ∷ Check 64 ∷ T201 ∷ T201 ∷ Ask 1 3 ∷ HearUp 0 ∷ Hear 3 1 4 ∷ []
+freed_while_held = Ask 0 1 ∷ HearUp 0 ∷ Hear 0 0 2 ∷ Check 64 ∷ T201 ∷ T201 ∷ Ask 1 3 ∷ HearUp 0
+    ∷ Hear 3 1 4 ∷ []
 
 -- a check frees a TEI whose assignment is still on its way
 abbrev pub freed_on_its_way : List BusMove
-freed_on_its_way = Ask 0 1 ∷ HearUp 0 ∷ Check 64 ∷ T201 ∷ T201 ∷ Ask 1 2 ∷ HearUp 0 ∷ Hear 0 0 3 ∷ Hear 3 1 4 ∷ []
+freed_on_its_way = Ask 0 1 ∷ HearUp 0 ∷ Check 64 ∷ T201 ∷ T201 ∷ Ask 1 2 ∷ HearUp 0 ∷ Hear 0 0 3
+    ∷ Hear 3 1 4 ∷ []

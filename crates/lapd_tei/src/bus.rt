@@ -30,7 +30,12 @@ impl Model for Bus {
 
     ghost Value = { BusState };
 
-    ghost view = { λ b. record { terminals = b.terminals.items; assigner = b.assigner; down = b.down.items; up = b.up.items } };
+    ghost view = { λ b. record {
+      terminals = b.terminals.items;
+      assigner = b.assigner;
+      down = b.down.items;
+      up = b.up.items;
+    } };
 }
 
 impl Bus {
@@ -74,7 +79,8 @@ impl Bus {
     /// U1 where the message or terminal is not there or the timer does not run, U2 where the terminal has heard the message
     /// before, and only else U3 where memory was refused. The bus is unchanged.
     pub fn apply(&mut self, m: BusMove) -> Result<TeiOuts, BusFault>
-        ensures done { IfOk result (λ outs. bus_step self.old m ≡ Ok (record { now = self.new; outs = outs.items })) }
+        ensures done { IfOk result (λ outs. bus_step self.old m
+            ≡ Ok (record { now = self.new; outs = outs.items })) }
         ensures in_range { IfOk result (λ outs. All IsInRange outs.items) }
         ensures refused { IfErr result (λ f. f ≢ fault.Memory → bus_step self.old m ≡ Err f) }
         ensures memory { IfErr result (λ f. f ≡ fault.Memory → IsOk (bus_step self.old m)) }
@@ -102,12 +108,16 @@ impl Bus {
     ///
     /// The place of the move, counted from 0, at which memory was refused (U3). What was done before stands.
     pub fn run(&mut self, moves: &[BusMove]) -> Result<u64, usize>
-        ensures done { IfOk result (λ refused. (self.new ≡ run self.old moves.now) × (refused ≡ refusals self.old moves.now)) }
-        ensures memory { IfErr result (λ place. (place < length moves.now) × (self.new ≡ run self.old (take place moves.now))) }
-        ensures stopped { IfErr result (λ place. (m : BusMove) → slice_get moves.now place ≡ Some m → IsOk (bus_step self.new m)) }
+        ensures done { IfOk result (λ refused. (self.new ≡ run self.old moves.now)
+            × (refused ≡ refusals self.old moves.now)) }
+        ensures memory { IfErr result (λ place. (place < length moves.now)
+            × (self.new ≡ run self.old (take place moves.now))) }
+        ensures stopped { IfErr result (λ place. (m : BusMove) → slice_get moves.now place ≡ Some m
+            → IsOk (bus_step self.new m)) }
 
         // The law of the TEIs.
-        ensures single { (terminals : ℕ) (before : List BusMove) → self.old ≡ run (new_bus terminals) before
+        ensures single { (terminals : ℕ) (before : List BusMove)
+            → self.old ≡ run (new_bus terminals) before
             → MeetsPremises terminals (before ++ moves.now) → Single self.new }
     {
         let mut refused: u64 = 0;
@@ -124,10 +134,13 @@ impl Bus {
 
     /// An event of a terminal.
     fn to_terminal(&mut self, t: usize, event: TerminalEvent) -> Result<TeiOuts, BusFault>
-        ensures done { IfOk result (λ outs. to_terminal self.old t event ≡ Ok (record { now = self.new; outs = outs.items })) }
+        ensures done { IfOk result (λ outs. to_terminal self.old t event
+            ≡ Ok (record { now = self.new; outs = outs.items })) }
         ensures in_range { IfOk result (λ outs. All IsInRange outs.items) }
-        ensures refused { IfErr result (λ f. f ≢ fault.Memory → to_terminal self.old t event ≡ Err f) }
-        ensures memory { IfErr result (λ f. f ≡ fault.Memory → IsOk (to_terminal self.old t event)) }
+        ensures refused { IfErr result (λ f. f ≢ fault.Memory
+            → to_terminal self.old t event ≡ Err f) }
+        ensures memory { IfErr result (λ f. f ≡ fault.Memory
+            → IsOk (to_terminal self.old t event)) }
         ensures unchanged { OnErr result (self.new ≡ self.old) }
     {
         let Some(there) = self.terminals.get(t) else {
@@ -142,7 +155,8 @@ impl Bus {
 
     /// The messages among these outputs of a terminal are on their way.
     fn put_up(&mut self, outs: &TeiOuts) -> Result<(), BusFault>
-        ensures done { OnOk result (self.new ≡ record self.old { up = self.old.up ++ sent outs.now.items }) }
+        ensures done { OnOk result
+            (self.new ≡ record self.old { up = self.old.up ++ sent outs.now.items }) }
         ensures memory { IfErr result (λ f. f ≡ fault.Memory) }
         ensures unchanged { OnErr result (self.new ≡ self.old) }
     {
@@ -154,7 +168,8 @@ impl Bus {
 
     /// T202 of a terminal expires. It runs in states 2 and 3.
     fn expire_t202(&mut self, t: usize, ri: u16) -> Result<TeiOuts, BusFault>
-        ensures done { IfOk result (λ outs. expire_t202 self.old t ri ≡ Ok (record { now = self.new; outs = outs.items })) }
+        ensures done { IfOk result (λ outs. expire_t202 self.old t ri
+            ≡ Ok (record { now = self.new; outs = outs.items })) }
         ensures in_range { IfOk result (λ outs. All IsInRange outs.items) }
         ensures refused { IfErr result (λ f. f ≢ fault.Memory → expire_t202 self.old t ri ≡ Err f) }
         ensures memory { IfErr result (λ f. f ≡ fault.Memory → IsOk (expire_t202 self.old t ri)) }
@@ -170,7 +185,8 @@ impl Bus {
 
     /// A terminal hears a message of the network side.
     fn hear(&mut self, i: usize, t: usize, ri: u16) -> Result<TeiOuts, BusFault>
-        ensures done { IfOk result (λ outs. hear self.old i t ri ≡ Ok (record { now = self.new; outs = outs.items })) }
+        ensures done { IfOk result (λ outs. hear self.old i t ri
+            ≡ Ok (record { now = self.new; outs = outs.items })) }
         ensures in_range { IfOk result (λ outs. All IsInRange outs.items) }
         ensures refused { IfErr result (λ f. f ≢ fault.Memory → hear self.old i t ri ≡ Err f) }
         ensures memory { IfErr result (λ f. f ≡ fault.Memory → IsOk (hear self.old i t ri)) }
@@ -192,7 +208,8 @@ impl Bus {
 
     /// A message of the network side is lost.
     fn drop_down(&mut self, i: usize) -> Result<TeiOuts, BusFault>
-        ensures done { IfOk result (λ outs. drop_down self.old i ≡ Ok (record { now = self.new; outs = outs.items })) }
+        ensures done { IfOk result (λ outs. drop_down self.old i
+            ≡ Ok (record { now = self.new; outs = outs.items })) }
         ensures in_range { IfOk result (λ outs. All IsInRange outs.items) }
         ensures refused { IfErr result (λ f. drop_down self.old i ≡ Err f) }
         ensures unchanged { OnErr result (self.new ≡ self.old) }
@@ -205,7 +222,8 @@ impl Bus {
 
     /// A message of a terminal is lost.
     fn drop_up(&mut self, i: usize) -> Result<TeiOuts, BusFault>
-        ensures done { IfOk result (λ outs. drop_up self.old i ≡ Ok (record { now = self.new; outs = outs.items })) }
+        ensures done { IfOk result (λ outs. drop_up self.old i
+            ≡ Ok (record { now = self.new; outs = outs.items })) }
         ensures in_range { IfOk result (λ outs. All IsInRange outs.items) }
         ensures refused { IfErr result (λ f. drop_up self.old i ≡ Err f) }
         ensures unchanged { OnErr result (self.new ≡ self.old) }
@@ -218,7 +236,8 @@ impl Bus {
 
     /// The assigner hears a message of a terminal.
     fn hear_up(&mut self, i: usize) -> Result<TeiOuts, BusFault>
-        ensures done { IfOk result (λ outs. hear_up self.old i ≡ Ok (record { now = self.new; outs = outs.items })) }
+        ensures done { IfOk result (λ outs. hear_up self.old i
+            ≡ Ok (record { now = self.new; outs = outs.items })) }
         ensures in_range { IfOk result (λ outs. All IsInRange outs.items) }
         ensures refused { IfErr result (λ f. f ≢ fault.Memory → hear_up self.old i ≡ Err f) }
         ensures memory { IfErr result (λ f. f ≡ fault.Memory → IsOk (hear_up self.old i)) }
@@ -235,7 +254,8 @@ impl Bus {
 
     /// T201 expires. It runs during a check.
     fn expire_t201(&mut self) -> Result<TeiOuts, BusFault>
-        ensures done { IfOk result (λ outs. expire_t201 self.old ≡ Ok (record { now = self.new; outs = outs.items })) }
+        ensures done { IfOk result (λ outs. expire_t201 self.old
+            ≡ Ok (record { now = self.new; outs = outs.items })) }
         ensures in_range { IfOk result (λ outs. All IsInRange outs.items) }
         ensures refused { IfErr result (λ f. f ≢ fault.Memory → expire_t201 self.old ≡ Err f) }
         ensures memory { IfErr result (λ f. f ≡ fault.Memory → IsOk (expire_t201 self.old)) }
@@ -249,7 +269,10 @@ impl Bus {
 
     /// An event of the assigner.
     fn to_assigner(&mut self, event: AssignerEvent) -> Result<TeiOuts, BusFault>
-        ensures done { IfOk result (λ outs. to_assigner self.old event ≡ record { now = self.new; outs = outs.items }) }
+        ensures done { IfOk result (λ outs. to_assigner self.old event ≡ record {
+          now = self.new;
+          outs = outs.items;
+        }) }
         ensures in_range { IfOk result (λ outs. All IsInRange outs.items) }
         ensures memory { IfErr result (λ f. f ≡ fault.Memory) }
         ensures unchanged { OnErr result (self.new ≡ self.old) }
@@ -263,7 +286,11 @@ impl Bus {
 
     /// The messages among these outputs of the assigner are on their way to every terminal.
     fn put_down(&mut self, outs: &TeiOuts) -> Result<(), BusFault>
-        ensures done { OnOk result (self.new ≡ record self.old { down = self.old.down ++ map (broadcast (length self.old.terminals)) (sent outs.now.items) }) }
+        ensures done { OnOk result
+            (self.new ≡ record self.old {
+              down = self.old.down
+                  ++ map (broadcast (length self.old.terminals)) (sent outs.now.items);
+            }) }
         ensures memory { IfErr result (λ f. f ≡ fault.Memory) }
         ensures unchanged { OnErr result (self.new ≡ self.old) }
     {

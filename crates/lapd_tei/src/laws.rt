@@ -20,27 +20,58 @@ ghost use Rattle.lapd_tei.specs.declared.bus_move.BusMove.{BusMove};
 /// Two terminals ask for a TEI; each hears the assignment that is for it, and the other does not take it. A check that no
 /// terminal answers frees the TEI. A terminal that nobody answers asks three times, and gives up.
 pub fn moves_are_computed()
-    ensures asked { results (new_bus 2) two_ask ≡ Ok (out.Send (request 0x1234) ∷ out.Start timer.T202 ∷ []) ∷ Ok (out.Send (request 0x5678) ∷ out.Start timer.T202 ∷ []) ∷ Ok (out.Send (assigned 0x1234 64) ∷ out.Given 64 ∷ []) ∷ Ok [] ∷ Ok (out.Stop timer.T202 ∷ out.Got 64 ∷ []) ∷ Err HeardBefore ∷ Ok (out.Send (assigned 0x5678 65) ∷ out.Given 65 ∷ []) ∷ Ok (out.Stop timer.T202 ∷ out.Got 65 ∷ []) ∷ [] }
-    ensures checked { results (run (new_bus 2) two_ask) vain_check ≡ Ok (out.Send (check_request 64) ∷ out.Start timer.T201 ∷ []) ∷ Ok (out.Send (check_request 64) ∷ out.Start timer.T201 ∷ []) ∷ Ok (out.Free 64 ∷ []) ∷ [] }
-    ensures terminals { (run (new_bus 2) two_ask).terminals ≡ Assigned (Some 0x1234) 64 ∷ Assigned (Some 0x5678) 65 ∷ [] }
-    ensures gives_up { results (new_bus 2) three_times ≡ Ok (out.Send (request 1) ∷ out.Start timer.T202 ∷ []) ∷ Ok (out.Send (request 2) ∷ out.Start timer.T202 ∷ []) ∷ Ok (out.Send (request 3) ∷ out.Start timer.T202 ∷ []) ∷ Ok (out.Failed ∷ []) ∷ Err NothingThere ∷ [] }
+    ensures asked { results (new_bus 2) two_ask ≡ Ok
+        (out.Send (request 0x1234) ∷ out.Start timer.T202 ∷ [])
+        ∷ Ok (out.Send (request 0x5678) ∷ out.Start timer.T202 ∷ [])
+        ∷ Ok (out.Send (assigned 0x1234 64) ∷ out.Given 64 ∷ []) ∷ Ok []
+        ∷ Ok (out.Stop timer.T202 ∷ out.Got 64 ∷ []) ∷ Err HeardBefore
+        ∷ Ok (out.Send (assigned 0x5678 65) ∷ out.Given 65 ∷ [])
+        ∷ Ok (out.Stop timer.T202 ∷ out.Got 65 ∷ []) ∷ [] }
+    ensures checked { results (run (new_bus 2) two_ask) vain_check
+        ≡ Ok (out.Send (check_request 64) ∷ out.Start timer.T201 ∷ [])
+        ∷ Ok (out.Send (check_request 64) ∷ out.Start timer.T201 ∷ []) ∷ Ok (out.Free 64 ∷ [])
+        ∷ [] }
+    ensures terminals { (run (new_bus 2) two_ask).terminals
+        ≡ Assigned (Some 0x1234) 64 ∷ Assigned (Some 0x5678) 65 ∷ [] }
+    ensures gives_up { results (new_bus 2) three_times
+        ≡ Ok (out.Send (request 1) ∷ out.Start timer.T202 ∷ [])
+        ∷ Ok (out.Send (request 2) ∷ out.Start timer.T202 ∷ [])
+        ∷ Ok (out.Send (request 3) ∷ out.Start timer.T202 ∷ []) ∷ Ok (out.Failed ∷ [])
+        ∷ Err NothingThere ∷ [] }
     ensures refused { refusals (new_bus 2) (two_ask ++ three_times) ≡ 5 }
 {}
 
 /// An assigner gives the least free TEI, and denies where 64 to 126 are held. A check that one terminal answers says that the
 /// TEI is in use, and one that two answer or more removes it twice. Octets are those of the standard's Table 8.
 pub fn assigner_is_computed()
-    ensures given { answers nothing_held (event.Heard (request 0x1234) ∷ event.Heard (request 1) ∷ []) ≡ (out.Send (assigned 0x1234 64) ∷ out.Given 64 ∷ []) ∷ (out.Send (assigned 1 65) ∷ out.Given 65 ∷ []) ∷ [] }
-    ensures known { answers (known_held (64 ∷ 66 ∷ 64 ∷ [])) (event.Heard (request 1) ∷ event.Heard (request 2) ∷ []) ≡ (out.Send (assigned 1 65) ∷ out.Given 65 ∷ []) ∷ (out.Send (assigned 2 67) ∷ out.Given 67 ∷ []) ∷ [] }
-    ensures denied { results (run (new_bus 1) (served 63)) (Ask 0 1 ∷ HearUp 0 ∷ []) ≡ Ok (out.Send (request 1) ∷ out.Start timer.T202 ∷ []) ∷ Ok (out.Send (denied 1) ∷ []) ∷ [] }
-    ensures in_use { answers nothing_held (check_with 1) ≡ (out.Send (check_request 64) ∷ out.Start timer.T201 ∷ []) ∷ [] ∷ (out.InUse 64 ∷ []) ∷ [] }
-    ensures doubled { answers nothing_held (check_with 2) ≡ (out.Send (check_request 64) ∷ out.Start timer.T201 ∷ []) ∷ [] ∷ [] ∷ (out.Send (remove 64) ∷ out.Send (remove 64) ∷ out.Doubled 64 ∷ []) ∷ [] }
-    ensures request_octets { spelling side.User (frame_of_message (request 0x1234)) ≡ 0xFC ∷ 0xFF ∷ 0x03 ∷ 0x0F ∷ 0x12 ∷ 0x34 ∷ 0x01 ∷ 0xFF ∷ [] }
-    ensures assigned_octets { spelling side.Network (frame_of_message (assigned 0x1234 64)) ≡ 0xFE ∷ 0xFF ∷ 0x03 ∷ 0x0F ∷ 0x12 ∷ 0x34 ∷ 0x02 ∷ 0x81 ∷ [] }
-    ensures denied_octets { spelling side.Network (frame_of_message (denied 0x1234)) ≡ 0xFE ∷ 0xFF ∷ 0x03 ∷ 0x0F ∷ 0x12 ∷ 0x34 ∷ 0x03 ∷ 0xFF ∷ [] }
-    ensures check_octets { spelling side.Network (frame_of_message (check_request 64)) ≡ 0xFE ∷ 0xFF ∷ 0x03 ∷ 0x0F ∷ 0x00 ∷ 0x00 ∷ 0x04 ∷ 0x81 ∷ [] }
-    ensures response_octets { spelling side.User (frame_of_message (check_response 0x5678 64)) ≡ 0xFC ∷ 0xFF ∷ 0x03 ∷ 0x0F ∷ 0x56 ∷ 0x78 ∷ 0x05 ∷ 0x81 ∷ [] }
-    ensures remove_octets { spelling side.Network (frame_of_message (remove 64)) ≡ 0xFE ∷ 0xFF ∷ 0x03 ∷ 0x0F ∷ 0x00 ∷ 0x00 ∷ 0x06 ∷ 0x81 ∷ [] }
+    ensures given { answers nothing_held (event.Heard (request 0x1234) ∷ event.Heard (request 1)
+        ∷ []) ≡ (out.Send (assigned 0x1234 64) ∷ out.Given 64 ∷ [])
+        ∷ (out.Send (assigned 1 65) ∷ out.Given 65 ∷ []) ∷ [] }
+    ensures known { answers (known_held (64 ∷ 66 ∷ 64 ∷ []))
+        (event.Heard (request 1) ∷ event.Heard (request 2) ∷ [])
+        ≡ (out.Send (assigned 1 65) ∷ out.Given 65 ∷ [])
+        ∷ (out.Send (assigned 2 67) ∷ out.Given 67 ∷ []) ∷ [] }
+    ensures denied { results (run (new_bus 1) (served 63)) (Ask 0 1 ∷ HearUp 0 ∷ [])
+        ≡ Ok (out.Send (request 1) ∷ out.Start timer.T202 ∷ []) ∷ Ok (out.Send (denied 1) ∷ [])
+        ∷ [] }
+    ensures in_use { answers nothing_held (check_with 1)
+        ≡ (out.Send (check_request 64) ∷ out.Start timer.T201 ∷ []) ∷ [] ∷ (out.InUse 64 ∷ [])
+        ∷ [] }
+    ensures doubled { answers nothing_held (check_with 2)
+        ≡ (out.Send (check_request 64) ∷ out.Start timer.T201 ∷ []) ∷ [] ∷ []
+        ∷ (out.Send (remove 64) ∷ out.Send (remove 64) ∷ out.Doubled 64 ∷ []) ∷ [] }
+    ensures request_octets { spelling side.User (frame_of_message (request 0x1234))
+        ≡ 0xFC ∷ 0xFF ∷ 0x03 ∷ 0x0F ∷ 0x12 ∷ 0x34 ∷ 0x01 ∷ 0xFF ∷ [] }
+    ensures assigned_octets { spelling side.Network (frame_of_message (assigned 0x1234 64))
+        ≡ 0xFE ∷ 0xFF ∷ 0x03 ∷ 0x0F ∷ 0x12 ∷ 0x34 ∷ 0x02 ∷ 0x81 ∷ [] }
+    ensures denied_octets { spelling side.Network (frame_of_message (denied 0x1234))
+        ≡ 0xFE ∷ 0xFF ∷ 0x03 ∷ 0x0F ∷ 0x12 ∷ 0x34 ∷ 0x03 ∷ 0xFF ∷ [] }
+    ensures check_octets { spelling side.Network (frame_of_message (check_request 64))
+        ≡ 0xFE ∷ 0xFF ∷ 0x03 ∷ 0x0F ∷ 0x00 ∷ 0x00 ∷ 0x04 ∷ 0x81 ∷ [] }
+    ensures response_octets { spelling side.User (frame_of_message (check_response 0x5678 64))
+        ≡ 0xFC ∷ 0xFF ∷ 0x03 ∷ 0x0F ∷ 0x56 ∷ 0x78 ∷ 0x05 ∷ 0x81 ∷ [] }
+    ensures remove_octets { spelling side.Network (frame_of_message (remove 64))
+        ≡ 0xFE ∷ 0xFF ∷ 0x03 ∷ 0x0F ∷ 0x00 ∷ 0x00 ∷ 0x06 ∷ 0x81 ∷ [] }
 {}
 
 /// The law of the TEIs, over the definitions: after every run from a new bus no two terminals hold the same TEI, where the
@@ -48,13 +79,15 @@ pub fn assigner_is_computed()
 /// way. It holds for lost, repeated and overtaking messages, timers that expire at any moment, and terminals that leave and
 /// ask again.
 pub fn terminals_are_single()
-    ensures { (terminals : ℕ) (moves : List BusMove) → MeetsPremises terminals moves → Single (run (new_bus terminals) moves) }
+    ensures { (terminals : ℕ) (moves : List BusMove) → MeetsPremises terminals moves
+        → Single (run (new_bus terminals) moves) }
 {}
 
 /// Both premises are met by a run in which a TEI comes to another terminal after it was freed.
 pub fn premises_can_be_met()
     ensures met { MeetsPremises 2 got_by_another }
-    ensures got { (run (new_bus 2) got_by_another).terminals ≡ Unassigned ∷ Assigned (Some 3) 64 ∷ [] }
+    ensures got { (run (new_bus 2) got_by_another).terminals
+        ≡ Unassigned ∷ Assigned (Some 3) 64 ∷ [] }
 {}
 
 /// Neither premise can go: where two requests have one reference, where a check frees a TEI that a terminal holds, and where

@@ -32,7 +32,8 @@ impl TeiMessage {
     pub fn read(info: &[u8]) -> Result<TeiMessage, TeiFault>
         ensures exact { result ≡ message_at info.now }
         ensures found { IfOk result (λ m. IsMessage m × (info.now ≡ message_octets m)) }
-        ensures only { (m : TeiMessage) → IsMessage m → info.now ≡ message_octets m → result ≡ Ok m }
+        ensures only { (m : TeiMessage) → IsMessage m → info.now ≡ message_octets m
+            → result ≡ Ok m }
     {
         match info {
             [MANAGEMENT_ENTITY, high, low, kind, last] => match TeiKind::new(*kind) {

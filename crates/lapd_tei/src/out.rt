@@ -68,7 +68,8 @@ pub fn two_outs(first: TeiOut, second: TeiOut) -> TeiOuts
 /// Three outputs, in this order.
 pub fn three_outs(first: TeiOut, second: TeiOut, third: TeiOut) -> TeiOuts
     ensures items { result.items ≡ first ∷ second ∷ third ∷ [] }
-    ensures in_range { IsInRange first → IsInRange second → IsInRange third → All IsInRange result.items }
+    ensures in_range { IsInRange first → IsInRange second → IsInRange third
+        → All IsInRange result.items }
 {
     let mut outs = TeiOuts::new();
     outs.push(first);

@@ -238,8 +238,10 @@ fn gone(tei: Tei) -> (Phase, TeiOuts)
 
 /// A terminal that waits for a TEI hears a message.
 fn awaiting_hears(purpose: Purpose, count: u8, ri: u16, message: TeiMessage) -> (Phase, TeiOuts)
-    ensures now { result.0 ≡ (awaiting_hears purpose count ri message.kind message.ri message.ai).now }
-    ensures outs { result.1.items ≡ (awaiting_hears purpose count ri message.kind message.ri message.ai).outs }
+    ensures now { result.0 ≡ (awaiting_hears purpose count ri message.kind message.ri
+        message.ai).now }
+    ensures outs { result.1.items ≡ (awaiting_hears purpose count ri message.kind message.ri
+        message.ai).outs }
     ensures in_range { All IsInRange result.1.items }
 {
     match (message.kind, Tei::new(message.ai)) {
@@ -256,7 +258,8 @@ fn awaiting_hears(purpose: Purpose, count: u8, ri: u16, message: TeiMessage) -> 
 fn assigned_hears(by: Option<u16>, tei: Tei, message: TeiMessage, ri: u16) -> (Phase, TeiOuts)
     requires { tei < 127 }
     ensures now { result.0 ≡ (assigned_hears by tei message.kind message.ri message.ai ri).now }
-    ensures outs { result.1.items ≡ (assigned_hears by tei message.kind message.ri message.ai ri).outs }
+    ensures outs { result.1.items ≡ (assigned_hears by tei message.kind message.ri message.ai
+        ri).outs }
     ensures in_range { All IsInRange result.1.items }
 {
     let own = message.ai == tei.value();

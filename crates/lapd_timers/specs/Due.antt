@@ -16,7 +16,13 @@ pub record Timers : Type 0 where
 
 -- as they are made: none runs
 abbrev pub at_rest : Lengths → Timers
-at_rest durations = record { durations = durations; t200 = None; t201 = None; t202 = None; t203 = None }
+at_rest durations = record {
+  durations = durations;
+  t200 = None;
+  t201 = None;
+  t202 = None;
+  t203 = None;
+}
 
 abbrev pub deadline_of : Timer → Timers → Option ℕ
 deadline_of T200 s = s.t200
@@ -52,7 +58,8 @@ pub record HasExpired (now : ℕ) (s : Timers) (e : TimerDeadline) : Type 0 wher
 
 -- one pair is no greater than another: its deadline is less, or the same and its timer comes no later in the order
 abbrev pub IsNoGreater : TimerDeadline → TimerDeadline → Type 0
-IsNoGreater e f = (e.deadline < f.deadline) ⊎ ((e.deadline ≡ f.deadline) × (place e.timer ≤ place f.timer))
+IsNoGreater e f = (e.deadline < f.deadline) ⊎ ((e.deadline ≡ f.deadline)
+    × (place e.timer ≤ place f.timer))
 
 -- the least of some pairs, or none where there are none
 abbrev pub IsLeast : (TimerDeadline → Type 0) → Option TimerDeadline → Type 0
@@ -76,4 +83,5 @@ sooner_of (Some least) e = if nat_le least.deadline e.deadline then Some least e
 
 abbrev pub sooner : ℕ → Timer → Option ℕ → Option TimerDeadline → Option TimerDeadline
 sooner now timer None least = least
-sooner now timer (Some deadline) least = if nat_le deadline now then sooner_of least (record { deadline = deadline; timer = timer }) else least
+sooner now timer (Some deadline) least = if nat_le deadline now
+    then sooner_of least (record { deadline = deadline; timer = timer }) else least

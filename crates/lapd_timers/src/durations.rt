@@ -23,7 +23,12 @@ impl Model for Durations {
 
     ghost view = { λ d. record { t200 = d.t200; t201 = d.t201; t202 = d.t202; t203 = d.t203 } };
 
-    ghost invariant = { λ d. AreInRange (record { t200 = d.t200; t201 = d.t201; t202 = d.t202; t203 = d.t203 }) };
+    ghost invariant = { λ d. AreInRange (record {
+      t200 = d.t200;
+      t201 = d.t201;
+      t202 = d.t202;
+      t203 = d.t203;
+    }) };
 
     ghost inverse = { λ l. record { t200 = l.t200; t201 = l.t201; t202 = l.t202; t203 = l.t203 } };
 }

@@ -6,5 +6,6 @@ ghost use Rattle.lapd_timers.specs.Due.{Timers, IsDue};
 
 /// At each moment one timer is due at most, and which it is, is settled.
 pub fn one_is_due()
-    ensures { (now : ℕ) (s : Timers) (first second : Option Timer) → IsDue now s first → IsDue now s second → first ≡ second }
+    ensures { (now : ℕ) (s : Timers) (first second : Option Timer) → IsDue now s first
+        → IsDue now s second → first ≡ second }
 {}

@@ -21,7 +21,13 @@ impl Model for TimerSet {
 
     ghost Value = { Timers };
 
-    ghost view = { λ s. record { durations = s.durations; t200 = s.t200; t201 = s.t201; t202 = s.t202; t203 = s.t203 } };
+    ghost view = { λ s. record {
+      durations = s.durations;
+      t200 = s.t200;
+      t201 = s.t201;
+      t202 = s.t202;
+      t203 = s.t203;
+    } };
 
     ghost inverse = { λ s. record { durations = s.durations; t200 = s.t200; t201 = s.t201; t202 = s.t202; t203 = s.t203 } };
 }
@@ -56,7 +62,8 @@ impl TimerSet {
 
     /// Starts the timer anew, at the moment `now`. Its deadline is `now` and its duration, at most the greatest `u64`.
     pub fn start(&mut self, timer: Timer, now: u64)
-        ensures { self.new ≡ with_deadline timer (Some (deadline_from now (length_of timer self.old.durations))) self.old }
+        ensures { self.new ≡ with_deadline timer (Some
+            (deadline_from now (length_of timer self.old.durations))) self.old }
     {
         let duration = self.durations.of(timer);
         self.set_deadline(timer, Some(now.saturating_add(u64::from(duration))));

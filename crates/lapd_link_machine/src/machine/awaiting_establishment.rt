@@ -32,7 +32,8 @@ impl Machine {
         outs: &mut Outs,
     )
         requires room { HasRoom 6 outs.old }
-        ensures step { Does self.old outs.old self.new outs.new (awaiting_establishment (Heard control role)) }
+        ensures step { Does self.old outs.old self.new outs.new
+            (awaiting_establishment (Heard control role)) }
         ensures len { Grows 6 outs.old outs.new }
     {
         match (control, role) {

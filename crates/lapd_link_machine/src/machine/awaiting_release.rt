@@ -15,7 +15,8 @@ impl Machine {
     /// A frame (Figure B.6).
     pub(crate) fn awaiting_release_heard(&mut self, control: Control, role: Role, outs: &mut Outs)
         requires room { HasRoom 6 outs.old }
-        ensures step { Does self.old outs.old self.new outs.new (awaiting_release (Heard control role)) }
+        ensures step { Does self.old outs.old self.new outs.new
+            (awaiting_release (Heard control role)) }
         ensures len { Grows 6 outs.old outs.new }
     {
         match (control, role) {

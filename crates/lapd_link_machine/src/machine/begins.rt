@@ -34,7 +34,8 @@ fn is_final_ua(control: &Control, role: Role) -> bool
 impl Machine {
     /// Whether an establishment begins with this event.
     pub fn begins(&self, event: &Event) -> bool
-        ensures { (e : End) → StandsFor self.now [] (begin e) → result ≡ begins e.state e.release_pending (input_of event.now) }
+        ensures { (e : End) → StandsFor self.now [] (begin e)
+            → result ≡ begins e.state e.release_pending (input_of event.now) }
     {
         match event {
             Event::Heard(frame) => self.begins_with(&frame.control(), frame.address().role),
@@ -51,7 +52,8 @@ impl Machine {
 
     /// Whether an establishment begins with this frame.
     fn begins_with(&self, control: &Control, role: Role) -> bool
-        ensures { (e : End) → StandsFor self.now [] (begin e) → result ≡ begins e.state e.release_pending (Heard control.now role) }
+        ensures { (e : End) → StandsFor self.now [] (begin e)
+            → result ≡ begins e.state e.release_pending (Heard control.now role) }
     {
         match self.state {
             State::TeiAssigned | State::MultipleFrameEstablished | State::TimerRecovery => {

@@ -43,7 +43,8 @@ impl Machine {
     pub(crate) fn row(&mut self, event: Event, outs: &mut Outs)
         requires room { HasRoom 6 outs.old }
         requires between { IsBetweenSteps self.old }
-        ensures step { Does self.old outs.old self.new outs.new (row Tagged self.old.state (input_of event.entry)) }
+        ensures step { Does self.old outs.old self.new outs.new
+            (row Tagged self.old.state (input_of event.entry)) }
         ensures len { Grows 6 outs.old outs.new }
     {
         match event {
@@ -64,7 +65,8 @@ impl Machine {
     fn heard(&mut self, control: Control, role: Role, outs: &mut Outs)
         requires room { HasRoom 6 outs.old }
         requires between { IsBetweenSteps self.old }
-        ensures step { Does self.old outs.old self.new outs.new (row Tagged self.old.state (Heard control role)) }
+        ensures step { Does self.old outs.old self.new outs.new
+            (row Tagged self.old.state (Heard control role)) }
         ensures len { Grows 6 outs.old outs.new }
     {
         if is_unit_data(&control, role) {
@@ -78,7 +80,8 @@ impl Machine {
     fn heard_by_state(&mut self, control: Control, role: Role, outs: &mut Outs)
         requires room { HasRoom 6 outs.old }
         requires between { IsBetweenSteps self.old }
-        ensures step { Does self.old outs.old self.new outs.new (by_state Tagged self.old.state (Heard control role)) }
+        ensures step { Does self.old outs.old self.new outs.new
+            (by_state Tagged self.old.state (Heard control role)) }
         ensures len { Grows 6 outs.old outs.new }
     {
         match self.state {
@@ -93,7 +96,8 @@ impl Machine {
     /// A fault in a frame is reported, and breaks an established link.
     fn fault(&mut self, kind: FaultKind, outs: &mut Outs)
         requires room { HasRoom 6 outs.old }
-        ensures step { Does self.old outs.old self.new outs.new (row Tagged self.old.state (Faulty kind)) }
+        ensures step { Does self.old outs.old self.new outs.new
+            (row Tagged self.old.state (Faulty kind)) }
         ensures len { Grows 6 outs.old outs.new }
     {
         let letter = fault_letter(kind);
@@ -112,7 +116,8 @@ impl Machine {
     fn t200_expiry(&mut self, outs: &mut Outs)
         requires room { HasRoom 6 outs.old }
         requires between { IsBetweenSteps self.old }
-        ensures step { Does self.old outs.old self.new outs.new (row Tagged self.old.state (Expiry Timer.T200)) }
+        ensures step { Does self.old outs.old self.new outs.new
+            (row Tagged self.old.state (Expiry Timer.T200)) }
         ensures len { Grows 6 outs.old outs.new }
     {
         if self.t200 {
@@ -124,7 +129,8 @@ impl Machine {
     fn t200_expiry_by_state(&mut self, outs: &mut Outs)
         requires room { HasRoom 6 outs.old }
         requires between { IsBetweenSteps self.old }
-        ensures step { Does self.old outs.old self.new outs.new (by_state Tagged self.old.state (Expiry Timer.T200)) }
+        ensures step { Does self.old outs.old self.new outs.new
+            (by_state Tagged self.old.state (Expiry Timer.T200)) }
         ensures len { Grows 6 outs.old outs.new }
     {
         match self.state {
@@ -139,7 +145,8 @@ impl Machine {
     /// T203 expires, where it runs.
     fn t203_expiry(&mut self, outs: &mut Outs)
         requires room { HasRoom 6 outs.old }
-        ensures step { Does self.old outs.old self.new outs.new (row Tagged self.old.state (Expiry Timer.T203)) }
+        ensures step { Does self.old outs.old self.new outs.new
+            (row Tagged self.old.state (Expiry Timer.T203)) }
         ensures len { Grows 6 outs.old outs.new }
     {
         if self.t203 {
@@ -150,7 +157,8 @@ impl Machine {
     /// T203 has run and expires.
     fn t203_expiry_by_state(&mut self, outs: &mut Outs)
         requires room { HasRoom 6 outs.old }
-        ensures step { Does self.old outs.old self.new outs.new (by_state Tagged self.old.state (Expiry Timer.T203)) }
+        ensures step { Does self.old outs.old self.new outs.new
+            (by_state Tagged self.old.state (Expiry Timer.T203)) }
         ensures len { Grows 6 outs.old outs.new }
     {
         match self.state {
@@ -165,7 +173,8 @@ impl Machine {
     /// DL-ESTABLISH request, not refused.
     fn establish(&mut self, outs: &mut Outs)
         requires room { HasRoom 6 outs.old }
-        ensures step { Does self.old outs.old self.new outs.new (row Tagged self.old.state Establish) }
+        ensures step { Does self.old outs.old self.new outs.new
+            (row Tagged self.old.state Establish) }
         ensures len { Grows 6 outs.old outs.new }
     {
         match self.state {
@@ -181,7 +190,8 @@ impl Machine {
     /// DL-RELEASE request.
     fn release(&mut self, outs: &mut Outs)
         requires room { HasRoom 6 outs.old }
-        ensures step { Does self.old outs.old self.new outs.new (row Tagged self.old.state Release) }
+        ensures step { Does self.old outs.old self.new outs.new
+            (row Tagged self.old.state Release) }
         ensures len { Grows 6 outs.old outs.new }
     {
         match self.state {
@@ -209,7 +219,8 @@ impl Machine {
     /// Own receiver busy ends.
     fn busy_ends(&mut self, outs: &mut Outs)
         requires room { HasRoom 6 outs.old }
-        ensures step { Does self.old outs.old self.new outs.new (row Tagged self.old.state BusyOff) }
+        ensures step { Does self.old outs.old self.new outs.new
+            (row Tagged self.old.state BusyOff) }
         ensures len { Grows 6 outs.old outs.new }
     {
         match self.state {

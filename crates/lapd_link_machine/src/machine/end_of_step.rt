@@ -33,7 +33,8 @@ impl Machine {
     #[inline(always)]
     fn send_all(&mut self, outs: &mut Outs)
         requires room { array_vec_len outs.old ≤ 6 }
-        ensures step { (s : StepState) → StandsFor self.old outs.old.items s → StandsFor self.new outs.new.items (send_all Tagged (unsent s.end) s) }
+        ensures step { (s : StepState) → StandsFor self.old outs.old.items s
+            → StandsFor self.new outs.new.items (send_all Tagged (unsent s.end) s) }
         ensures len { array_vec_len outs.new ≤ 135 }
     {
         while self.may_send_next() {
@@ -44,7 +45,8 @@ impl Machine {
 
     /// Whether one more goes out.
     fn may_send_next(&self) -> bool
-        ensures shown { (s : StepState) (outs : List Out) → StandsFor self.now outs s → result ≡ may_send_next Tagged s }
+        ensures shown { (s : StepState) (outs : List Out) → StandsFor self.now outs s
+            → result ≡ may_send_next Tagged s }
         ensures few { result ≡ true → outstanding Tagged self.now.window < 127 }
         ensures unsent { result ≡ true → self.now.queue.sent < length self.now.queue.messages }
     {

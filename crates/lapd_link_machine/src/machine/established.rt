@@ -91,7 +91,8 @@ impl Machine {
     /// SABME: the peer establishes the link again (Figures B.7 and B.8).
     fn established_sabme(&mut self, p: bool, outs: &mut Outs)
         requires room { HasRoom 6 outs.old }
-        ensures step { Does self.old outs.old self.new outs.new (in_7_and_8 (Heard (Control.Sabme p) Role.Command)) }
+        ensures step { Does self.old outs.old self.new outs.new
+            (in_7_and_8 (Heard (Control.Sabme p) Role.Command)) }
         ensures len { Grows 6 outs.old outs.new }
     {
         self.put(Out::Send(Role::Answer, Control::Ua { f: p }), outs);
@@ -107,7 +108,8 @@ impl Machine {
     /// DISC: the peer releases the link (Figures B.7 and B.8).
     fn established_disc(&mut self, p: bool, outs: &mut Outs)
         requires room { HasRoom 5 outs.old }
-        ensures step { Does self.old outs.old self.new outs.new (in_7_and_8 (Heard (Control.Disc p) Role.Command)) }
+        ensures step { Does self.old outs.old self.new outs.new
+            (in_7_and_8 (Heard (Control.Disc p) Role.Command)) }
         ensures len { Grows 5 outs.old outs.new }
     {
         self.discard_i_queue(outs);
@@ -130,7 +132,8 @@ impl Machine {
     pub(crate) fn established_heard(&mut self, control: Control, role: Role, outs: &mut Outs)
         requires room { HasRoom 6 outs.old }
         requires counted { SentAreOutstanding self.old }
-        ensures step { Does self.old outs.old self.new outs.new (multiple_frame_established Tagged (Heard control role)) }
+        ensures step { Does self.old outs.old self.new outs.new
+            (multiple_frame_established Tagged (Heard control role)) }
         ensures len { Grows 6 outs.old outs.new }
     {
         match control {
@@ -165,7 +168,8 @@ impl Machine {
     fn established_i_frame(&mut self, ns: Number, nr: Number, p: bool, role: Role, outs: &mut Outs)
         requires room { HasRoom 6 outs.old }
         requires counted { SentAreOutstanding self.old }
-        ensures step { Does self.old outs.old self.new outs.new (multiple_frame_established Tagged (Heard (Control.I ns nr p) role)) }
+        ensures step { Does self.old outs.old self.new outs.new
+            (multiple_frame_established Tagged (Heard (Control.I ns nr p) role)) }
         ensures len { Grows 6 outs.old outs.new }
     {
         match role {
@@ -180,7 +184,8 @@ impl Machine {
     /// DM (Figure B.7).
     fn established_dm(&mut self, f: bool, role: Role, outs: &mut Outs)
         requires room { HasRoom 4 outs.old }
-        ensures step { Does self.old outs.old self.new outs.new (multiple_frame_established Tagged (Heard (Control.Dm f) role)) }
+        ensures step { Does self.old outs.old self.new outs.new
+            (multiple_frame_established Tagged (Heard (Control.Dm f) role)) }
         ensures len { Grows 4 outs.old outs.new }
     {
         match (f, role) {
@@ -210,7 +215,8 @@ impl Machine {
     /// T203 expires: the peer is asked how far it is (Figure B.7).
     pub(crate) fn established_t203(&mut self, outs: &mut Outs)
         requires room { HasRoom 2 outs.old }
-        ensures step { Does self.old outs.old self.new outs.new (multiple_frame_established Tagged (Expiry Timer.T203)) }
+        ensures step { Does self.old outs.old self.new outs.new
+            (multiple_frame_established Tagged (Expiry Timer.T203)) }
         ensures len { Grows 2 outs.old outs.new }
     {
         self.expired_t203();
@@ -319,7 +325,8 @@ impl Machine {
         requires room { HasRoom 3 outs.old }
         requires taken { IsTaken nr self.old.window taken }
         requires counted { SentAreOutstanding self.old }
-        ensures step { Does self.old outs.old self.new outs.new (acknowledge_with_timers Tagged nr) }
+        ensures step { Does self.old outs.old self.new outs.new
+            (acknowledge_with_timers Tagged nr) }
         ensures len { Grows 3 outs.old outs.new }
     {
         if taken.1.all {

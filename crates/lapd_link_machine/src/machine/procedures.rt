@@ -338,7 +338,8 @@ impl Machine {
     pub(crate) fn ensure_t200(&mut self, outs: &mut Outs)
         requires room { array_vec_len outs.old + (if self.old.t200 then 0 else 2) ≤ 136 }
         ensures step { Does self.old outs.old self.new outs.new ensure_t200 }
-        ensures len { array_vec_len outs.new ≤ array_vec_len outs.old + (if self.old.t200 then 0 else 2) }
+        ensures len { array_vec_len outs.new ≤ array_vec_len outs.old
+            + (if self.old.t200 then 0 else 2) }
         ensures window { self.new.window ≡ self.old.window }
         ensures t200 { self.new.t200 ≡ true }
     {

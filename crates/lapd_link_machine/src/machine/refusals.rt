@@ -64,7 +64,8 @@ impl Machine {
 
     /// Why an event is refused.
     pub fn refuses(&self, event: &Event) -> Option<LinkFault>
-        ensures { (e : End) → StandsFor self.now [] (begin e) → result ≡ refused (input_of event.now) e }
+        ensures { (e : End) → StandsFor self.now [] (begin e)
+            → result ≡ refused (input_of event.now) e }
     {
         match event {
             Event::Unit(len) => refused_when_long(*len),
@@ -81,8 +82,10 @@ impl Machine {
 
     /// Why a message of so many octets is refused, whether or not the queue is full.
     pub fn refuses_message(&self, len: usize) -> Option<LinkFault>
-        ensures { (message : List ℕ) (e : End) → length message ≡ len → StandsFor self.now [] (begin e) → MatchOption result
-            (refused (Give message) e ≡ refused_when_full (length self.now.queue.messages == self.now.queue.room))
+        ensures { (message : List ℕ) (e : End) → length message ≡ len
+            → StandsFor self.now [] (begin e) → MatchOption result
+            (refused (Give message) e ≡ refused_when_full
+            (length self.now.queue.messages == self.now.queue.room))
             (λ fault. refused (Give message) e ≡ Some fault) }
     {
         if len > N201 {

@@ -45,7 +45,8 @@ impl Machine {
         requires empty { outs.old.items ≡ [] }
         requires between { IsBetweenSteps self.old }
         ensures step { (e : End) → StandsFor self.old [] (begin e)
-            → StandsFor self.new outs.new.items (end_step Tagged (row Tagged e.state (input_of event.entry) (begin e))) }
+            → StandsFor self.new outs.new.items (end_step Tagged
+            (row Tagged e.state (input_of event.entry) (begin e))) }
         ensures numbers { AreTags self.new.window }
     {
         self.row(event, outs);

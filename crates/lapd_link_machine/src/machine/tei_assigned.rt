@@ -23,7 +23,8 @@ impl Machine {
     /// A frame (Figure B.4).
     pub(crate) fn tei_assigned_heard(&mut self, control: Control, role: Role, outs: &mut Outs)
         requires room { HasRoom 6 outs.old }
-        ensures step { Does self.old outs.old self.new outs.new (tei_assigned (Heard control role)) }
+        ensures step { Does self.old outs.old self.new outs.new
+            (tei_assigned (Heard control role)) }
         ensures len { Grows 6 outs.old outs.new }
     {
         match (control, role) {

@@ -29,7 +29,8 @@ impl Machine {
     pub(crate) fn timer_recovery_heard(&mut self, control: Control, role: Role, outs: &mut Outs)
         requires room { HasRoom 6 outs.old }
         requires counted { SentAreOutstanding self.old }
-        ensures step { Does self.old outs.old self.new outs.new (timer_recovery Tagged (Heard control role)) }
+        ensures step { Does self.old outs.old self.new outs.new
+            (timer_recovery Tagged (Heard control role)) }
         ensures len { Grows 6 outs.old outs.new }
     {
         match control {
@@ -70,7 +71,8 @@ impl Machine {
     )
         requires room { HasRoom 6 outs.old }
         requires counted { SentAreOutstanding self.old }
-        ensures step { Does self.old outs.old self.new outs.new (timer_recovery Tagged (Heard (Control.I ns nr p) role)) }
+        ensures step { Does self.old outs.old self.new outs.new
+            (timer_recovery Tagged (Heard (Control.I ns nr p) role)) }
         ensures len { Grows 6 outs.old outs.new }
     {
         match role {
@@ -85,7 +87,8 @@ impl Machine {
     /// DM (Figure B.8).
     fn timer_recovery_dm(&mut self, f: bool, role: Role, outs: &mut Outs)
         requires room { HasRoom 4 outs.old }
-        ensures step { Does self.old outs.old self.new outs.new (timer_recovery Tagged (Heard (Control.Dm f) role)) }
+        ensures step { Does self.old outs.old self.new outs.new
+            (timer_recovery Tagged (Heard (Control.Dm f) role)) }
         ensures len { Grows 4 outs.old outs.new }
     {
         match (f, role) {
@@ -154,7 +157,8 @@ impl Machine {
     fn rnr_nr_in_recovery(&mut self, last: bool, nr: Number, outs: &mut Outs)
         requires room { HasRoom 4 outs.old }
         requires counted { SentAreOutstanding self.old }
-        ensures step { Does self.old outs.old self.new outs.new (rnr_nr_in_recovery Tagged last nr) }
+        ensures step { Does self.old outs.old self.new outs.new
+            (rnr_nr_in_recovery Tagged last nr) }
         ensures len { Grows 4 outs.old outs.new }
     {
         match self.acknowledged_by(nr) {
