@@ -50,8 +50,8 @@ told_without None links = []
 told_without (Some tei) links = told_of_tei tei links
 
 -- The outcome of TEI management is told first, and then what becomes of the links.
-abbrev pub with_partings : List Primitive → Effects → Effects
-with_partings partings e = record e { primitives = e.primitives ++ partings }
+abbrev pub with_removals : List Primitive → Effects → Effects
+with_removals removals e = record e { primitives = e.primitives ++ removals }
 
 -- A step gives at most one TEI and frees at most one.
 unfoldable pub manages : Side → Config → ℕ → List TeiOut → Served → Reaction Served
@@ -60,7 +60,7 @@ manages side config now outs s = record {
     links = links_without (tei_freed outs) (links_with config (tei_given outs) s.links);
     timers = managed now outs s.timers;
   };
-  effects = with_partings
+  effects = with_removals
       (told_without (tei_freed outs) (links_with config (tei_given outs) s.links))
       (effects_of_management side outs);
 }

@@ -85,7 +85,8 @@ with_links s a = record {
   effects = a.effects;
 }
 
-abbrev pub among_links : Network → Result (Reaction Links) SideKind → Result (Reaction Network) SideKind
+abbrev pub among_links : Network → Result (Reaction Links) SideKind
+    → Result (Reaction Network) SideKind
 among_links s (Ok a) = Ok (with_links s a)
 among_links s (Err kind) = Err kind
 
@@ -170,12 +171,14 @@ unit_to_group sapi octets s =
       effects = record no_effects { frames = spelling side.Network (group_frame sapi octets) ∷ [] };
     })
 
-abbrev pub unit_requested : Config → ℕ → LinkId → List ℕ → Network → Result (Reaction Network) SideKind
+abbrev pub unit_requested : Config → ℕ → LinkId → List ℕ → Network
+    → Result (Reaction Network) SideKind
 unit_requested config now id octets s =
     if is_served config id.sapi && (id.tei == group_tei) then unit_to_group id.sapi octets s
     else link_of_network now id (UnitData (length octets)) octets s
 
-unfoldable pub network_requested : Config → Request → ℕ → Network → Result (Reaction Network) SideKind
+unfoldable pub network_requested : Config → Request → ℕ → Network
+    → Result (Reaction Network) SideKind
 network_requested config (request.Establish id) now s = link_of_network now id Establish [] s
 network_requested config (request.Release id) now s = link_of_network now id Release [] s
 network_requested config (request.Unit id octets) now s =

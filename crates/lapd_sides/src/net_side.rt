@@ -176,7 +176,7 @@ impl NetSide {
         ensures { Does self.old self.new acts.new
             (λ _ s. or_discarded s (link_of_network now id (input_of event.entry) octets.now s)) }
     {
-        match self.served.links.act(id, event, octets, now, acts) {
+        match self.served.links.act(&id, event, octets, now, acts) {
             Ok(()) => {}
             Err(_) => self.discarded = one_more(self.discarded),
         }
@@ -223,7 +223,7 @@ impl NetSide {
         ensures { Does self.old self.new acts.new
             (λ config. network_expires config now timer (Some id)) }
     {
-        let _ = self.served.links.expire(id, timer, now, acts);
+        let _ = self.served.links.expire(&id, timer, now, acts);
     }
 
     /// What is asked for at the moment `now`. It takes no memory.
@@ -264,7 +264,7 @@ impl NetSide {
         ensures { Answers result self.old self.new acts.new None
             (λ _. link_of_network now id (input_of event.entry) []) }
     {
-        match self.served.links.act(id, event, &[], now, acts) {
+        match self.served.links.act(&id, event, &[], now, acts) {
             Ok(()) => Ok(()),
             Err(kind) => Err(without_message(kind)),
         }
@@ -307,7 +307,7 @@ impl NetSide {
         if self.config.serves_group(&id) {
             put_group_unit(id.sapi, octets, acts)
         } else {
-            self.served.links.send_unit(id, octets, now, acts)
+            self.served.links.send_unit(&id, octets, now, acts)
         }
     }
 
@@ -323,7 +323,7 @@ impl NetSide {
         ensures { Answers result self.old self.new acts.new (Some message)
             (λ _. link_of_network now id (Give message.items) []) }
     {
-        self.served.links.give(id, message, now, acts)
+        self.served.links.give(&id, message, now, acts)
     }
 
     /// The links that are there.
@@ -339,7 +339,7 @@ impl NetSide {
     {
         match of {
             None => Some(&self.served.timers),
-            Some(id) => self.served.links.timers(id),
+            Some(id) => self.served.links.timers(&id),
         }
     }
 

@@ -18,9 +18,6 @@ use lapd_tei::TeiOut;
 use lapd_timers::{Durations, TimerSet};
 use std::alloc::{AllocError, Global};
 
-/// How many outputs one step of a link gives at most, each with one frame or one primitive at most.
-pub const MOST_OUTPUTS: usize = 136;
-
 /// How many outputs one step of TEI management gives at most.
 pub const MOST_TEI_OUTPUTS: usize = 6;
 

@@ -10,7 +10,7 @@ ghost use Rattle.lapd_tei.specs.declared.phase.Phase.{Phase};
 ghost use Rattle.lapd_table.specs.LinkTable.{IsFor};
 ghost use Rattle.lapd_frame.specs.Fault.{is_for_link};
 ghost use Rattle.lapd_sides_links.specs.declared.side_fault.SideKind.TheVariants.{NoLink, Link};
-ghost use Rattle.lapd_sides_links.specs.declared.acts.TheConstants.{MOST_FRAMES, MOST_PRIMITIVES};
+ghost use Rattle.lapd_sides_links.specs.declared.acts.TheConstants.{MOST_FRAMES, MOST_OUTPUTS, MOST_PRIMITIVES};
 ghost use Rattle.lapd_sides_links.specs.Effects.{no_effects};
 ghost use Rattle.lapd_sides_links.specs.Expiries.{IsNextDeadline, of_served};
 ghost use Rattle.lapd_sides_links.specs.Links.{IsOfLink, of_sapi};
@@ -21,8 +21,7 @@ ghost use Rattle.lapd_sides.specs.User.{User, seeded, sends_message, new_user, u
 use crate::kept_establishments::KeptEstablishments;
 use crate::references::References;
 use crate::served::{
-    LinksAndTimer, MOST_OUTPUTS, MOST_TEI_OUTPUTS, carries_message, is_unit_to_group, one_more,
-    without_message,
+    LinksAndTimer, MOST_TEI_OUTPUTS, carries_message, is_unit_to_group, one_more, without_message,
 };
 use crate::{Acts, Config, Octets, Primitive, Request, RunningTimer, SideFault, SideKind, What};
 use lapd_frame::{FaultKind, Frame, FrameFault, N201, Sapi, Side, Tei, read};
@@ -190,7 +189,7 @@ impl UserSide {
         ensures { Does self.old self.new acts.new
             (λ _ s. or_discarded s (link_of_user now id (input_of event.entry) octets.now s)) }
     {
-        match self.served.links.act(id, event, octets, now, acts) {
+        match self.served.links.act(&id, event, octets, now, acts) {
             Ok(()) => {}
             Err(_) => self.discarded = one_more(self.discarded),
         }
@@ -237,7 +236,7 @@ impl UserSide {
         ensures { Does self.old self.new acts.new
             (λ config. user_expires config now timer (Some id)) }
     {
-        let _ = self.served.links.expire(id, timer, now, acts);
+        let _ = self.served.links.expire(&id, timer, now, acts);
     }
 
     /// What is asked for at the moment `now`. Of a link's name the SAPI alone is looked at: the TEI is the terminal's own. An
@@ -281,7 +280,7 @@ impl UserSide {
     {
         match of {
             None => Some(&self.served.timers),
-            Some(id) => self.served.links.timers(id),
+            Some(id) => self.served.links.timers(&id),
         }
     }
 
@@ -395,7 +394,7 @@ impl UserSide {
         let sent = self
             .served
             .links
-            .send_unit(name(sapi, tei), octets.as_slice(), now, acts);
+            .send_unit(&name(sapi, tei), octets.as_slice(), now, acts);
         match sent {
             Ok(()) => Ok(()),
             Err(kind) => Err(refused(kind, octets)),
@@ -416,7 +415,7 @@ impl UserSide {
             (Err (Link NotEstablished)) s) }
     {
         match self.terminal.tei() {
-            Some(tei) => self.served.links.give(name(sapi, tei), message, now, acts),
+            Some(tei) => self.served.links.give(&name(sapi, tei), message, now, acts),
             None => Err(refused(SideKind::Link(LinkFault::NotEstablished), message)),
         }
     }
@@ -428,7 +427,7 @@ impl UserSide {
         ensures { Answers result self.old self.new acts.new None
             (λ _. link_of_user now id (input_of event.entry) []) }
     {
-        match self.served.links.act(id, event, &[], now, acts) {
+        match self.served.links.act(&id, event, &[], now, acts) {
             Ok(()) => Ok(()),
             Err(kind) => Err(without_message(kind)),
         }
@@ -520,7 +519,7 @@ impl UserSide {
             ≤ length acts.old.primitives + MOST_OUTPUTS }
     {
         if kept {
-            let _ = self.served.links.act(id, Event::Establish, &[], now, acts);
+            let _ = self.served.links.act(&id, Event::Establish, &[], now, acts);
         }
     }
 

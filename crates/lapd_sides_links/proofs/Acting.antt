@@ -46,7 +46,7 @@ nothing_linked (Some link) t l e h = absurd (cc)
 
 pub no_link : (side : Side) (s : LinkSet) (links : Links) (id : LinkId) (does : Linked → Result (Reaction Linked) LinkFault) → link_at s.table id ≡ None → ShowLinks side s links → in_links id does links ≡ Err kind.NoLink
 unfolding in_links
-no_link side s links id does absent shown = ap (λ (l : Option Linked). where_there id links l does) (nothing_linked (link_at s.table id) (timers_at s.timings id) (links id) absent (shown.each id))
+no_link side s links id does absent shown = ap (λ (l : Option Linked). where_there id links l does) (nothing_linked (link_at s.table id) (timers_at s.link_timers id) (links id) absent (shown.each id))
 
 -- what a link does, its timers changed so before
 abbrev does_so : Side → LinkId → ℕ → Input → List ℕ → (Timers → Timers) → Linked → Result (Reaction Linked) LinkFault
@@ -64,11 +64,20 @@ refused_there side links id now input octets change fault (Some link) (Some t) (
 
 pub refuses : (side : Side) (s : LinkSet) (links : Links) (id : LinkId) (now : ℕ) (input : Input) (octets : List ℕ) (fault : LinkFault) → RefusesAt s.table id input fault → ShowLinks side s links → in_links id (link_acts side id now input octets) links ≡ Err (kind.Link fault)
 unfolding in_links link_acts
-refuses side s links id now input octets fault r shown = refused_there side links id now input octets (λ (t : Timers). t) fault (link_at s.table id) (timers_at s.timings id) (links id) r (shown.each id)
+refuses side s links id now input octets fault r shown = refused_there side links id now input octets (λ (t : Timers). t) fault (link_at s.table id) (timers_at s.link_timers id) (links id) r (shown.each id)
 
 pub refuses_expiry : (side : Side) (s : LinkSet) (links : Links) (id : LinkId) (now : ℕ) (timer : Timer) (fault : LinkFault) → RefusesAt s.table id (Expiry timer) fault → ShowLinks side s links → in_links id (link_expires side id now timer) links ≡ Err (kind.Link fault)
 unfolding in_links link_acts link_expires
-refuses_expiry side s links id now timer fault r shown = refused_there side links id now (Expiry timer) [] (stopped timer) fault (link_at s.table id) (timers_at s.timings id) (links id) r (shown.each id)
+refuses_expiry side s links id now timer fault r shown = refused_there side links id now (Expiry timer) [] (stopped timer) fault (link_at s.table id) (timers_at s.link_timers id) (links id) r (shown.each id)
+
+-- the same, of a link that was found by this name
+pub refuses_found : (side : Side) (s : LinkSet) (links : Links) (found id : LinkId) (now : ℕ) (input : Input) (octets : List ℕ) (fault : LinkFault) → found ≡ id
+    → RefusesAt s.table found input fault → ShowLinks side s links → in_links id (link_acts side id now input octets) links ≡ Err (kind.Link fault)
+refuses_found side s links found id now input octets fault same r shown =
+    refuses side s links id now input octets fault (subst (λ (i : LinkId). RefusesAt s.table i input fault) same r) shown
+
+some_is : {A : Type 0} {a b : A} → Some a ≡ Some b → a ≡ b
+some_is h = cc
 
 -- ---- The link does its step.
 
@@ -90,14 +99,14 @@ true_is_false h = absurd (cc)
 
 -- another link is as it was
 other_linked : (old new : LinkSet) (links : Links) (id other : LinkId) (l : Option Linked) (test : Bool) → id_eq other id ≡ test
-    → ((test ≡ true) → IsLinked (link_at new.table other) (timers_at new.timings other) l)
-    → ((other ≢ id) → link_at new.table other ≡ link_at old.table other) → ((other ≢ id) → timers_at new.timings other ≡ timers_at old.timings other)
-    → (id_eq id id ≡ true) → IsLinked (link_at old.table other) (timers_at old.timings other) (links other)
-    → IsLinked (link_at new.table other) (timers_at new.timings other) (if test then l else links other)
-other_linked old new links id other l true is own table timings reflexive h = own refl
-other_linked old new links id other l false is own table timings reflexive h =
+    → ((test ≡ true) → IsLinked (link_at new.table other) (timers_at new.link_timers other) l)
+    → ((other ≢ id) → link_at new.table other ≡ link_at old.table other) → ((other ≢ id) → timers_at new.link_timers other ≡ timers_at old.link_timers other)
+    → (id_eq id id ≡ true) → IsLinked (link_at old.table other) (timers_at old.link_timers other) (links other)
+    → IsLinked (link_at new.table other) (timers_at new.link_timers other) (if test then l else links other)
+other_linked old new links id other l true is own table link_timers reflexive h = own refl
+other_linked old new links id other l false is own table link_timers reflexive h =
     let differ : other ≢ id = λ same. absurd (true_is_false (sym (subst (λ (x : LinkId). id_eq x id ≡ true) (sym same) reflexive) ∙ is)) in
-    rw (table differ, timings differ) h
+    rw (table differ, link_timers differ) h
 
 pub same_effects : (a : Effects) (frames : List (List ℕ)) (primitives : List Primitive) → a.frames ≡ frames → a.primitives ≡ primitives → a ≡ record { frames = frames; primitives = primitives }
 same_effects a frames primitives f p = rw (sym f, sym p) refl
@@ -123,15 +132,15 @@ frames_are_sent table id link e octets outs has there stands fits =
 -- All that is left of a step: the table does it, the timers follow, and what it gives is told.
 have_done : (side : Side) (old new : LinkSet) (table : LinkTable) (links : Links) (id : LinkId) (now : ℕ) (input : Input) (octets : List ℕ) (change : Timers → Timers) (outs : List Out) (told told_after : Effects)
     → StepsAt old.table table id input outs → new.table ≡ table
-    → timers_at new.timings id ≡ option_map (timed now outs) (option_map change (timers_at old.timings id))
-    → ((other : LinkId) → other ≢ id → timers_at new.timings other ≡ timers_at old.timings other)
+    → timers_at new.link_timers id ≡ option_map (timed now outs) (option_map change (timers_at old.link_timers id))
+    → ((other : LinkId) → other ≢ id → timers_at new.link_timers other ≡ timers_at old.link_timers other)
     → ((link : Link) (e : End) → link_at table id ≡ Some link → LinkStandsFor link e → told_after.frames ≡ told.frames ++ filter_map (made_by (setup_for (side_of table) id) e octets) outs)
     → told_after.primitives ≡ told.primitives ++ map (Of id) (filter_map (what_of octets) outs)
     → length octets ≤ n201
     → ShowLinks side old links → HaveActed side new told told_after (in_links id (does_so side id now input octets change) links)
 unfolding in_links
 have_done side old new table links id now input octets change outs told told_after steps same_table own others frames primitives fits shown =
-    let x = shown_linked steps.before (timers_at old.timings id) (links id) (subst (λ (found : Option Link). IsLinked found (timers_at old.timings id) (links id)) steps.was (shown.each id)) in
+    let x = shown_linked steps.before (timers_at old.link_timers id) (links id) (subst (λ (found : Option Link). IsLinked found (timers_at old.link_timers id) (links id)) steps.was (shown.each id)) in
     let done = steps.steps x.linked.end x.stands in
     let s = done.0 in
     let is = done.1 in
@@ -140,7 +149,7 @@ have_done side old new table links id now input octets change outs told told_aft
     let l : Linked = record { end = s.end; timers = timed now s.outs (change x.linked.timers) } in
     let set : new.table ≡ table = same_table in
     let there : link_at new.table id ≡ Some steps.after = ap (λ (t : LinkTable). link_at t id) set ∙ steps.changes.there in
-    let timers : timers_at new.timings id ≡ Some l.timers =
+    let timers : timers_at new.link_timers id ≡ Some l.timers =
     own ∙ ap (λ (t : Option Timers). option_map (timed now outs) (option_map change t)) x.timers ∙ ap (λ (o : List Out). Some (timed now o (change x.linked.timers))) (sym same) in
     let of_side : side_of table ≡ side = steps.changes.side ∙ shown.of_side in
     let told_frames : told_after.frames ≡ told.frames ++ filter_map (sent_by (setup_for side id) s.end octets) s.outs =
@@ -157,8 +166,8 @@ have_done side old new table links id now input octets change outs told told_aft
       shown = record {
         of_side = ap side_of set ∙ of_side;
         each = λ other. other_linked old new links id other (Some l) (id_eq other id) refl
-            (λ test. subst (λ (k : LinkId). IsLinked (link_at new.table k) (timers_at new.timings k) (Some l)) (sym (same_id_eq other id test))
-            (subst (λ (f : Option Link). IsLinked f (timers_at new.timings id) (Some l)) (sym there)
+            (λ test. subst (λ (k : LinkId). IsLinked (link_at new.table k) (timers_at new.link_timers k) (Some l)) (sym (same_id_eq other id test))
+            (subst (λ (f : Option Link). IsLinked f (timers_at new.link_timers id) (Some l)) (sym there)
             (subst (λ (t : Option Timers). IsLinked (Some steps.after) t (Some l)) (sym timers) (stands, refl))))
             (λ differ. ap (λ (t : LinkTable). link_at t other) set ∙ steps.changes.others other differ) (others other) (id_eq_self id) (shown.each other);
       };
@@ -171,27 +180,38 @@ unchanged_timers (Some t) = refl
 
 pub have_acted : (side : Side) (old new : LinkSet) (table : LinkTable) (links : Links) (id : LinkId) (now : ℕ) (input : Input) (octets : List ℕ) (outs : List Out) (told told_after : Effects)
     → StepsAt old.table table id input outs → new.table ≡ table
-    → timers_at new.timings id ≡ option_map (timed now outs) (timers_at old.timings id)
-    → ((other : LinkId) → other ≢ id → timers_at new.timings other ≡ timers_at old.timings other)
+    → timers_at new.link_timers id ≡ option_map (timed now outs) (timers_at old.link_timers id)
+    → ((other : LinkId) → other ≢ id → timers_at new.link_timers other ≡ timers_at old.link_timers other)
     → ((link : Link) (e : End) → link_at table id ≡ Some link → LinkStandsFor link e → told_after.frames ≡ told.frames ++ filter_map (made_by (setup_for (side_of table) id) e octets) outs)
     → told_after.primitives ≡ told.primitives ++ map (Of id) (filter_map (what_of octets) outs)
     → length octets ≤ n201
     → ShowLinks side old links → HaveActed side new told told_after (in_links id (link_acts side id now input octets) links)
 unfolding link_acts
 have_acted side old new table links id now input octets outs told told_after steps same_table own others frames primitives fits shown =
-    have_done side old new table links id now input octets (λ (s : Timers). s) outs told told_after steps same_table (own ∙ ap (option_map (timed now outs)) (unchanged_timers (timers_at old.timings id))) others frames primitives fits shown
+    have_done side old new table links id now input octets (λ (s : Timers). s) outs told told_after steps same_table (own ∙ ap (option_map (timed now outs)) (unchanged_timers (timers_at old.link_timers id))) others frames primitives fits shown
 
 -- the same after an expiry: the timer was stopped before
 pub have_expired : (side : Side) (old new : LinkSet) (table : LinkTable) (links : Links) (id : LinkId) (now : ℕ) (timer : Timer) (middle : Option Timers) (outs : List Out) (told told_after : Effects)
     → StepsAt old.table table id (Expiry timer) outs → new.table ≡ table
-    → middle ≡ option_map (stopped timer) (timers_at old.timings id) → timers_at new.timings id ≡ option_map (timed now outs) middle
-    → ((other : LinkId) → other ≢ id → timers_at new.timings other ≡ timers_at old.timings other)
+    → middle ≡ option_map (stopped timer) (timers_at old.link_timers id) → timers_at new.link_timers id ≡ option_map (timed now outs) middle
+    → ((other : LinkId) → other ≢ id → timers_at new.link_timers other ≡ timers_at old.link_timers other)
     → ((link : Link) (e : End) → link_at table id ≡ Some link → LinkStandsFor link e → told_after.frames ≡ told.frames ++ filter_map (made_by (setup_for (side_of table) id) e []) outs)
     → told_after.primitives ≡ told.primitives ++ map (Of id) (filter_map (what_of []) outs)
     → ShowLinks side old links → HaveActed side new told told_after (in_links id (link_expires side id now timer) links)
 unfolding link_acts link_expires
 have_expired side old new table links id now timer middle outs told told_after steps same_table stop own others frames primitives shown =
     have_done side old new table links id now (Expiry timer) [] (stopped timer) outs told told_after steps same_table (own ∙ ap (option_map (timed now outs)) stop) others frames primitives (omega arith) shown
+
+-- What was put down of these outputs is what is made of them, whatever end the link that was found stands for.
+pub frames_put : (table : LinkTable) (id : LinkId) (link found : Link) (e : End) (octets : List ℕ) (outs lent : List Out) (before put after : List (List ℕ))
+    → link_at table id ≡ Some link → link_at table id ≡ Some found → setup_of found ≡ setup_for (side_of table) id → LinkStandsFor link e
+    → ((e : End) → LinkStandsFor found e → put ≡ before ++ filter_map (made_by (setup_of found) e octets) lent) → lent ≡ outs → after ≡ put
+    → after ≡ before ++ filter_map (made_by (setup_for (side_of table) id) e octets) outs
+frames_put table id link found e octets outs lent before put after there value setup stands made same told =
+    let one : link ≡ found = some_is (sym there ∙ value) in
+    told ∙ made e (subst (λ (l : Link). LinkStandsFor l e) one stands)
+    ∙ ap (λ (k : Setup). before ++ filter_map (made_by k e octets) lent) setup
+    ∙ ap (λ (o : List Out). before ++ filter_map (made_by (setup_for (side_of table) id) e octets) o) same
 
 -- a search that found none
 pub absent_of : (found : Option (Bor Link)) (link : Option Link) → option_copied found ≡ link → found ≡ None → link ≡ None
@@ -202,15 +222,15 @@ absent_of (Some k) link e h = absurd (cc)
 
 -- the link of this name is another now, with its timers, and all others are as before
 pub put_in_place : (side : Side) (old new : LinkSet) (links : Links) (id : LinkId) (l : Option Linked) → side_of new.table ≡ side_of old.table
-    → IsLinked (link_at new.table id) (timers_at new.timings id) l
+    → IsLinked (link_at new.table id) (timers_at new.link_timers id) l
     → ((other : LinkId) → other ≢ id → link_at new.table other ≡ link_at old.table other)
-    → ((other : LinkId) → other ≢ id → timers_at new.timings other ≡ timers_at old.timings other)
+    → ((other : LinkId) → other ≢ id → timers_at new.link_timers other ≡ timers_at old.link_timers other)
     → ShowLinks side old links → ShowLinks side new (with_link id l links)
-put_in_place side old new links id l same own table timings shown = record {
+put_in_place side old new links id l same own table link_timers shown = record {
   of_side = same ∙ shown.of_side;
   each = λ other. other_linked old new links id other l (id_eq other id) refl
-      (λ test. subst (λ (k : LinkId). IsLinked (link_at new.table k) (timers_at new.timings k) l) (sym (same_id_eq other id test)) own)
-      (table other) (timings other) (id_eq_self id) (shown.each other);
+      (λ test. subst (λ (k : LinkId). IsLinked (link_at new.table k) (timers_at new.link_timers k) l) (sym (same_id_eq other id test)) own)
+      (table other) (link_timers other) (id_eq_self id) (shown.each other);
 }
 
 -- a link that was made is the one that is there
@@ -243,31 +263,31 @@ placed_linked (Some link) (Some t) None its h is = absurd h
 placed_linked (Some link) (Some t) (Some l) its h is = ap (λ (x : Timers). Some x) h.1 ∙ is
 
 runs_in_links : (side : Side) (s : LinkSet) (links : Links) → ShowLinks side s links → (of : Option LinkId) (its : Timers) (timer : Timer) (deadline : ℕ)
-    → of_places s.timings.places of ≡ Some its → deadline_of timer its ≡ Some deadline → of_links links of ≡ Some its
+    → of_places s.link_timers.places of ≡ Some its → deadline_of timer its ≡ Some deadline → of_links links of ≡ Some its
 runs_in_links side s links shown None its timer deadline is runs = is
-runs_in_links side s links shown (Some id) its timer deadline is runs = runs_linked (link_at s.table id) (timers_at s.timings id) (links id) its timer deadline (shown.each id) is runs
+runs_in_links side s links shown (Some id) its timer deadline is runs = runs_linked (link_at s.table id) (timers_at s.link_timers id) (links id) its timer deadline (shown.each id) is runs
 
 runs_in_places : (side : Side) (s : LinkSet) (links : Links) → ShowLinks side s links → (of : Option LinkId) (its : Timers)
-    → of_links links of ≡ Some its → of_places s.timings.places of ≡ Some its
+    → of_links links of ≡ Some its → of_places s.link_timers.places of ≡ Some its
 runs_in_places side s links shown None its is = is
-runs_in_places side s links shown (Some id) its is = placed_linked (link_at s.table id) (timers_at s.timings id) (links id) its (shown.each id) is
+runs_in_places side s links shown (Some id) its is = placed_linked (link_at s.table id) (timers_at s.link_timers id) (links id) its (shown.each id) is
 
 pub first_of_links : (side : Side) (s : LinkSet) (links : Links) (now : ℕ) (first : Option Due) → ShowLinks side s links
-    → IsFirst (IsPast now (of_places s.timings.places)) first → IsFirst (IsPast now (of_links links)) first
-first_of_links side s links now first shown h = same_past now (of_places s.timings.places) (of_links links) first (runs_in_links side s links shown)
+    → IsFirst (IsPast now (of_places s.link_timers.places)) first → IsFirst (IsPast now (of_links links)) first
+first_of_links side s links now first shown h = same_past now (of_places s.link_timers.places) (of_links links) first (runs_in_links side s links shown)
     (λ of its timer deadline is runs. runs_in_places side s links shown of its is) h
 
 pub first_of_all_links : (side : Side) (s : LinkSet) (links : Links) (first : Option Due) → ShowLinks side s links
-    → IsFirst (Runs (of_places s.timings.places)) first → IsFirst (Runs (of_links links)) first
-first_of_all_links side s links first shown h = same_runs (of_places s.timings.places) (of_links links) first (runs_in_links side s links shown)
+    → IsFirst (Runs (of_places s.link_timers.places)) first → IsFirst (Runs (of_links links)) first
+first_of_all_links side s links first shown h = same_runs (of_places s.link_timers.places) (of_links links) first (runs_in_links side s links shown)
     (λ of its timer deadline is runs. runs_in_places side s links shown of its is) h
 
 -- where no timer has changed, the links are as before
-pub same_timers : (side : Side) (old new : LinkSet) (links : Links) → new.table ≡ old.table → ((id : LinkId) → timers_at new.timings id ≡ timers_at old.timings id) → ShowLinks side old links → ShowLinks side new links
-same_timers side old new links table timings shown = record {
+pub same_timers : (side : Side) (old new : LinkSet) (links : Links) → new.table ≡ old.table → ((id : LinkId) → timers_at new.link_timers id ≡ timers_at old.link_timers id) → ShowLinks side old links → ShowLinks side new links
+same_timers side old new links table link_timers shown = record {
   of_side = ap side_of table ∙ shown.of_side;
-  each = λ id. subst (λ (t : Option Timers). IsLinked (link_at new.table id) t (links id)) (sym (timings id))
-      (subst (λ (t : LinkTable). IsLinked (link_at t id) (timers_at old.timings id) (links id)) (sym table) (shown.each id));
+  each = λ id. subst (λ (t : Option Timers). IsLinked (link_at new.table id) t (links id)) (sym (link_timers id))
+      (subst (λ (t : LinkTable). IsLinked (link_at t id) (timers_at old.link_timers id) (links id)) (sym table) (shown.each id));
 }
 
 -- the timers of a link that is there
@@ -278,8 +298,8 @@ there_timed (Some k) link None (Some l) is h = absurd h
 there_timed (Some k) link (Some t) None is h = absurd h
 there_timed (Some k) link (Some t) (Some l) is h = ap (λ (x : Timers). Some x) h.1
 
-pub timers_there : (side : Side) (s : LinkSet) (links : Links) (id : LinkId) (link : Link) → link_at s.table id ≡ Some link → ShowLinks side s links → timers_at s.timings id ≡ of_links links (Some id)
-timers_there side s links id link is shown = there_timed (link_at s.table id) link (timers_at s.timings id) (links id) is (shown.each id)
+pub timers_there : (side : Side) (s : LinkSet) (links : Links) (id : LinkId) (link : Link) → link_at s.table id ≡ Some link → ShowLinks side s links → timers_at s.link_timers id ≡ of_links links (Some id)
+timers_there side s links id link is shown = there_timed (link_at s.table id) link (timers_at s.link_timers id) (links id) is (shown.each id)
 
 pub no_timers : (side : Side) (s : LinkSet) (links : Links) (id : LinkId) → link_at s.table id ≡ None → ShowLinks side s links → None ≡ of_links links (Some id)
-no_timers side s links id absent shown = ap (λ (l : Option Linked). option_map (λ (x : Linked). x.timers) l) (sym (nothing_linked (link_at s.table id) (timers_at s.timings id) (links id) absent (shown.each id)))
+no_timers side s links id absent shown = ap (λ (l : Option Linked). option_map (λ (x : Linked). x.timers) l) (sym (nothing_linked (link_at s.table id) (timers_at s.link_timers id) (links id) absent (shown.each id)))

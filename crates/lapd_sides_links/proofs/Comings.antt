@@ -14,7 +14,7 @@ use Rattle.lapd_table.proofs.Ids.{same_id_eq}
 use Rattle.lapd_sides_links.specs.declared.config.Config.{Config}
 use Rattle.lapd_sides_links.specs.declared.links.LinkSet.{LinkSet}
 use Rattle.lapd_sides_links.specs.declared.primitive.Primitive.{Primitive}
-use Rattle.lapd_sides_links.specs.Links.{Links, Linked, of_sapi, with_link, with_tei, without_tei, new_linked, told_at_parting, told_of_tei}
+use Rattle.lapd_sides_links.specs.Links.{Links, Linked, of_sapi, with_link, with_tei, without_tei, new_linked, told_at_removal, told_of_tei}
 use Rattle.lapd_sides_links.specs.TimersAtPlaces.{placed}
 use Rattle.lapd_sides_links.specs.Shown.{timers_at, IsLinked, ShowLinks}
 
@@ -22,7 +22,7 @@ use Rattle.lapd_sides_links.specs.Shown.{timers_at, IsLinked, ShowLinks}
 pub same_links : (side : Side) (s : LinkSet) (these those : Links) → ((id : LinkId) → these id ≡ those id) → ShowLinks side s these → ShowLinks side s those
 same_links side s these those same shown = record {
   of_side = shown.of_side;
-  each = λ id. subst (λ (l : Option Linked). IsLinked (link_at s.table id) (timers_at s.timings id) l) (same id) (shown.each id);
+  each = λ id. subst (λ (l : Option Linked). IsLinked (link_at s.table id) (timers_at s.link_timers id) l) (same id) (shown.each id);
 }
 
 -- ---- They come.
@@ -65,7 +65,7 @@ absent_linked (Some link) t l e h = absurd (cc)
 pub taken_back : (side : Side) (old new : LinkSet) (links : Links) (name : LinkId) (l : Option Linked) → link_at old.table name ≡ None → ShowLinks side old links
     → ShowLinks side new (with_link name None (with_link name l links)) → ShowLinks side new links
 taken_back side old new links name l absent before shown =
-    let none = absent_linked (link_at old.table name) (timers_at old.timings name) (links name) absent (before.each name) in
+    let none = absent_linked (link_at old.table name) (timers_at old.link_timers name) (links name) absent (before.each name) in
     same_links side new (with_link name None (with_link name l links)) links (λ id. back_at links id name l (id_eq id name) refl none) shown
 
 -- ---- They go.
@@ -92,9 +92,9 @@ pub both_gone : (side : Side) (old new : LinkSet) (tei : ℕ) (links : Links) �
 both_gone side old new tei links before shown = same_links side new _ (without_tei tei links) (λ id. gone_at side old tei links id.sapi id.tei before) shown
 
 -- the first is told, and then the second, which is as it was
-pub both_told : (before middle after : List Primitive) (tei : ℕ) (links : Links) → middle ≡ before ++ told_at_parting (of_sapi Call tei) (links (of_sapi Call tei))
-    → after ≡ middle ++ told_at_parting (of_sapi Packet tei) (with_link (of_sapi Call tei) None links (of_sapi Packet tei)) → after ≡ before ++ told_of_tei tei links
+pub both_told : (before middle after : List Primitive) (tei : ℕ) (links : Links) → middle ≡ before ++ told_at_removal (of_sapi Call tei) (links (of_sapi Call tei))
+    → after ≡ middle ++ told_at_removal (of_sapi Packet tei) (with_link (of_sapi Call tei) None links (of_sapi Packet tei)) → after ≡ before ++ told_of_tei tei links
 unfolding told_of_tei
 both_told before middle after tei links first second =
-    second ∙ ap (λ (m : List Primitive). m ++ told_at_parting (of_sapi Packet tei) (links (of_sapi Packet tei))) first
-    ∙ append_assoc before (told_at_parting (of_sapi Call tei) (links (of_sapi Call tei))) (told_at_parting (of_sapi Packet tei) (links (of_sapi Packet tei)))
+    second ∙ ap (λ (m : List Primitive). m ++ told_at_removal (of_sapi Packet tei) (links (of_sapi Packet tei))) first
+    ∙ append_assoc before (told_at_removal (of_sapi Call tei) (links (of_sapi Call tei))) (told_at_removal (of_sapi Packet tei) (links (of_sapi Packet tei)))

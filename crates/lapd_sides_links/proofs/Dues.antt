@@ -16,7 +16,7 @@ use Rattle.lapd_table.specs.declared.link_id.LinkId.{LinkId}
 use Rattle.lapd_table.specs.LinkId.{id_eq}
 use Rattle.lapd_table.proofs.Ids.{same_id_eq}
 use Rattle.lapd_sides_links.specs.declared.running_timer.RunningTimer.{RunningTimer}
-use Rattle.lapd_sides_links.specs.declared.places.Places.{Places}
+use Rattle.lapd_sides_links.specs.declared.timer_places.TimerPlaces.{TimerPlaces}
 use Rattle.lapd_sides_links.specs.Effects.{stopped}
 use Rattle.lapd_sides_links.specs.Links.{Served, IsOfLink, of_sapi}
 use Rattle.lapd_sides_links.specs.Expiries.{IsTimerOf, Runs, IsPast, IsNoLaterLink, IsNoLater, IsFirst, IsDue, IsNextDeadline, of_management, of_links, of_served}
@@ -78,21 +78,21 @@ lowered_low bound first id (Some timers) h = h.1 bound (inl refl)
 
 -- ---- The same of all places.
 
-bounded : (s : Places) (bound e : RunningTimer) → NoneIsBefore bound s → Runs (of_places s) e → IsNoLater bound e
+bounded : (s : TimerPlaces) (bound e : RunningTimer) → NoneIsBefore bound s → Runs (of_places s) e → IsNoLater bound e
 unfolding NoneIsBefore
 bounded s bound e h x = elim (no_later_decided bound e) [ inl low ↦ low | inr before ↦ absurd (h e x before) ]
 
-behind_at : (bound : RunningTimer) (s : Places) (id : LinkId) (timers : Timers) → NoneIsBefore bound s → placed s id ≡ Some timers → NoneOfLinkIsBefore bound id timers
+behind_at : (bound : RunningTimer) (s : TimerPlaces) (id : LinkId) (timers : Timers) → NoneIsBefore bound s → placed s id ≡ Some timers → NoneOfLinkIsBefore bound id timers
 behind_at bound s id timers h there = λ timer deadline own runs.
     bounded s bound (expiry_at id timer deadline) h (record { its = timers; there = there; own = own; until = runs })
 
-at_place_of : (bound : RunningTimer) (s : Places) (of : Option LinkId) (e : RunningTimer) → e.of ≡ of → ((id : LinkId) (timers : Timers) → placed s id ≡ Some timers → NoneOfLinkIsBefore bound id timers)
+at_place_of : (bound : RunningTimer) (s : TimerPlaces) (of : Option LinkId) (e : RunningTimer) → e.of ≡ of → ((id : LinkId) (timers : Timers) → placed s id ≡ Some timers → NoneOfLinkIsBefore bound id timers)
     → Runs (of_places s) e → IsNoLater bound e
 at_place_of bound s None e is h x = let there : None ≡ Some x.its = sym (ap (of_places s) is) ∙ x.there in absurd (cc)
 at_place_of bound s (Some id) e is h x = subst (λ (of : Option LinkId). IsNoLater bound (record { deadline = e.deadline; timer = e.timer; of = of })) (sym is)
     (h id x.its (sym (ap (of_places s) is) ∙ x.there) e.timer e.deadline (subst (λ (of : Option LinkId). IsTimerOf of e.timer) is x.own) x.until)
 
-none_before : (bound : RunningTimer) (s : Places) → ((id : LinkId) (timers : Timers) → placed s id ≡ Some timers → NoneOfLinkIsBefore bound id timers) → NoneIsBefore bound s
+none_before : (bound : RunningTimer) (s : TimerPlaces) → ((id : LinkId) (timers : Timers) → placed s id ≡ Some timers → NoneOfLinkIsBefore bound id timers) → NoneIsBefore bound s
 unfolding NoneIsBefore
 none_before bound s h = λ e x before. before (at_place_of bound s e.of e refl h x)
 
@@ -101,7 +101,7 @@ none_before bound s h = λ e x before. before (at_place_of bound s e.of e refl h
 earlier : (early late : RunningTimer) (id : LinkId) (timers : Timers) → IsNoLater early late → NoneOfLinkIsBefore late id timers → NoneOfLinkIsBefore early id timers
 earlier early late id timers low h = λ timer deadline own runs. no_later_chained early late (expiry_at id timer deadline) low (h timer deadline own runs)
 
-changed_at : (early late : RunningTimer) (old new : Places) (id other : LinkId) (timers : Timers) (test : Bool) → id_eq other id ≡ test → IsNoLater early late
+changed_at : (early late : RunningTimer) (old new : TimerPlaces) (id other : LinkId) (timers : Timers) (test : Bool) → id_eq other id ≡ test → IsNoLater early late
     → ((t : Timers) → placed new id ≡ Some t → NoneOfLinkIsBefore early id t) → ((k : LinkId) → k ≢ id → placed new k ≡ placed old k)
     → NoneIsBefore late old → placed new other ≡ Some timers → NoneOfLinkIsBefore early other timers
 changed_at early late old new id other timers true is low own others h there =
@@ -111,7 +111,7 @@ changed_at early late old new id other timers false is low own others h there =
     let differ : other ≢ id = λ same. absurd (false_is_true (sym is ∙ (ap (λ (k : LinkId). id_eq k id) same ∙ id_eq_self id))) in
     earlier early late other timers low (behind_at late old other timers h (sym (others other differ) ∙ there))
 
-changed : (early late : RunningTimer) (old new : Places) (id : LinkId) → IsNoLater early late → ((t : Timers) → placed new id ≡ Some t → NoneOfLinkIsBefore early id t)
+changed : (early late : RunningTimer) (old new : TimerPlaces) (id : LinkId) → IsNoLater early late → ((t : Timers) → placed new id ≡ Some t → NoneOfLinkIsBefore early id t)
     → ((k : LinkId) → k ≢ id → placed new k ≡ placed old k) → NoneIsBefore late old → NoneIsBefore early new
 changed early late old new id low own others h = none_before early new (λ other timers there. changed_at early late old new id other timers (id_eq other id) refl low own others h there)
 
@@ -119,17 +119,17 @@ mapped : (P : Timers → Type 0) (f : Timers → Timers) (found : Option Timers)
 mapped P f None timers h is = absurd (cc)
 mapped P f (Some t) timers h is = let same : f t ≡ timers = cc in subst P same (h t refl)
 
-pub timed_places : (bound first : RunningTimer) (old new : Places) (id : LinkId) (found : Option Timers) → found ≡ placed new id → IsFirst (IsOneOf bound id found) (Some first)
+pub timed_places : (bound first : RunningTimer) (old new : TimerPlaces) (id : LinkId) (found : Option Timers) → found ≡ placed new id → IsFirst (IsOneOf bound id found) (Some first)
     → ((k : LinkId) → k ≢ id → placed new k ≡ placed old k) → NoneIsBefore bound old → NoneIsBefore first new
 timed_places bound first old new id found is low others h = changed first bound old new id (lowered_low bound first id found low)
     (λ t there. lowered_behind bound first id found t (is ∙ there) low) others h
 
-pub rested_places : (bound : RunningTimer) (old new : Places) (id : LinkId) (rest : Timers → Lengths) → placed new id ≡ option_map (λ (t : Timers). at_rest (rest t)) (placed old id)
+pub rested_places : (bound : RunningTimer) (old new : TimerPlaces) (id : LinkId) (rest : Timers → Lengths) → placed new id ≡ option_map (λ (t : Timers). at_rest (rest t)) (placed old id)
     → ((k : LinkId) → k ≢ id → placed new k ≡ placed old k) → NoneIsBefore bound old → NoneIsBefore bound new
 rested_places bound old new id rest is others h = changed bound bound old new id (no_later_self bound)
     (λ t there. mapped (NoneOfLinkIsBefore bound id) (λ (u : Timers). at_rest (rest u)) (placed old id) t (λ u was. at_rest_behind bound id (rest u)) (sym is ∙ there)) others h
 
-pub stopped_places : (bound : RunningTimer) (old new : Places) (id : LinkId) (which : Timer) → placed new id ≡ option_map (stopped which) (placed old id)
+pub stopped_places : (bound : RunningTimer) (old new : TimerPlaces) (id : LinkId) (which : Timer) → placed new id ≡ option_map (stopped which) (placed old id)
     → ((k : LinkId) → k ≢ id → placed new k ≡ placed old k) → NoneIsBefore bound old → NoneIsBefore bound new
 stopped_places bound old new id which is others h = changed bound bound old new id (no_later_self bound)
     (λ t there. mapped (NoneOfLinkIsBefore bound id) (stopped which) (placed old id) t (λ u was. stopped_behind bound id u which (behind_at bound old id u h was)) (sym is ∙ there)) others h
@@ -142,7 +142,7 @@ resting_behind bound id (Some t) timers h is = λ timer deadline own runs.
     let still : deadline_of timer timers ≡ None = subst AreAtRest same h timer in
     let k : None ≡ Some deadline = sym still ∙ runs in absurd (cc)
 
-pub new_places : (bound : RunningTimer) (s : Places) → ((id : LinkId) → IfSome (placed s id) AreAtRest) → NoneIsBefore bound s
+pub new_places : (bound : RunningTimer) (s : TimerPlaces) → ((id : LinkId) → IfSome (placed s id) AreAtRest) → NoneIsBefore bound s
 new_places bound s h = none_before bound s (λ id timers is. resting_behind bound id (placed s id) timers (h id) is)
 
 -- ---- A bound that is lowered to the timers of a link.
@@ -220,7 +220,7 @@ rest_among durations places tei (Some timers) all is =
     let each : All AreAtRest places = subst (All AreAtRest) (sym all) (All-replicate AreAtRest 127 (at_rest durations) (rests durations)) in
     subst AreAtRest (get_or_from_slice_get places tei timers timers is) (All-get_or AreAtRest places tei timers (slice_get_within places tei timers is) each)
 
-pub new_rest : (s : Places) (durations : Lengths) (sapi : Sapi) (tei : ℕ) → s.call.items ≡ replicate 127 (at_rest durations) → s.packet.items ≡ replicate 127 (at_rest durations)
+pub new_rest : (s : TimerPlaces) (durations : Lengths) (sapi : Sapi) (tei : ℕ) → s.call.items ≡ replicate 127 (at_rest durations) → s.packet.items ≡ replicate 127 (at_rest durations)
     → IfSome (placed s (of_sapi sapi tei)) AreAtRest
 unfolding placed
 new_rest s durations Call tei call packet = rest_among durations s.call.items tei (slice_get s.call.items tei) call refl
@@ -229,7 +229,7 @@ new_rest s durations Management tei call packet = tt
 
 -- ---- The timers of both SAPIs.
 
-runs_at : (s : Places) (sapi : Sapi) (tei : ℕ) (e : RunningTimer) → e.of ≡ Some (of_sapi sapi tei) → Runs (of_places s) e
+runs_at : (s : TimerPlaces) (sapi : Sapi) (tei : ℕ) (e : RunningTimer) → e.of ≡ Some (of_sapi sapi tei) → Runs (of_places s) e
     → RunsBelow Call s.call.items (length s.call.items) e ⊎ RunsBelow Packet s.packet.items (length s.packet.items) e
 unfolding placed
 runs_at s Call tei e is h =
@@ -240,12 +240,12 @@ runs_at s Packet tei e is h =
     inr (record { tei = tei; below = slice_get_within s.packet.items tei h.its there; timers = h.its; there = there; runs = record { is_of = is; own = subst (λ (of : Option LinkId). IsTimerOf of e.timer) is h.own; until = h.until } })
 runs_at s Management tei e is h = let there : None ≡ Some h.its = sym (ap (of_places s) is) ∙ h.there in absurd (cc)
 
-runs_somewhere : (s : Places) (of : Option LinkId) (e : RunningTimer) → e.of ≡ of → Runs (of_places s) e
+runs_somewhere : (s : TimerPlaces) (of : Option LinkId) (e : RunningTimer) → e.of ≡ of → Runs (of_places s) e
     → RunsBelow Call s.call.items (length s.call.items) e ⊎ RunsBelow Packet s.packet.items (length s.packet.items) e
 runs_somewhere s None e is h = let there : None ≡ Some h.its = sym (ap (of_places s) is) ∙ h.there in absurd (cc)
 runs_somewhere s (Some id) e is h = runs_at s id.sapi id.tei e is h
 
-runs_call : (s : Places) (n : ℕ) (e : RunningTimer) → RunsBelow Call s.call.items n e → Runs (of_places s) e
+runs_call : (s : TimerPlaces) (n : ℕ) (e : RunningTimer) → RunsBelow Call s.call.items n e → Runs (of_places s) e
 unfolding placed
 runs_call s n e h = record {
   its = h.timers;
@@ -254,7 +254,7 @@ runs_call s n e h = record {
   until = h.runs.until;
 }
 
-runs_packet : (s : Places) (n : ℕ) (e : RunningTimer) → RunsBelow Packet s.packet.items n e → Runs (of_places s) e
+runs_packet : (s : TimerPlaces) (n : ℕ) (e : RunningTimer) → RunsBelow Packet s.packet.items n e → Runs (of_places s) e
 unfolding placed
 runs_packet s n e h = record {
   its = h.timers;
@@ -263,7 +263,7 @@ runs_packet s n e h = record {
   until = h.runs.until;
 }
 
-pub first_of_places : (s : Places) (call packet first : Option RunningTimer) → IsFirst (RunsBelow Call s.call.items (length s.call.items)) call
+pub first_of_places : (s : TimerPlaces) (call packet first : Option RunningTimer) → IsFirst (RunsBelow Call s.call.items (length s.call.items)) call
     → IsFirst (RunsBelow Packet s.packet.items (length s.packet.items)) packet → IsSooner call packet first → IsFirst (Runs (of_places s)) first
 first_of_places s call packet first h k sooner = joined _ _ (Runs (of_places s)) call packet first
     (λ e x. runs_somewhere s e.of e refl x) (λ e x. runs_call s _ e x) (λ e x. runs_packet s _ e x) h k sooner
@@ -283,7 +283,7 @@ call_before_packet m n = inl (omega arith)
 call_before : (a b : RunningTimer) (m n : ℕ) → a.of ≡ Some (of_sapi Call m) → b.of ≡ Some (of_sapi Packet n) → IsNoLaterLink a.of b.of
 call_before a b m n call packet = subst (λ (of : Option LinkId). IsNoLaterLink of b.of) (sym call) (subst (IsNoLaterLink (Some (of_sapi Call m))) (sym packet) (call_before_packet m n))
 
-pub alike_of_call : (s : Places) (bound a : RunningTimer) → IsFirst (IsAlike bound (RunsBelow Call s.call.items (length s.call.items))) (Some a) → IsFirst (IsAlike bound (Runs (of_places s))) (Some a)
+pub alike_of_call : (s : TimerPlaces) (bound a : RunningTimer) → IsFirst (IsAlike bound (RunsBelow Call s.call.items (length s.call.items))) (Some a) → IsFirst (IsAlike bound (Runs (of_places s))) (Some a)
 alike_of_call s bound a h = (
   alike_over _ _ bound a (runs_call s _ a) h.0,
   λ e x. elim (runs_somewhere s e.of e refl x.among) [
@@ -292,24 +292,24 @@ alike_of_call s bound a h = (
   ],
 )
 
-alike_somewhere : (s : Places) (bound e : RunningTimer) → IsAlike bound (Runs (of_places s)) e
+alike_somewhere : (s : TimerPlaces) (bound e : RunningTimer) → IsAlike bound (Runs (of_places s)) e
     → IsAlike bound (RunsBelow Call s.call.items (length s.call.items)) e ⊎ IsAlike bound (RunsBelow Packet s.packet.items (length s.packet.items)) e
 alike_somewhere s bound e x = elim (runs_somewhere s e.of e refl x.among) [
   | inl y ↦ inl (alike_over _ _ bound e (λ _. y) x)
   | inr y ↦ inr (alike_over _ _ bound e (λ _. y) x)
 ]
 
-pub alike_of_packet : (s : Places) (bound : RunningTimer) (first : Option RunningTimer) → IsFirst (IsAlike bound (RunsBelow Call s.call.items (length s.call.items))) None
+pub alike_of_packet : (s : TimerPlaces) (bound : RunningTimer) (first : Option RunningTimer) → IsFirst (IsAlike bound (RunsBelow Call s.call.items (length s.call.items))) None
     → IsFirst (IsAlike bound (RunsBelow Packet s.packet.items (length s.packet.items))) first → IsFirst (IsAlike bound (Runs (of_places s))) first
 alike_of_packet s bound first h k = joined _ _ (IsAlike bound (Runs (of_places s))) None first first (alike_somewhere s bound)
     (λ e x. alike_over _ _ bound e (runs_call s _ e) x) (λ e x. alike_over _ _ bound e (runs_packet s _ e) x) h k refl
 
-own_of_link : (s : Places) (of : Option LinkId) (e : RunningTimer) → e.of ≡ of → Runs (of_places s) e → IsOfLink e.timer
+own_of_link : (s : TimerPlaces) (of : Option LinkId) (e : RunningTimer) → e.of ≡ of → Runs (of_places s) e → IsOfLink e.timer
 own_of_link s None e is x = let there : None ≡ Some x.its = sym (ap (of_places s) is) ∙ x.there in absurd (cc)
 own_of_link s (Some id) e is x = subst (λ (of : Option LinkId). IsTimerOf of e.timer) is x.own
 
 -- what no link has is no timer of a link
-pub none_alike : (s : Places) (bound : RunningTimer) → (IsOfLink bound.timer → ⊥) → IsFirst (IsAlike bound (Runs (of_places s))) None
+pub none_alike : (s : TimerPlaces) (bound : RunningTimer) → (IsOfLink bound.timer → ⊥) → IsFirst (IsAlike bound (Runs (of_places s))) None
 none_alike s bound none = λ e x. none (subst IsOfLink x.timer (own_of_link s e.of e refl x.among))
 
 -- what comes no earlier than the bound comes behind the first that is alike
@@ -320,7 +320,7 @@ behind_alike A bound a e x (inr same) rest y = elim (same.1) [
   | inr link ↦ rest (record { among = y; deadline = sym same.0; timer = same_place e.timer bound.timer (sym link.0); link = link.1 })
 ]
 
-pub alike_is_first : (s : Places) (bound a : RunningTimer) → NoneIsBefore bound s → IsFirst (IsAlike bound (Runs (of_places s))) (Some a) → IsFirst (Runs (of_places s)) (Some a)
+pub alike_is_first : (s : TimerPlaces) (bound a : RunningTimer) → NoneIsBefore bound s → IsFirst (IsAlike bound (Runs (of_places s))) (Some a) → IsFirst (Runs (of_places s)) (Some a)
 alike_is_first s bound a h k = (k.0.among, λ e x. behind_alike (Runs (of_places s)) bound a e k.0 (bounded s bound e h x) (k.1 e) x)
 
 -- ---- The bound, and what is due.
@@ -330,13 +330,13 @@ earliest A None h e x = absurd (h e x)
 earliest A (Some a) h e x = earlier_deadline a e (h.1 e x)
 
 -- the first that runs is a bound
-pub first_is_bound : (s : Places) (first : Option RunningTimer) → IsFirst (Runs (of_places s)) first → NoneIsBefore (expiry_or_last first) s
+pub first_is_bound : (s : TimerPlaces) (first : Option RunningTimer) → IsFirst (Runs (of_places s)) first → NoneIsBefore (expiry_or_last first) s
 unfolding NoneIsBefore
 first_is_bound s None h = λ e x before. h e x
 first_is_bound s (Some a) h = λ e x before. before (h.1 e x)
 
 -- before the deadline of the bound none is due
-pub none_due_before : (s : Places) (bound : RunningTimer) (now : ℕ) → NoneIsBefore bound s → now < bound.deadline → IsFirst (IsPast now (of_places s)) None
+pub none_due_before : (s : TimerPlaces) (bound : RunningTimer) (now : ℕ) → NoneIsBefore bound s → now < bound.deadline → IsFirst (IsPast now (of_places s)) None
 none_due_before s bound now h early e x = omega (arith, x.is_past, early, earlier_deadline bound e (bounded s bound e h x.runs))
 
 pub first_is_past : (now : ℕ) (timers : Option LinkId → Option Timers) (first : Option RunningTimer) → IsFirst (Runs timers) first → (expiry_or_last first).deadline ≤ now → IsFirst (IsPast now timers) first

@@ -36,7 +36,10 @@ no_effects = record { frames = []; primitives = [] }
 
 -- those of one step, and then those of another
 abbrev pub and_then : Effects → Effects → Effects
-and_then first second = record { frames = first.frames ++ second.frames; primitives = first.primitives ++ second.primitives }
+and_then first second = record {
+  frames = first.frames ++ second.frames;
+  primitives = first.primitives ++ second.primitives;
+}
 
 -- ---- The timers.
 
@@ -65,7 +68,8 @@ what_of octets other = None
 -- The octets that an output of such a link puts on the line, after a step that ended in `e`, and none of an output that is
 -- not sent; `octets` are the unit data handed in.
 abbrev pub sent_by : Setup → End → List ℕ → Out → Option (List ℕ)
-sent_by setup e octets output = option_map (spelling setup.side) (sent_frame setup (drop e.first e.given) octets output)
+sent_by setup e octets output = option_map (spelling setup.side)
+    (sent_frame setup (drop e.first e.given) octets output)
 
 -- of all of them, in order
 abbrev pub effects_of_link : Side → LinkId → End → List ℕ → List Out → Effects
@@ -99,7 +103,10 @@ outcome_of (tei.Stop timer) = None
 outcome_of outcome = Some (Management outcome)
 
 abbrev pub effects_of_management : Side → List TeiOut → Effects
-effects_of_management side outs = record { frames = filter_map (message_sent side) outs; primitives = filter_map outcome_of outs }
+effects_of_management side outs = record {
+  frames = filter_map (message_sent side) outs;
+  primitives = filter_map outcome_of outs;
+}
 
 abbrev pub managed_by : ℕ → TeiOut → Timers → Timers
 managed_by now (tei.Start timer) s = started now timer s

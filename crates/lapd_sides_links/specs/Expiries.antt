@@ -23,7 +23,8 @@ pub record Runs (timers : Option LinkId → Option Timers) (e : RunningTimer) : 
   pub own : IsTimerOf e.of e.timer
   pub until : deadline_of e.timer its ≡ Some e.deadline
 
-pub record IsPast (now : ℕ) (timers : Option LinkId → Option Timers) (e : RunningTimer) : Type 0 where
+pub record IsPast (now : ℕ) (timers : Option LinkId → Option Timers) (e : RunningTimer) :
+    Type 0 where
   pub runs : Runs timers e
   pub is_past : e.deadline ≤ now
 
@@ -48,11 +49,14 @@ of_served s (Some id) = of_links s.links (Some id)
 abbrev pub IsNoLaterLink : Option LinkId → Option LinkId → Type 0
 IsNoLaterLink None b = ⊤
 IsNoLaterLink (Some a) None = ⊥
-IsNoLaterLink (Some a) (Some b) = (sapi_value a.sapi < sapi_value b.sapi) ⊎ ((sapi_value a.sapi ≡ sapi_value b.sapi) × (a.tei ≤ b.tei))
+IsNoLaterLink (Some a) (Some b) = (sapi_value a.sapi < sapi_value b.sapi)
+    ⊎ ((sapi_value a.sapi ≡ sapi_value b.sapi) × (a.tei ≤ b.tei))
 
 -- by deadline, then by timer, then by link
 abbrev pub IsNoLater : RunningTimer → RunningTimer → Type 0
-IsNoLater a b = (a.deadline < b.deadline) ⊎ ((a.deadline ≡ b.deadline) × ((place a.timer < place b.timer) ⊎ ((place a.timer ≡ place b.timer) × IsNoLaterLink a.of b.of)))
+IsNoLater a b = (a.deadline < b.deadline) ⊎ ((a.deadline ≡ b.deadline)
+    × ((place a.timer < place b.timer) ⊎ ((place a.timer ≡ place b.timer)
+    × IsNoLaterLink a.of b.of)))
 
 -- the first of some of them, or none where there are none
 abbrev pub IsFirst : (RunningTimer → Type 0) → Option RunningTimer → Type 0

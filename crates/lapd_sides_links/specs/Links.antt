@@ -66,11 +66,17 @@ parameters_for config sapi = config.params0
 
 -- What the state table makes of an input: `octets` are the information of the frame that was heard, or the unit data that is
 -- to be sent.
-abbrev pub acted : Side → LinkId → ℕ → List ℕ → Timers → Result StepState LinkFault → Result (Reaction Linked) LinkFault
-acted side id now octets timers (Ok s) = Ok (record { after = record { end = s.end; timers = timed now s.outs timers }; effects = effects_of_link side id s.end octets s.outs })
+abbrev pub acted : Side → LinkId → ℕ → List ℕ → Timers → Result StepState LinkFault
+    → Result (Reaction Linked) LinkFault
+acted side id now octets timers (Ok s) =
+    Ok (record {
+      after = record { end = s.end; timers = timed now s.outs timers };
+      effects = effects_of_link side id s.end octets s.outs;
+    })
 acted side id now octets timers (Err fault) = Err fault
 
-unfoldable pub link_acts : Side → LinkId → ℕ → Input → List ℕ → Linked → Result (Reaction Linked) LinkFault
+unfoldable pub link_acts : Side → LinkId → ℕ → Input → List ℕ → Linked
+    → Result (Reaction Linked) LinkFault
 link_acts side id now input octets l = acted side id now octets l.timers (step Tagged input l.end)
 
 -- a link has T200 and T203
@@ -84,7 +90,8 @@ IsOfLink T203 = ⊤
 abbrev pub expired : Timer → Linked → Linked
 expired timer l = record l { timers = stopped timer l.timers }
 
-unfoldable pub link_expires : Side → LinkId → ℕ → Timer → Linked → Result (Reaction Linked) LinkFault
+unfoldable pub link_expires : Side → LinkId → ℕ → Timer → Linked
+    → Result (Reaction Linked) LinkFault
 link_expires side id now timer l = link_acts side id now (Expiry timer) [] (expired timer l)
 
 -- ---- Among the other links.
@@ -93,16 +100,22 @@ link_expires side id now timer l = link_acts side id now (Expiry timer) [] (expi
 abbrev pub with_link : LinkId → Option Linked → Links → Links
 with_link id l links = λ other. if id_eq other id then l else links other
 
-abbrev pub in_place : LinkId → Links → Result (Reaction Linked) LinkFault → Result (Reaction Links) SideKind
-in_place id links (Ok a) = Ok (record { after = with_link id (Some a.after) links; effects = a.effects })
+abbrev pub in_place : LinkId → Links → Result (Reaction Linked) LinkFault
+    → Result (Reaction Links) SideKind
+in_place id links (Ok a) = Ok (record {
+  after = with_link id (Some a.after) links;
+  effects = a.effects;
+})
 in_place id links (Err fault) = Err (Link fault)
 
 -- a link does what it does, where it is there
-abbrev pub where_there : LinkId → Links → Option Linked → (Linked → Result (Reaction Linked) LinkFault) → Result (Reaction Links) SideKind
+abbrev pub where_there : LinkId → Links → Option Linked
+    → (Linked → Result (Reaction Linked) LinkFault) → Result (Reaction Links) SideKind
 where_there id links None does = Err NoLink
 where_there id links (Some l) does = in_place id links (does l)
 
-unfoldable pub in_links : LinkId → (Linked → Result (Reaction Linked) LinkFault) → Links → Result (Reaction Links) SideKind
+unfoldable pub in_links : LinkId → (Linked → Result (Reaction Linked) LinkFault) → Links
+    → Result (Reaction Links) SideKind
 in_links id does links = where_there id links (links id) does
 
 -- ---- Links come and go with their TEI (Q.921 5.3).
@@ -116,32 +129,35 @@ abbrev pub is_link_of : Config → ℕ → LinkId → Bool
 is_link_of config tei id = is_served config id.sapi && (id.tei == tei)
 
 unfoldable pub with_tei : Config → ℕ → Links → Links
-with_tei config tei links = λ id. if is_link_of config tei id then Some (new_linked (parameters_for config id.sapi) config.durations) else links id
+with_tei config tei links = λ id. if is_link_of config tei id
+    then Some (new_linked (parameters_for config id.sapi) config.durations) else links id
 
 unfoldable pub without_tei : ℕ → Links → Links
 without_tei tei links = λ id. if id.tei == tei then None else links id
 
 -- What layer 3 is told of a link that goes: it is released, as was asked for where that was asked for; nothing where it was
 -- released before.
-abbrev pub parting : State → Bool → Option What
-parting state.TeiAssigned release_pending = None
-parting state.AwaitingEstablishment true = Some what.ReleaseConfirm
-parting state.AwaitingEstablishment false = Some what.Released
-parting state.AwaitingRelease release_pending = Some what.ReleaseConfirm
-parting state.MultipleFrameEstablished release_pending = Some what.Released
-parting state.TimerRecovery release_pending = Some what.Released
+abbrev pub release_at_removal : State → Bool → Option What
+release_at_removal state.TeiAssigned release_pending = None
+release_at_removal state.AwaitingEstablishment true = Some what.ReleaseConfirm
+release_at_removal state.AwaitingEstablishment false = Some what.Released
+release_at_removal state.AwaitingRelease release_pending = Some what.ReleaseConfirm
+release_at_removal state.MultipleFrameEstablished release_pending = Some what.Released
+release_at_removal state.TimerRecovery release_pending = Some what.Released
 
-abbrev pub parting_of : LinkId → Option What → List Primitive
-parting_of id None = []
-parting_of id (Some w) = Of id w ∷ []
+abbrev pub primitives_of : LinkId → Option What → List Primitive
+primitives_of id None = []
+primitives_of id (Some w) = Of id w ∷ []
 
-abbrev pub told_at_parting : LinkId → Option Linked → List Primitive
-told_at_parting id None = []
-told_at_parting id (Some l) = parting_of id (parting l.end.state l.end.release_pending)
+abbrev pub told_at_removal : LinkId → Option Linked → List Primitive
+told_at_removal id None = []
+told_at_removal id (Some l) = primitives_of id
+    (release_at_removal l.end.state l.end.release_pending)
 
 -- of both links of a TEI, by rising SAPI
 unfoldable pub told_of_tei : ℕ → Links → List Primitive
-told_of_tei tei links = told_at_parting (of_sapi Call tei) (links (of_sapi Call tei)) ++ told_at_parting (of_sapi Packet tei) (links (of_sapi Packet tei))
+told_of_tei tei links = told_at_removal (of_sapi Call tei) (links (of_sapi Call tei))
+    ++ told_at_removal (of_sapi Packet tei) (links (of_sapi Packet tei))
 
 -- no links
 abbrev pub no_links : Links
@@ -152,7 +168,8 @@ abbrev pub is_held_below : List Bool → ℕ → ℕ → Bool
 is_held_below held n tei = nat_lt tei n && is_held held tei
 
 unfoldable pub links_below : Config → List Bool → ℕ → Links
-links_below config held n = λ id. if is_served config id.sapi && is_held_below held n id.tei then Some (new_linked (parameters_for config id.sapi) config.durations) else None
+links_below config held n = λ id. if is_served config id.sapi && is_held_below held n id.tei
+    then Some (new_linked (parameters_for config id.sapi) config.durations) else None
 
 -- those of all TEIs that are held; the group TEI has none
 abbrev pub links_of_held : Config → List Bool → Links

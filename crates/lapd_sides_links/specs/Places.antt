@@ -69,7 +69,8 @@ expiry_or_last None = last_expiry
 expiry_or_last (Some e) = e
 
 -- one of these that is the same timer as the bound with the same deadline, of its link or of one behind it
-pub record IsAlike (bound : RunningTimer) (Among : RunningTimer → Type 0) (e : RunningTimer) : Type 0 where
+pub record IsAlike (bound : RunningTimer) (Among : RunningTimer → Type 0) (e : RunningTimer) :
+    Type 0 where
   pub among : Among e
   pub deadline : e.deadline ≡ bound.deadline
   pub timer : e.timer ≡ bound.timer

@@ -1,5 +1,5 @@
 -- How the links of a side in code show those of the definition.
-use Rattle.std.specs.Prelude.{◌≡◌, ℕ, List, drop, Option, Some, None, option_map, IfSome, Result, Ok}
+use Rattle.std.specs.Prelude.{◌≡◌, ℕ, List, drop, Option, Some, None, option_map, IfSome, Result, Ok, Err}
 use Rattle.lapd_timers.specs.Due.{Timers}
 use Rattle.lapd_frame.specs.declared.Side.{Side}
 use Rattle.lapd_frame.specs.Frame.{spelling}
@@ -12,7 +12,7 @@ use Rattle.lapd_table.specs.declared.link_id.LinkId.{LinkId}
 use Rattle.lapd_table.specs.declared.link_table.LinkTable.{LinkTable}
 use Rattle.lapd_table.specs.LinkTable.{side_of, link_at}
 use Rattle.lapd_sides_links.specs.declared.links.LinkSet.{LinkSet}
-use Rattle.lapd_sides_links.specs.declared.timings.Timings.{Timings}
+use Rattle.lapd_sides_links.specs.declared.link_timers.LinkTimers.{LinkTimers}
 use Rattle.lapd_sides_links.specs.declared.side_fault.SideKind.{SideKind}
 use Rattle.lapd_sides_links.specs.Effects.{Effects, and_then}
 use Rattle.lapd_sides_links.specs.Links.{Links, Linked, Reaction}
@@ -20,18 +20,13 @@ use Rattle.lapd_sides_links.specs.Places.{AreAtRest}
 use Rattle.lapd_sides_links.specs.TimersAtPlaces.{placed}
 
 -- the timers at the place of a link, be it there or not
-abbrev pub timers_at : Timings → LinkId → Option Timers
+abbrev pub timers_at : LinkTimers → LinkId → Option Timers
 timers_at s id = placed s.places id
-
--- the link of this name is there, and stands for this end
-pub record StandsAt (table : LinkTable) (id : LinkId) (e : End) : Type 0 where
-  pub link : Link
-  pub there : link_at table id ≡ Some link
-  pub stands : LinkStandsFor link e
 
 -- the octets that are made of an output of this link, after a step that ended in `e`
 abbrev pub made_by : Setup → End → List ℕ → Out → Option (List ℕ)
-made_by setup e octets output = option_map (spelling setup.side) (made_frame setup (drop e.first e.given) octets output)
+made_by setup e octets output = option_map (spelling setup.side)
+    (made_frame setup (drop e.first e.given) octets output)
 
 -- a link with its timers; or no link, and no timer that runs in its place
 abbrev pub IsLinked : Option Link → Option Timers → Option Linked → Type 0
@@ -42,11 +37,36 @@ IsLinked link timers l = ⊥
 -- The links that are there stand for those of the definition, and so do their timers.
 pub record ShowLinks (side : Side) (s : LinkSet) (links : Links) : Type 0 where
   pub of_side : side_of s.table ≡ side
-  pub each : (id : LinkId) → IsLinked (link_at s.table id) (timers_at s.timings id) (links id)
+  pub each : (id : LinkId) → IsLinked (link_at s.table id) (timers_at s.link_timers id) (links id)
 
 -- A step has been done: it came to this, the links show what it leaves, and what it gives stands behind what was there.
-pub record HaveActed (side : Side) (s : LinkSet) (before after : Effects) (outcome : Result (Reaction Links) SideKind) : Type 0 where
+pub record HaveActed (side : Side) (s : LinkSet) (before after : Effects)
+    (outcome : Result (Reaction Links) SideKind) : Type 0 where
   pub acted : Reaction Links
   pub is : outcome ≡ Ok acted
   pub shown : ShowLinks side s acted.after
   pub given : after ≡ and_then before acted.effects
+
+-- ---- What a call does, whatever links it finds.
+
+-- the step of links is done
+abbrev pub Does : LinkSet → LinkSet → Effects → Effects
+    → (Side → Links → Result (Reaction Links) SideKind) → Type 0
+Does old new before after step =
+    (side : Side) (links : Links) → ShowLinks side old links
+    → HaveActed side new before after (step side links)
+
+-- the step of links is refused, for this reason
+abbrev pub RefusesAs : LinkSet → (Side → Links → Result (Reaction Links) SideKind) → SideKind
+    → Type 0
+RefusesAs old step kind = (side : Side) (links : Links) → ShowLinks side old links
+    → step side links ≡ Err kind
+
+-- it comes to these links
+abbrev pub Becomes : LinkSet → LinkSet → (Links → Links) → Type 0
+Becomes old new change = (side : Side) (links : Links) → ShowLinks side old links
+    → ShowLinks side new (change links)
+
+-- the links are as they were
+abbrev pub ShowsAsBefore : LinkSet → LinkSet → Type 0
+ShowsAsBefore old new = Becomes old new (λ links. links)

@@ -11,6 +11,9 @@ use lapd_tei::TeiMessage;
 use std::alloc::{AllocError, Global};
 use std::marker::Model;
 
+/// How many outputs one step of a link gives at most, each with one frame or one primitive at most.
+pub const MOST_OUTPUTS: usize = 136;
+
 /// How many frames there is room for: those of one step of each of two links, and of TEI management.
 pub const MOST_FRAMES: usize = 280;
 
@@ -32,7 +35,10 @@ impl Model for Acts {
 
     ghost Value = { Effects };
 
-    ghost view = { λ a. record { frames = map (λ f. f.items) a.frames.items; primitives = a.primitives.items } };
+    ghost view = { λ a. record {
+      frames = map (λ f. f.items) a.frames.items;
+      primitives = a.primitives.items;
+    } };
 
     ghost invariant = { λ a. (280 ≤ vec_capacity a.frames) × (280 ≤ vec_capacity a.primitives)
         × All (λ f. HasLeastOctets f.items) a.frames.items };
@@ -78,8 +84,11 @@ impl Acts {
 
     /// Puts the octets of a frame behind the others, as this side sends it.
     pub fn put(&mut self, from: Side, frame: &Frame<'_>)
-        requires { length self.old.frames < 280 }
-        ensures { self.new ≡ record self.old { frames = self.old.frames ++ spelling from frame.now ∷ [] } }
+        requires { length self.old.frames < MOST_FRAMES }
+        ensures { self.new ≡ record self.old {
+          frames = self.old.frames ++ spelling from frame.now
+              ∷ [];
+        } }
     {
         let mut spelled = ArrayVec::new();
         write_over(frame, from, &mut spelled);
@@ -90,9 +99,12 @@ impl Acts {
 
     /// Puts the octets of a message of TEI management behind the others, as this side sends it.
     pub fn put_message(&mut self, from: Side, message: &TeiMessage)
-        requires room { length self.old.frames < 280 }
+        requires room { length self.old.frames < MOST_FRAMES }
         requires in_range { message.now.ai ≤ 127 }
-        ensures { self.new ≡ record self.old { frames = self.old.frames ++ spelling from (frame_of_message message.now) ∷ [] } }
+        ensures { self.new ≡ record self.old {
+          frames = self.old.frames
+              ++ spelling from (frame_of_message message.now) ∷ [];
+        } }
     {
         let mut spelled = ArrayVec::new();
         let Ok(()) = spelled.try_extend_from_slice(&message.frame(from)) else {
@@ -105,8 +117,11 @@ impl Acts {
 
     /// Puts a primitive behind the others.
     pub fn tell(&mut self, primitive: Primitive)
-        requires { length self.old.primitives < 280 }
-        ensures { self.new ≡ record self.old { primitives = self.old.primitives ++ primitive ∷ [] } }
+        requires { length self.old.primitives < MOST_PRIMITIVES }
+        ensures { self.new ≡ record self.old {
+          primitives = self.old.primitives ++ primitive
+              ∷ [];
+        } }
     {
         let Ok(()) = self.primitives.push(primitive) else {
             unreachable!()

@@ -19,7 +19,8 @@ pub fn due(management: &TimerSet, links: &mut LinkSet, now: u64) -> Option<Runni
     ensures due { (side : Side) (shown : Links) → ShowLinks side links.old shown
         → IsDue now (record { links = shown; timers = management.now }) result }
     ensures own { IfSome result (λ e. IsTimerOf e.of e.timer) }
-    ensures shown { (side : Side) (shown : Links) → ShowLinks side links.old shown → ShowLinks side links.new shown }
+    ensures shown { (side : Side) (shown : Links) → ShowLinks side links.old shown
+        → ShowLinks side links.new shown }
 {
     let own = due_of_management(management, now);
     let of_link = links.due(now);

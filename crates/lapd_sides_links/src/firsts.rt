@@ -72,8 +72,10 @@ pub fn first_alike_in(sapi: Sapi, places: &[TimerSet], bound: &RunningTimer) -> 
 
 /// The least TEI of a link of this SAPI that does not come before this one; 128 where all do.
 fn least_tei(sapi: Sapi, of: Option<LinkId>) -> usize
-    ensures from { (tei : ℕ) → tei < 128 → result ≤ tei → IsNoLaterLink of (Some (of_sapi sapi tei)) }
-    ensures least { (tei : ℕ) → tei < 128 → IsNoLaterLink of (Some (of_sapi sapi tei)) → result ≤ tei }
+    ensures from { (tei : ℕ) → tei < 128 → result ≤ tei
+        → IsNoLaterLink of (Some (of_sapi sapi tei)) }
+    ensures least { (tei : ℕ) → tei < 128 → IsNoLaterLink of (Some (of_sapi sapi tei))
+        → result ≤ tei }
 {
     let Some(id) = of else {
         return 0;

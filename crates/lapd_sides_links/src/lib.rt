@@ -8,14 +8,14 @@ mod acts;
 mod config;
 mod deadlines;
 mod firsts;
+mod link_timers;
 mod links;
 mod octets;
-mod places;
 mod primitive;
 mod running_timer;
 mod side_fault;
 mod telling;
-mod timings;
+mod timer_places;
 
 pub use acts::Acts;
 pub use config::Config;

@@ -1,6 +1,6 @@
 //! The links of a side with their timers.
 
-ghost use Rattle.std.specs.Prelude.{◌≡◌, ◌≢◌, ◌≤◌, ◌<◌, ◌+◌, ◌++◌, length, map, option_map, [], IsSome, is_some, Some, None, IfSome, option_copied, IfOk, IfErr, OnOk, OnErr, Err};
+ghost use Rattle.std.specs.Prelude.{◌≡◌, ◌≢◌, ◌≤◌, ◌<◌, ◌+◌, ◌++◌, length, map, option_map, [], Some, None, IfSome, option_copied, IfOk, IfErr, OnOk, OnErr};
 ghost use Rattle.std.specs.List.{filter_map};
 ghost use Rattle.lapd_frame.specs.declared.Side.{Side};
 ghost use Rattle.lapd_link.specs.Link.{LinkStandsFor};
@@ -11,20 +11,21 @@ ghost use Rattle.lapd_link_rows.specs.declared.state.State.{State};
 ghost use Rattle.lapd_link_rows.specs.Input.{input_of, Give, UnitData};
 ghost use Rattle.lapd_link_rows.specs.Input as input;
 ghost use Rattle.lapd_table.specs.declared.link_id.LinkId.{LinkId};
-ghost use Rattle.lapd_table.specs.LinkTable.{link_at, side_of, IsFor};
+ghost use Rattle.lapd_table.specs.LinkTable.{link_at, side_of, IsFor, IsKey};
 ghost use Rattle.lapd_table.specs.LinkId.{setup_for};
+ghost use Rattle.lapd_sides_links.specs.declared.acts.TheConstants.{MOST_FRAMES, MOST_PRIMITIVES, MOST_OUTPUTS};
 ghost use Rattle.lapd_sides_links.specs.declared.primitive.Primitive.TheVariants.{Of};
 ghost use Rattle.lapd_sides_links.specs.Effects.{timed, what_of};
 ghost use Rattle.lapd_sides_links.specs.Expiries.{IsFirst, IsPast, IsTimerOf, Runs, of_links};
-ghost use Rattle.lapd_sides_links.specs.Links.{Links, IsOfLink, no_links, of_sapi, with_link, with_tei, without_tei, new_linked, parting, parting_of, told_at_parting, told_of_tei, links_of_held, in_links, link_acts, link_expires};
+ghost use Rattle.lapd_sides_links.specs.Links.{Links, IsOfLink, no_links, of_sapi, with_link, with_tei, without_tei, new_linked, release_at_removal, primitives_of, told_at_removal, told_of_tei, links_of_held, in_links, link_acts, link_expires};
 
+use crate::link_timers::LinkTimers;
 use crate::side_fault::refused;
 use crate::telling::{put_frames, tell_all};
-use crate::timings::Timings;
 use crate::{Acts, Config, Primitive, RunningTimer, SideFault, SideKind, What};
 use lapd_frame::N201;
 use lapd_link::{Event, Link, LinkFault, Outs, Params, Sapi, Side, Tei};
-use lapd_table::{LinkId, LinkTable};
+use lapd_table::{LinkId, LinkKey, LinkTable};
 use lapd_tei::Assigner;
 use lapd_timers::{Durations, Timer, TimerSet};
 use std::alloc::{AllocError, Global};
@@ -33,13 +34,13 @@ use std::alloc::{AllocError, Global};
 #[derive(Drop)]
 pub struct LinkSet {
     pub table: LinkTable,
-    timings: Timings,
+    link_timers: LinkTimers,
     /// What the last step of a link gave: lent to each step, as new ones would be filled each time.
     outs: Outs,
 }
 
 impl LinkSet {
-    ghost use Rattle.lapd_sides_links.specs.Shown.{timers_at, made_by, ShowLinks, HaveActed};
+    ghost use Rattle.lapd_sides_links.specs.Shown.{timers_at, made_by, ShowLinks, Does, RefusesAs, Becomes, ShowsAsBefore};
 
     /// No links, with room for the timers of all that may come. That room is taken here.
     ///
@@ -51,7 +52,7 @@ impl LinkSet {
     {
         Ok(LinkSet {
             table: LinkTable::new(alloc, side),
-            timings: Timings::new(alloc)?,
+            link_timers: LinkTimers::new(alloc)?,
             outs: Outs::new(),
         })
     }
@@ -64,22 +65,22 @@ impl LinkSet {
     fn add(
         &mut self,
         alloc: Global,
-        id: LinkId,
+        id: &LinkId,
         params: Params,
         durations: Durations,
     ) -> Result<(), AllocError>
-        requires sapi { id.sapi ≢ Sapi.Management }
-        requires tei { id.tei < 127 }
-        ensures ok { OnOk result ((side : Side) (links : Links) → ShowLinks side self.old links → ShowLinks side self.new (with_link id (Some (new_linked params durations)) links)) }
-        ensures unchanged { OnErr result ((side : Side) (links : Links) → ShowLinks side self.old links → ShowLinks side self.new links) }
-        ensures new { OnOk result (link_at self.old.table id ≡ None) }
+        requires sapi { id.now.sapi ≢ Sapi.Management }
+        requires tei { id.now.tei < 127 }
+        ensures ok { OnOk result (Becomes self.old self.new
+            (with_link id.now (Some (new_linked params durations)))) }
+        ensures unchanged { OnErr result (ShowsAsBefore self.old self.new) }
+        ensures new { OnOk result (link_at self.old.table id.now ≡ None) }
     {
-        let rested = id;
         let link = Link::new(alloc, self.table.side(), id.sapi, id.tei, params)?;
         let Ok(()) = self.table.add(link) else {
             return Err(AllocError);
         };
-        self.timings.rest(&rested, durations);
+        self.link_timers.reset(id, durations);
         Ok(())
     }
 
@@ -90,15 +91,15 @@ impl LinkSet {
     /// `AllocError` where memory was refused. Nothing is changed.
     pub fn add_tei(&mut self, alloc: Global, config: &Config, tei: Tei) -> Result<(), AllocError>
         requires tei { tei < 127 }
-        ensures ok { OnOk result ((side : Side) (links : Links) → ShowLinks side self.old links → ShowLinks side self.new (with_tei config.now tei links)) }
-        ensures unchanged { OnErr result ((side : Side) (links : Links) → ShowLinks side self.old links → ShowLinks side self.new links) }
+        ensures ok { OnOk result (Becomes self.old self.new (with_tei config.now tei)) }
+        ensures unchanged { OnErr result (ShowsAsBefore self.old self.new) }
     {
         let call = name(Sapi::Call, tei);
-        self.add(alloc, call, config.params0, config.durations)?;
+        self.add(alloc, &call, config.params0, config.durations)?;
         if config.sapi16 {
             let packet = name(Sapi::Packet, tei);
-            let Ok(()) = self.add(alloc, packet, config.params16, config.durations) else {
-                self.remove(name(Sapi::Call, tei));
+            let Ok(()) = self.add(alloc, &packet, config.params16, config.durations) else {
+                self.remove(&name(Sapi::Call, tei));
                 return Err(AllocError);
             };
         }
@@ -116,7 +117,8 @@ impl LinkSet {
         config: &Config,
         assigner: &Assigner,
     ) -> Result<(), AllocError>
-        ensures { OnOk result ((side : Side) → ShowLinks side self.old no_links → ShowLinks side self.new (links_of_held config.now assigner.now.held)) }
+        ensures { OnOk result ((side : Side) → ShowLinks side self.old no_links
+            → ShowLinks side self.new (links_of_held config.now assigner.now.held)) }
     {
         for tei in 0..127 {
             let tei = own_tei(tei);
@@ -129,88 +131,96 @@ impl LinkSet {
 
     /// Takes the links of a TEI out, and tells what becomes of them, by rising SAPI.
     pub fn remove_tei(&mut self, tei: Tei, acts: &mut Acts)
-        requires room { length acts.old.primitives ≤ 144 }
-        ensures shown { (side : Side) (links : Links) → ShowLinks side self.old links → ShowLinks side self.new (without_tei tei links) }
-        ensures told { (side : Side) (links : Links) → ShowLinks side self.old links → acts.new.primitives ≡ acts.old.primitives ++ told_of_tei tei links }
+        requires room { length acts.old.primitives + 2 ≤ MOST_PRIMITIVES }
+        ensures shown { Becomes self.old self.new (without_tei tei) }
+        ensures told { (side : Side) (links : Links) → ShowLinks side self.old links
+            → acts.new.primitives ≡ acts.old.primitives ++ told_of_tei tei links }
         ensures frames { acts.new.frames ≡ acts.old.frames }
         ensures at_most { length acts.new.primitives ≤ length acts.old.primitives + 2 }
     {
-        self.part(name(Sapi::Call, tei), acts);
-        self.part(name(Sapi::Packet, tei), acts);
+        self.remove_and_tell(&name(Sapi::Call, tei), acts);
+        self.remove_and_tell(&name(Sapi::Packet, tei), acts);
     }
 
     /// Takes the link with this name out, and tells what becomes of it.
-    fn part(&mut self, id: LinkId, acts: &mut Acts)
-        requires room { length acts.old.primitives < 280 }
-        ensures shown { (side : Side) (links : Links) → ShowLinks side self.old links → ShowLinks side self.new (with_link id None links) }
-        ensures told { (side : Side) (links : Links) → ShowLinks side self.old links → acts.new.primitives ≡ acts.old.primitives ++ told_at_parting id (links id) }
+    fn remove_and_tell(&mut self, id: &LinkId, acts: &mut Acts)
+        requires room { length acts.old.primitives < MOST_PRIMITIVES }
+        ensures shown { Becomes self.old self.new (with_link id.now None) }
+        ensures told { (side : Side) (links : Links) → ShowLinks side self.old links
+            → acts.new.primitives ≡ acts.old.primitives ++ told_at_removal id.now (links id.now) }
         ensures frames { acts.new.frames ≡ acts.old.frames }
         ensures room { length acts.new.primitives ≤ length acts.old.primitives + 1 }
     {
-        let named = id;
-        let removed = id;
-        if let Some(link) = self.table.link(id) {
-            tell_parting(&named, link, acts);
+        if let Some(link) = self.table.link(*id) {
+            tell_removal(id, link, acts);
         }
-        self.remove(removed);
+        self.remove(id);
     }
 
     /// Takes the link with this name out, and stops its timers.
-    fn remove(&mut self, id: LinkId)
-        ensures { (side : Side) (links : Links) → ShowLinks side self.old links → ShowLinks side self.new (with_link id None links) }
+    fn remove(&mut self, id: &LinkId)
+        ensures { Becomes self.old self.new (with_link id.now None) }
     {
-        let halted = id;
-        let _link = self.table.remove(id);
-        self.timings.halt(&halted);
+        let _link = self.table.remove(*id);
+        self.link_timers.stop_all(id);
     }
 
     /// The timers of the link with this name; `None` where it is not there.
-    pub fn timers(&self, id: LinkId) -> Option<&TimerSet>
-        ensures { (side : Side) (links : Links) → ShowLinks side self.now links → option_copied result ≡ of_links links (Some id) }
+    pub fn timers(&self, id: &LinkId) -> Option<&TimerSet>
+        ensures { (side : Side) (links : Links) → ShowLinks side self.now links
+            → option_copied result ≡ of_links links (Some id.now) }
     {
-        let named = id;
-        match self.table.link(id) {
-            Some(_) => self.timings.get(&named),
+        match self.table.link(*id) {
+            Some(_) => self.link_timers.get(id),
             None => None,
         }
     }
 
     /// The first of the timers of links that run.
     pub fn first(&self) -> Option<RunningTimer>
-        ensures { (side : Side) (links : Links) → ShowLinks side self.now links → IsFirst (Runs (of_links links)) result }
+        ensures { (side : Side) (links : Links) → ShowLinks side self.now links
+            → IsFirst (Runs (of_links links)) result }
     {
-        self.timings.first()
+        self.link_timers.first()
     }
 
     /// The first of the timers of links that are due at the moment `now`. The links stay as they are.
     pub fn due(&mut self, now: u64) -> Option<RunningTimer>
-        ensures first { (side : Side) (links : Links) → ShowLinks side self.old links → IsFirst (IsPast now (of_links links)) result }
+        ensures first { (side : Side) (links : Links) → ShowLinks side self.old links
+            → IsFirst (IsPast now (of_links links)) result }
         ensures own { IfSome result (λ e. IsTimerOf e.of e.timer) }
-        ensures shown { (side : Side) (links : Links) → ShowLinks side self.old links → ShowLinks side self.new links }
+        ensures shown { ShowsAsBefore self.old self.new }
     {
-        self.timings.due(now)
+        self.link_timers.due(now)
     }
 
     /// What the step of a link gives, by its outputs: its frames and primitives, and its timers.
-    fn carry_out(&mut self, id: LinkId, octets: &[u8], now: u64, acts: &mut Acts)
-        requires there { IsSome (link_at self.old.table id) }
-        requires fits { length octets.now ≤ 260 }
-        requires frame_room { length acts.old.frames ≤ 144 }
-        requires primitive_room { length acts.old.primitives ≤ 144 }
-        ensures frames { (link : Link) (e : End) → link_at self.old.table id ≡ Some link → LinkStandsFor link e
-            → acts.new.frames ≡ acts.old.frames ++ filter_map (made_by (setup_for (side_of self.old.table) id) e octets.now) self.old.outs.items }
-        ensures primitives { acts.new.primitives ≡ acts.old.primitives ++ map (Of id) (filter_map (what_of octets.now) self.old.outs.items) }
-        ensures most_frames { length acts.new.frames ≤ length acts.old.frames + 136 }
-        ensures most_primitives { length acts.new.primitives ≤ length acts.old.primitives + 136 }
-        ensures own { timers_at self.new.timings id ≡ option_map (timed now self.old.outs.items) (timers_at self.old.timings id) }
-        ensures others { (other : LinkId) → other ≢ id → timers_at self.new.timings other ≡ timers_at self.old.timings other }
+    fn carry_out(&mut self, key: &LinkKey, octets: &[u8], now: u64, acts: &mut Acts)
+        requires key { IsKey self.old.table key.now }
+        requires fits { length octets.now ≤ N201 }
+        requires frame_room { length acts.old.frames + MOST_OUTPUTS ≤ MOST_FRAMES }
+        requires primitive_room { length acts.old.primitives + MOST_OUTPUTS ≤ MOST_PRIMITIVES }
+        ensures frames { (link : Link) (e : End) → link_at self.old.table key.now.id ≡ Some link
+            → LinkStandsFor link e
+            → acts.new.frames ≡ acts.old.frames
+            ++ filter_map (made_by (setup_for (side_of self.old.table) key.now.id) e octets.now)
+            self.old.outs.items }
+        ensures primitives { acts.new.primitives ≡ acts.old.primitives
+            ++ map (Of key.now.id) (filter_map (what_of octets.now) self.old.outs.items) }
+        ensures most_frames { length acts.new.frames ≤ length acts.old.frames + MOST_OUTPUTS }
+        ensures most_primitives { length acts.new.primitives
+            ≤ length acts.old.primitives + MOST_OUTPUTS }
+        ensures own { timers_at self.new.link_timers key.now.id
+            ≡ option_map (timed now self.old.outs.items)
+            (timers_at self.old.link_timers key.now.id) }
+        ensures others { (other : LinkId) → other ≢ key.now.id
+            → timers_at self.new.link_timers other ≡ timers_at self.old.link_timers other }
         ensures table { self.new.table ≡ self.old.table }
     {
-        let timed = id;
         let outs = self.outs.as_slice();
-        put_frames(&self.table, &timed, octets, outs, acts);
-        tell_all(id, octets, outs, acts);
-        self.timings.time(&timed, outs, now);
+        put_frames(self.table.link_at(key), octets, outs, acts);
+        tell_all(key.id(), octets, outs, acts);
+        self.link_timers.apply_outputs(key.id(), outs, now);
     }
 
     /// An event for the link with this name, at the moment `now`; `octets` are the information of the frame that is heard,
@@ -221,33 +231,63 @@ impl LinkSet {
     /// B1 where the link is not there, and L1 to L5 where it refuses. Nothing is changed.
     pub fn act(
         &mut self,
-        id: LinkId,
+        id: &LinkId,
         event: Event,
         octets: &[u8],
         now: u64,
         acts: &mut Acts,
     ) -> Result<(), SideKind>
-        requires for_link { IsFor id event }
-        requires fits { length octets.now ≤ 260 }
-        requires frame_room { length acts.old.frames ≤ 144 }
-        requires primitive_room { length acts.old.primitives ≤ 144 }
-        ensures ok { OnOk result ((side : Side) (links : Links) → ShowLinks side self.old links
-            → HaveActed side self.new acts.old acts.new (in_links id (link_acts side id now (input_of event.entry) octets.now) links)) }
-        ensures err { IfErr result (λ kind. (side : Side) (links : Links) → ShowLinks side self.old links
-            → in_links id (link_acts side id now (input_of event.entry) octets.now) links ≡ Err kind) }
-        ensures unchanged { OnErr result ((side : Side) (links : Links) → ShowLinks side self.old links → ShowLinks side self.new links) }
+        requires for_link { IsFor id.now event }
+        requires fits { length octets.now ≤ N201 }
+        requires frame_room { length acts.old.frames + MOST_OUTPUTS ≤ MOST_FRAMES }
+        requires primitive_room { length acts.old.primitives + MOST_OUTPUTS ≤ MOST_PRIMITIVES }
+        ensures ok { OnOk result (Does self.old self.new acts.old acts.new
+            (λ side. in_links id.now (link_acts side id.now now
+            (input_of event.entry) octets.now))) }
+        ensures err { IfErr result (RefusesAs self.old
+            (λ side. in_links id.now (link_acts side id.now now
+            (input_of event.entry) octets.now))) }
+        ensures unchanged { OnErr result (ShowsAsBefore self.old self.new) }
         ensures nothing { OnErr result (acts.new ≡ acts.old) }
-        ensures most_frames { length acts.new.frames ≤ length acts.old.frames + 136 }
-        ensures most_primitives { length acts.new.primitives ≤ length acts.old.primitives + 136 }
+        ensures most_frames { length acts.new.frames ≤ length acts.old.frames + MOST_OUTPUTS }
+        ensures most_primitives { length acts.new.primitives
+            ≤ length acts.old.primitives + MOST_OUTPUTS }
     {
-        let acting = id;
-        let carried = id;
-        let Some(_) = self.table.link(id) else {
-            return Err(SideKind::NoLink);
-        };
-        match self.table.handle_into(acting, event, &mut self.outs) {
+        match self.table.find(id) {
+            Some(key) => self.act_at(&key, event, octets, now, acts),
+            None => Err(SideKind::NoLink),
+        }
+    }
+
+    /// The same, of a link that was found.
+    fn act_at(
+        &mut self,
+        key: &LinkKey,
+        event: Event,
+        octets: &[u8],
+        now: u64,
+        acts: &mut Acts,
+    ) -> Result<(), SideKind>
+        requires key { IsKey self.old.table key.now }
+        requires for_link { IsFor key.now.id event }
+        requires fits { length octets.now ≤ N201 }
+        requires frame_room { length acts.old.frames + MOST_OUTPUTS ≤ MOST_FRAMES }
+        requires primitive_room { length acts.old.primitives + MOST_OUTPUTS ≤ MOST_PRIMITIVES }
+        ensures ok { OnOk result (Does self.old self.new acts.old acts.new
+            (λ side. in_links key.now.id (link_acts side key.now.id now
+            (input_of event.entry) octets.now))) }
+        ensures err { IfErr result (RefusesAs self.old
+            (λ side. in_links key.now.id (link_acts side key.now.id now
+            (input_of event.entry) octets.now))) }
+        ensures unchanged { OnErr result (ShowsAsBefore self.old self.new) }
+        ensures nothing { OnErr result (acts.new ≡ acts.old) }
+        ensures most_frames { length acts.new.frames ≤ length acts.old.frames + MOST_OUTPUTS }
+        ensures most_primitives { length acts.new.primitives
+            ≤ length acts.old.primitives + MOST_OUTPUTS }
+    {
+        match self.table.handle_at(key, event, &mut self.outs) {
             Ok(()) => {
-                self.carry_out(carried, octets, now, acts);
+                self.carry_out(key, octets, now, acts);
                 Ok(())
             }
             Err(fault) => Err(SideKind::Link(fault)),
@@ -261,28 +301,29 @@ impl LinkSet {
     /// B1 where the link is not there, and L3 for more than 260 octets. Nothing is changed.
     pub fn send_unit(
         &mut self,
-        id: LinkId,
+        id: &LinkId,
         octets: &[u8],
         now: u64,
         acts: &mut Acts,
     ) -> Result<(), SideKind>
-        requires frame_room { length acts.old.frames ≤ 144 }
-        requires primitive_room { length acts.old.primitives ≤ 144 }
-        ensures ok { OnOk result ((side : Side) (links : Links) → ShowLinks side self.old links
-            → HaveActed side self.new acts.old acts.new (in_links id (link_acts side id now (UnitData (length octets.now)) octets.now) links)) }
-        ensures err { IfErr result (λ kind. (side : Side) (links : Links) → ShowLinks side self.old links
-            → in_links id (link_acts side id now (UnitData (length octets.now)) octets.now) links ≡ Err kind) }
-        ensures unchanged { OnErr result ((side : Side) (links : Links) → ShowLinks side self.old links → ShowLinks side self.new links) }
+        requires frame_room { length acts.old.frames + MOST_OUTPUTS ≤ MOST_FRAMES }
+        requires primitive_room { length acts.old.primitives + MOST_OUTPUTS ≤ MOST_PRIMITIVES }
+        ensures ok { OnOk result (Does self.old self.new acts.old acts.new
+            (λ side. in_links id.now (link_acts side id.now now
+            (UnitData (length octets.now)) octets.now))) }
+        ensures err { IfErr result (RefusesAs self.old
+            (λ side. in_links id.now (link_acts side id.now now
+            (UnitData (length octets.now)) octets.now))) }
+        ensures unchanged { OnErr result (ShowsAsBefore self.old self.new) }
         ensures nothing { OnErr result (acts.new ≡ acts.old) }
     {
-        let acting = id;
-        let Some(_) = self.table.link(id) else {
+        let Some(key) = self.table.find(id) else {
             return Err(SideKind::NoLink);
         };
         if octets.len() > N201 {
             return Err(SideKind::Link(LinkFault::TooLong));
         }
-        self.act(acting, Event::Unit(octets.len()), octets, now, acts)
+        self.act_at(&key, Event::Unit(octets.len()), octets, now, acts)
     }
 
     /// A message of layer 3 for the link with this name, at the moment `now`. What it gives goes behind what `acts` has.
@@ -292,29 +333,28 @@ impl LinkSet {
     /// B1 where the link is not there, and L1 to L5 where it refuses. The message is handed back, and nothing is changed.
     pub fn give(
         &mut self,
-        id: LinkId,
+        id: &LinkId,
         message: Vec<u8>,
         now: u64,
         acts: &mut Acts,
     ) -> Result<(), SideFault>
-        requires frame_room { length acts.old.frames ≤ 144 }
-        requires primitive_room { length acts.old.primitives ≤ 144 }
-        ensures ok { OnOk result ((side : Side) (links : Links) → ShowLinks side self.old links
-            → HaveActed side self.new acts.old acts.new (in_links id (link_acts side id now (Give message.items) []) links)) }
-        ensures err { IfErr result (λ fault. (side : Side) (links : Links) → ShowLinks side self.old links
-            → in_links id (link_acts side id now (Give message.items) []) links ≡ Err fault.kind) }
+        requires frame_room { length acts.old.frames + MOST_OUTPUTS ≤ MOST_FRAMES }
+        requires primitive_room { length acts.old.primitives + MOST_OUTPUTS ≤ MOST_PRIMITIVES }
+        ensures ok { OnOk result (Does self.old self.new acts.old acts.new
+            (λ side. in_links id.now (link_acts side id.now now (Give message.items) []))) }
+        ensures err { IfErr result (λ fault. RefusesAs self.old
+            (λ side. in_links id.now (link_acts side id.now now (Give message.items) []))
+            fault.kind) }
         ensures handed_back { IfErr result (λ fault. fault.message ≡ Some message) }
-        ensures unchanged { OnErr result ((side : Side) (links : Links) → ShowLinks side self.old links → ShowLinks side self.new links) }
+        ensures unchanged { OnErr result (ShowsAsBefore self.old self.new) }
         ensures nothing { OnErr result (acts.new ≡ acts.old) }
     {
-        let giving = id;
-        let carried = id;
-        let Some(_) = self.table.link(id) else {
+        let Some(key) = self.table.find(id) else {
             return Err(refused(SideKind::NoLink, message));
         };
-        match self.table.give_into(giving, message, &mut self.outs) {
+        match self.table.give_at(&key, message, &mut self.outs) {
             Ok(()) => {
-                self.carry_out(carried, &[], now, acts);
+                self.carry_out(&key, &[], now, acts);
                 Ok(())
             }
             Err(back) => Err(refused(SideKind::Link(back.fault), back.message)),
@@ -329,34 +369,28 @@ impl LinkSet {
     /// B1 where the link is not there. Nothing is changed.
     pub fn expire(
         &mut self,
-        id: LinkId,
+        id: &LinkId,
         timer: Timer,
         now: u64,
         acts: &mut Acts,
     ) -> Result<(), SideKind>
         requires of_link { IsOfLink timer }
-        requires frame_room { length acts.old.frames ≤ 144 }
-        requires primitive_room { length acts.old.primitives ≤ 144 }
-        ensures ok { OnOk result ((side : Side) (links : Links) → ShowLinks side self.old links
-            → HaveActed side self.new acts.old acts.new (in_links id (link_expires side id now timer) links)) }
-        ensures err { IfErr result (λ kind. (side : Side) (links : Links) → ShowLinks side self.old links
-            → in_links id (link_expires side id now timer) links ≡ Err kind) }
-        ensures unchanged { OnErr result ((side : Side) (links : Links) → ShowLinks side self.old links → ShowLinks side self.new links) }
+        requires frame_room { length acts.old.frames + MOST_OUTPUTS ≤ MOST_FRAMES }
+        requires primitive_room { length acts.old.primitives + MOST_OUTPUTS ≤ MOST_PRIMITIVES }
+        ensures ok { OnOk result (Does self.old self.new acts.old acts.new
+            (λ side. in_links id.now (link_expires side id.now now timer))) }
+        ensures err { IfErr result (RefusesAs self.old
+            (λ side. in_links id.now (link_expires side id.now now timer))) }
+        ensures unchanged { OnErr result (ShowsAsBefore self.old self.new) }
         ensures nothing { OnErr result (acts.new ≡ acts.old) }
     {
-        let expiring = id;
-        let stopping = id;
-        let carried = id;
-        let Some(_) = self.table.link(id) else {
+        let Some(key) = self.table.find(id) else {
             return Err(SideKind::NoLink);
         };
-        match self
-            .table
-            .handle_into(expiring, expiry_of(timer), &mut self.outs)
-        {
+        match self.table.handle_at(&key, expiry_of(timer), &mut self.outs) {
             Ok(()) => {
-                self.timings.stop(&stopping, timer);
-                self.carry_out(carried, &[], now, acts);
+                self.link_timers.stop(key.id(), timer);
+                self.carry_out(&key, &[], now, acts);
                 Ok(())
             }
             Err(fault) => Err(SideKind::Link(fault)),
@@ -396,21 +430,22 @@ fn name(sapi: Sapi, tei: Tei) -> LinkId
 }
 
 /// Tells what becomes of a link that goes.
-fn tell_parting(id: &LinkId, link: &Link, acts: &mut Acts)
-    requires room { length acts.old.primitives < 280 }
+fn tell_removal(id: &LinkId, link: &Link, acts: &mut Acts)
+    requires room { length acts.old.primitives < MOST_PRIMITIVES }
     ensures told { (e : End) → LinkStandsFor link.now e
-        → acts.new.primitives ≡ acts.old.primitives ++ parting_of id.now (parting e.state e.release_pending) }
+        → acts.new.primitives ≡ acts.old.primitives
+        ++ primitives_of id.now (release_at_removal e.state e.release_pending) }
     ensures frames { acts.new.frames ≡ acts.old.frames }
     ensures room { length acts.new.primitives ≤ length acts.old.primitives + 1 }
 {
-    if let Some(what) = parting(link.state(), link.release_pending()) {
+    if let Some(what) = release_at_removal(link.state(), link.release_pending()) {
         acts.tell(Primitive::Of(*id, what));
     }
 }
 
 /// What layer 3 is told of a link that goes in the state with this number.
-fn parting(state: u8, release_pending: bool) -> Option<What>
-    ensures { (s : State) → state ≡ state_number s → result ≡ parting s release_pending }
+fn release_at_removal(state: u8, release_pending: bool) -> Option<What>
+    ensures { (s : State) → state ≡ state_number s → result ≡ release_at_removal s release_pending }
 {
     match state {
         4 => None,

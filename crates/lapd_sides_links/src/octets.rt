@@ -25,8 +25,10 @@ impl Model for Octets {
 
 impl Octets {
     /// These octets, at most 260.
+    // In place, the room for them would be cleared also where there are none: for each output of a step.
+    #[inline(never)]
     pub fn new(octets: &[u8]) -> Octets
-        requires { length octets.now ≤ 260 }
+        requires { length octets.now ≤ MOST }
         ensures { result ≡ octets.now }
     {
         let mut copy = ArrayVec::new();

@@ -27,13 +27,14 @@ use Rattle.lapd_link.specs.Link.{setup_of, is_address_of, IsForLink, Steps, Refu
 use Rattle.lapd_link.specs.declared.link.Link.{Link}
 use Rattle.lapd_link.proofs.BetweenSteps.{end_of, shows_end, step_done}
 use Rattle.lapd_table.specs.declared.link_id.LinkId.{LinkId}
+use Rattle.lapd_table.specs.declared.link_key.LinkKey.{LinkKey}
 use Rattle.lapd_table.specs.declared.link_table.LinkTable.{LinkTable}
 use Rattle.lapd_table.specs.declared.table_fault.TableFault.{TableFault}
 use Rattle.lapd_table.specs.declared.table_fault.TableFault.TheVariants.{NoLink}
 use Rattle.lapd_table.specs.LinkId.{id_cmp, id_of_address, id_of_setup, setup_for}
 use Rattle.lapd_table.specs.Index.{key_of, IsIndex}
 use Rattle.lapd_table.specs.Octets.{fault_for, heard_by}
-use Rattle.lapd_table.specs.LinkTable.{side_of, link_at, Changes, IsUnchanged, StepsAt, RefusesAt, IsFor, arrives, HasDispatched, IsForNoLink}
+use Rattle.lapd_table.specs.LinkTable.{side_of, link_at, IsKey, Changes, IsUnchanged, StepsAt, RefusesAt, IsFor, arrives, HasDispatched, IsForNoLink}
 use Rattle.lapd_table.proofs.Ids.{id_cmp_total, same_by_eq}
 use Rattle.lapd_table.proofs.Indexes.{Links, Keys, Keeps, found_in, Finds, keeps_of_updates, linked, found_setup, stepped_index, stepped_finds, removed_index, removed_finds, added_index, added_finds, same_index, same_found, taken_out_again}
 
@@ -201,6 +202,10 @@ key_is_there table id = by (key_of table.keys id) refl
     by : (o : Option ℕ) → key_of table.keys id ≡ o → is_some o ≡ true → IsSome (link_at table id)
     by None there h = absurd (cc)
     by (Some key) there h = ap is_some (link_at_key table id key there) ∙ has_link table id key there
+
+pub key_is_of_link : (table : LinkTable) (key : LinkKey) → IsKey table key → IsSome (link_at table key.id)
+unfolding IsKey
+key_is_of_link table key is = key_is_there table key.id (ap is_some is)
 
 pub no_key : (o : Option ℕ) → is_some o ≡ false → o ≡ None
 no_key None h = refl

@@ -79,7 +79,8 @@ Ends = LinkId → Option End
 -- the end that is named takes a step, and all others stay
 abbrev pub ends_after : Option (LinkId × Input) → Ends → Ends
 ends_after None ends other = ends other
-ends_after (Some (id, input)) ends other = if id_eq other id then option_map (after input) (ends other) else ends other
+ends_after (Some (id, input)) ends other = if id_eq other id
+    then option_map (after input) (ends other) else ends other
 
 -- what is sent for one link by an input, be it its own or another's
 abbrev pub sent_at : Option End → Input → List Out
@@ -100,12 +101,14 @@ table_run side (arrival ∷ arrivals) ends = table_run side arrivals (table_step
 -- all that a run sends for one link
 abbrev pub run_sends : LinkId → Side → List Arrival → Ends → List Out
 run_sends id side [] ends = []
-run_sends id side (arrival ∷ arrivals) ends = sent_for id (named side arrival) ends ++ run_sends id side arrivals (table_step side arrival ends)
+run_sends id side (arrival ∷ arrivals) ends = sent_for id (named side arrival) ends
+    ++ run_sends id side arrivals (table_step side arrival ends)
 
 -- ---- The law.
 
 -- of a link that is in the table at first
-pub record IsAsAlone (side : Side) (arrivals : List Arrival) (ends : Ends) (id : LinkId) (e : End) : Type 0 where
+pub record IsAsAlone (side : Side) (arrivals : List Arrival) (ends : Ends) (id : LinkId) (e : End) :
+    Type 0 where
   pub end : table_run side arrivals ends id ≡ Some (after_all (part_of side id arrivals) e)
   pub sent : run_sends id side arrivals ends ≡ sent_by_all (part_of side id arrivals) e
 
@@ -122,6 +125,9 @@ ShowsEnds table ends = (id : LinkId) → IsEndOf (link_at table id) (ends id)
 
 -- Whatever ends the table showed, it shows now those after one step, and these outputs are sent for the link of this SAPI
 -- and TEI.
-pub record Follows (old new : LinkTable) (arrival : Arrival) (id : LinkId) (outs : List Out) : Type 0 where
-  pub ends : (ends : Ends) → ShowsEnds old ends → ShowsEnds new (table_step (side_of old) arrival ends)
-  pub sent : (ends : Ends) → ShowsEnds old ends → sent_for id (named (side_of old) arrival) ends ≡ outs
+pub record Follows (old new : LinkTable) (arrival : Arrival) (id : LinkId) (outs : List Out) :
+    Type 0 where
+  pub ends : (ends : Ends) → ShowsEnds old ends
+      → ShowsEnds new (table_step (side_of old) arrival ends)
+  pub sent : (ends : Ends) → ShowsEnds old ends
+      → sent_for id (named (side_of old) arrival) ends ≡ outs

@@ -13,6 +13,9 @@ abbrev pub key_of : tree.BTreeMap LinkId ℕ → LinkId → Option ℕ
 key_of keys id = tree.get id_cmp keys id
 
 -- Each entry names a link of this side, of just its SAPI and TEI; and each link is named, once, by the entry of its own.
-pub record IsIndex (side : Side) (links : slab.Slab Link) (keys : tree.BTreeMap LinkId ℕ) : Type 0 where
-  pub names : (id : LinkId) (key : ℕ) → key_of keys id ≡ Some key → option_map setup_of (slab.get links key) ≡ Some (setup_for side id)
-  pub named : (key : ℕ) (link : Link) → slab.get links key ≡ Some link → key_of keys (id_of_setup (setup_of link)) ≡ Some key
+pub record IsIndex (side : Side) (links : slab.Slab Link) (keys : tree.BTreeMap LinkId ℕ) :
+    Type 0 where
+  pub names : (id : LinkId) (key : ℕ) → key_of keys id ≡ Some key
+      → option_map setup_of (slab.get links key) ≡ Some (setup_for side id)
+  pub named : (key : ℕ) (link : Link) → slab.get links key ≡ Some link
+      → key_of keys (id_of_setup (setup_of link)) ≡ Some key

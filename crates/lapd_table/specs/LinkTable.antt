@@ -13,6 +13,7 @@ use Rattle.lapd_link_rows.specs.declared.event.LinkFault.{LinkFault}
 use Rattle.lapd_link_rows.specs.declared.out.Out.{Out}
 use Rattle.lapd_link_rows.specs.Input.{Input}
 use Rattle.lapd_table.specs.declared.link_id.LinkId.{LinkId}
+use Rattle.lapd_table.specs.declared.link_key.LinkKey.{LinkKey}
 use Rattle.lapd_table.specs.declared.link_table.LinkTable.{LinkTable}
 use Rattle.lapd_table.specs.declared.table_fault.TableFault.{TableFault}
 use Rattle.lapd_table.specs.declared.table_fault.TableFault.TheVariants.{NoLink, AlreadyThere, Memory, Discarded}
@@ -27,6 +28,10 @@ side_of table = table.side
 -- the link of this SAPI and TEI, where it is there
 unfoldable pub link_at : LinkTable → LinkId → Option Link
 link_at table id = option_and_then (slab.get table.links) (key_of table.keys id)
+
+-- the key names a link that is there
+unfoldable pub IsKey : LinkTable → LinkKey → Type 0
+IsKey table key = key_of table.keys key.id ≡ Some key.place
 
 -- ---- How the table changes.
 
@@ -43,7 +48,8 @@ pub record IsUnchanged (old new : LinkTable) : Type 0 where
 -- ---- The step of one link.
 
 -- The link that is there does its own step, with these outputs in order, and no other link changes.
-pub record StepsAt (old new : LinkTable) (id : LinkId) (input : Input) (outs : List Out) : Type 0 where
+pub record StepsAt (old new : LinkTable) (id : LinkId) (input : Input) (outs : List Out) :
+    Type 0 where
   pub before : Link
   pub after : Link
   pub was : link_at old id ≡ Some before
@@ -67,14 +73,16 @@ abbrev pub arrives : LinkTable → List ℕ → Result (LinkId × Input) FaultKi
 arrives table octets = addressed (other_side (side_of table)) octets
 
 -- they are for this link, which does its step
-pub record HasDispatched (old new : LinkTable) (octets : List ℕ) (id : LinkId) (outs : List Out) : Type 0 where
+pub record HasDispatched (old new : LinkTable) (octets : List ℕ) (id : LinkId) (outs : List Out) :
+    Type 0 where
   pub input : Input
   pub arrived : arrives old octets ≡ Ok (id, input)
   pub steps : StepsAt old new id input outs
 
 -- they are for a link that is not there, or for none
 abbrev pub IsForNoLink : LinkTable → List ℕ → TableFault → Type 0
-IsForNoLink table octets NoLink = (id : LinkId) × (input : Input) × (arrives table octets ≡ Ok (id, input)) × (link_at table id ≡ None)
+IsForNoLink table octets NoLink = (id : LinkId) × (input : Input)
+    × (arrives table octets ≡ Ok (id, input)) × (link_at table id ≡ None)
 IsForNoLink table octets (Discarded kind) = arrives table octets ≡ Err kind
 IsForNoLink table octets AlreadyThere = ⊥
 IsForNoLink table octets Memory = ⊥

@@ -15,14 +15,21 @@ ghost use Rattle.lapd_table.specs.Alone.{Arrival, Octets, Asked, Ends, IsAsAlone
 /// A link in a table, after any list of inputs, is the link alone after its part of them, and what is sent for it is the
 /// same: over the ends of the state table, whatever octets, requests and expired timers come, in any order.
 pub fn link_is_as_it_is_alone()
-    ensures { (side : Side) (arrivals : List Arrival) (ends : Ends) (id : LinkId) (e : End) → ends id ≡ Some e → IsAsAlone side arrivals ends id e }
+    ensures { (side : Side) (arrivals : List Arrival) (ends : Ends) (id : LinkId) (e : End)
+        → ends id ≡ Some e → IsAsAlone side arrivals ends id e }
 {}
 
 /// The calls of a table are steps of that definition: whatever ends its links stand for, after `dispatch`, `handle` and
 /// `give` they stand for the ends after one step, with the outputs that were told, and after a refusal with none.
 pub fn calls_are_steps()
-    ensures dispatched { (old new : LinkTable) (octets : List ℕ) (id : LinkId) (outs : List Out) → HasDispatched old new octets id outs → Follows old new (Octets octets) id outs }
-    ensures not_dispatched { (old new : LinkTable) (octets : List ℕ) (id : LinkId) (fault : TableFault) → IsForNoLink old octets fault → IsUnchanged old new → Follows old new (Octets octets) id [] }
-    ensures stepped { (old new : LinkTable) (id : LinkId) (input : Input) (outs : List Out) → StepsAt old new id input outs → Follows old new (Asked id input) id outs }
-    ensures refused { (old new : LinkTable) (id : LinkId) (input : Input) (fault : LinkFault) → RefusesAt old id input fault → IsUnchanged old new → Follows old new (Asked id input) id [] }
+    ensures dispatched { (old new : LinkTable) (octets : List ℕ) (id : LinkId) (outs : List Out)
+        → HasDispatched old new octets id outs → Follows old new (Octets octets) id outs }
+    ensures not_dispatched { (old new : LinkTable) (octets : List ℕ) (id : LinkId)
+        (fault : TableFault) → IsForNoLink old octets fault → IsUnchanged old new
+        → Follows old new (Octets octets) id [] }
+    ensures stepped { (old new : LinkTable) (id : LinkId) (input : Input) (outs : List Out)
+        → StepsAt old new id input outs → Follows old new (Asked id input) id outs }
+    ensures refused { (old new : LinkTable) (id : LinkId) (input : Input) (fault : LinkFault)
+        → RefusesAt old id input fault → IsUnchanged old new
+        → Follows old new (Asked id input) id [] }
 {}

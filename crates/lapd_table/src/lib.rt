@@ -8,6 +8,7 @@
 
 mod laws;
 mod link_id;
+mod link_key;
 mod link_table;
 mod table_fault;
 
@@ -17,5 +18,6 @@ pub use lapd_link::{
 };
 pub use laws::{calls_are_steps, link_is_as_it_is_alone};
 pub use link_id::LinkId;
+pub use link_key::LinkKey;
 pub use link_table::LinkTable;
 pub use table_fault::TableFault;

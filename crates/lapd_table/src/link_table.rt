@@ -8,7 +8,7 @@ ghost use Rattle.lapd_link.specs.Link.{setup_of};
 ghost use Rattle.lapd_table.specs.LinkId.{id_cmp, id_of_setup, setup_for};
 ghost use Rattle.lapd_table.specs.Index.{IsIndex, key_of};
 
-use crate::{LinkId, TableFault};
+use crate::{LinkId, LinkKey, TableFault};
 use lapd_frame::{FrameFault, Side, read};
 use lapd_link::{Event, Link, LinkFault, Outs, Refused};
 use slab::Slab;
@@ -28,7 +28,7 @@ pub struct LinkTable {
 
 impl LinkTable {
     ghost use Rattle.lapd_table.specs.declared.link_id.LinkId.{LinkId};
-    ghost use Rattle.lapd_table.specs.LinkTable.{side_of, link_at, Changes, IsUnchanged, StepsAt, RefusesAt, IsFor, HasDispatched, IsForNoLink, IsNotAdded};
+    ghost use Rattle.lapd_table.specs.LinkTable.{side_of, link_at, Changes, IsUnchanged, StepsAt, RefusesAt, IsFor, IsKey, HasDispatched, IsForNoLink, IsNotAdded};
 
     /// A table without links, for those of this side. It takes no memory; the links that are added take it from `alloc`.
     pub fn new(alloc: Global, side: Side) -> LinkTable
@@ -60,8 +60,10 @@ impl LinkTable {
     pub fn add(&mut self, link: Link) -> Result<(), (TableFault, Link)>
         requires side { (setup_of link).side ≡ side_of self.old }
         ensures new { OnOk result (link_at self.old (id_of_setup (setup_of link)) ≡ None) }
-        ensures ok { OnOk result (Changes self.old self.new (id_of_setup (setup_of link)) (Some link)) }
-        ensures err { IfErr result (λ refused. IsNotAdded self.old (id_of_setup (setup_of link)) refused.0) }
+        ensures ok { OnOk result (Changes self.old self.new (id_of_setup (setup_of link))
+            (Some link)) }
+        ensures err { IfErr result (λ refused. IsNotAdded self.old
+            (id_of_setup (setup_of link)) refused.0) }
         ensures handed_back { IfErr result (λ refused. refused.1 ≡ link) }
         ensures unchanged { OnErr result (IsUnchanged self.old self.new) }
     {
@@ -93,12 +95,36 @@ impl LinkTable {
     /// The link of this SAPI and TEI.
     pub fn link(&self, id: LinkId) -> Option<&Link>
         ensures value { option_copied result ≡ link_at self.now id }
-        ensures setup { IfSome result (λ link. setup_of link.now ≡ setup_for (side_of self.now) id) }
+        ensures setup { IfSome result (λ link. setup_of link.now
+            ≡ setup_for (side_of self.now) id) }
     {
         match self.keys.get(&id) {
             Some(key) => self.links.get(*key),
             None => None,
         }
+    }
+
+    /// Where the link of this SAPI and TEI stands.
+    pub fn find(&self, id: &LinkId) -> Option<LinkKey>
+        ensures found { IfSome result (λ key. (key.id ≡ id.now) × IsKey self.now key) }
+        ensures none { result ≡ None → link_at self.now id.now ≡ None }
+    {
+        match self.keys.get(id) {
+            Some(place) => Some(LinkKey {
+                id: *id,
+                place: *place,
+            }),
+            None => None,
+        }
+    }
+
+    /// The link with this key.
+    pub fn link_at(&self, key: &LinkKey) -> &Link
+        requires { IsKey self.now key.now }
+        ensures value { link_at self.now key.now.id ≡ Some result.now }
+        ensures setup { setup_of result.now ≡ setup_for (side_of self.now) key.now.id }
+    {
+        &self.links[key.place]
     }
 
     /// Which links are there, by rising SAPI, then TEI.
@@ -108,7 +134,8 @@ impl LinkTable {
     /// `AllocError` where memory was refused.
     pub fn ids(&self) -> Result<Vec<LinkId>, AllocError>
         ensures rising { IfOk result (λ ids. IsStrictlySortedBy id_cmp ids.items) }
-        ensures all { IfOk result (λ ids. (id : LinkId) → Contains ids.items id ↔ IsSome (link_at self.now id)) }
+        ensures all { IfOk result (λ ids. (id : LinkId) → Contains ids.items id
+            ↔ IsSome (link_at self.now id)) }
     {
         self.keys.keys().copied().collect(self.alloc)
     }
@@ -122,7 +149,8 @@ impl LinkTable {
     /// B4 for octets with one of F1 to F3, which are for no link, and B1 where the link is not there. The table is
     /// unchanged.
     pub fn dispatch(&mut self, bytes: &[u8]) -> Result<(LinkId, Outs), TableFault>
-        ensures ok { IfOk result (λ done. HasDispatched self.old self.new bytes.now done.0 done.1.items) }
+        ensures ok { IfOk result (λ done. HasDispatched self.old self.new bytes.now done.0
+            done.1.items) }
         ensures err { IfErr result (IsForNoLink self.old bytes.now) }
         ensures unchanged { OnErr result (IsUnchanged self.old self.new) }
     {
@@ -137,7 +165,8 @@ impl LinkTable {
     ///
     /// As [`LinkTable::dispatch`].
     pub fn dispatch_into(&mut self, bytes: &[u8], outs: &mut Outs) -> Result<LinkId, TableFault>
-        ensures ok { IfOk result (λ id. HasDispatched self.old self.new bytes.now id outs.new.items) }
+        ensures ok { IfOk result (λ id. HasDispatched self.old self.new bytes.now id
+            outs.new.items) }
         ensures err { IfErr result (IsForNoLink self.old bytes.now) }
         ensures unchanged { OnErr result (IsUnchanged self.old self.new) }
         ensures empty { OnErr result (outs.new.items ≡ []) }
@@ -161,8 +190,10 @@ impl LinkTable {
     fn hear(&mut self, id: LinkId, event: Event, outs: &mut Outs) -> Result<LinkId, TableFault>
         requires for_link { IsFor id event }
         requires heard { (e : End) → refused (input_of event) e ≡ None }
-        ensures ok { IfOk result (λ done. (done ≡ id) × StepsAt self.old self.new id (input_of event.entry) outs.new.items) }
-        ensures err { IfErr result (λ fault. (fault ≡ TableFault.NoLink) × (link_at self.old id ≡ None)) }
+        ensures ok { IfOk result (λ done. (done ≡ id)
+            × StepsAt self.old self.new id (input_of event.entry) outs.new.items) }
+        ensures err { IfErr result (λ fault. (fault ≡ TableFault.NoLink)
+            × (link_at self.old id ≡ None)) }
         ensures unchanged { OnErr result (IsUnchanged self.old self.new) }
         ensures empty { OnErr result (outs.new.items ≡ []) }
     {
@@ -186,10 +217,12 @@ impl LinkTable {
     ) -> Result<(), LinkFault>
         requires named { key_of self.old.keys id ≡ Some key }
         requires for_link { IsFor id event }
-        ensures ok { OnOk result (StepsAt self.old self.new id (input_of event.entry) outs.new.items) }
+        ensures ok { OnOk result (StepsAt self.old self.new id
+            (input_of event.entry) outs.new.items) }
         ensures err { IfErr result (RefusesAt self.old id (input_of event.entry)) }
         ensures unchanged { OnErr result (IsUnchanged self.old self.new) }
         ensures empty { OnErr result (outs.new.items ≡ []) }
+        ensures keys { self.new.keys ≡ self.old.keys }
     {
         self.links[key].handle_into(event, outs)
     }
@@ -206,7 +239,8 @@ impl LinkTable {
     pub fn handle(&mut self, id: LinkId, event: Event) -> Result<Outs, LinkFault>
         requires there { IsSome (link_at self.old id) }
         requires for_link { IsFor id event }
-        ensures ok { IfOk result (λ outs. StepsAt self.old self.new id (input_of event.entry) outs.items) }
+        ensures ok { IfOk result (λ outs. StepsAt self.old self.new id
+            (input_of event.entry) outs.items) }
         ensures err { IfErr result (RefusesAt self.old id (input_of event.entry)) }
         ensures unchanged { OnErr result (IsUnchanged self.old self.new) }
     {
@@ -228,13 +262,37 @@ impl LinkTable {
     ) -> Result<(), LinkFault>
         requires there { IsSome (link_at self.old id) }
         requires for_link { IsFor id event }
-        ensures ok { OnOk result (StepsAt self.old self.new id (input_of event.entry) outs.new.items) }
+        ensures ok { OnOk result (StepsAt self.old self.new id
+            (input_of event.entry) outs.new.items) }
         ensures err { IfErr result (RefusesAt self.old id (input_of event.entry)) }
         ensures unchanged { OnErr result (IsUnchanged self.old self.new) }
         ensures empty { OnErr result (outs.new.items ≡ []) }
     {
         let key = self.keys[&id];
         self.handle_under(key, id, event, outs)
+    }
+
+    /// As [`LinkTable::handle_into`], for the link with this key.
+    ///
+    /// # Errors
+    ///
+    /// As [`Link::handle`]. The table is unchanged.
+    pub fn handle_at(
+        &mut self,
+        key: &LinkKey,
+        event: Event,
+        outs: &mut Outs,
+    ) -> Result<(), LinkFault>
+        requires key { IsKey self.old key.now }
+        requires for_link { IsFor key.now.id event }
+        ensures ok { OnOk result (StepsAt self.old self.new key.now.id
+            (input_of event.entry) outs.new.items) }
+        ensures err { IfErr result (RefusesAt self.old key.now.id (input_of event.entry)) }
+        ensures unchanged { OnErr result (IsUnchanged self.old self.new) }
+        ensures empty { OnErr result (outs.new.items ≡ []) }
+        ensures key { IsKey self.new key.now }
+    {
+        self.handle_under(key.place, key.id, event, outs)
     }
 
     /// A message of layer 3 for a link that is there, which does its own step. It takes no memory. Where speed matters, lend
@@ -247,8 +305,10 @@ impl LinkTable {
     /// As [`Link::give`]. The message is handed back, and the table is unchanged.
     pub fn give(&mut self, id: LinkId, message: Vec<u8>) -> Result<Outs, Refused>
         requires { IsSome (link_at self.old id) }
-        ensures ok { IfOk result (λ outs. StepsAt self.old self.new id (Give message.items) outs.items) }
-        ensures err { IfErr result (λ refused. RefusesAt self.old id (Give message.items) refused.fault) }
+        ensures ok { IfOk result (λ outs. StepsAt self.old self.new id
+            (Give message.items) outs.items) }
+        ensures err { IfErr result (λ refused. RefusesAt self.old id
+            (Give message.items) refused.fault) }
         ensures handed_back { IfErr result (λ refused. refused.message ≡ message) }
         ensures unchanged { OnErr result (IsUnchanged self.old self.new) }
     {
@@ -269,13 +329,60 @@ impl LinkTable {
         outs: &mut Outs,
     ) -> Result<(), Refused>
         requires { IsSome (link_at self.old id) }
-        ensures ok { OnOk result (StepsAt self.old self.new id (Give message.items) outs.new.items) }
-        ensures err { IfErr result (λ refused. RefusesAt self.old id (Give message.items) refused.fault) }
+        ensures ok { OnOk result (StepsAt self.old self.new id
+            (Give message.items) outs.new.items) }
+        ensures err { IfErr result (λ refused. RefusesAt self.old id
+            (Give message.items) refused.fault) }
         ensures handed_back { IfErr result (λ refused. refused.message ≡ message) }
         ensures unchanged { OnErr result (IsUnchanged self.old self.new) }
         ensures empty { OnErr result (outs.new.items ≡ []) }
     {
         let key = self.keys[&id];
+        self.give_under(key, id, message, outs)
+    }
+
+    /// As [`LinkTable::give_into`], for the link with this key.
+    ///
+    /// # Errors
+    ///
+    /// As [`Link::give`]. The message is handed back, and the table is unchanged.
+    pub fn give_at(
+        &mut self,
+        key: &LinkKey,
+        message: Vec<u8>,
+        outs: &mut Outs,
+    ) -> Result<(), Refused>
+        requires { IsKey self.old key.now }
+        ensures ok { OnOk result (StepsAt self.old self.new key.now.id
+            (Give message.items) outs.new.items) }
+        ensures err { IfErr result (λ refused. RefusesAt self.old key.now.id
+            (Give message.items) refused.fault) }
+        ensures handed_back { IfErr result (λ refused. refused.message ≡ message) }
+        ensures unchanged { OnErr result (IsUnchanged self.old self.new) }
+        ensures empty { OnErr result (outs.new.items ≡ []) }
+        ensures key { IsKey self.new key.now }
+    {
+        self.give_under(key.place, key.id, message, outs)
+    }
+
+    /// As [`LinkTable::give_into`], for the link that stands under this key of the slab.
+    fn give_under(
+        &mut self,
+        key: usize,
+        id: LinkId,
+        message: Vec<u8>,
+        outs: &mut Outs,
+    ) -> Result<(), Refused>
+        requires { key_of self.old.keys id ≡ Some key }
+        ensures ok { OnOk result (StepsAt self.old self.new id
+            (Give message.items) outs.new.items) }
+        ensures err { IfErr result (λ refused. RefusesAt self.old id
+            (Give message.items) refused.fault) }
+        ensures handed_back { IfErr result (λ refused. refused.message ≡ message) }
+        ensures unchanged { OnErr result (IsUnchanged self.old self.new) }
+        ensures empty { OnErr result (outs.new.items ≡ []) }
+        ensures keys { self.new.keys ≡ self.old.keys }
+    {
         self.links[key].give_into(message, outs)
     }
 }

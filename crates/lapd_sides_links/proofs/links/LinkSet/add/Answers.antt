@@ -9,5 +9,5 @@ use Rattle.lapd_sides_links.proofs.links.LinkSet.add.Goals as goal
 pub returns-clause-ok : goal.returns-clause-ok
 returns-clause-ok c = λ side links shown.
     let changes = subst (λ (setup : Setup). Changes c.args.self.now.table c.add.new.self (id_of_setup setup) (Some c.in_ok-link.link)) (c.in_ok-link.ensures.setup) c.in-Ok.ensures.ok in
-    put_in_place side c.args.self.now _ links c.args.id (Some (new_linked c.args.params c.args.durations)) changes.side
-    (now_linked _ _ c.in_ok-link.link (new_linked c.args.params c.args.durations) changes.there (c.rest.ensures.own c.requires.sapi c.requires.tei) c.in_ok-link.ensures.end) changes.others c.rest.ensures.others shown
+    put_in_place side c.args.self.now _ links c.args.id.now (Some (new_linked c.args.params c.args.durations)) changes.side
+    (now_linked _ _ c.in_ok-link.link (new_linked c.args.params c.args.durations) changes.there (c.reset.ensures.own c.requires.sapi c.requires.tei) c.in_ok-link.ensures.end) changes.others c.reset.ensures.others shown

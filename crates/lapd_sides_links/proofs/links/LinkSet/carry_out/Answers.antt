@@ -1,11 +1,8 @@
-use Rattle.std.proofs.Common.{List, ◌++◌, ◌∙◌, ap}
-use Rattle.std.specs.List.{filter_map}
-use Rattle.lapd_link_rows.specs.declared.out.Out.{Out}
-use Rattle.lapd_table.specs.LinkId.{setup_for}
-use Rattle.lapd_table.specs.LinkTable.{side_of}
-use Rattle.lapd_sides_links.specs.Shown.{made_by}
+-- carry_out
+use Rattle.lapd_sides_links.proofs.Acting.{frames_put}
 use Rattle.lapd_sides_links.proofs.links.LinkSet.carry_out.Goals as goal
 
 pub returns-clause-frames : goal.returns-clause-frames
-returns-clause-frames c = λ link e there stands. c.tell_all.ensures.frames ∙ c.put_frames.ensures.frames e (record { link = link; there = there; stands = stands })
-    ∙ ap (λ (outs : List Out). c.args.acts.now.frames ++ filter_map (made_by (setup_for (side_of c.args.self.now.table) c.args.id) e c.args.octets.now) outs) c.as_slice-outs.ensures.value
+returns-clause-frames c = λ link e there stands.
+    frames_put c.args.self.now.table c.args.key.now.id link c.link_at.result.now e c.args.octets.now _ _ c.args.acts.now.frames _ _
+    there c.link_at.ensures.value c.link_at.ensures.setup stands c.put_frames.ensures.frames c.as_slice-outs.ensures.value c.tell_all.ensures.frames

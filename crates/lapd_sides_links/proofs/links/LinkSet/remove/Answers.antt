@@ -10,5 +10,5 @@ use Rattle.lapd_sides_links.proofs.links.LinkSet.remove.Goals as goal
 pub returns : goal.returns
 returns c = λ side links shown.
     let changes = c.remove-link.ensures.changes in
-    let rest = subst (λ (t : Option Timers). IfSome t AreAtRest) (sym c.halt.ensures.own) (halted (timers_at c.args.self.now.timings c.args.id)) in
-    put_in_place side c.args.self.now _ links c.args.id None changes.side (none_linked _ _ changes.there rest) changes.others c.halt.ensures.others shown
+    let rest = subst (λ (t : Option Timers). IfSome t AreAtRest) (sym c.stop_all.ensures.own) (halted (timers_at c.args.self.now.link_timers c.args.id.now)) in
+    put_in_place side c.args.self.now _ links c.args.id.now None changes.side (none_linked _ _ changes.there rest) changes.others c.stop_all.ensures.others shown

@@ -1,0 +1,180 @@
+//! Where the timers of the links of a side stand.
+
+ghost use Rattle.std.specs.Prelude.{◌≡◌, ◌≢◌, ◌<◌, Some, option_map, option_copied, IfOk, IfSome};
+ghost use Rattle.lapd_timers.specs.Due.{at_rest};
+ghost use Rattle.lapd_table.specs.declared.link_id.LinkId.{LinkId};
+ghost use Rattle.lapd_sides_links.specs.Effects.{timed, stopped};
+ghost use Rattle.lapd_sides_links.specs.Expiries.{IsFirst, Runs};
+ghost use Rattle.lapd_sides_links.specs.Links.{IsOfLink};
+ghost use Rattle.lapd_sides_links.specs.Places.{HasPlaces, AreAtRest, IsAlike};
+
+use crate::RunningTimer;
+use crate::firsts::{first_alike_in, first_in};
+use crate::running_timer::sooner;
+use crate::telling::apply_outputs;
+use lapd_link::{Out, Sapi};
+use lapd_table::LinkId;
+use lapd_timers::{Durations, Timer, TimerSet};
+use std::alloc::{AllocError, Global};
+
+/// A place for the timers of each link of SAPI 0 and of SAPI 16, by TEI, be the link there or not.
+#[derive(Drop)]
+pub struct TimerPlaces {
+    call: Vec<TimerSet>,
+    packet: Vec<TimerSet>,
+    ghost room: { HasPlaces call.items packet.items },
+}
+
+#[tactic(auto, unfolding(crate::specs::TimersAtPlaces::placed))]
+impl TimerPlaces {
+    ghost use Rattle.lapd_sides_links.specs.TimersAtPlaces.{placed, of_places, NoneIsBefore};
+
+    /// No timer runs. The room for all is taken here. How long they run is said for each link by [`TimerPlaces::reset`].
+    ///
+    /// # Errors
+    ///
+    /// `AllocError` where memory was refused.
+    pub fn new(alloc: Global) -> Result<TimerPlaces, AllocError>
+        ensures { IfOk result (λ s. (id : LinkId) → IfSome (placed s id) AreAtRest) }
+    {
+        let timers = [TimerSet::new(Durations::standard()); 127];
+        Ok(TimerPlaces {
+            call: Vec::from_array(alloc, timers)?,
+            packet: Vec::from_array(alloc, timers)?,
+        })
+    }
+
+    /// No timer of one link runs any more.
+    pub fn reset(&mut self, id: &LinkId, durations: Durations)
+        ensures own { id.now.sapi ≢ Sapi.Management → id.now.tei < 127
+            → placed self.new id.now ≡ Some (at_rest durations) }
+        ensures rests { placed self.new id.now ≡ option_map (λ _. at_rest durations)
+            (placed self.old id.now) }
+        ensures others { (other : LinkId) → other ≢ id.now
+            → placed self.new other ≡ placed self.old other }
+    {
+        let tei = usize::from(id.tei.value());
+        match id.sapi {
+            Sapi::Call if tei < self.call.len() => reset(&mut self.call[tei], durations),
+            Sapi::Packet if tei < self.packet.len() => reset(&mut self.packet[tei], durations),
+            _ => {}
+        }
+    }
+
+    /// Stops all timers of one link.
+    pub fn stop_all(&mut self, id: &LinkId)
+        ensures own { placed self.new id.now ≡ option_map (λ timers. at_rest timers.durations)
+            (placed self.old id.now) }
+        ensures others { (other : LinkId) → other ≢ id.now
+            → placed self.new other ≡ placed self.old other }
+    {
+        let tei = usize::from(id.tei.value());
+        match id.sapi {
+            Sapi::Call if tei < self.call.len() => stop_all(&mut self.call[tei]),
+            Sapi::Packet if tei < self.packet.len() => stop_all(&mut self.packet[tei]),
+            _ => {}
+        }
+    }
+
+    /// Those of the link with this name; none where there is no place for them.
+    pub fn get(&self, id: &LinkId) -> Option<&TimerSet>
+        ensures { option_copied result ≡ placed self.now id.now }
+    {
+        let tei = usize::from(id.tei.value());
+        match id.sapi {
+            Sapi::Call => self.call.get(tei),
+            Sapi::Packet => self.packet.get(tei),
+            Sapi::Management => None,
+        }
+    }
+
+    /// Starts and stops those of one link as these outputs say.
+    pub fn apply_outputs(&mut self, id: &LinkId, outs: &[Out], now: u64)
+        ensures own { placed self.new id.now ≡ option_map (timed now outs.now)
+            (placed self.old id.now) }
+        ensures others { (other : LinkId) → other ≢ id.now
+            → placed self.new other ≡ placed self.old other }
+    {
+        let tei = usize::from(id.tei.value());
+        match id.sapi {
+            Sapi::Call if tei < self.call.len() => apply_outputs(&mut self.call[tei], outs, now),
+            Sapi::Packet if tei < self.packet.len() => apply_outputs(
+                &mut self.packet[tei],
+                outs,
+                now,
+            ),
+            _ => {}
+        }
+    }
+
+    /// Stops a timer of one link.
+    pub fn stop(&mut self, id: &LinkId, timer: Timer)
+        ensures own { placed self.new id.now ≡ option_map (stopped timer) (placed self.old id.now) }
+        ensures others { (other : LinkId) → other ≢ id.now
+            → placed self.new other ≡ placed self.old other }
+    {
+        let tei = usize::from(id.tei.value());
+        match id.sapi {
+            Sapi::Call if tei < self.call.len() => self.call[tei].stop(timer),
+            Sapi::Packet if tei < self.packet.len() => self.packet[tei].stop(timer),
+            _ => {}
+        }
+    }
+
+    /// The first of all T200 and T203 that run.
+    pub fn first(&self) -> Option<RunningTimer>
+        ensures { IsFirst (Runs (of_places self.now)) result }
+    {
+        let call = first_in(Sapi::Call, &self.call);
+        let packet = first_in(Sapi::Packet, &self.packet);
+        sooner(call, packet)
+    }
+
+    /// The first of all T200 and T203 that run, where none of them comes before this bound. It is looked for from the place of
+    /// the bound on, and then among all.
+    pub fn first_from(&self, bound: &RunningTimer) -> Option<RunningTimer>
+        requires { NoneIsBefore bound.now self.now }
+        ensures { IsFirst (Runs (of_places self.now)) result }
+    {
+        match self.first_alike(bound) {
+            Some(found) => Some(found),
+            None => self.first(),
+        }
+    }
+
+    /// The first that is the same timer as the bound with the same deadline, of its link or of one behind it. What is no
+    /// timer of a link has none.
+    fn first_alike(&self, bound: &RunningTimer) -> Option<RunningTimer>
+        ensures { IsFirst (IsAlike bound.now (Runs (of_places self.now))) result }
+    {
+        match bound.timer {
+            Timer::T200 | Timer::T203 => self.first_alike_of_links(bound),
+            Timer::T201 | Timer::T202 => None,
+        }
+    }
+
+    /// The same, of a bound that is T200 or T203.
+    fn first_alike_of_links(&self, bound: &RunningTimer) -> Option<RunningTimer>
+        requires { IsOfLink bound.now.timer }
+        ensures { IsFirst (IsAlike bound.now (Runs (of_places self.now))) result }
+    {
+        match first_alike_in(Sapi::Call, &self.call, bound) {
+            Some(found) => Some(found),
+            None => first_alike_in(Sapi::Packet, &self.packet, bound),
+        }
+    }
+}
+
+/// No timer of a link runs, and they take this long.
+fn reset(timers: &mut TimerSet, durations: Durations)
+    ensures { timers.new ≡ at_rest durations }
+{
+    *timers = TimerSet::new(durations);
+}
+
+/// Stops all timers.
+fn stop_all(timers: &mut TimerSet)
+    ensures { timers.new ≡ at_rest timers.old.durations }
+{
+    *timers = TimerSet::new(timers.durations());
+}
