@@ -5,7 +5,7 @@ use crate::ending::Stop;
 use lapd_cli_commands::{answer, bus, decode, loop_over, pair};
 use lapd_cli_console::Script;
 use lapd_cli_options::{Job, Params};
-use lapd_cli_side_commands::{FromRead, FromWrite, Port, net, user};
+use lapd_cli_side_commands::{FromRead, FromWrite, Port, SideRun, net, user};
 use std::io::{Read, Write};
 
 /// The command whose script this is.
@@ -68,7 +68,7 @@ fn do_net<R: Read, W: Write>(
 ) -> Result<(), Stop> {
     let stream = connection::accepted(rt, listen).map_err(Stop::NoConnection)?;
     let port = Port::new(FromRead::new(&stream), FromWrite::new(&stream));
-    let (ended, _port) = net(rt.alloc(), script, out, port);
+    let SideRun { ended, .. } = net(rt.alloc(), script, out, port);
     connection::tell_closed(rt, &stream);
     ended.map_err(Stop::Script)
 }
@@ -82,7 +82,7 @@ fn do_user<R: Read, W: Write>(
 ) -> Result<(), Stop> {
     let stream = connection::made(rt, connect).map_err(Stop::NoConnection)?;
     let port = Port::new(FromRead::new(&stream), FromWrite::new(&stream));
-    let (ended, _port) = user(rt.alloc(), script, out, port);
+    let SideRun { ended, .. } = user(rt.alloc(), script, out, port);
     connection::tell_closed(rt, &stream);
     ended.map_err(Stop::Script)
 }

@@ -9,4 +9,5 @@ use Rattle.std.specs.declared.io.ErrorKind.TheVariants.{Interrupted}
 -- other error is remembered by its kind
 abbrev pub Remembers : {X : Type 0} → Option ErrorKind → Option ErrorKind → Result X Error → Type 0
 Remembers old new (Ok x) = new ≡ old
-Remembers old new (Err e) = (error_kind e ≡ Interrupted → new ≡ old) × (error_kind e ≢ Interrupted → new ≡ Some (error_kind e))
+Remembers old new (Err e) = (error_kind e ≡ Interrupted → new ≡ old)
+    × (error_kind e ≢ Interrupted → new ≡ Some (error_kind e))

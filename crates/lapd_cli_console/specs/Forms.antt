@@ -21,27 +21,34 @@ shape_of form = (form.word.now, form.arguments.now)
 
 abbrev pub answer_shapes : List Shape
 answer_shapes =
-    (codes "frame", Hex ∷ []) ∷ (codes "t200", []) ∷ (codes "t203", []) ∷ (codes "establish", []) ∷ (codes "release", [])
-    ∷ (codes "give", Hex ∷ []) ∷ (codes "unit", Hex ∷ []) ∷ (codes "busy", OnOff ∷ []) ∷ (codes "state", []) ∷ []
+    (codes "frame", Hex ∷ []) ∷ (codes "t200", []) ∷ (codes "t203", []) ∷ (codes "establish", [])
+    ∷ (codes "release", [])
+    ∷ (codes "give", Hex ∷ []) ∷ (codes "unit", Hex ∷ []) ∷ (codes "busy", OnOff ∷ [])
+    ∷ (codes "state", []) ∷ []
 
 abbrev pub loop_shapes : List Shape
 loop_shapes =
     (codes "establish", Side ∷ []) ∷ (codes "release", Side ∷ []) ∷ (codes "give", Side ∷ Hex ∷ [])
-    ∷ (codes "unit", Side ∷ Hex ∷ []) ∷ (codes "deliver", Side ∷ []) ∷ (codes "lose", Side ∷ Place ∷ [])
-    ∷ (codes "expire200", Side ∷ []) ∷ (codes "expire203", Side ∷ []) ∷ (codes "busy", Side ∷ OnOff ∷ [])
+    ∷ (codes "unit", Side ∷ Hex ∷ []) ∷ (codes "deliver", Side ∷ [])
+    ∷ (codes "lose", Side ∷ Place ∷ [])
+    ∷ (codes "expire200", Side ∷ []) ∷ (codes "expire203", Side ∷ [])
+    ∷ (codes "busy", Side ∷ OnOff ∷ [])
     ∷ (codes "restart", Side ∷ []) ∷ []
 
 -- the lines that `net` and `user` both have
 abbrev pub side_shapes : List Shape
 side_shapes =
     (codes "read", []) ∷ (codes "tick", Milliseconds ∷ []) ∷ (codes "establish", Sapi ∷ Tei ∷ [])
-    ∷ (codes "release", Sapi ∷ Tei ∷ []) ∷ (codes "give", Sapi ∷ Tei ∷ Hex ∷ []) ∷ (codes "unit", Sapi ∷ Tei ∷ Hex ∷ []) ∷ []
+    ∷ (codes "release", Sapi ∷ Tei ∷ []) ∷ (codes "give", Sapi ∷ Tei ∷ Hex ∷ [])
+    ∷ (codes "unit", Sapi ∷ Tei ∷ Hex ∷ []) ∷ []
 
 abbrev pub bus_shapes : List Shape
 bus_shapes =
     (codes "ask", Terminal ∷ Reference ∷ []) ∷ (codes "t202", Terminal ∷ Reference ∷ [])
-    ∷ (codes "hear", Message ∷ Terminal ∷ Reference ∷ []) ∷ (codes "drop", Message ∷ []) ∷ (codes "hear-up", Message ∷ [])
-    ∷ (codes "drop-up", Message ∷ []) ∷ (codes "check", Tei ∷ []) ∷ (codes "t201", []) ∷ (codes "leave", Terminal ∷ []) ∷ []
+    ∷ (codes "hear", Message ∷ Terminal ∷ Reference ∷ []) ∷ (codes "drop", Message ∷ [])
+    ∷ (codes "hear-up", Message ∷ [])
+    ∷ (codes "drop-up", Message ∷ []) ∷ (codes "check", Tei ∷ []) ∷ (codes "t201", [])
+    ∷ (codes "leave", Terminal ∷ []) ∷ []
 
 abbrev pub shapes_of : Script → List Shape
 shapes_of Answer = answer_shapes

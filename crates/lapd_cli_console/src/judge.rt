@@ -76,7 +76,8 @@ fn of_words<'a>(
     script: Script,
     line: &'a [u8],
 ) -> Result<Option<Complaint<'a>>, AllocError>
-    ensures { IfOk result (λ complaint. is_none complaint ≡ are_words_of script (words_of line.now)) }
+    ensures { IfOk result (λ complaint. is_none complaint
+        ≡ are_words_of script (words_of line.now)) }
 {
     let mut words = Words::of(line);
     let Some(word) = words.next_word() else {
@@ -134,7 +135,8 @@ fn of_arguments<'a>(
     form: Form,
     mut words: Words<'a>,
 ) -> Result<Option<Complaint<'a>>, AllocError>
-    ensures { IfOk result (λ complaint. is_none complaint ≡ are_said form.arguments.now words.entry) }
+    ensures { IfOk result (λ complaint. is_none complaint
+        ≡ are_said form.arguments.now words.entry) }
 {
     let mut left = form.arguments;
     while let [argument, rest @ ..] = left {

@@ -6,7 +6,7 @@ ghost use Rattle.std.specs.Io.KnownBytes.{ReadConsumes};
 ghost use Rattle.lapd_cli_console.specs.Fault.{Remembers};
 
 use arrayvec::ArrayVec;
-use memchr::{memchr, memchr_iter, memrchr};
+use memchr::{memchr, memrchr};
 use std::io::{self, ErrorKind, Read};
 
 /// How many octets of a read are kept: as many as a walk over a script reads at a time.
@@ -81,8 +81,7 @@ impl<R: Read> KeptLines<R> {
     {
         let part = self.part.as_slice();
         if let Some(end) = memrchr(b'\n', part) {
-            let ended = memchr_iter(b'\n', part).count();
-            self.ended = self.ended.saturating_add(ended as u64);
+            self.ended = self.ended.saturating_add(feeds_in(part));
             self.head.clear();
             lengthen(&mut self.head, &part[end + 1..]);
         }
@@ -95,7 +94,8 @@ impl<R: Read> Read for KeptLines<R> {
 
     fn read(&mut self, octets: &mut [u8]) -> io::Result<usize>
         ensures bound { ReadsAtMost result octets.new }
-        ensures bytes { ReadConsumes (R.remaining self.old.reader) (R.remaining self.new.reader) result octets.new }
+        ensures bytes { ReadConsumes (R.remaining self.old.reader)
+            (R.remaining self.new.reader) result octets.new }
         ensures fault { Remembers self.old.fault self.new.fault result }
     {
         match self.reader.read(octets) {
@@ -117,6 +117,11 @@ impl<R: Read> Read for KeptLines<R> {
 fn lengthen(head: &mut ArrayVec<u8, HEAD>, octets: &[u8]) {
     let room = head.remaining_capacity();
     let _ = head.try_extend_from_slice(&octets[..octets.len().min(room)]);
+}
+
+/// How many line feeds there are. All octets are looked at, so one by one is cheaper than from one feed to the next.
+fn feeds_in(octets: &[u8]) -> u64 {
+    octets.iter().filter(|octet| **octet == b'\n').count() as u64
 }
 
 /// The octets behind the first line feed.

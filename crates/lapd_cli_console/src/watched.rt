@@ -62,7 +62,8 @@ impl<W: Write> Write for Watched<W> {
 
     fn write(&mut self, octets: &[u8]) -> io::Result<usize>
         ensures bound { WritesAtMost result octets.now }
-        ensures bytes { WriteAppends (W.contents self.old.writer) (W.contents self.new.writer) result octets.now }
+        ensures bytes { WriteAppends (W.contents self.old.writer)
+            (W.contents self.new.writer) result octets.now }
         ensures fault { Remembers self.old.fault self.new.fault result }
     {
         let written = self.writer.write(octets);
@@ -70,7 +71,8 @@ impl<W: Write> Write for Watched<W> {
     }
 
     fn write_all(&mut self, octets: &[u8]) -> io::Result<()>
-        ensures bytes { OnOk result (Appends (W.contents self.old.writer) (W.contents self.new.writer) octets.now) }
+        ensures bytes { OnOk result (Appends (W.contents self.old.writer)
+            (W.contents self.new.writer) octets.now) }
         ensures fault { Remembers self.old.fault self.new.fault result }
     {
         let written = self.writer.write_all(octets);

@@ -1,2 +1,4 @@
 pub mod Clocks
+pub mod Serving
+pub mod SideProgress
 pub mod SideWalks

@@ -1,24 +1,76 @@
 -- How a side's script ends.
-use Rattle.std.proofs.Common.{ℕ, List, Option, Some, None, Result, Ok, Err, IfSome}
+use Rattle.std.proofs.Common.{◌≡◌, ℕ, List, [], Option, Some, None, Result, Ok, Err, IfSome, OnOk, refl, sym, ap, subst, ◌∙◌}
 use Rattle.std.specs.Prelude.{⊤}
-use Rattle.lapd_frame.specs.declared.Side.{Side}
-use Rattle.lapd_cli_script.specs.Script.{EndsAs, lines_of}
+use Rattle.lapd_cli_script.specs.Script.{EndsAs, bad_line, lines_of, state_after}
 use Rattle.lapd_cli_script.specs.declared.script.ScriptFault.{ScriptFault}
 use Rattle.lapd_cli_script.specs.declared.script.ScriptFault.TheVariants.{BadLine, Device, Memory, Port}
-use Rattle.lapd_cli_side_commands.specs.Wishes.{SideEndsAs, clock_step, new_clock}
+use Rattle.lapd_frame.specs.declared.Side.TheVariants.{Network, User}
+use Rattle.lapd_sides.specs.declared.either_side.EitherSide.{EitherSide}
+use Rattle.lapd_sides.specs.declared.either_side.EitherSide.TheVariants as either
+use Rattle.lapd_sides.specs.declared.net_side.NetSide.{NetSide}
+use Rattle.lapd_sides.specs.declared.user_side.UserSide.{UserSide}
+use Rattle.lapd_sides.specs.Network.{new_network}
+use Rattle.lapd_sides.specs.User.{new_user, seeded}
+use Rattle.lapd_sides.specs.ShowsNetwork.{ShowNetwork}
+use Rattle.lapd_sides.specs.ShowsUser.{ShowUser}
+use Rattle.lapd_sides.specs.Either.{side_of}
+use Rattle.lapd_cli_side_commands.specs.Served.{AtWork, Devices, HasComeTo, HasServed, LinesDo, NetHasServed, Progress, UserHasServed, at_work, basic_access, new_progress, side_step, wishes_of}
+use Rattle.lapd_cli_side_commands.specs.Wishes.{Clocked, SideEndsAs, Wish, clock_step, new_clock}
+use Rattle.lapd_cli_side_commands.proofs.SideProgress.{progress_after, same_from}
 
 -- how the walk over a script ends
-ended_so : (side : Side) (result : Result ⊤ ScriptFault) (lines : List (List ℕ)) (a b : Option (List ℕ)) → EndsAs clock_step (new_clock side) result lines a b → SideEndsAs side result lines
-ended_so side (Ok done) lines a b q = q.0
-ended_so side (Err (BadLine number)) lines a b q = q.0
-ended_so side (Err Device) lines a b q = tt
-ended_so side (Err Memory) lines a b q = tt
-ended_so side (Err (Port fault)) lines a b q = tt
+ended_so : (s : Progress) (result : Result ⊤ ScriptFault) (lines : List (List ℕ)) (a b : Option (List ℕ)) → s.clock ≡ new_clock s.clock.side
+    → EndsAs side_step s result lines a b → SideEndsAs s.clock.side result lines
+ended_so s (Ok done) lines a b new q = ap (λ (clock : Clocked). bad_line clock_step clock lines) (sym new) ∙ sym (same_from 1 s lines) ∙ q.0
+ended_so s (Err (BadLine number)) lines a b new q = ap (λ (clock : Clocked). bad_line clock_step clock lines) (sym new) ∙ sym (same_from 1 s lines) ∙ q.0
+ended_so s (Err Device) lines a b new q = tt
+ended_so s (Err Memory) lines a b new q = tt
+ended_so s (Err (Port fault)) lines a b new q = tt
 
-pub ended : (side : Side) (known : Option (List ℕ)) (result : Result ⊤ ScriptFault) (a b : Option (List ℕ))
-    → IfSome known (λ octets. EndsAs clock_step (new_clock side) result (lines_of octets) a b) → IfSome known (λ octets. SideEndsAs side result (lines_of octets))
-ended side None result a b q = tt
-ended side (Some octets) result a b q = ended_so side result (lines_of octets) a b q
+pub ended : (side : EitherSide) (before : Devices) (known : Option (List ℕ)) (result : Result ⊤ ScriptFault) (a b : Option (List ℕ))
+    → IfSome known (λ octets. EndsAs side_step (new_progress side before) result (lines_of octets) a b)
+    → IfSome known (λ octets. SideEndsAs (side_of side) result (lines_of octets))
+ended side before None result a b q = tt
+ended side before (Some octets) result a b q = ended_so (new_progress side before) result (lines_of octets) a b refl q
+
+-- and what was done then
+served_so : (side : EitherSide) (before behind : Devices) (now : ℕ) (after : EitherSide) (result : Result ⊤ ScriptFault) (lines : List (List ℕ)) (a b : Option (List ℕ))
+    → EndsAs side_step (new_progress side before) result lines a b
+    → OnOk result (HasComeTo (state_after side_step (new_progress side before) lines) (at_work after now behind))
+    → OnOk result (HasServed side (wishes_of (side_of side) lines) before behind)
+served_so side before behind now after (Ok done) lines a b q come =
+    let s : Progress = new_progress side before in
+    let is = progress_after 1 s lines (sym (same_from 1 s lines) ∙ q.0) in
+    record {
+      ended = after;
+      moment = now;
+      did = subst (λ (wishes : List Wish). LinesDo wishes (at_work side 0 before) (at_work after now behind)) is.wishes
+          (subst (λ (begun : AtWork). LinesDo (state_after side_step s lines).wishes begun (at_work after now behind)) is.begun come.did);
+    }
+served_so side before behind now after (Err fault) lines a b q come = tt
+
+pub served : (side : EitherSide) (before behind : Devices) (now : ℕ) (after : EitherSide) (known : Option (List ℕ)) (result : Result ⊤ ScriptFault) (a b : Option (List ℕ))
+    → IfSome known (λ octets. EndsAs side_step (new_progress side before) result (lines_of octets) a b)
+    → IfSome known (λ octets. OnOk result (HasComeTo (state_after side_step (new_progress side before) (lines_of octets)) (at_work after now behind)))
+    → IfSome known (λ octets. OnOk result (HasServed side (wishes_of (side_of side) (lines_of octets)) before behind))
+served side before behind now after None result a b q come = tt
+served side before behind now after (Some octets) result a b q come = served_so side before behind now after result (lines_of octets) a b q come
+
+-- ---- The commands.
+
+pub net_served : (side : NetSide) (known : Option (List ℕ)) (result : Result ⊤ ScriptFault) (before behind : Devices) → ShowNetwork side basic_access (new_network basic_access [])
+    → IfSome known (λ octets. OnOk result (HasServed (either.Network side) (wishes_of Network (lines_of octets)) before behind))
+    → IfSome known (λ octets. OnOk result (NetHasServed (wishes_of Network (lines_of octets)) before behind))
+net_served side None result before behind new served = tt
+net_served side (Some octets) (Ok done) before behind new served = record { began = side; new = new; served = served }
+net_served side (Some octets) (Err fault) before behind new served = tt
+
+pub user_served : (side : UserSide) (known : Option (List ℕ)) (result : Result ⊤ ScriptFault) (before behind : Devices) → ShowUser side basic_access (new_user basic_access None (seeded 921))
+    → IfSome known (λ octets. OnOk result (HasServed (either.User side) (wishes_of User (lines_of octets)) before behind))
+    → IfSome known (λ octets. OnOk result (UserHasServed (wishes_of User (lines_of octets)) before behind))
+user_served side None result before behind new served = tt
+user_served side (Some octets) (Ok done) before behind new served = record { began = side; new = new; served = served }
+user_served side (Some octets) (Err fault) before behind new served = tt
 
 -- a fault that names no line says nothing of the script
 pub unsaid : (known : Option (List ℕ)) → IfSome known (λ octets. ⊤)

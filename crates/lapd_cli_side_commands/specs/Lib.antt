@@ -1,2 +1,4 @@
 pub mod SideTexts
 pub mod Wishes
+pub mod LineOutputs
+pub mod Served

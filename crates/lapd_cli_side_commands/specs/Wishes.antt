@@ -66,7 +66,8 @@ abbrev pub tick_wish : List (List ℕ) → Option Wish
 tick_wish behind = option_map Tick (option_and_then span_at (number_behind behind))
 
 abbrev pub check_said : List ℕ → List (List ℕ) → Option Wish
-check_said word behind = option_and_then (λ none. option_map Check (tei_said word)) (nothing_of behind)
+check_said word behind = option_and_then (λ none. option_map Check (tei_said word))
+    (nothing_of behind)
 
 abbrev pub check_wish : List (List ℕ) → Option Wish
 check_wish [] = None
@@ -82,7 +83,8 @@ link_wish word id behind =
 
 abbrev pub with_tei : List ℕ → List ℕ → List (List ℕ) → Option Wish
 with_tei word sapi [] = None
-with_tei word sapi (tei ∷ behind) = option_and_then (λ id. link_wish word id behind) (id_said sapi tei)
+with_tei word sapi (tei ∷ behind) = option_and_then (λ id. link_wish word id behind)
+    (id_said sapi tei)
 
 abbrev pub with_sapi : List ℕ → List (List ℕ) → Option Wish
 with_sapi word [] = None
@@ -90,8 +92,10 @@ with_sapi word (sapi ∷ behind) = with_tei word sapi behind
 
 -- what a word asks for that the one side's script has and the other's has not
 abbrev pub own_wish : Side → List ℕ → List (List ℕ) → Option Wish
-own_wish User word behind = if bytes_eq word (codes "ask") then bare_wish AskTei behind else with_sapi word behind
-own_wish Network word behind = if bytes_eq word (codes "check") then check_wish behind else with_sapi word behind
+own_wish User word behind = if bytes_eq word (codes "ask") then bare_wish AskTei behind
+    else with_sapi word behind
+own_wish Network word behind = if bytes_eq word (codes "check") then check_wish behind
+    else with_sapi word behind
 
 abbrev pub wish_of_word : Side → List ℕ → List (List ℕ) → Option Wish
 wish_of_word side word behind =
@@ -126,7 +130,8 @@ clocked side now = ([], record { side = side; now = now })
 
 -- which lines are lines of the command, and how they move the clock. What they print is not said here.
 abbrev pub clock_step : Step Clocked
-clock_step s octets = option_map (clocked s.side) (option_and_then (moment_after s.now) (wish_of_line s.side octets))
+clock_step s octets = option_map (clocked s.side)
+    (option_and_then (moment_after s.now) (wish_of_line s.side octets))
 
 -- a side that goes over a script begins at moment 0
 abbrev pub new_clock : Side → Clocked
@@ -135,7 +140,8 @@ new_clock side = record { side = side; now = 0 }
 -- how a side that goes over these lines ends: it names a bad line where there is one that it comes to, and that is the first
 abbrev pub SideEndsAs : Side → Result ⊤ ScriptFault → List (List ℕ) → Type 0
 SideEndsAs side (Ok done) lines = bad_line clock_step (new_clock side) lines ≡ None
-SideEndsAs side (Err (BadLine number)) lines = bad_line clock_step (new_clock side) lines ≡ Some number
+SideEndsAs side (Err (BadLine number)) lines = bad_line clock_step (new_clock side) lines
+    ≡ Some number
 SideEndsAs side (Err other) lines = ⊤
 
 -- how what is asked for moves the clock from one moment to another, where it is not refused as a bad line

@@ -1,51 +1,53 @@
 //! What the calls of a side give for one line of its script.
 
-ghost use Rattle.std.specs.Prelude.{◌≡◌, [], ◌++◌, IsOkUnless, OnOk};
+ghost use Rattle.std.specs.Prelude.{◌≡◌, ◌≤◌, [], ◌∷◌, ◌++◌, length, IfNone, IfOk, IsOkUnless, OnOk};
+ghost use Rattle.std.specs.Io.KnownBytes.{Appends};
+ghost use Rattle.lapd_port.specs.SocketText.{socket_text};
 ghost use Rattle.lapd_sides_links.specs.Effects.{HasLeastOctets};
-ghost use Rattle.lapd_cli_side_commands.specs.SideTexts.{primitives_text};
+ghost use Rattle.lapd_cli_side_commands.specs.SideTexts.{frame_text_line, frames_text, primitives_text};
 
-use crate::side_texts::put_primitives;
-use arrayvec::ArrayVec;
-use lapd_cli_script::{LineFault, put_line};
+use crate::side_texts::push_primitives;
+use crate::traced_frame::TracedFrame;
+use lapd_cli_script::LineFault;
 use lapd_frame::{MOST_OCTETS, Side};
 use lapd_port::{Port, PortFault, Sink, Source};
 use lapd_sides::Acts;
 use std::alloc::Global;
 use std::io::Write;
 
-/// A frame that is to be sent, of at least three octets, and its trace line.
-#[derive(Drop)]
-struct TracedFrame {
-    octets: ArrayVec<u8, MOST_OCTETS>,
-    line: String,
-    ghost least: { HasLeastOctets octets.items },
-}
-
 /// The frames that are to be sent, and the text of what the layers above are told. All memory that they take is taken
-/// before the first frame is sent.
+/// before the first frame is sent, and its room serves for the next line.
 #[derive(Drop)]
 pub(crate) struct LineOutput {
     alloc: Global,
+    /// The frames of this line, and behind them frames of lines before, whose room is used again.
     frames: Vec<TracedFrame>,
-    primitives: Vec<u8>,
+    /// How many frames are of this line.
+    count: usize,
+    primitives: String,
+    ghost within: { count ≤ length frames.items },
 }
 
 impl LineOutput {
+    ghost use Rattle.lapd_cli_side_commands.specs.LineOutputs.{sent_of, told_of, traced_of};
+
     /// Nothing.
     pub(crate) fn new(alloc: Global) -> LineOutput {
         LineOutput {
             alloc,
             frames: Vec::new(alloc),
-            primitives: Vec::new(alloc),
+            count: 0,
+            primitives: String::new(alloc),
         }
     }
 
     /// Forgets all, and keeps the room for it.
     pub(crate) fn clear(&mut self)
-        ensures frames { self.new.frames.items ≡ [] }
-        ensures told { self.new.primitives.items ≡ [] }
+        ensures sent { sent_of self.new ≡ [] }
+        ensures traced { traced_of self.new ≡ [] }
+        ensures told { told_of self.new ≡ [] }
     {
-        self.frames.clear();
+        self.count = 0;
         self.primitives.clear();
     }
 
@@ -55,21 +57,24 @@ impl LineOutput {
     ///
     /// `Memory`.
     pub(crate) fn gather(&mut self, side: Side, acts: &Acts) -> Result<(), LineFault>
+        ensures sent { OnOk result (sent_of self.new ≡ sent_of self.old ++ acts.now.frames) }
+        ensures traced { OnOk result
+            (traced_of self.new ≡ traced_of self.old ++ frames_text side acts.now.frames) }
         ensures told { OnOk result
-            (self.new.primitives.items ≡ self.old.primitives.items ++ primitives_text acts.now.primitives) }
+            (told_of self.new ≡ told_of self.old ++ primitives_text acts.now.primitives) }
         ensures err { IsOkUnless result LineFault.Memory }
     {
         for frame in acts.frames() {
             self.add(side, frame.as_slice())?;
         }
-        match put_primitives(acts.primitives(), &mut self.primitives) {
+        match push_primitives(acts.primitives(), &mut self.primitives) {
             Ok(()) => Ok(()),
             Err(_) => Err(LineFault::Memory),
         }
     }
 
-    /// Sends the frames, each in one write, and prints each once it is sent; then prints what the layers above are told. Where
-    /// the port fails, nothing more is sent or printed, and how it failed is handed back.
+    /// Sends the frames, each in one write, and prints each once it is sent; then prints what the layers above are told, and
+    /// hands all to the device. Where the port fails, nothing more is sent or printed, and how it failed is handed back.
     ///
     /// # Errors
     ///
@@ -79,34 +84,45 @@ impl LineOutput {
         port: &mut Port<S, K>,
         out: &mut W,
     ) -> Result<Option<PortFault>, LineFault>
+        ensures sent { IfOk result (λ fault. IfNone fault
+            (Appends (K.written port.old.sink) (K.written port.new.sink)
+            (socket_text (sent_of self.now)))) }
+        ensures printed { IfOk result (λ fault. IfNone fault
+            (Appends (W.contents out.old) (W.contents out.new)
+            (traced_of self.now ++ told_of self.now))) }
+        ensures source { port.new.source ≡ port.old.source }
         ensures err { IsOkUnless result LineFault.Device }
     {
-        for sent in self.frames.as_slice() {
-            if let Err(fault) = port.write_frame(sent.octets.as_slice()) {
+        for sent in &self.frames[..self.count] {
+            if let Err(fault) = port.write_frame(sent.octets()) {
                 return Ok(Some(fault));
             }
-            put_line(sent.line.as_bytes(), &[], out)?;
+            out.write_all(sent.line())?;
         }
-        out.write_all(self.primitives.as_slice())?;
+        out.write_all(self.primitives.as_bytes())?;
+        out.flush()?;
         Ok(None)
     }
 
     /// Adds a frame with its trace line.
     fn add(&mut self, side: Side, frame: &[u8]) -> Result<(), LineFault>
-        requires { HasLeastOctets frame.now }
-        ensures told { self.new.primitives ≡ self.old.primitives }
+        requires least { HasLeastOctets frame.now }
+        requires most { length frame.now ≤ MOST_OCTETS }
+        ensures sent { OnOk result (sent_of self.new ≡ sent_of self.old ++ frame.now ∷ []) }
+        ensures traced { OnOk result
+            (traced_of self.new ≡ traced_of self.old ++ frame_text_line side frame.now) }
+        ensures told { told_of self.new ≡ told_of self.old }
         ensures err { IsOkUnless result LineFault.Memory }
     {
-        let Ok(line) = lapd_trace::line(self.alloc, side, frame) else {
-            return Err(LineFault::Memory);
-        };
-        let mut octets = ArrayVec::new();
-        let Ok(()) = octets.try_extend_from_slice(frame) else {
-            return Err(LineFault::Memory);
-        };
-        match self.frames.push(TracedFrame { octets, line }) {
-            Ok(()) => Ok(()),
-            Err(_) => Err(LineFault::Memory),
+        if self.count < self.frames.len() {
+            self.frames[self.count].replace(self.alloc, side, frame)?;
+        } else {
+            let traced = TracedFrame::new(self.alloc, side, frame)?;
+            let Ok(()) = self.frames.push(traced) else {
+                return Err(LineFault::Memory);
+            };
         }
+        self.count += 1;
+        Ok(())
     }
 }

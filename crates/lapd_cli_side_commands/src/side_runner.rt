@@ -1,14 +1,16 @@
 //! A side that goes over a script, with the other side behind a port.
 
-ghost use Rattle.std.specs.Prelude.{◌≡◌, ◌+◌, IfSome};
+ghost use Rattle.std.specs.Prelude.{◌≡◌, ◌+◌, ◌++◌, IfSome, OnOk};
 ghost use Rattle.lapd_cli_script.specs.Script.{lines_of};
 ghost use Rattle.lapd_sides.specs.Either.{side_of};
 ghost use Rattle.lapd_cli_side_commands.specs.Wishes.{SideEndsAs, moment_at};
+ghost use Rattle.lapd_cli_side_commands.specs.Served.{HasServed, devices, wishes_of};
 
 use crate::line_output::LineOutput;
 use crate::side_lines::{SideLine, read_line};
-use crate::side_texts::put_refusal;
-use lapd_cli_script::{Command, LineFault, ScriptFault, put_line, walk};
+use crate::side_texts::{put_end, put_refusal};
+use crate::traced_frame::push_trace;
+use lapd_cli_script::{Command, LineFault, ScriptFault, walk};
 use lapd_port::{MOST_OCTETS, Port, PortFault, Sink, Source};
 use lapd_sides::{Acts, EitherSide, Request, SideKind};
 use std::alloc::Global;
@@ -20,19 +22,32 @@ const LAST_MOMENT: u64 = 1_000_000_000_000_000;
 /// A side, its clock, and what it is given and gives: a port and a writer. It has room for what a line gives, which is used
 /// again for the next.
 #[derive(Drop)]
-struct SideRunner<'o, W, S, K> {
+struct SideRunner<W, S, K> {
     alloc: Global,
     side: EitherSide,
     now: u64,
     acts: Acts,
-    given: LineOutput,
-    out: &'o mut W,
+    /// The trace line of the frame that was read.
+    heard: String,
+    output: LineOutput,
+    out: W,
     port: Port<S, K>,
     /// How the port failed.
     fault: Option<PortFault>,
 }
 
-/// Goes over a script as this side, from moment 0 on, and hands the port back.
+/// How a side went over a script, with what it was given for that.
+#[derive(Drop)]
+pub struct SideRun<W, S, K> {
+    /// Whether it came to the script's end.
+    pub ended: Result<(), ScriptFault>,
+    /// The port, with the other side behind it.
+    pub port: Port<S, K>,
+    /// What was printed on.
+    pub out: W,
+}
+
+/// Goes over a script as this side, from moment 0 on.
 ///
 /// # Errors
 ///
@@ -42,58 +57,84 @@ pub(crate) fn run_side<R: Read, W: Write, S: Source, K: Sink>(
     alloc: Global,
     side: EitherSide,
     script: &mut R,
-    out: &mut W,
+    out: W,
     port: Port<S, K>,
-) -> (Result<(), ScriptFault>, Port<S, K>)
-    ensures { IfSome (R.remaining script.old) (λ octets. SideEndsAs (side_of side) result.0 (lines_of octets)) }
+) -> SideRun<W, S, K>
+    ensures ended { IfSome (R.remaining script.old) (λ octets.
+        SideEndsAs (side_of side) result.ended (lines_of octets)) }
+    ensures served { IfSome (R.remaining script.old) (λ octets. OnOk result.ended
+        (HasServed side (wishes_of (side_of side) (lines_of octets))
+        (devices (S.rest port.source) (K.written port.sink) (W.contents out))
+        (devices (S.rest result.port.source) (K.written result.port.sink)
+        (W.contents result.out)))) }
 {
     let Ok(acts) = Acts::new(alloc) else {
-        return (Err(ScriptFault::Memory), port);
+        let ended = Err(ScriptFault::Memory);
+        return SideRun { ended, port, out };
     };
     let mut runner = SideRunner {
         alloc,
         side,
         now: 0,
         acts,
-        given: LineOutput::new(alloc),
+        heard: String::new(alloc),
+        output: LineOutput::new(alloc),
         out,
         port,
         fault: None,
     };
     let ended = walk(alloc, &mut runner, script, &mut io::sink());
-    let SideRunner { port, fault, .. } = runner;
+    let SideRunner {
+        out,
+        port,
+        fault,
+        ..
+    } = runner;
     if let Some(fault) = fault {
-        return (Err(ScriptFault::Port(fault)), port);
+        let ended = Err(ScriptFault::Port(fault));
+        return SideRun { ended, port, out };
     }
-    (ended, port)
+    SideRun { ended, port, out }
 }
 
-impl<W: Write, S: Source, K: Sink> Command for SideRunner<'_, W, S, K> {
+impl<W: Write, S: Source, K: Sink> Command for SideRunner<W, S, K> {
     ghost use Rattle.lapd_sides.specs.Either.{side_of};
-    ghost use Rattle.lapd_cli_side_commands.specs.Wishes.{Clocked, clock_step};
+    ghost use Rattle.lapd_cli_side_commands.specs.Served.{Progress, HasComeTo, at_work, devices, side_step};
 
-    ghost State = { Clocked };
+    ghost State = { Progress };
 
-    ghost step = { clock_step };
+    ghost step = { side_step };
 
-    ghost stands_for = { λ runner s. (side_of runner.side ≡ s.side) × (runner.now ≡ s.now) };
+    ghost stands_for = { λ runner s. HasComeTo s (at_work runner.side runner.now
+        (devices (S.rest runner.port.source) (K.written runner.port.sink)
+        (W.contents runner.out))) };
 
     fn run<V: Write>(&mut self, line: &[u8], _out: &mut V) -> Result<(), LineFault> {
         let asked = read_line(self.alloc, self.side.side(), line)?;
         self.obey(asked)?;
-        self.out.flush()?;
         Ok(())
     }
 }
 
-impl<W: Write, S: Source, K: Sink> SideRunner<'_, W, S, K> {
+impl<W: Write, S: Source, K: Sink> SideRunner<W, S, K> {
     ghost use Rattle.lapd_sides.specs.Either.{side_of};
-    ghost use Rattle.lapd_cli_side_commands.specs.Wishes.{IsGood, Moves, moment_after, wish_of};
+    ghost use Rattle.std.specs.Prelude.{IsErr};
+    ghost use Rattle.std.specs.Io.KnownBytes.{Appends};
+    ghost use Rattle.lapd_port.specs.SocketText.{socket_text};
+    ghost use Rattle.lapd_cli_side_commands.specs.LineOutputs.{sent_of, told_of, traced_of};
+    ghost use Rattle.lapd_cli_side_commands.specs.SideTexts.{refusal_line};
+    ghost use Rattle.lapd_cli_side_commands.specs.Served.{Asks, ExpiresAll, GoesOn, LineDoes, TakesNow, at_work, devices};
+    ghost use Rattle.lapd_cli_side_commands.specs.Wishes.{IsGood, Moves, Read, moment_after, wish_of, wish_of_request};
 
     /// Does what a line asks for.
     fn obey(&mut self, line: SideLine) -> Result<(), LineFault>
         ensures side { side_of self.new.side ≡ side_of self.old.side }
         ensures clock { Moves (moment_after self.old.now (wish_of line)) result self.new.now }
+        ensures does { OnOk result (LineDoes (wish_of line)
+            (at_work self.old.side self.old.now (devices (S.rest self.old.port.source)
+            (K.written self.old.port.sink) (W.contents self.old.out)))
+            (at_work self.new.side self.new.now (devices (S.rest self.new.port.source)
+            (K.written self.new.port.sink) (W.contents self.new.out)))) }
     {
         match line {
             SideLine::Read => self.read(),
@@ -107,11 +148,16 @@ impl<W: Write, S: Source, K: Sink> SideRunner<'_, W, S, K> {
         ensures side { side_of self.new.side ≡ side_of self.old.side }
         ensures clock { self.new.now ≡ self.old.now }
         ensures good { IsGood result }
+        ensures does { OnOk result (LineDoes Read
+            (at_work self.old.side self.old.now (devices (S.rest self.old.port.source)
+            (K.written self.old.port.sink) (W.contents self.old.out)))
+            (at_work self.new.side self.new.now (devices (S.rest self.new.port.source)
+            (K.written self.new.port.sink) (W.contents self.new.out)))) }
     {
         let mut frame = [0; MOST_OCTETS];
         match self.port.read_frame(&mut frame) {
             Ok(count) => self.hear(&frame[..count]),
-            Err(PortFault::End) => put_line(b"refused S1 End", &[], self.out),
+            Err(PortFault::End) => put_end(&mut self.out),
             Err(fault) => self.fail(fault),
         }
     }
@@ -121,17 +167,24 @@ impl<W: Write, S: Source, K: Sink> SideRunner<'_, W, S, K> {
         ensures side { side_of self.new.side ≡ side_of self.old.side }
         ensures clock { self.new.now ≡ self.old.now }
         ensures good { IsGood result }
+        ensures takes { OnOk result (TakesNow frame.now self.old.now self.old.side self.new.side
+            (devices (S.rest self.old.port.source)
+            (K.written self.old.port.sink) (W.contents self.old.out))
+            (devices (S.rest self.new.port.source)
+            (K.written self.new.port.sink) (W.contents self.new.out))) }
+        ensures source { self.new.port.source ≡ self.old.port.source }
     {
         let side = self.side.side();
-        let Ok(line) = lapd_trace::line(self.alloc, side.other(), frame) else {
+        self.heard.clear();
+        let Ok(()) = push_trace(self.alloc, &mut self.heard, side.other(), frame) else {
             return Err(LineFault::Memory);
         };
         let Ok(()) = self.side.take(frame, self.now, &mut self.acts) else {
             return Err(LineFault::Memory);
         };
-        self.given.clear();
-        self.given.gather(side, &self.acts)?;
-        put_line(line.as_bytes(), &[], self.out)?;
+        self.output.clear();
+        self.output.gather(side, &self.acts)?;
+        self.out.write_all(self.heard.as_bytes())?;
         self.hand_on()
     }
 
@@ -139,6 +192,11 @@ impl<W: Write, S: Source, K: Sink> SideRunner<'_, W, S, K> {
     fn tick(&mut self, ms: u64) -> Result<(), LineFault>
         ensures side { side_of self.new.side ≡ side_of self.old.side }
         ensures clock { Moves (moment_at (self.old.now + ms)) result self.new.now }
+        ensures does { OnOk result (GoesOn ms
+            (at_work self.old.side self.old.now (devices (S.rest self.old.port.source)
+            (K.written self.old.port.sink) (W.contents self.old.out)))
+            (at_work self.new.side self.new.now (devices (S.rest self.new.port.source)
+            (K.written self.new.port.sink) (W.contents self.new.out)))) }
     {
         match moment_behind(self.now, ms) {
             Some(now) => {
@@ -155,16 +213,22 @@ impl<W: Write, S: Source, K: Sink> SideRunner<'_, W, S, K> {
         ensures side { side_of self.new.side ≡ side_of self.old.side }
         ensures clock { self.new.now ≡ self.old.now }
         ensures good { IsGood result }
+        ensures does { OnOk result (ExpiresAll self.old.now self.old.side self.new.side
+            (devices (S.rest self.old.port.source)
+            (K.written self.old.port.sink) (W.contents self.old.out))
+            (devices (S.rest self.new.port.source)
+            (K.written self.new.port.sink) (W.contents self.new.out))) }
+        ensures source { self.new.port.source ≡ self.old.port.source }
     {
         let side = self.side.side();
-        self.given.clear();
+        self.output.clear();
         for _tick in 0..u64::MAX {
             if !self.side.tick(self.now, &mut self.acts) {
-                break;
+                return self.hand_on();
             }
-            self.given.gather(side, &self.acts)?;
+            self.output.gather(side, &self.acts)?;
         }
-        self.hand_on()
+        Err(LineFault::Device)
     }
 
     /// The side is asked for something.
@@ -172,12 +236,17 @@ impl<W: Write, S: Source, K: Sink> SideRunner<'_, W, S, K> {
         ensures side { side_of self.new.side ≡ side_of self.old.side }
         ensures clock { self.new.now ≡ self.old.now }
         ensures good { IsGood result }
+        ensures does { OnOk result (Asks (wish_of_request request)
+            (at_work self.old.side self.old.now (devices (S.rest self.old.port.source)
+            (K.written self.old.port.sink) (W.contents self.old.out)))
+            (at_work self.new.side self.new.now (devices (S.rest self.new.port.source)
+            (K.written self.new.port.sink) (W.contents self.new.out)))) }
     {
         let side = self.side.side();
         match self.side.request(request, self.now, &mut self.acts) {
             Ok(()) => {
-                self.given.clear();
-                self.given.gather(side, &self.acts)?;
+                self.output.clear();
+                self.output.gather(side, &self.acts)?;
                 self.hand_on()
             }
             Err(fault) => self.refuse(fault.kind),
@@ -189,10 +258,14 @@ impl<W: Write, S: Source, K: Sink> SideRunner<'_, W, S, K> {
         ensures side { side_of self.new.side ≡ side_of self.old.side }
         ensures clock { self.new.now ≡ self.old.now }
         ensures good { IsGood result }
+        ensures own { self.new.side ≡ self.old.side }
+        ensures port { self.new.port ≡ self.old.port }
+        ensures printed { OnOk result (Appends (W.contents self.old.out) (W.contents self.new.out)
+            (refusal_line kind)) }
     {
         match kind {
             SideKind::Memory => Err(LineFault::Memory),
-            SideKind::NoLink | SideKind::Link(_) => put_refusal(kind, self.out),
+            SideKind::NoLink | SideKind::Link(_) => put_refusal(kind, &mut self.out),
         }
     }
 
@@ -201,8 +274,14 @@ impl<W: Write, S: Source, K: Sink> SideRunner<'_, W, S, K> {
         ensures side { side_of self.new.side ≡ side_of self.old.side }
         ensures clock { self.new.now ≡ self.old.now }
         ensures good { IsGood result }
+        ensures own { self.new.side ≡ self.old.side }
+        ensures sent { OnOk result (Appends (K.written self.old.port.sink)
+            (K.written self.new.port.sink) (socket_text (sent_of self.old.output))) }
+        ensures printed { OnOk result (Appends (W.contents self.old.out) (W.contents self.new.out)
+            (traced_of self.old.output ++ told_of self.old.output)) }
+        ensures source { self.new.port.source ≡ self.old.port.source }
     {
-        match self.given.hand_on(&mut self.port, self.out)? {
+        match self.output.hand_on(&mut self.port, &mut self.out)? {
             Some(fault) => self.fail(fault),
             None => Ok(()),
         }
@@ -213,6 +292,9 @@ impl<W: Write, S: Source, K: Sink> SideRunner<'_, W, S, K> {
         ensures side { side_of self.new.side ≡ side_of self.old.side }
         ensures clock { self.new.now ≡ self.old.now }
         ensures good { IsGood result }
+        ensures own { self.new.side ≡ self.old.side }
+        ensures port { self.new.port ≡ self.old.port }
+        ensures stops { IsErr result }
     {
         self.out.flush()?;
         self.fault = Some(fault);

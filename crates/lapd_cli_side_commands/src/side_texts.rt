@@ -1,38 +1,36 @@
 //! The lines of what a side tells the layers above it, and of what it refuses.
 
-ghost use Rattle.std.specs.Prelude.{IsOkUnless, OnOk};
+ghost use Rattle.std.specs.Prelude.{◌≡◌, ◌++◌, IsOkUnless, OnOk};
+ghost use Rattle.std.specs.String.{string_bytes};
 ghost use Rattle.std.specs.Io.KnownBytes.{Appends};
 ghost use Rattle.lapd_cli_script.specs.Line.{text_line};
 ghost use Rattle.lapd_sides_links.specs.Texts.{primitive_text};
-ghost use Rattle.lapd_cli_side_commands.specs.SideTexts.{primitive_line, primitives_text, refusal_line};
+ghost use Rattle.lapd_cli_side_commands.specs.SideTexts.{end_line, primitive_line, primitives_text, refusal_line};
 
-use lapd_cli_script::LineFault;
+use lapd_cli_script::{LineFault, put_line};
 use lapd_sides::{Primitive, SideKind, TeiOut};
+use std::alloc::AllocError;
 use std::io::Write;
 
-/// Prints what the layers above are told, a line each.
+/// Appends what the layers above are told, a line each.
 ///
 /// # Errors
 ///
-/// `Device`, where the writer fails.
-pub(crate) fn put_primitives<W: Write>(
-    primitives: &[Primitive],
-    out: &mut W,
-) -> Result<(), LineFault>
-    ensures ok { OnOk result (Appends (W.contents out.old) (W.contents out.new) (primitives_text primitives.now)) }
-    ensures err { IsOkUnless result LineFault.Device }
+/// `AllocError`. A front of it may have been appended.
+pub(crate) fn push_primitives(primitives: &[Primitive], text: &mut String) -> Result<(), AllocError>
+    ensures { OnOk result (string_bytes text.new
+        ≡ string_bytes text.old ++ primitives_text primitives.now) }
 {
     for primitive in primitives {
-        put_primitive(primitive, out)?;
+        push_primitive(primitive, text)?;
     }
     Ok(())
 }
 
-/// Prints what is told of a link, or what became of a TEI. Messages and timers of TEI management have no line.
-fn put_primitive<W: Write>(primitive: &Primitive, out: &mut W) -> Result<(), LineFault>
-    ensures ok { OnOk result
-        (Appends (W.contents out.old) (W.contents out.new) (primitive_line primitive.now)) }
-    ensures err { IsOkUnless result LineFault.Device }
+/// Appends what is told of a link, or what became of a TEI. Messages and timers of TEI management have no line.
+fn push_primitive(primitive: &Primitive, text: &mut String) -> Result<(), AllocError>
+    ensures { OnOk result (string_bytes text.new
+        ≡ string_bytes text.old ++ primitive_line primitive.now) }
 {
     match primitive {
         Primitive::Management(TeiOut::Send(_) | TeiOut::Start(_) | TeiOut::Stop(_)) => Ok(()),
@@ -45,29 +43,43 @@ fn put_primitive<W: Write>(primitive: &Primitive, out: &mut W) -> Result<(), Lin
             | TeiOut::Free(_)
             | TeiOut::InUse(_)
             | TeiOut::Doubled(_),
-        ) => put_text(primitive, out),
+        ) => push_text(primitive, text),
     }
 }
 
-/// Prints a line of what is told.
-fn put_text<W: Write>(primitive: &Primitive, out: &mut W) -> Result<(), LineFault>
-    ensures ok { OnOk result
-        (Appends (W.contents out.old) (W.contents out.new) (text_line (primitive_text primitive.now))) }
-    ensures err { IsOkUnless result LineFault.Device }
+/// Appends a line of what is told.
+fn push_text(primitive: &Primitive, text: &mut String) -> Result<(), AllocError>
+    ensures { OnOk result (string_bytes text.new
+        ≡ string_bytes text.old ++ text_line (primitive_text primitive.now)) }
 {
-    writeln!(out, "{primitive}")?;
-    Ok(())
+    writeln!(text, "{primitive}")
 }
 
-/// Prints why a request is refused.
+/// Prints why a request is refused, and hands it to the device.
 ///
 /// # Errors
 ///
 /// `Device`, where the writer fails.
 pub(crate) fn put_refusal<W: Write>(kind: SideKind, out: &mut W) -> Result<(), LineFault>
-    ensures ok { OnOk result (Appends (W.contents out.old) (W.contents out.new) (refusal_line kind)) }
+    ensures ok { OnOk result (Appends (W.contents out.old) (W.contents out.new)
+        (refusal_line kind)) }
     ensures err { IsOkUnless result LineFault.Device }
 {
     writeln!(out, "refused {kind}")?;
+    out.flush()?;
+    Ok(())
+}
+
+/// Prints that the source is at its end, and hands it to the device.
+///
+/// # Errors
+///
+/// `Device`, where the writer fails.
+pub(crate) fn put_end<W: Write>(out: &mut W) -> Result<(), LineFault>
+    ensures ok { OnOk result (Appends (W.contents out.old) (W.contents out.new) end_line) }
+    ensures err { IsOkUnless result LineFault.Device }
+{
+    put_line(b"refused S1 End", &[], out)?;
+    out.flush()?;
     Ok(())
 }

@@ -1,11 +1,12 @@
 //! The commands `net` and `user`.
 
-ghost use Rattle.std.specs.Prelude.{IfSome};
+ghost use Rattle.std.specs.Prelude.{◌≡◌, IfSome, OnOk};
 ghost use Rattle.lapd_frame.specs.declared.Side.TheVariants as side;
 ghost use Rattle.lapd_cli_script.specs.Script.{lines_of};
 ghost use Rattle.lapd_cli_side_commands.specs.Wishes.{SideEndsAs};
+ghost use Rattle.lapd_cli_side_commands.specs.Served.{NetHasServed, UserHasServed, basic_access, devices, wishes_of};
 
-use crate::side_runner::run_side;
+use crate::side_runner::{SideRun, run_side};
 use lapd_cli_script::ScriptFault;
 use lapd_port::{Port, Sink, Source};
 use lapd_sides::{Config, Durations, EitherSide, NetSide, Params, Sapi, UserSide};
@@ -13,7 +14,7 @@ use std::alloc::Global;
 use std::io::{Read, Write};
 
 /// Goes over a script as the network side of an interface at basic access, with the user side behind a port. It serves SAPI 0
-/// and 16 and knows of no TEI. The port is handed back.
+/// and 16 and knows of no TEI. The port and the writer are handed back.
 ///
 /// # Errors
 ///
@@ -22,19 +23,26 @@ use std::io::{Read, Write};
 pub fn net<R: Read, W: Write, S: Source, K: Sink>(
     alloc: Global,
     script: &mut R,
-    out: &mut W,
+    out: W,
     port: Port<S, K>,
-) -> (Result<(), ScriptFault>, Port<S, K>)
-    ensures { IfSome (R.remaining script.old) (λ octets. SideEndsAs side.Network result.0 (lines_of octets)) }
+) -> SideRun<W, S, K>
+    ensures ended { IfSome (R.remaining script.old) (λ octets.
+        SideEndsAs side.Network result.ended (lines_of octets)) }
+    ensures served { IfSome (R.remaining script.old) (λ octets. OnOk result.ended
+        (NetHasServed (wishes_of side.Network (lines_of octets))
+        (devices (S.rest port.source) (K.written port.sink) (W.contents out))
+        (devices (S.rest result.port.source) (K.written result.port.sink)
+        (W.contents result.out)))) }
 {
     let Ok(side) = NetSide::new(alloc, basic_access(), &[]) else {
-        return (Err(ScriptFault::Memory), port);
+        let ended = Err(ScriptFault::Memory);
+        return SideRun { ended, port, out };
     };
     run_side(alloc, EitherSide::Network(side), script, out, port)
 }
 
 /// Goes over a script as the user side of an interface at basic access, with the network side behind a port. It serves SAPI 0
-/// and 16 and has no TEI. The port is handed back.
+/// and 16 and has no TEI. The port and the writer are handed back.
 ///
 /// # Errors
 ///
@@ -42,19 +50,28 @@ pub fn net<R: Read, W: Write, S: Source, K: Sink>(
 pub fn user<R: Read, W: Write, S: Source, K: Sink>(
     alloc: Global,
     script: &mut R,
-    out: &mut W,
+    out: W,
     port: Port<S, K>,
-) -> (Result<(), ScriptFault>, Port<S, K>)
-    ensures { IfSome (R.remaining script.old) (λ octets. SideEndsAs side.User result.0 (lines_of octets)) }
+) -> SideRun<W, S, K>
+    ensures ended { IfSome (R.remaining script.old) (λ octets.
+        SideEndsAs side.User result.ended (lines_of octets)) }
+    ensures served { IfSome (R.remaining script.old) (λ octets. OnOk result.ended
+        (UserHasServed (wishes_of side.User (lines_of octets))
+        (devices (S.rest port.source) (K.written port.sink) (W.contents out))
+        (devices (S.rest result.port.source) (K.written result.port.sink)
+        (W.contents result.out)))) }
 {
     let Ok(side) = UserSide::new(alloc, basic_access(), None) else {
-        return (Err(ScriptFault::Memory), port);
+        let ended = Err(ScriptFault::Memory);
+        return SideRun { ended, port, out };
     };
     run_side(alloc, EitherSide::User(side), script, out, port)
 }
 
 /// What a side of an interface at basic access is made with (Q.921 5.9).
-fn basic_access() -> Config {
+fn basic_access() -> Config
+    ensures { result ≡ basic_access }
+{
     Config {
         sapi16: true,
         params0: Params::basic(Sapi::Call),

@@ -4,7 +4,7 @@ use crate::devices::{Devices, MemoryPort, Paper, SOUND, port_of};
 use crate::port::devices::calls_of;
 use crate::wants::{are_same, wants};
 use lapd_cli_script::ScriptFault;
-use lapd_cli_side_commands::{Port, Sink, Source, net, user};
+use lapd_cli_side_commands::{Port, SideRun, Sink, Source, net, user};
 use std::alloc::Global;
 use std::io::Write;
 use std::test::Fail;
@@ -54,9 +54,9 @@ pub(crate) fn go_over<W: Write, S: Source, K: Sink>(
     alloc: Global,
     who: Who,
     mut script: &[u8],
-    printed: &mut W,
+    printed: W,
     port: Port<S, K>,
-) -> (Result<(), ScriptFault>, Port<S, K>) {
+) -> SideRun<W, S, K> {
     match who {
         Who::Net => net(alloc, &mut script, printed, port),
         Who::User => user(alloc, &mut script, printed, port),
@@ -71,12 +71,11 @@ pub(crate) fn play<'a>(
     port: MemoryPort<'a>,
     room: usize,
 ) -> Ended<'a> {
-    let mut printed = Paper::with_room(room);
-    let (result, port) = go_over(alloc, who, script, &mut printed, port);
+    let run = go_over(alloc, who, script, Paper::with_room(room), port);
     Ended {
-        result,
-        printed,
-        port,
+        result: run.ended,
+        printed: run.out,
+        port: run.port,
     }
 }
 

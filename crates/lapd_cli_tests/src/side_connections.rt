@@ -4,7 +4,7 @@
 use crate::connections::to_itself;
 use crate::dialogues::{BOTH_NET, BOTH_USER, MOST, Row, go_over, octets_of};
 use crate::wants::{are_same, wants};
-use lapd_cli_side_commands::{FromRead, FromWrite, Port};
+use lapd_cli_side_commands::{FromRead, FromWrite, Port, SideRun};
 use std::alloc::Global;
 use std::io::{Read, Write};
 use std::net::TcpStream;
@@ -14,7 +14,7 @@ use std::test::Fail;
 fn plays(alloc: Global, row: &Row, stream: &TcpStream) -> bool {
     let port = Port::new(FromRead::new(stream), FromWrite::new(stream));
     let mut printed = Vec::new(alloc);
-    let (ended, _port) = go_over(alloc, row.who, row.script.as_bytes(), &mut printed, port);
+    let SideRun { ended, .. } = go_over(alloc, row.who, row.script.as_bytes(), &mut printed, port);
     ended == Ok(()) && are_same(printed.as_slice(), row.printed.as_bytes())
 }
 

@@ -33,11 +33,13 @@ poll_text Answer false = codes " F=0"
 poll_text Answer true = codes " F=1"
 
 abbrev pub address_text : Address → List ℕ
-address_text a = codes "SAPI " ++ (decimal (sapi_value a.sapi) ++ (codes " TEI " ++ (decimal a.tei ++ role_text a.role)))
+address_text a = codes "SAPI " ++ (decimal (sapi_value a.sapi)
+    ++ (codes " TEI " ++ (decimal a.tei ++ role_text a.role)))
 
 -- each control field (Q.921 Table 5), in a frame of this role
 abbrev pub control_text : Role → Control → List ℕ
-control_text role (I ns nr p) = codes "I N(S)=" ++ (decimal ns ++ (codes " N(R)=" ++ (decimal nr ++ poll_text role p)))
+control_text role (I ns nr p) = codes "I N(S)="
+    ++ (decimal ns ++ (codes " N(R)=" ++ (decimal nr ++ poll_text role p)))
 control_text role (Rr nr pf) = codes "RR N(R)=" ++ (decimal nr ++ poll_text role pf)
 control_text role (Rnr nr pf) = codes "RNR N(R)=" ++ (decimal nr ++ poll_text role pf)
 control_text role (Rej nr pf) = codes "REJ N(R)=" ++ (decimal nr ++ poll_text role pf)
@@ -55,7 +57,8 @@ octets_text words [] = []
 octets_text words (octet ∷ octets) = words ++ encode_lower (octet ∷ octets)
 
 abbrev pub frame_text : Fields → List ℕ
-frame_text f = address_text f.address ++ (control_text f.address.role f.control ++ octets_text (codes " info=") f.info)
+frame_text f = address_text f.address ++ (control_text f.address.role f.control
+    ++ octets_text (codes " info=") f.info)
 
 -- the line of a frame that this side sends
 abbrev pub frame_line : Side → Fields → List ℕ

@@ -20,7 +20,10 @@ impl Model for History {
 
     ghost Value = { KeptLines };
 
-    ghost view = { λ h. record { room = h.lines.capacity; lines = map string_bytes h.lines.items } };
+    ghost view = { λ h. record {
+      room = h.lines.capacity;
+      lines = map string_bytes h.lines.items;
+    } };
 
     ghost invariant = { λ h. 0 < h.lines.capacity };
 }
@@ -40,7 +43,10 @@ impl History {
 
     /// Puts a line behind the others. Where the history is full, the oldest line is dropped.
     pub fn push(&mut self, line: String)
-        ensures push { self.new ≡ record self.old { lines = last_of self.old.room (self.old.lines ++ string_bytes line ∷ []) } }
+        ensures push { self.new ≡ record self.old {
+          lines = last_of self.old.room
+              (self.old.lines ++ string_bytes line ∷ []);
+        } }
 
         // So it keeps the last of all lines that were pushed.
         ensures all { (pushed : List (List ℕ)) → self.old.lines ≡ last_of self.old.room pushed

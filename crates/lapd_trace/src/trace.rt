@@ -1,10 +1,11 @@
-ghost use Rattle.std.specs.Prelude.{◌≡◌, ◌++◌, IfOk, OnOk};
+ghost use Rattle.std.specs.Prelude.{◌≡◌, ◌≤◌, ◌++◌, [], length, IfOk, OnOk};
 ghost use Rattle.std.specs.Fmt.{decimal};
 ghost use Rattle.std.specs.String.{string_bytes};
+ghost use Rattle.hex.specs.Hex.{encode_lower};
 ghost use Rattle.lapd_frame.specs.Frame.{IsFrame, spelling};
 ghost use Rattle.lapd_trace.specs.Trace.{trace_line, frame_line, frame_text, direction_text, role_text, poll_text, address_text, control_text, octets_text};
 
-use lapd_frame::{Address, Control, Frame, Number, Role, Side};
+use lapd_frame::{Address, Control, Frame, N201, Number, Role, Side};
 use std::alloc::{AllocError, Global};
 
 /// The greatest length of a line, in octets of text, beside two digits for each octet of the frame. An I frame with
@@ -31,15 +32,33 @@ const MOST_FIELD_OCTETS: usize = 4;
 pub fn line(alloc: Global, from: Side, bytes: &[u8]) -> Result<String, AllocError>
     ensures { IfOk result (λ s. string_bytes s ≡ trace_line from bytes.now) }
 {
-    let mut text = begun_line(alloc, from, bytes.len())?;
+    let mut text = line_room(alloc, bytes.len())?;
+    push_line(alloc, &mut text, from, bytes)?;
+    Ok(text)
+}
+
+/// Appends the line of text for `bytes`, which `from` sent, as [`line`] gives it. So one text serves for many lines.
+///
+/// # Errors
+///
+/// `AllocError` where there was no memory for the line. A front of it may have been appended.
+pub fn push_line(
+    alloc: Global,
+    text: &mut String,
+    from: Side,
+    bytes: &[u8],
+) -> Result<(), AllocError>
+    ensures { OnOk result (string_bytes text.new
+        ≡ string_bytes text.old ++ trace_line from bytes.now) }
+{
+    text.push_str(direction_name(from))?;
     match lapd_frame::read(bytes, from) {
-        Ok(frame) => push_frame(alloc, &mut text, &frame)?,
+        Ok(frame) => push_frame(alloc, text, &frame),
         Err(fault) => {
             text.push_str(fault.kind.name())?;
-            push_octets(alloc, &mut text, " ", bytes)?;
+            push_octets(alloc, text, " ", bytes)
         }
     }
-    Ok(text)
 }
 
 /// The line of text for a frame that `from` sends: that of the frame's octets, which need not be there.
@@ -57,19 +76,18 @@ pub fn line_of(alloc: Global, from: Side, frame: &Frame<'_>) -> Result<String, A
         → IfOk result (λ s. string_bytes s ≡ trace_line from (spelling from frame.now)) }
 {
     let octets = frame.info().len().saturating_add(MOST_FIELD_OCTETS);
-    let mut text = begun_line(alloc, from, octets)?;
+    let mut text = line_room(alloc, octets)?;
+    text.push_str(direction_name(from))?;
     push_frame(alloc, &mut text, frame)?;
     Ok(text)
 }
 
-/// Who sent a frame, with room for a line that has the digits of so many octets.
-fn begun_line(alloc: Global, from: Side, octets: usize) -> Result<String, AllocError>
-    ensures { IfOk result (λ s. string_bytes s ≡ direction_text from) }
+/// An empty text, with room for a line that has the digits of so many octets.
+fn line_room(alloc: Global, octets: usize) -> Result<String, AllocError>
+    ensures { IfOk result (λ s. string_bytes s ≡ []) }
 {
     let digits = octets.saturating_mul(2);
-    let mut text = String::with_capacity(alloc, digits.saturating_add(MOST_BESIDE_DIGITS))?;
-    text.push_str(direction_name(from))?;
-    Ok(text)
+    String::with_capacity(alloc, digits.saturating_add(MOST_BESIDE_DIGITS))
 }
 
 /// Appends address, control field and information.
@@ -84,7 +102,8 @@ fn push_frame(alloc: Global, text: &mut String, frame: &Frame<'_>) -> Result<(),
 
 /// Appends SAPI, TEI and role.
 fn push_address(text: &mut String, address: &Address) -> Result<(), AllocError>
-    ensures { OnOk result (string_bytes text.new ≡ string_bytes text.old ++ address_text address.now) }
+    ensures { OnOk result (string_bytes text.new
+        ≡ string_bytes text.old ++ address_text address.now) }
 {
     let (sapi, tei, role) = (address.sapi, address.tei, role_name(address.role));
     write!(text, "SAPI {sapi} TEI {tei}{role}")
@@ -92,7 +111,8 @@ fn push_address(text: &mut String, address: &Address) -> Result<(), AllocError>
 
 /// Appends the name of the frame, its sequence numbers and its P/F bit.
 fn push_control(text: &mut String, role: Role, control: Control) -> Result<(), AllocError>
-    ensures { OnOk result (string_bytes text.new ≡ string_bytes text.old ++ control_text role control) }
+    ensures { OnOk result (string_bytes text.new
+        ≡ string_bytes text.old ++ control_text role control) }
 {
     match control {
         Control::I { ns, nr, p } => write!(text, "I N(S)={ns} N(R)={nr}{}", poll_name(role, p)),
@@ -111,14 +131,16 @@ fn push_control(text: &mut String, role: Role, control: Control) -> Result<(), A
 
 /// Appends the name of a supervisory frame, its N(R) and its P/F bit.
 fn push_numbered(text: &mut String, name: &str, nr: Number, poll: &str) -> Result<(), AllocError>
-    ensures { OnOk result (string_bytes text.new ≡ string_bytes text.old ++ (name.now ++ (decimal nr ++ poll.now))) }
+    ensures { OnOk result (string_bytes text.new
+        ≡ string_bytes text.old ++ (name.now ++ (decimal nr ++ poll.now))) }
 {
     write!(text, "{name}{nr}{poll}")
 }
 
 /// Appends the name of an unnumbered frame and its P/F bit.
 fn push_unnumbered(text: &mut String, name: &str, poll: &str) -> Result<(), AllocError>
-    ensures { OnOk result (string_bytes text.new ≡ string_bytes text.old ++ (name.now ++ poll.now)) }
+    ensures { OnOk result (string_bytes text.new
+        ≡ string_bytes text.old ++ (name.now ++ poll.now)) }
 {
     text.push_str(name)?;
     text.push_str(poll)
@@ -131,13 +153,34 @@ fn push_octets(
     words: &str,
     octets: &[u8],
 ) -> Result<(), AllocError>
-    ensures { OnOk result (string_bytes text.new ≡ string_bytes text.old ++ octets_text words.now octets.now) }
+    ensures { OnOk result (string_bytes text.new
+        ≡ string_bytes text.old ++ octets_text words.now octets.now) }
 {
     if octets.is_empty() {
         return Ok(());
     }
     text.push_str(words)?;
-    text.push_str(hex::encode(alloc, octets)?.as_str())
+    if octets.len() > N201 {
+        return text.push_str(hex::encode(alloc, octets)?.as_str());
+    }
+    push_hex(text, octets)
+}
+
+/// Appends at most 260 octets in lower case hexadecimal. Their digits take no memory of their own.
+fn push_hex(text: &mut String, octets: &[u8]) -> Result<(), AllocError>
+    requires { length octets.now ≤ N201 }
+    ensures { OnOk result (string_bytes text.new
+        ≡ string_bytes text.old ++ encode_lower octets.now) }
+{
+    let mut room = [0u8; 2 * N201];
+    let digits = &mut room[..2 * octets.len()];
+    let Ok(()) = hex::encode_to_slice(octets, digits) else {
+        unreachable!()
+    };
+    let Ok(digits) = str::from_utf8(digits) else {
+        unreachable!()
+    };
+    text.push_str(digits)
 }
 
 /// Who sent a frame, and to whom.

@@ -1,9 +1,15 @@
 use Rattle.std.proofs.Common.{◌≡◌}
 use Rattle.lapd_sides.specs.Either.{side_of}
+use Rattle.lapd_cli_side_commands.specs.LineOutputs.{sent_of, told_of, traced_of}
+use Rattle.lapd_cli_side_commands.proofs.Serving.{ExpiresSome}
 use Rattle.lapd_cli_side_commands.proofs.side_runner.SideRunner.do_due.Given as goal
 
 abbrev pub invariant-loop-tick : goal.invariant-loop-tick
 invariant-loop-tick g l = record {
   side : side_of l.self.side ≡ side_of l.initial.self.side;
   clock : l.self.now ≡ l.initial.self.now;
+  port : l.self.port ≡ l.initial.self.port;
+  out : l.self.out ≡ l.initial.self.out;
+  some : ExpiresSome l.initial.self.now (side_of l.initial.self.side) l.initial.self.side l.self.side (sent_of l.self.output)
+      (traced_of l.self.output) (told_of l.self.output);
 }

@@ -1,0 +1,193 @@
+-- What a side at work does, line after line.
+use Rattle.std.proofs.Common.{◌≡◌, ◌<◌, ℕ, ◌+◌, List, [], ◌∷◌, ◌++◌, get_or, length, map, take, Option, None, Some, OnOk, Result, Ok, Err, refl, sym, ap, subst, ◌∙◌, append_assoc}
+use Rattle.std.specs.Prelude.{IsSomeAnd, flat_map, option_and_then, option_map}
+use Rattle.std.proofs.lemmas.Grind.{flat_map-append}
+use Rattle.std.proofs.lemmas.List.{append-nil, map-append, take_more}
+use Rattle.std.proofs.KnownBytes.{Appends-trans}
+use Rattle.std.specs.Io.KnownBytes.{Appends, Keeps}
+use Rattle.lapd_port.specs.SocketText.{frame_text, socket_text}
+use Rattle.lapd_sides_links.specs.declared.side_fault.SideFault.{SideFault}
+use Rattle.lapd_sides_links.specs.declared.primitive.Primitive.{Primitive}
+use Rattle.lapd_sides_links.specs.Effects.{Effects, no_effects}
+use Rattle.lapd_sides.specs.declared.request.Request.{Request}
+use Rattle.lapd_sides.specs.declared.request.Request.TheVariants as request
+use Rattle.lapd_sides.specs.declared.either_side.EitherSide.{EitherSide}
+use Rattle.lapd_sides.specs.declared.either_side.EitherSide.TheVariants as either
+use Rattle.lapd_sides.specs.Either.{side_of, Answers, Expires, Rests}
+use Rattle.lapd_frame.specs.declared.Side.{Side}
+use Rattle.lapd_cli_script.specs.Script.{Outcome}
+use Rattle.lapd_cli_side_commands.specs.declared.side_lines.SideLine.{SideLine}
+use Rattle.lapd_cli_side_commands.specs.SideTexts.{acts_text, frame_text_line, frames_text, primitive_line, primitives_text}
+use Rattle.lapd_cli_side_commands.specs.Served.{AtWork, Asks, Devices, ExpireInTurn, ExpiresAll, HasComeTo, LineDoes, LinesDo, Progress, after_line, frames_given, primitives_given, side_step, wish_list}
+use Rattle.lapd_cli_side_commands.specs.Wishes.{Clocked, Wish, clock_step, clocked, moment_after, wish_of, wish_of_line, wish_of_request}
+
+-- ---- Frames.
+
+-- what one more gives stands behind what the others give
+flat_more : {X Y : Type 0} (f : X → List Y) (xs : List X) (x : X) → flat_map f (xs ++ x ∷ []) ≡ flat_map f xs ++ f x
+flat_more f [] x = append-nil (f x)
+flat_more f (first ∷ xs) x = ap (λ ys. f first ++ ys) (flat_more f xs x) ∙ sym (append_assoc (f first) (flat_map f xs) (f x))
+
+one_taken : {F : Type 0} (frames : List F) (at : ℕ) (frame : F) → at < length frames → frame ≡ get_or frames at frame → take (at + 1) frames ≡ take at frames ++ frame ∷ []
+one_taken frames at frame within is = take_more frames at frame within ∙ ap (λ x. take at frames ++ x ∷ []) (sym is)
+
+one_of_all : {F : Type 0} (octets : F → List ℕ) (frames : List F) (at : ℕ) (frame : F) (item : List ℕ) → at < length frames → frame ≡ get_or frames at frame → item ≡ octets frame
+    → map octets (take (at + 1) frames) ≡ map octets (take at frames) ++ item ∷ []
+one_of_all octets frames at frame item within is says =
+    ap (map octets) (one_taken frames at frame within is) ∙ map-append octets (take at frames) (frame ∷ []) ∙ ap (λ x. map octets (take at frames) ++ x ∷ []) (sym says)
+
+-- one frame more of some is kept
+pub one_kept : {F : Type 0} (octets : F → List ℕ) (frames : List F) (at : ℕ) (frame : F) (item : List ℕ) (before mid after : List (List ℕ)) → at < length frames
+    → frame ≡ get_or frames at frame → item ≡ octets frame → mid ≡ before ++ map octets (take at frames) → after ≡ mid ++ item ∷ []
+    → after ≡ before ++ map octets (take (at + 1) frames)
+one_kept octets frames at frame item before mid after within is says so more =
+    more ∙ ap (λ (kept : List (List ℕ)). kept ++ item ∷ []) so ∙ append_assoc before (map octets (take at frames)) (item ∷ [])
+    ∙ ap (λ (kept : List (List ℕ)). before ++ kept) (sym (one_of_all octets frames at frame item within is says))
+
+-- and its text
+pub one_traced : {F : Type 0} (line : List ℕ → List ℕ) (octets : F → List ℕ) (frames : List F) (at : ℕ) (frame : F) (item : List ℕ) (before mid after : List ℕ) → at < length frames
+    → frame ≡ get_or frames at frame → item ≡ octets frame → mid ≡ before ++ flat_map line (map octets (take at frames)) → after ≡ mid ++ line item
+    → after ≡ before ++ flat_map line (map octets (take (at + 1) frames))
+one_traced line octets frames at frame item before mid after within is says so more =
+    let others = map octets (take at frames) in
+    more ∙ ap (λ (text : List ℕ). text ++ line item) so ∙ append_assoc before (flat_map line others) (line item)
+    ∙ ap (λ (text : List ℕ). before ++ text) (sym (ap (flat_map line) (one_of_all octets frames at frame item within is says) ∙ flat_more line others item))
+
+text_more : (frames : List (List ℕ)) (frame : List ℕ) → socket_text (frames ++ frame ∷ []) ≡ socket_text frames ++ frame_text frame
+text_more [] frame = append-nil (frame_text frame)
+text_more (first ∷ frames) frame =
+    ap (λ (text : List ℕ). frame_text first ++ text) (text_more frames frame) ∙ sym (append_assoc (frame_text first) (socket_text frames) (frame_text frame))
+
+-- and is written
+pub one_written : {F : Type 0} (octets : F → List ℕ) (frames : List F) (at : ℕ) (frame : F) (item : List ℕ) (written more grown : Option (List ℕ)) → at < length frames
+    → frame ≡ get_or frames at frame → item ≡ octets frame → Appends written more (socket_text (map octets (take at frames))) → Appends more grown (frame_text item)
+    → Appends written grown (socket_text (map octets (take (at + 1) frames)))
+one_written octets frames at frame item written more grown within is says before now =
+    let text = ap socket_text (one_of_all octets frames at frame item within is says) ∙ text_more (map octets (take at frames)) item in
+    subst (Appends written grown) (sym text) (Appends-trans written more grown _ _ before now)
+
+-- and is printed
+pub one_printed : {F : Type 0} (line : F → List ℕ) (frames : List F) (at : ℕ) (frame : F) (text : List ℕ) (printed more grown : Option (List ℕ)) → at < length frames
+    → frame ≡ get_or frames at frame → text ≡ line frame → Appends printed more (flat_map line (take at frames)) → Appends more grown text
+    → Appends printed grown (flat_map line (take (at + 1) frames))
+one_printed line frames at frame text printed more grown within is says before now =
+    let all = ap (flat_map line) (one_taken frames at frame within is) ∙ flat_more line (take at frames) frame ∙ ap (λ (last : List ℕ). flat_map line (take at frames) ++ last) (sym says) in
+    subst (Appends printed grown) (sym all) (Appends-trans printed more grown _ _ before now)
+
+-- what a writer hands to its device stays as it is
+pub appends_kept : (a b c : Option (List ℕ)) (text : List ℕ) → Appends a b text → Keeps b c → Appends a c text
+appends_kept None b c text p q = tt
+appends_kept (Some x) None c text p q = absurd p
+appends_kept (Some x) (Some y) None text p q = absurd q
+appends_kept (Some x) (Some y) (Some z) text p q = q ∙ p
+
+pub on_both : {A E : Type 0} (r : Result A E) (P Q R : Type 0) → (P → Q → R) → OnOk r P → OnOk r Q → OnOk r R
+on_both (Ok done) P Q R f p q = f p q
+on_both (Err fault) P Q R f p q = tt
+
+-- ---- Expiries.
+
+-- each of these was due in turn, and has expired
+abbrev pub AreExpired : ℕ → List Effects → EitherSide → EitherSide → Type 0
+AreExpired now [] old new = new ≡ old
+AreExpired now (acts ∷ more) old new = (mid : EitherSide) × Expires now old mid acts × AreExpired now more mid new
+
+pub one_more : (now : ℕ) (calls : List Effects) (acts : Effects) (old mid new : EitherSide) → AreExpired now calls old mid → Expires now mid new acts
+    → AreExpired now (calls ++ acts ∷ []) old new
+one_more now [] acts old mid new are due = (new, subst (λ (side : EitherSide). Expires now side new acts) are due, refl)
+one_more now (first ∷ calls) acts old mid new are due = (are.0, are.1, one_more now calls acts are.0 mid new are.2 due)
+
+pub then_none : (now : ℕ) (calls : List Effects) (old mid new : EitherSide) → AreExpired now calls old mid → Rests now mid new → ExpireInTurn now calls old new
+then_none now [] old mid new are rests = subst (λ (side : EitherSide). Rests now side new) are rests
+then_none now (acts ∷ calls) old mid new are rests = (are.0, are.1, then_none now calls are.0 mid new are.2 rests)
+
+-- so far, and what these gave is kept
+pub record ExpiresSome (now : ℕ) (side : Side) (old new : EitherSide) (kept : List (List ℕ)) (traced told : List ℕ) : Type 0 where
+  pub calls : List Effects
+  pub are : AreExpired now calls old new
+  pub gave : kept ≡ frames_given calls
+  pub lines : traced ≡ frames_text side (frames_given calls)
+  pub says : told ≡ primitives_text (primitives_given calls)
+
+pub none_yet : (now : ℕ) (side : Side) (old : EitherSide) (kept : List (List ℕ)) (traced told : List ℕ) → kept ≡ [] → traced ≡ [] → told ≡ []
+    → ExpiresSome now side old old kept traced told
+none_yet now side old kept traced told no_frames no_lines no_words = record { calls = []; are = refl; gave = no_frames; lines = no_lines; says = no_words }
+
+pub some_more : (now : ℕ) (side : Side) (old mid new : EitherSide) (acts : Effects) (before after : List (List ℕ)) (traced lines told words : List ℕ)
+    → ExpiresSome now side old mid before traced told → Expires now mid new acts
+    → after ≡ before ++ acts.frames → lines ≡ traced ++ frames_text side acts.frames → words ≡ told ++ primitives_text acts.primitives
+    → ExpiresSome now side old new after lines words
+some_more now side old mid new acts before after traced lines told words some due more and_lines and_words =
+    let frames : List (List ℕ) = frames_given some.calls in
+    let primitives : List Primitive = primitives_given some.calls in
+    let all_frames : frames_given (some.calls ++ acts ∷ []) ≡ frames ++ acts.frames = flat_more (λ (a : Effects). a.frames) some.calls acts in
+    let all_primitives : primitives_given (some.calls ++ acts ∷ []) ≡ primitives ++ acts.primitives = flat_more (λ (a : Effects). a.primitives) some.calls acts in
+    record {
+      calls = some.calls ++ acts ∷ [];
+      are = one_more now some.calls acts old mid new some.are due;
+      gave = more ∙ ap (λ (kept : List (List ℕ)). kept ++ acts.frames) some.gave ∙ sym all_frames;
+      lines = and_lines ∙ ap (λ (text : List ℕ). text ++ frames_text side acts.frames) some.lines
+          ∙ sym (ap (frames_text side) all_frames ∙ flat_map-append (frame_text_line side) frames acts.frames);
+      says = and_words ∙ ap (λ (text : List ℕ). text ++ primitives_text acts.primitives) some.says
+          ∙ sym (ap primitives_text all_primitives ∙ flat_map-append primitive_line primitives acts.primitives);
+    }
+
+-- and then nothing is due, and what is kept is sent and printed
+pub all_expired : (now at : ℕ) (old mid rested new : EitherSide) (kept : List (List ℕ)) (traced told : List ℕ) (start here end : Devices) → at ≡ now
+    → ExpiresSome now (side_of old) old mid kept traced told → Rests at mid rested → new ≡ rested → here.written ≡ start.written → here.printed ≡ start.printed
+    → Appends here.written end.written (socket_text kept) → Appends here.printed end.printed (traced ++ told) → ExpiresAll now old new start end
+all_expired now at old mid rested new kept traced told start here end same some rests own port out sent printed =
+    let text : traced ++ told ≡ acts_text (side_of old) (frames_given some.calls) (primitives_given some.calls) =
+    ap (λ (front : List ℕ). front ++ told) some.lines ∙ ap (λ (back : List ℕ). frames_text (side_of old) (frames_given some.calls) ++ back) some.says in
+    record {
+      calls = some.calls;
+      in_turn = then_none now some.calls old mid new some.are
+          (subst (λ (side : EitherSide). Rests now mid side) (sym own) (subst (λ (moment : ℕ). Rests moment mid rested) same rests));
+      puts = record {
+        sent = subst (λ (w : Option (List ℕ)). Appends w end.written (socket_text (frames_given some.calls))) port
+            (subst (λ (frames : List (List ℕ)). Appends here.written end.written (socket_text frames)) some.gave sent);
+        printed = subst (λ (p : Option (List ℕ)). Appends p end.printed (acts_text (side_of old) (frames_given some.calls) (primitives_given some.calls))) out
+            (subst (λ (t : List ℕ). Appends here.printed end.printed t) text printed);
+      };
+    }
+
+-- ---- Requests.
+
+-- a refusal gives nothing
+pub refused_nothing : (r : Request) (now : ℕ) (fault : SideFault) (old new : EitherSide) (acts : Effects) → Answers r now (Err fault) old new acts → acts ≡ no_effects
+refused_nothing r now fault (either.Network old) (either.Network new) acts answers = answers.nothing
+refused_nothing r now fault (either.User old) (either.User new) acts answers = answers.nothing
+refused_nothing r now fault (either.Network old) (either.User new) acts answers = absurd answers
+refused_nothing r now fault (either.User old) (either.Network new) acts answers = absurd answers
+
+pub asks_line : (r : Request) (a b : AtWork) → Asks (wish_of_request r) a b → LineDoes (wish_of_request r) a b
+asks_line (request.Establish id) a b asks = asks
+asks_line (request.Release id) a b asks = asks
+asks_line (request.Unit id octets) a b asks = asks
+asks_line (request.Give id message) a b asks = asks
+asks_line (request.Busy id on) a b asks = asks
+asks_line request.AskTei a b asks = asks
+asks_line (request.Check tei) a b asks = asks
+
+-- ---- Lines.
+
+pub lines_more : (wishes : List Wish) (wish : Wish) (a mid b : AtWork) → LinesDo wishes a mid → LineDoes wish mid b → LinesDo (wishes ++ wish ∷ []) a b
+lines_more [] wish a mid b lines does = (b, subst (λ (at : AtWork). LineDoes wish at b) lines does, refl)
+lines_more (first ∷ wishes) wish a mid b lines does = (lines.0, lines.1, lines_more wishes wish lines.0 mid b lines.2 does)
+
+-- a side that has come so far has come one line further
+pub line_done : (s : Progress) (line : List ℕ) (asked : SideLine) (a b : AtWork) (old new : Option (List ℕ)) → HasComeTo s a
+    → wish_of_line (side_of a.side) line ≡ Some (wish_of asked) → moment_after a.now (wish_of asked) ≡ Some b.now → side_of b.side ≡ side_of a.side
+    → LineDoes (wish_of asked) a b → Appends old new [] → IsSomeAnd (side_step s line) (λ next. HasComeTo next.1 b × Appends old new next.0)
+line_done s line asked a b old new come asks moves same does kept =
+    let wish : Wish = wish_of asked in
+    let clock : Clocked = record { side = s.clock.side; now = b.now } in
+    let here : wish_of_line s.clock.side line ≡ Some wish = subst (λ (side : Side). wish_of_line side line ≡ Some wish) come.of_side asks in
+    let goes : moment_after s.clock.now wish ≡ Some b.now = subst (λ (now : ℕ). moment_after now wish ≡ Some b.now) come.moment moves in
+    let clock_is : clock_step s.clock line ≡ Some ([], clock) =
+    ap (λ (o : Option Wish). option_map (clocked s.clock.side) (option_and_then (moment_after s.clock.now) o)) here
+    ∙ ap (option_map (clocked s.clock.side)) goes in
+    let did : LinesDo (s.wishes ++ wish_list (wish_of_line s.clock.side line)) s.begun b =
+    subst (λ (o : Option Wish). LinesDo (s.wishes ++ wish_list o) s.begun b) (sym here) (lines_more s.wishes wish s.begun a b come.did does) in
+    subst (λ (o : Outcome Clocked). IsSomeAnd (option_map (after_line s line) o) (λ next. HasComeTo next.1 b × Appends old new next.0)) (sym clock_is)
+    (record { of_side = same ∙ come.of_side; moment = refl; did = did }, kept)

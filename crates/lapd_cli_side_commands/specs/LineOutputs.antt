@@ -1,0 +1,23 @@
+-- What the output of a line holds.
+use Rattle.std.specs.Prelude.{ℕ, List, map, take, flat_map}
+use Rattle.std.specs.String.{string_bytes}
+use Rattle.lapd_cli_side_commands.specs.declared.line_output.LineOutput.{LineOutput}
+use Rattle.lapd_cli_side_commands.specs.declared.traced_frame.TracedFrame.{TracedFrame}
+
+abbrev pub octets_of : TracedFrame → List ℕ
+octets_of traced = traced.octets.items
+
+abbrev pub line_of : TracedFrame → List ℕ
+line_of traced = string_bytes traced.line
+
+-- the frames that are to be sent, in order
+abbrev pub sent_of : LineOutput → List (List ℕ)
+sent_of output = map octets_of (take output.count output.frames.items)
+
+-- their trace lines
+abbrev pub traced_of : LineOutput → List ℕ
+traced_of output = flat_map line_of (take output.count output.frames.items)
+
+-- what the layers above are told
+abbrev pub told_of : LineOutput → List ℕ
+told_of output = string_bytes output.primitives

@@ -1,0 +1,200 @@
+-- What `net` and `user` do, line by line: what is read of the port, what the side is called with, what is written to the port,
+-- and what is printed.
+use Rattle.std.specs.Prelude.{◌≡◌, ◌⊎◌, ℕ, ◌+◌, List, [], ◌∷◌, ◌++◌, flat_map, if◌then◌else◌, true, Option, Some, None, option_map, Result, Ok, Err, ⊤}
+use Rattle.std.specs.Io.KnownBytes.{Appends, Consumes}
+use Rattle.lapd_timers.specs.Durations.{standard_lengths}
+use Rattle.lapd_frame.specs.declared.Side.{Side}
+use Rattle.lapd_frame.specs.declared.Sapi.TheVariants.{Call, Packet}
+use Rattle.lapd_frame.specs.Address.{other_side}
+use Rattle.lapd_link_rows.specs.Parameters.{basic_parameters}
+use Rattle.lapd_port.specs.declared.port_fault.PortFault.TheVariants.{End}
+use Rattle.lapd_port.specs.SocketText.{frame_text, socket_text}
+use Rattle.lapd_port.specs.Port.{Shows}
+use Rattle.lapd_cli_script.specs.Script.{Step, is_passed_over}
+use Rattle.lapd_sides_links.specs.declared.config.Config.{Config}
+use Rattle.lapd_sides_links.specs.declared.side_fault.SideFault.{SideFault}
+use Rattle.lapd_sides_links.specs.declared.primitive.Primitive.{Primitive}
+use Rattle.lapd_sides_links.specs.Effects.{Effects}
+use Rattle.lapd_sides.specs.declared.request.Request.{Request}
+use Rattle.lapd_sides.specs.declared.either_side.EitherSide.{EitherSide}
+use Rattle.lapd_sides.specs.declared.either_side.EitherSide.TheVariants as either
+use Rattle.lapd_sides.specs.declared.net_side.NetSide.{NetSide}
+use Rattle.lapd_sides.specs.declared.user_side.UserSide.{UserSide}
+use Rattle.lapd_sides.specs.Network.{new_network}
+use Rattle.lapd_sides.specs.User.{new_user, seeded}
+use Rattle.lapd_sides.specs.ShowsNetwork.{ShowNetwork}
+use Rattle.lapd_sides.specs.ShowsUser.{ShowUser}
+use Rattle.lapd_sides.specs.Either.{side_of, Takes, Answers, Expires, Rests}
+use Rattle.lapd_cli_side_commands.specs.SideTexts.{acts_text, answer_text, end_line, frame_text_line}
+use Rattle.lapd_cli_side_commands.specs.Wishes.{Wish, Read, Tick, Clocked, clock_step, new_clock, wish_of_line, wish_of_request}
+
+-- What is around a side: the octets that the source of its port has left, and those that the sink of its port and the writer
+-- have taken, each where it tells them.
+pub record Devices : Type 0 where
+  pub rest : Option (List ℕ)
+  pub written : Option (List ℕ)
+  pub printed : Option (List ℕ)
+
+abbrev pub devices : Option (List ℕ) → Option (List ℕ) → Option (List ℕ) → Devices
+devices rest written printed = record { rest = rest; written = written; printed = printed }
+
+-- A side at work: its clock, and what is around it.
+pub record AtWork : Type 0 where
+  pub side : EitherSide
+  pub now : ℕ
+  pub around : Devices
+
+abbrev pub at_work : EitherSide → ℕ → Devices → AtWork
+at_work side now around = record { side = side; now = now; around = around }
+
+-- these frames are sent and this text is printed
+pub record Puts (frames : List (List ℕ)) (text : List ℕ) (a b : Devices) : Type 0 where
+  pub sent : Appends a.written b.written (socket_text frames)
+  pub printed : Appends a.printed b.printed text
+
+-- the frames that some calls gave, in order, and what the layers above were told
+abbrev pub frames_given : List Effects → List (List ℕ)
+frames_given calls = flat_map (λ acts. acts.frames) calls
+
+abbrev pub primitives_given : List Effects → List Primitive
+primitives_given calls = flat_map (λ acts. acts.primitives) calls
+
+-- ---- Lines.
+
+-- a frame of the other side is printed and taken, once, and what this gives is sent and printed
+pub record TakesNow (frame : List ℕ) (now : ℕ) (old new : EitherSide) (a b : Devices) : Type 0 where
+  pub acts : Effects
+  pub takes : Takes frame now (Ok tt) old new acts
+  pub puts : Puts acts.frames (frame_text_line (other_side (side_of old)) frame
+      ++ acts_text (side_of old) acts.frames acts.primitives) a b
+
+-- `read`: it is the next one of the source
+pub record TakesNext (a b : AtWork) : Type 0 where
+  pub frame : List ℕ
+  pub read : Consumes a.around.rest b.around.rest (frame_text frame)
+  pub takes : TakesNow frame a.now a.side b.side a.around b.around
+  pub clock : b.now ≡ a.now
+
+-- or the source is at its end, and the side is not called
+pub record FindsNone (a b : AtWork) : Type 0 where
+  pub ended : Shows a.around.rest (Err End)
+  pub read : Consumes a.around.rest b.around.rest []
+  pub side : b.side ≡ a.side
+  pub clock : b.now ≡ a.now
+  pub puts : Puts [] end_line a.around b.around
+
+-- each of these expiries was due in turn, and then nothing is
+abbrev pub ExpireInTurn : ℕ → List Effects → EitherSide → EitherSide → Type 0
+ExpireInTurn now [] old new = Rests now old new
+ExpireInTurn now (acts ∷ more) old new =
+    (mid : EitherSide) × Expires now old mid acts × ExpireInTurn now more mid new
+
+-- all that is due at a moment is done, and what this gives is sent and printed
+pub record ExpiresAll (now : ℕ) (old new : EitherSide) (a b : Devices) : Type 0 where
+  pub calls : List Effects
+  pub in_turn : ExpireInTurn now calls old new
+  pub puts : Puts (frames_given calls)
+      (acts_text (side_of old) (frames_given calls) (primitives_given calls)) a b
+
+-- `tick`: the clock goes on, all that is then due is done in turn, and nothing else
+pub record GoesOn (ms : ℕ) (a b : AtWork) : Type 0 where
+  pub due : ExpiresAll (a.now + ms) a.side b.side a.around b.around
+  pub clock : b.now ≡ a.now + ms
+  pub read : Consumes a.around.rest b.around.rest []
+
+-- another word is one request, and what it gives is sent and printed; of one that is refused it is printed why
+pub record Asks (wish : Wish) (a b : AtWork) : Type 0 where
+  pub request : Request
+  pub is : wish_of_request request ≡ wish
+  pub result : Result ⊤ SideFault
+  pub acts : Effects
+  pub answers : Answers request a.now result a.side b.side acts
+  pub clock : b.now ≡ a.now
+  pub read : Consumes a.around.rest b.around.rest []
+  pub puts : Puts acts.frames (answer_text (side_of a.side) result acts) a.around b.around
+
+abbrev pub LineDoes : Wish → AtWork → AtWork → Type 0
+LineDoes Read a b = TakesNext a b ⊎ FindsNone a b
+LineDoes (Tick ms) a b = GoesOn ms a b
+LineDoes wish a b = Asks wish a b
+
+-- all lines, one after another
+abbrev pub LinesDo : List Wish → AtWork → AtWork → Type 0
+LinesDo [] a b = b ≡ a
+LinesDo (wish ∷ wishes) a b = (mid : AtWork) × LineDoes wish a mid × LinesDo wishes mid b
+
+-- ---- A script.
+
+-- what the lines of a script ask for
+abbrev pub wish_list : Option Wish → List Wish
+wish_list None = []
+wish_list (Some wish) = wish ∷ []
+
+abbrev pub line_wishes : Side → List ℕ → List Wish
+line_wishes side line = if is_passed_over line then [] else wish_list (wish_of_line side line)
+
+abbrev pub wishes_of : Side → List (List ℕ) → List Wish
+wishes_of side lines = flat_map (line_wishes side) lines
+
+-- A side has done all lines of a script, from moment 0 on, with this around it before and afterwards.
+pub record HasServed (side : EitherSide) (wishes : List Wish) (before after : Devices) : Type 0 where
+  pub ended : EitherSide
+  pub moment : ℕ
+  pub did : LinesDo wishes (at_work side 0 before) (at_work ended moment after)
+
+-- ---- The commands, at basic access (Q.921 5.9).
+
+abbrev pub basic_access : Config
+basic_access = record {
+  sapi16 = true;
+  params0 = basic_parameters Call;
+  params16 = basic_parameters Packet;
+  durations = standard_lengths;
+  seed = 921;
+}
+
+-- `net`: a new network side, which knows of no TEI, has done so
+pub record NetHasServed (wishes : List Wish) (before after : Devices) : Type 0 where
+  pub began : NetSide
+  pub new : ShowNetwork began basic_access (new_network basic_access [])
+  pub served : HasServed (either.Network began) wishes before after
+
+-- `user`: a new user side, which has no TEI, has done so
+pub record UserHasServed (wishes : List Wish) (before after : Devices) : Type 0 where
+  pub began : UserSide
+  pub new : ShowUser began basic_access (new_user basic_access None (seeded 921))
+  pub served : HasServed (either.User began) wishes before after
+
+-- ---- A walk over a script.
+
+-- the clock of a side that goes over a script, what its lines asked for so far, and where it began
+pub record Progress : Type 0 where
+  pub clock : Clocked
+  pub wishes : List Wish
+  pub begun : AtWork
+
+abbrev pub after_line : Progress → List ℕ → List ℕ × Clocked → List ℕ × Progress
+after_line s line (text, clock) = (
+  text,
+  record {
+    clock = clock;
+    wishes = s.wishes ++ wish_list (wish_of_line s.clock.side line);
+    begun = s.begun;
+  },
+)
+
+abbrev pub side_step : Step Progress
+side_step s line = option_map (after_line s line) (clock_step s.clock line)
+
+abbrev pub new_progress : EitherSide → Devices → Progress
+new_progress side before = record {
+  clock = new_clock (side_of side);
+  wishes = [];
+  begun = at_work side 0 before;
+}
+
+-- this side at work, with its clock, has come so far
+pub record HasComeTo (s : Progress) (at : AtWork) : Type 0 where
+  pub of_side : side_of at.side ≡ s.clock.side
+  pub moment : at.now ≡ s.clock.now
+  pub did : LinesDo s.wishes s.begun at

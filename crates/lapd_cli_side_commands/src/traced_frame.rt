@@ -1,0 +1,105 @@
+ghost use Rattle.std.specs.Prelude.{◌≡◌, ◌≤◌, ◌++◌, length, IfOk, OnOk, IsOkUnless};
+ghost use Rattle.std.specs.String.{string_bytes};
+ghost use Rattle.lapd_port.specs.SocketText.{IsFrameLength};
+ghost use Rattle.lapd_sides_links.specs.Effects.{HasLeastOctets};
+ghost use Rattle.lapd_cli_side_commands.specs.SideTexts.{frame_text_line};
+
+use arrayvec::ArrayVec;
+use lapd_cli_script::LineFault;
+use lapd_frame::{MOST_OCTETS, Side};
+use std::alloc::{AllocError, Global};
+
+/// A frame that is to be sent, of at least three octets, and its trace line, with the line's end.
+#[derive(Drop)]
+pub(crate) struct TracedFrame {
+    octets: ArrayVec<u8, MOST_OCTETS>,
+    line: String,
+    ghost least: { HasLeastOctets octets.items },
+}
+
+impl TracedFrame {
+    /// The frame with these octets, which this side sends.
+    ///
+    /// # Errors
+    ///
+    /// `Memory`.
+    pub(crate) fn new(alloc: Global, side: Side, frame: &[u8]) -> Result<TracedFrame, LineFault>
+        requires least { HasLeastOctets frame.now }
+        requires most { length frame.now ≤ MOST_OCTETS }
+        ensures octets { IfOk result (λ traced. traced.octets.items ≡ frame.now) }
+        ensures line { IfOk result (λ traced.
+            string_bytes traced.line ≡ frame_text_line side frame.now) }
+        ensures err { IsOkUnless result LineFault.Memory }
+    {
+        let mut line = String::new(alloc);
+        let Ok(()) = push_trace(alloc, &mut line, side, frame) else {
+            return Err(LineFault::Memory);
+        };
+        let mut octets = ArrayVec::new();
+        let Ok(()) = octets.try_extend_from_slice(frame) else {
+            unreachable!()
+        };
+        Ok(TracedFrame { octets, line })
+    }
+
+    /// Becomes the frame with these octets, in the room that is there.
+    ///
+    /// # Errors
+    ///
+    /// `Memory`. The octets are as before.
+    pub(crate) fn replace(
+        &mut self,
+        alloc: Global,
+        side: Side,
+        frame: &[u8],
+    ) -> Result<(), LineFault>
+        requires least { HasLeastOctets frame.now }
+        requires most { length frame.now ≤ MOST_OCTETS }
+        ensures octets { OnOk result (self.new.octets.items ≡ frame.now) }
+        ensures line { OnOk result (string_bytes self.new.line ≡ frame_text_line side frame.now) }
+        ensures err { IsOkUnless result LineFault.Memory }
+    {
+        self.line.clear();
+        let Ok(()) = push_trace(alloc, &mut self.line, side, frame) else {
+            return Err(LineFault::Memory);
+        };
+        self.octets.clear();
+        let Ok(()) = self.octets.try_extend_from_slice(frame) else {
+            unreachable!()
+        };
+        Ok(())
+    }
+
+    /// The octets of the frame.
+    pub(crate) fn octets(&self) -> &[u8]
+        ensures octets { result.now ≡ self.now.octets.items }
+        ensures length { IsFrameLength (length result.now) }
+    {
+        self.octets.as_slice()
+    }
+
+    /// The octets of the trace line.
+    pub(crate) fn line(&self) -> &[u8]
+        ensures { result.now ≡ string_bytes self.now.line }
+    {
+        self.line.as_bytes()
+    }
+}
+
+/// Appends the trace line of octets that this side sent, with the line's end.
+///
+/// # Errors
+///
+/// `AllocError`.
+pub(crate) fn push_trace(
+    alloc: Global,
+    text: &mut String,
+    side: Side,
+    octets: &[u8],
+) -> Result<(), AllocError>
+    ensures { OnOk result (string_bytes text.new
+        ≡ string_bytes text.old ++ frame_text_line side octets.now) }
+{
+    lapd_trace::push_line(alloc, text, side, octets)?;
+    text.push('\n')
+}
