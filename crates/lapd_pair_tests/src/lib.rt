@@ -1,16 +1,9 @@
-//! Tests of the commands `answer`, `decode` and `pair` as functions, and of two ends on a lossy line: scripts and what they
-//! print, readers and writers that fail, moves of a `Pair` with the octets that they put on the line, refusals, memory that
-//! is refused, 10,000 drawn moves for each recovery at each side, and how a line settles.
+//! Tests of two ends on a lossy line: moves of a `Pair` with the octets that they put on the line, refusals, memory that is
+//! refused, 10,000 drawn moves for each recovery at each side, and how a line settles.
 //!
 //! They stand apart from the other tests so that the check of either is short. `wants` fails a test with the row's name.
 #![tactic(auto)]
 
-#[cfg(test)]
-mod answers;
-#[cfg(test)]
-mod decodes;
-#[cfg(test)]
-mod devices;
 #[cfg(test)]
 mod draws;
 #[cfg(test)]
@@ -20,15 +13,11 @@ mod made;
 #[cfg(test)]
 mod memory;
 #[cfg(test)]
-mod played;
-#[cfg(test)]
 mod readers;
 #[cfg(test)]
 mod refusals;
 #[cfg(test)]
 mod schedule;
-#[cfg(test)]
-mod scripts;
 #[cfg(test)]
 mod settles;
 #[cfg(test)]

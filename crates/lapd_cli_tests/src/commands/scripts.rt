@@ -23,6 +23,11 @@ pub(crate) fn params() -> Params {
     Params::new(1, 3, 512).unwrap()
 }
 
+/// Parameters with a window of `k` frames, N200 of 3 and room for 512 messages.
+pub(crate) fn window(k: u8) -> Result<Params, Fail> {
+    Ok(Params::new(k, 3, 512).ok_or("a number is out of range")?)
+}
+
 /// The octets of an establishment, of its release and of a release in state 4.
 pub(crate) const SCRIPT: &[u8] = b"frame 00817f\nframe 008153\nframe 008153\n";
 

@@ -1,7 +1,7 @@
 //! The command `answer`: scripts, and what they call for.
 
-use crate::devices::keeps_whole_lines;
-use crate::scripts::{ANSWERS, SCRIPT, params, push_lines, run};
+use crate::commands::devices::keeps_whole_lines;
+use crate::commands::scripts::{ANSWERS, SCRIPT, params, push_lines, run};
 use crate::wants::wants;
 use lapd_cli_commands::answer;
 use lapd_cli_script::ScriptFault;

@@ -1,8 +1,7 @@
 //! The command `pair`: scripts, and what they call for.
 
-use crate::devices::keeps_whole_lines;
-use crate::made::params;
-use crate::scripts::push_lines;
+use crate::commands::devices::keeps_whole_lines;
+use crate::commands::scripts::{push_lines, window};
 use crate::wants::wants;
 use lapd_cli_commands::pair;
 use lapd_cli_script::ScriptFault;
@@ -263,7 +262,7 @@ settle
 
 #[test]
 fn plays_scripts(rt: HostRuntime) -> Result<(), Fail> {
-    let params = params(1, 512)?;
+    let params = window(1)?;
     plays_all(rt.alloc(), PLAYS, params)
 }
 
@@ -307,7 +306,7 @@ deliver net
 
 #[test]
 fn plays_scripts_with_last_message(rt: HostRuntime) -> Result<(), Fail> {
-    let params = params(3, 512)?.with_recovery(Recovery::LastMessage);
+    let params = window(3)?.with_recovery(Recovery::LastMessage);
     plays_all(rt.alloc(), WITH_LAST_MESSAGE, params)
 }
 
@@ -337,7 +336,7 @@ settle
 
 #[test]
 fn plays_what_settles(rt: HostRuntime) -> Result<(), Fail> {
-    let enquiry = params(3, 512)?;
+    let enquiry = window(3)?;
     plays_so(rt.alloc(), THREE_LOST, enquiry)?;
     let last = enquiry.with_recovery(Recovery::LastMessage);
     plays_so(rt.alloc(), THREE_LOST, last)

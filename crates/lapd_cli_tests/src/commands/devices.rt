@@ -1,6 +1,6 @@
 //! Readers and writers that give and take in parts, or fail.
 
-use crate::scripts::{ANSWERS, SCRIPT, run};
+use crate::commands::scripts::{ANSWERS, SCRIPT, run};
 use crate::wants::wants;
 use lapd_cli_commands::decode;
 use lapd_cli_script::ScriptFault;
