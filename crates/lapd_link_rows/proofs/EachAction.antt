@@ -86,11 +86,11 @@ pub record KeptByActions (r : Reading) (P Q : StepState → Type 0) (M : List �
   pub tells : (s : StepState) → Q s → Q (transmit_rr s)
 
 -- a row that has a test, both ways
-either : (F : StepState → Type 0) (test : Bool) (x y : StepState) → (test ≡ true → F x) → (test ≡ false → F y) → F (if test then x else y)
+pub either : (F : StepState → Type 0) (test : Bool) (x y : StepState) → (test ≡ true → F x) → (test ≡ false → F y) → F (if test then x else y)
 either F true x y one other = one refl
 either F false x y one other = other refl
 
-primitive_is_put : (leaving : Bool) → IsPut (release_primitive leaving)
+pub primitive_is_put : (leaving : Bool) → IsPut (release_primitive leaving)
 primitive_is_put true = tt
 primitive_is_put false = tt
 

@@ -14,5 +14,7 @@ pub mod RowsOnTags
 pub mod Sending
 pub mod Soundness
 pub mod StepOnTags
+pub mod TimersOfOuts
+pub mod TimersOfStep
 pub mod UnitsOfStep
 pub mod WorkedRows

@@ -157,7 +157,7 @@ the_number n nr small same = grind (arith, small, same)
 below_128 : (n : ℕ) → IsControl (Rr n true) → n < 128
 below_128 n h = omega (arith, h)
 
-heard_is_tag : (input : Input) (nr : ℕ) → HearsNumbers Tagged input → received_number input ≡ Some nr → nr < 128
+pub heard_is_tag : (input : Input) (nr : ℕ) → HearsNumbers Tagged input → received_number input ≡ Some nr → nr < 128
 heard_is_tag (Heard (I ns n p) role) nr h same = the_number n nr (below_128 n h.1) same
 heard_is_tag (Heard (Rr n pf) role) nr h same = the_number n nr (below_128 n h) same
 heard_is_tag (Heard (Rnr n pf) role) nr h same = the_number n nr (below_128 n h) same

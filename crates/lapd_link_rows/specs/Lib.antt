@@ -21,6 +21,7 @@ pub mod Parameters
 pub mod Procedures
 pub mod Refusal
 pub mod Reports
+pub mod RunningTimers
 pub mod Sound
 pub mod SentFrames
 pub mod State

@@ -11,6 +11,7 @@ ghost use Rattle.lapd_link_rows.specs.Input.{Input};
 ghost use Rattle.lapd_link_rows.specs.Numbers.{AreNumbers, HearsNumbers, AreNumbered};
 ghost use Rattle.lapd_link_rows.specs.Parameters.{Parameters};
 ghost use Rattle.lapd_link_rows.specs.Reports.{AreExpected, IsDue};
+ghost use Rattle.lapd_link_rows.specs.RunningTimers.{HasTimersOfState, TimersFollow};
 ghost use Rattle.lapd_link_rows.specs.Sound.{IsSound};
 ghost use Rattle.lapd_link_rows.specs.SentFrames.{AreSpoken, AreShort};
 ghost use Rattle.lapd_link_rows.specs.Table.{step};
@@ -115,4 +116,18 @@ pub fn reports_are_expected()
         → step r input e ≡ Ok s → AreExpected s.outs }
     ensures tags { (input : Input) (e : End) → IsNear input e → IsDue Whole input e
         → IsDue Tagged (tag_input input) (tag_end e) }
+{}
+
+/// The timers of an end follow its outputs, exactly. T200 and T203 run after a step as its outputs Start and Stop make them
+/// run, from how they ran before it, where the timer that expires is stopped at once; and no output is of T201 or T202. So it
+/// is over every list of events, from a new end on, since in each state just those timers run that the state wants: none in
+/// state 4, T200 alone in 5, 6 and 8, and in state 7 one of the two, T200 wherever something is outstanding. On whole numbers,
+/// and on tags where numbers are tags (Q.921 5.5.1.2, 5.5.3.2, 5.6.1, 5.6.7, 5.10.3).
+pub fn timers_follow_outputs()
+    ensures begins { (p : Parameters) → HasTimersOfState (new_end p) }
+    ensures stays { (r : Reading) (input : Input) (e : End) (s : StepState)
+        → AreNumbers r e.window → HearsNumbers r input
+        → HasTimersOfState e → step r input e ≡ Ok s → HasTimersOfState s.end }
+    ensures follows { (r : Reading) (input : Input) (e : End) (s : StepState) → HasTimersOfState e
+        → step r input e ≡ Ok s → TimersFollow input e s }
 {}

@@ -21,7 +21,7 @@ pub use lapd_timers::Timer;
 pub use laws::{
     all_sent_are_outstanding, establishments_are_counted, messages_are_counted, numbers_stay,
     numbers_within_are_near, parameters_stay, reports_are_expected, sent_frames_are_in_the_grammar,
-    sent_messages_are_there, tags_decide,
+    sent_messages_are_there, tags_decide, timers_follow_outputs,
 };
 pub use out::{Letter, Out};
 pub use params::Params;
