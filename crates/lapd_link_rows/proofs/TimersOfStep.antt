@@ -33,8 +33,8 @@ use Rattle.lapd_link_rows.proofs.NumbersOfStep.{heard_is_tag}
 use Rattle.lapd_link_rows.proofs.Sending.{both_true}
 use Rattle.lapd_link_rows.proofs.TimersOfOuts.{then_follow, AreNoTimers, alone, put_is_no_timer, where_is_no_timer, response_is_no_timer, lost_are_no_timers, started_200, started_203, stopped_200, stopped_203, stopped_unless, started_unless}
 
--- ---- What is known in the middle of a row: the state, whether T200 and T203 run, whether V(S) = V(A) is known, where numbers
--- are of the reading, and that the timers followed the outputs since they were b and c.
+-- ---- What is known in the middle of a row: the state q; that T200 and T203 run as t and u say; where numbers are of the reading,
+-- V(A) is one, and at level V(S) = V(A); and that T200 and T203 followed the outputs, from b and c on.
 
 pub record Timed (r : Reading) (b c : Bool) (Numbers : Type 0) (q : State) (t u level : Bool) (state : State) (t200 t203 : Bool) (vs va : ℕ) (outs : List Out) : Type 0 where
   pub in_state : state ≡ q
@@ -65,26 +65,21 @@ pub record Walked (b c : Bool) (Numbers : Type 0) (s : StepState) : Type 0 where
 
 -- ---- What is known at the end of a row.
 
--- where V(S) = V(A) is known, or not
 abbrev Allowed : State → Bool → Bool → Bool → Type 0
-Allowed TeiAssigned t u level = (t ≡ false) × (u ≡ false)
-Allowed AwaitingEstablishment t u level = (t ≡ true) × (u ≡ false)
-Allowed AwaitingRelease t u level = (t ≡ true) × (u ≡ false)
-Allowed MultipleFrameEstablished t u level = (u ≡ not t) × (t ≡ false → level ≡ true)
-Allowed TimerRecovery t u level = (t ≡ true) × (u ≡ false)
+Allowed q t u level = AreTimersOf q t u (level ≡ true)
 
-are_timers : (q : State) (t u level : Bool) (vs va : ℕ) → (level ≡ true → vs ≡ va) → Allowed q t u level → AreTimersOf q t u vs va
-are_timers TeiAssigned t u level vs va same a = a
-are_timers AwaitingEstablishment t u level vs va same a = a
-are_timers AwaitingRelease t u level vs va same a = a
-are_timers MultipleFrameEstablished t u level vs va same a = (a.0, λ off. same (a.1 off))
-are_timers TimerRecovery t u level vs va same a = a
+are_timers : {X Y : Type 0} (q : State) (t u : Bool) → (X → Y) → AreTimersOf q t u X → AreTimersOf q t u Y
+are_timers TeiAssigned t u follows a = a
+are_timers AwaitingEstablishment t u follows a = a
+are_timers AwaitingRelease t u follows a = a
+are_timers MultipleFrameEstablished t u follows a = (a.0, λ off. follows (a.1 off))
+are_timers TimerRecovery t u follows a = a
 
-as_known : (q state : State) (t u t200 t203 : Bool) (vs va : ℕ) → state ≡ q → t200 ≡ t → t203 ≡ u → AreTimersOf q t u vs va → AreTimersOf state t200 t203 vs va
-as_known q state t u t200 t203 vs va one two three h =
-    let F : State → Type 0 = λ x. AreTimersOf x t200 t203 vs va in
-    let G : Bool → Type 0 = λ x. AreTimersOf q x t203 vs va in
-    let H : Bool → Type 0 = λ x. AreTimersOf q t x vs va in
+as_known : (X : Type 0) (q state : State) (t u t200 t203 : Bool) → state ≡ q → t200 ≡ t → t203 ≡ u → AreTimersOf q t u X → AreTimersOf state t200 t203 X
+as_known X q state t u t200 t203 one two three h =
+    let F : State → Type 0 = λ x. AreTimersOf x t200 t203 X in
+    let G : Bool → Type 0 = λ x. AreTimersOf q x t203 X in
+    let H : Bool → Type 0 = λ x. AreTimersOf q t x X in
     subst F (sym one) (subst G (sym two) (subst H (sym three) h))
 
 -- no expiry
@@ -102,12 +97,12 @@ both_off : (t u : Bool) → u ≡ not t → (t && u) ≡ false
 both_off true u h = h
 both_off false u h = refl
 
-sent_timers : (state : State) (t u : Bool) (vs va now : ℕ) → is_established state ≡ true → AreTimersOf state t u vs va → AreTimersOf state true (t && u) now va
-sent_timers MultipleFrameEstablished t u vs va now is h = (both_off t u h.0, λ off. cc)
-sent_timers TeiAssigned t u vs va now is h = cc
-sent_timers AwaitingEstablishment t u vs va now is h = cc
-sent_timers AwaitingRelease t u vs va now is h = cc
-sent_timers TimerRecovery t u vs va now is h = cc
+sent_timers : (X Y : Type 0) (state : State) (t u : Bool) → is_established state ≡ true → AreTimersOf state t u X → AreTimersOf state true (t && u) Y
+sent_timers X Y MultipleFrameEstablished t u is h = (both_off t u h.0, λ off. cc)
+sent_timers X Y TeiAssigned t u is h = cc
+sent_timers X Y AwaitingEstablishment t u is h = cc
+sent_timers X Y AwaitingRelease t u is h = cc
+sent_timers X Y TimerRecovery t u is h = cc
 
 module _ (r : Reading) (b c : Bool) (Numbers : Type 0) where
   abbrev P : State → Bool → Bool → Bool → StepState → Type 0
@@ -293,8 +288,7 @@ module _ (r : Reading) (b c : Bool) (Numbers : Type 0) where
 
   ends : {q : State} {t u level : Bool} (s : StepState) → P q t u level s → (Numbers → Allowed q t u level) → After s
   ends {q = q} {t = t} {u = u} {level = level} s k a = let h = k.known in record {
-    timers = λ n. as_known q s.end.state t u s.end.t200 s.end.t203 s.end.window.vs s.end.window.va h.in_state h.t200_is h.t203_is
-        (are_timers q t u level s.end.window.vs s.end.window.va (h.same n) (a n));
+    timers = λ n. as_known (s.end.window.vs ≡ s.end.window.va) q s.end.state t u s.end.t200 s.end.t203 h.in_state h.t200_is h.t203_is (are_timers q t u (h.same n) (a n));
     follow = h.follow;
   }
 
@@ -536,7 +530,7 @@ module _ (r : Reading) (b c : Bool) (Numbers : Type 0) where
   one_sent : (s : StepState) → is_established s.end.state ≡ true → After s → After (s ▷ transmit_i_frame r ▷ ensure_t200)
   unfolding transmit_i_frame ensure_t200 after_sending
   one_sent s is h = record {
-    timers = λ n. sent_timers s.end.state s.end.t200 s.end.t203 s.end.window.vs s.end.window.va _ is (h.timers n);
+    timers = λ n. sent_timers (s.end.window.vs ≡ s.end.window.va) _ s.end.state s.end.t200 s.end.t203 is (h.timers n);
     follow = then_follow (if s.end.t200 then [] else Start T200 ∷ []) (started_unless s.end.t200 (s.end.t200 && s.end.t203))
         (then_follow (if s.end.t200 then [] else out_where s.end.t203 (Stop T203)) (stopped_unless s.end.t200 s.end.t203)
         (then_follow _ (alone _ s.end.t200 s.end.t203 (λ timer running. refl)) h.follow));
@@ -560,46 +554,46 @@ abbrev level_of : State → Bool → Bool
 level_of MultipleFrameEstablished t = not t
 level_of state t = false
 
-at_first : (state : State) (t u : Bool) (vs va : ℕ) → AreTimersOf state t u vs va → Allowed state t u (level_of state t)
-at_first TeiAssigned t u vs va h = h
-at_first AwaitingEstablishment t u vs va h = h
-at_first AwaitingRelease t u vs va h = h
-at_first MultipleFrameEstablished t u vs va h = (h.0, λ off. ap not off)
-at_first TimerRecovery t u vs va h = h
+at_first : (X : Type 0) (state : State) (t u : Bool) → AreTimersOf state t u X → Allowed state t u (level_of state t)
+at_first X TeiAssigned t u h = h
+at_first X AwaitingEstablishment t u h = h
+at_first X AwaitingRelease t u h = h
+at_first X MultipleFrameEstablished t u h = (h.0, λ off. ap not off)
+at_first X TimerRecovery t u h = h
 
-same_at_first : (state : State) (t u : Bool) (vs va : ℕ) → AreTimersOf state t u vs va → level_of state t ≡ true → vs ≡ va
-same_at_first MultipleFrameEstablished true u vs va h is = cc
-same_at_first MultipleFrameEstablished false u vs va h is = h.1 refl
-same_at_first TeiAssigned t u vs va h is = cc
-same_at_first AwaitingEstablishment t u vs va h is = cc
-same_at_first AwaitingRelease t u vs va h is = cc
-same_at_first TimerRecovery t u vs va h is = cc
+same_at_first : (X : Type 0) (state : State) (t u : Bool) → AreTimersOf state t u X → level_of state t ≡ true → X
+same_at_first X MultipleFrameEstablished true u h is = cc
+same_at_first X MultipleFrameEstablished false u h is = h.1 refl
+same_at_first X TeiAssigned t u h is = cc
+same_at_first X AwaitingEstablishment t u h is = cc
+same_at_first X AwaitingRelease t u h is = cc
+same_at_first X TimerRecovery t u h is = cc
 
 none_follow : (b c : Bool) → FollowOuts b c b c []
 none_follow b c = record { t200_follows = refl; t203_follows = refl; t201_stays = λ on. refl; t202_stays = λ on. refl }
 
 -- T200 runs in no state 4, and beside no T203
-off_203 : (state : State) (t u : Bool) (vs va : ℕ) → t ≡ true → AreTimersOf state t u vs va → u ≡ false
-off_203 TeiAssigned t u vs va on h = h.1
-off_203 AwaitingEstablishment t u vs va on h = h.1
-off_203 AwaitingRelease t u vs va on h = h.1
-off_203 MultipleFrameEstablished t u vs va on h = h.0 ∙ ap not on
-off_203 TimerRecovery t u vs va on h = h.1
+off_203 : (X : Type 0) (state : State) (t u : Bool) → t ≡ true → AreTimersOf state t u X → u ≡ false
+off_203 X TeiAssigned t u on h = h.1
+off_203 X AwaitingEstablishment t u on h = h.1
+off_203 X AwaitingRelease t u on h = h.1
+off_203 X MultipleFrameEstablished t u on h = h.0 ∙ ap not on
+off_203 X TimerRecovery t u on h = h.1
 
-not_in_4 : (state : State) (t u : Bool) (vs va : ℕ) → t ≡ true → AreTimersOf state t u vs va → state ≡ TeiAssigned → ⊥
-not_in_4 TeiAssigned t u vs va on h is = let off = h.0 in cc
-not_in_4 AwaitingEstablishment t u vs va on h is = cc
-not_in_4 AwaitingRelease t u vs va on h is = cc
-not_in_4 MultipleFrameEstablished t u vs va on h is = cc
-not_in_4 TimerRecovery t u vs va on h is = cc
+not_in_4 : (X : Type 0) (state : State) (t u : Bool) → t ≡ true → AreTimersOf state t u X → state ≡ TeiAssigned → ⊥
+not_in_4 X TeiAssigned t u on h is = let off = h.0 in cc
+not_in_4 X AwaitingEstablishment t u on h is = cc
+not_in_4 X AwaitingRelease t u on h is = cc
+not_in_4 X MultipleFrameEstablished t u on h is = cc
+not_in_4 X TimerRecovery t u on h is = cc
 
 -- T203 runs in state 7 alone
-in_7_alone : (F : State → Type 0) (state : State) (t u : Bool) (vs va : ℕ) → u ≡ true → AreTimersOf state t u vs va → F MultipleFrameEstablished → F state
-in_7_alone F TeiAssigned t u vs va on h in7 = let off = h.1 in cc
-in_7_alone F AwaitingEstablishment t u vs va on h in7 = let off = h.1 in cc
-in_7_alone F AwaitingRelease t u vs va on h in7 = let off = h.1 in cc
-in_7_alone F MultipleFrameEstablished t u vs va on h in7 = in7
-in_7_alone F TimerRecovery t u vs va on h in7 = let off = h.1 in cc
+in_7_alone : (X : Type 0) (F : State → Type 0) (state : State) (t u : Bool) → u ≡ true → AreTimersOf state t u X → F MultipleFrameEstablished → F state
+in_7_alone X F TeiAssigned t u on h in7 = let off = h.1 in cc
+in_7_alone X F AwaitingEstablishment t u on h in7 = let off = h.1 in cc
+in_7_alone X F AwaitingRelease t u on h in7 = let off = h.1 in cc
+in_7_alone X F MultipleFrameEstablished t u on h in7 = in7
+in_7_alone X F TimerRecovery t u on h in7 = let off = h.1 in cc
 
 module _ (r : Reading) (Numbers : Type 0) (e : End) (has : HasTimersOfState e) (number : Numbers → IsNumber r e.window.va) where
   same_at : (b c : Bool) → e.t200 ≡ b → e.t203 ≡ c → Walked b c Numbers (begin e)
@@ -608,17 +602,17 @@ module _ (r : Reading) (Numbers : Type 0) (e : End) (has : HasTimersOfState e) (
 
   other_row : (input : Input) → IsOther input → ((nr : ℕ) → received_number input ≡ Some nr → Numbers → IsNumber r nr) → Walked e.t200 e.t203 Numbers (row r e.state input (begin e))
   unfolding begin
-  other_row input o small = in_row r e.t200 e.t203 Numbers e.state input (begin e) o small (at_first e.state e.t200 e.t203 e.window.vs e.window.va has)
-      (record { known = record { in_state = refl; t200_is = refl; t203_is = refl; number = number; same = λ n is. same_at_first e.state e.t200 e.t203 e.window.vs e.window.va has is; follow = none_follow e.t200 e.t203 } })
+  other_row input o small = in_row r e.t200 e.t203 Numbers e.state input (begin e) o small (at_first (e.window.vs ≡ e.window.va) e.state e.t200 e.t203 has)
+      (record { known = record { in_state = refl; t200_is = refl; t203_is = refl; number = number; same = λ n is. same_at_first (e.window.vs ≡ e.window.va) e.state e.t200 e.t203 has is; follow = none_follow e.t200 e.t203 } })
 
   row_200 : e.t200 ≡ true → Walked false e.t203 Numbers (by_state r e.state (Expiry T200) (begin e))
   unfolding begin
-  row_200 on = expiring_200 r false e.t203 Numbers {level = false} e.state (begin e) (not_in_4 e.state e.t200 e.t203 e.window.vs e.window.va on has)
-      (record { known = record { in_state = refl; t200_is = refl; t203_is = off_203 e.state e.t200 e.t203 e.window.vs e.window.va on has; number = number; same = λ n is. cc; follow = none_follow false e.t203 } })
+  row_200 on = expiring_200 r false e.t203 Numbers {level = false} e.state (begin e) (not_in_4 (e.window.vs ≡ e.window.va) e.state e.t200 e.t203 on has)
+      (record { known = record { in_state = refl; t200_is = refl; t203_is = off_203 (e.window.vs ≡ e.window.va) e.state e.t200 e.t203 on has; number = number; same = λ n is. cc; follow = none_follow false e.t203 } })
 
   row_203 : e.t203 ≡ true → Walked e.t200 false Numbers (by_state r e.state (Expiry T203) (begin e))
   unfolding begin
-  row_203 on = in_7_alone (λ state. e.state ≡ state → Walked e.t200 false Numbers (by_state r state (Expiry T203) (begin e))) e.state e.t200 e.t203 e.window.vs e.window.va on has
+  row_203 on = in_7_alone (e.window.vs ≡ e.window.va) (λ state. e.state ≡ state → Walked e.t200 false Numbers (by_state r state (Expiry T203) (begin e))) e.state e.t200 e.t203 on has
       (λ is. expiring_203 r e.t200 false Numbers {t = e.t200} {level = false} (begin e)
       (record { known = record { in_state = is; t200_is = refl; t203_is = refl; number = number; same = λ n is. cc; follow = none_follow e.t200 false } })) refl
 

@@ -1,6 +1,6 @@
 -- The timers of an end: which run in each state, and how a timer that is kept outside, by the outputs Start and Stop of each
 -- step, stands to them (Q.921 5.9.1, 5.9.8, 5.10.3).
-use Rattle.std.specs.Prelude.{◌≡◌, ℕ, not, if◌then◌else◌, Bool, true, false, List, [], ◌∷◌}
+use Rattle.std.specs.Prelude.{◌≡◌, not, if◌then◌else◌, Bool, true, false, List, [], ◌∷◌}
 use Rattle.lapd_timers.specs.declared.timer.Timer.{Timer}
 use Rattle.lapd_timers.specs.declared.timer.Timer.TheVariants.{T200, T201, T202, T203}
 use Rattle.lapd_link_rows.specs.declared.state.State.{State}
@@ -13,17 +13,17 @@ use Rattle.lapd_link_rows.specs.Input.{Input, Expiry}
 -- ---- Which run.
 
 -- In state 4 neither. T200 alone in states 5, 6 and 8, where an answer is waited for (5.5.1.2, 5.5.3.2, 5.6.7, 5.10.3.3). In
--- state 7 exactly one: T200 wherever V(S) = V(A) does not hold (5.6.1), and T203 wherever T200 does not run (5.10.3.1).
-abbrev pub AreTimersOf : State → Bool → Bool → ℕ → ℕ → Type 0
-AreTimersOf TeiAssigned t200 t203 vs va = (t200 ≡ false) × (t203 ≡ false)
-AreTimersOf AwaitingEstablishment t200 t203 vs va = (t200 ≡ true) × (t203 ≡ false)
-AreTimersOf AwaitingRelease t200 t203 vs va = (t200 ≡ true) × (t203 ≡ false)
-AreTimersOf MultipleFrameEstablished t200 t203 vs va = (t203 ≡ not t200)
-    × (t200 ≡ false → vs ≡ va)
-AreTimersOf TimerRecovery t200 t203 vs va = (t200 ≡ true) × (t203 ≡ false)
+-- state 7 exactly one: T203 wherever T200 does not run (5.10.3.1), and then all that was sent is acknowledged (5.6.1).
+abbrev pub AreTimersOf : State → Bool → Bool → Type 0 → Type 0
+AreTimersOf TeiAssigned t200 t203 AllAcknowledged = (t200 ≡ false) × (t203 ≡ false)
+AreTimersOf AwaitingEstablishment t200 t203 AllAcknowledged = (t200 ≡ true) × (t203 ≡ false)
+AreTimersOf AwaitingRelease t200 t203 AllAcknowledged = (t200 ≡ true) × (t203 ≡ false)
+AreTimersOf MultipleFrameEstablished t200 t203 AllAcknowledged = (t203 ≡ not t200)
+    × (t200 ≡ false → AllAcknowledged)
+AreTimersOf TimerRecovery t200 t203 AllAcknowledged = (t200 ≡ true) × (t203 ≡ false)
 
 abbrev pub HasTimersOfState : End → Type 0
-HasTimersOfState e = AreTimersOf e.state e.t200 e.t203 e.window.vs e.window.va
+HasTimersOfState e = AreTimersOf e.state e.t200 e.t203 (e.window.vs ≡ e.window.va)
 
 -- ---- What outputs make of a timer.
 
@@ -50,7 +50,8 @@ abbrev pub runs_before : Timer → Input → End → Bool
 runs_before timer (Expiry expired) e = if is_same_timer timer expired then false else runs timer e
 runs_before timer input e = runs timer e
 
--- T200 and T203 run as the outputs make them run, from what they were; T201 and T202 are no link's, and left alone.
+-- T200 and T203 run as the outputs make them run, from how they ran before. T201 and T202, which no link has, are left
+-- alone.
 pub record FollowOuts (t200_before t203_before t200 t203 : Bool) (outs : List Out) : Type 0 where
   pub t200_follows : t200 ≡ runs_after T200 outs t200_before
   pub t203_follows : t203 ≡ runs_after T203 outs t203_before
