@@ -59,9 +59,14 @@ spelling-frame_of_fields from first second (Ua f) info = refl
 spelling-frame_of_fields from first second (Frmr f) info = refl
 spelling-frame_of_fields from first second (Xid pf) info = refl
 
+-- parts that are spelled come back, or a fault of the link with their address
+pub parts_again : (from : Side) (f : Fields)
+    → frame_at from (spelling from f) ≡ fault_for_link f.address (frame_of f.address f.control f.info (content_fault f.address.role f.control (length f.info)))
+parts_again from f =
+    spelling-frame_of_fields from (sapi_value f.address.sapi * 4 + command_bit from f.address.role * 2) (f.address.tei * 2 + 1) f.control f.info ∙ rw (address_again from f.address, control_again f.control f.info, drop-control f.control f.info) refl
+
 pub frame_again : (from : Side) (f : Fields) → content_fault f.address.role f.control (length f.info) ≡ None → frame_at from (spelling from f) ≡ Ok f
-frame_again from f h =
-    spelling-frame_of_fields from (sapi_value f.address.sapi * 4 + command_bit from f.address.role * 2) (f.address.tei * 2 + 1) f.control f.info ∙ rw (address_again from f.address, control_again f.control f.info, drop-control f.control f.info, h) refl
+frame_again from f h = parts_again from f ∙ ap (λ fault. fault_for_link f.address (frame_of f.address f.control f.info fault)) h
 
 -- ---- What is read is spelled so.
 

@@ -1,9 +1,8 @@
 -- One walk over the table: what each action keeps, each row and the end of a step keep.
 --
--- Before an N(R) is acknowledged or a message goes out a fact P is kept, and from then on a fact Q that follows from it. Some actions need a
--- premise of their own: M of a message that joins the queue, B where an establishment begins, T where an I frame is taken, U where
--- unit data goes up, G where a message
--- goes out, N of an N(R) that is acknowledged.
+-- Before an N(R) is acknowledged or a message goes out a fact P is kept, and from then on a fact Q that follows from it. Some
+-- actions need a premise of their own: E of a timer that expires, M of a message that joins the queue, B where an establishment
+-- begins, T where an I frame is taken, U where unit data goes up, G where a message goes out, N of an N(R) that is acknowledged.
 use Rattle.std.proofs.Common.{◌≡◌, ℕ, zero, suc, ◌==◌, ◌&&◌, not, nat_lt, Bool, true, false, if◌then◌else◌, List, Option, Some, None, refl}
 use Rattle.lapd_timers.specs.declared.timer.Timer.{Timer}
 use Rattle.lapd_timers.specs.declared.timer.Timer.TheVariants.{T200, T203}
@@ -52,7 +51,7 @@ received_number (Heard (Rnr nr pf) role) = Some nr
 received_number (Heard (Rej nr pf) role) = Some nr
 received_number input = None
 
-pub record KeptByActions (r : Reading) (P Q : StepState → Type 0) (M : List ℕ → Type 0) (B T U G : Type 0) (N : ℕ → Type 0) : Type 0 where
+pub record KeptByActions (r : Reading) (E : Timer → StepState → Type 0) (P Q : StepState → Type 0) (M : List ℕ → Type 0) (B T U G : Type 0) (N : ℕ → Type 0) : Type 0 where
   pub puts : (out : Out) (s : StepState) → IsPut out → P s → P (put out s)
   pub unit_ups : (s : StepState) → U → P s → P (put UnitUp s)
   pub states : (state : State) (s : StepState) → P s → P (state_to state s)
@@ -62,7 +61,9 @@ pub record KeptByActions (r : Reading) (P Q : StepState → Type 0) (M : List �
   pub pendings : (on : Bool) (s : StepState) → P s → P (release_pending_to on s)
   pub starts : (timer : Timer) (s : StepState) → P s → P (start timer s)
   pub stops : (timer : Timer) (s : StepState) → P s → P (stop timer s)
-  pub expires : (timer : Timer) (s : StepState) → P s → P (expired timer s)
+  -- an expiry is counted first
+  pub still_expires : (timer : Timer) (s : StepState) → E timer s → E timer (increment_rc s)
+  pub expires : (timer : Timer) (s : StepState) → E timer s → P s → P (expired timer s)
   pub clears : (s : StepState) → P s → P (clear_exception_conditions s)
   pub zeroes : (s : StepState) → B → P s → P (zero_state_variables s)
   pub peers : (on : Bool) (s : StepState) → P s → P (set_peer_busy on s)
@@ -99,7 +100,7 @@ both_then true false p q = refl
 both_then true true p q = cc
 both_then false leaving p q = cc
 
-module _ (r : Reading) (P Q : StepState → Type 0) (M : List ℕ → Type 0) (B T U G : Type 0) (N : ℕ → Type 0) (w : KeptByActions r P Q M B T U G N) where
+module _ (r : Reading) (E : Timer → StepState → Type 0) (P Q : StepState → Type 0) (M : List ℕ → Type 0) (B T U G : Type 0) (N : ℕ → Type 0) (w : KeptByActions r E P Q M B T U G N) where
   establishing : (s : StepState) → P s → P (establish_data_link s)
   unfolding establish_data_link
   establishing s h = w.states _ _ (w.starts T200 _ (w.stops T203 _ (w.puts _ _ (refl, tt) (w.rcs 0 _ (w.pendings false _ (w.clears _ h))))))
@@ -137,44 +138,44 @@ module _ (r : Reading) (P Q : StepState → Type 0) (M : List ℕ → Type 0) (B
       (λ _. w.states _ _ (w.starts T200 _ (w.puts _ _ (refl, tt) (w.rcs 0 _ (w.pendings false _ h)))))
       (λ stays. w.states _ _ (w.starts T203 _ (w.stops T200 _ (w.zeroes _ (b stays) (confirming _ h)))))
 
-  expiring_5 : (s : StepState) → P s → P (awaiting_establishment_t200 s)
+  expiring_5 : (s : StepState) → E T200 s → P s → P (awaiting_establishment_t200 s)
   unfolding awaiting_establishment_t200
-  expiring_5 s h = either P (nat_lt s.end.rc s.end.parameters.n200) _ _
-      (λ _. w.starts T200 _ (w.puts _ _ (refl, tt) (w.expires T200 _ (w.increments _ h))))
-      (λ _. ending _ (w.puts _ _ tt (w.discards _ (w.expires T200 _ h))))
+  expiring_5 s x h = either P (nat_lt s.end.rc s.end.parameters.n200) _ _
+      (λ _. w.starts T200 _ (w.puts _ _ (refl, tt) (w.expires T200 _ (w.still_expires T200 _ x) (w.increments _ h))))
+      (λ _. ending _ (w.puts _ _ tt (w.discards _ (w.expires T200 _ x h))))
 
-  in_5 : (input : Input) (s : StepState) → ((message : List ℕ) → input ≡ Give message → M message) → ((is_final_ua input && not s.end.release_pending) ≡ true → B) → P s → P (awaiting_establishment input s)
+  in_5 : (input : Input) (s : StepState) → ((message : List ℕ) → input ≡ Give message → M message) → ((is_final_ua input && not s.end.release_pending) ≡ true → B) → ((timer : Timer) → input ≡ Expiry timer → E timer s) → P s → P (awaiting_establishment input s)
   unfolding awaiting_establishment
-  in_5 Establish s m b h = w.layer3s true _ (w.discards _ h)
-  in_5 Release s m b h = w.pendings true _ (w.discards _ h)
-  in_5 (Give message) s m b h = w.queues message _ (m message refl) h
-  in_5 (Heard (Sabme p) Command) s m b h = w.puts _ _ (refl, tt) h
-  in_5 (Heard (Disc p) Command) s m b h = w.puts _ _ (refl, tt) h
-  in_5 (Heard (Ua true) Answer) s m b h = answered s (λ stays. b (both_then true s.end.release_pending refl stays)) h
-  in_5 (Heard (Ua false) Answer) s m b h = w.puts _ _ tt h
-  in_5 (Heard (Dm true) Answer) s m b h = ending _ (w.stops T200 _ (w.discards _ h))
-  in_5 (Expiry T200) s m b h = expiring_5 s h
-  in_5 input s m b h = h
+  in_5 Establish s m b x h = w.layer3s true _ (w.discards _ h)
+  in_5 Release s m b x h = w.pendings true _ (w.discards _ h)
+  in_5 (Give message) s m b x h = w.queues message _ (m message refl) h
+  in_5 (Heard (Sabme p) Command) s m b x h = w.puts _ _ (refl, tt) h
+  in_5 (Heard (Disc p) Command) s m b x h = w.puts _ _ (refl, tt) h
+  in_5 (Heard (Ua true) Answer) s m b x h = answered s (λ stays. b (both_then true s.end.release_pending refl stays)) h
+  in_5 (Heard (Ua false) Answer) s m b x h = w.puts _ _ tt h
+  in_5 (Heard (Dm true) Answer) s m b x h = ending _ (w.stops T200 _ (w.discards _ h))
+  in_5 (Expiry T200) s m b x h = expiring_5 s (x T200 refl) h
+  in_5 input s m b x h = h
 
   released : (s : StepState) → P s → P (confirm_release s)
   unfolding confirm_release
   released s h = w.states _ _ (w.puts _ _ tt (w.stops T200 _ h))
 
-  expiring_6 : (s : StepState) → P s → P (awaiting_release_t200 s)
+  expiring_6 : (s : StepState) → E T200 s → P s → P (awaiting_release_t200 s)
   unfolding awaiting_release_t200
-  expiring_6 s h = either P (nat_lt s.end.rc s.end.parameters.n200) _ _
-      (λ _. w.starts T200 _ (w.puts _ _ (refl, tt) (w.expires T200 _ (w.increments _ h))))
-      (λ _. w.states _ _ (w.puts _ _ tt (w.puts _ _ tt (w.expires T200 _ h))))
+  expiring_6 s x h = either P (nat_lt s.end.rc s.end.parameters.n200) _ _
+      (λ _. w.starts T200 _ (w.puts _ _ (refl, tt) (w.expires T200 _ (w.still_expires T200 _ x) (w.increments _ h))))
+      (λ _. w.states _ _ (w.puts _ _ tt (w.puts _ _ tt (w.expires T200 _ x h))))
 
-  in_6 : (input : Input) (s : StepState) → P s → P (awaiting_release input s)
+  in_6 : (input : Input) (s : StepState) → ((timer : Timer) → input ≡ Expiry timer → E timer s) → P s → P (awaiting_release input s)
   unfolding awaiting_release
-  in_6 (Heard (Sabme p) Command) s h = w.puts _ _ (refl, tt) h
-  in_6 (Heard (Disc p) Command) s h = w.puts _ _ (refl, tt) h
-  in_6 (Heard (Ua true) Answer) s h = released s h
-  in_6 (Heard (Dm true) Answer) s h = released s h
-  in_6 (Heard (Ua false) Answer) s h = w.puts _ _ tt h
-  in_6 (Expiry T200) s h = expiring_6 s h
-  in_6 input s h = h
+  in_6 (Heard (Sabme p) Command) s x h = w.puts _ _ (refl, tt) h
+  in_6 (Heard (Disc p) Command) s x h = w.puts _ _ (refl, tt) h
+  in_6 (Heard (Ua true) Answer) s x h = released s h
+  in_6 (Heard (Dm true) Answer) s x h = released s h
+  in_6 (Heard (Ua false) Answer) s x h = w.puts _ _ tt h
+  in_6 (Expiry T200) s x h = expiring_6 s (x T200 refl) h
+  in_6 input s x h = h
 
   -- ---- States 7 and 8.
 
@@ -247,22 +248,22 @@ module _ (r : Reading) (P Q : StepState → Type 0) (M : List ℕ → Type 0) (B
   polled Command false s h = h
   polled Answer false s h = h
 
-  expiring_7 : (s : StepState) → G → P s → Q (established_t200 r s)
+  expiring_7 : (s : StepState) → E T200 s → G → P s → Q (established_t200 r s)
   unfolding established_t200
-  expiring_7 s g h = either Q (sends_last s.end.parameters.recovery s.end.window) _ _
-      (λ _. w.states_then _ _ (w.rcs_then 1 _ (w.repeats _ g (w.expires T200 _ h)))) (λ _. w.follows _ (w.states _ _ (w.rcs 1 _ (w.enquires _ (w.expires T200 _ h)))))
+  expiring_7 s x g h = either Q (sends_last s.end.parameters.recovery s.end.window) _ _
+      (λ _. w.states_then _ _ (w.rcs_then 1 _ (w.repeats _ g (w.expires T200 _ x h)))) (λ _. w.follows _ (w.states _ _ (w.rcs 1 _ (w.enquires _ (w.expires T200 _ x h)))))
 
   in_7 : (input : Input) (s : StepState) → ((message : List ℕ) → input ≡ Give message → M message) → (is_sabme input ≡ true → B) → ((ns nr : ℕ) (p : Bool) → input ≡ Heard (I ns nr p) Command → T)
-      → (input ≡ Expiry T200 → G) → ((nr : ℕ) → received_number input ≡ Some nr → N nr) → P s → Q (multiple_frame_established r input s)
+      → (input ≡ Expiry T200 → G) → ((nr : ℕ) → received_number input ≡ Some nr → N nr) → ((timer : Timer) → input ≡ Expiry timer → E timer s) → P s → Q (multiple_frame_established r input s)
   unfolding multiple_frame_established
-  in_7 (Heard (I ns nr p) Command) s m b t g n h = i_frame_numbered nr _ (n nr refl) (w.takes ns p s (t ns nr p refl) h)
-  in_7 (Heard (Dm true) Answer) s m b t g n h = w.follows _ (w.puts _ _ tt h)
-  in_7 (Heard (Rr nr pf) role) s m b t g n h = rr_numbered nr _ (n nr refl) (polled role pf _ (w.peers false s h))
-  in_7 (Heard (Rej nr pf) role) s m b t g n h = rej_numbered nr _ (n nr refl) (polled role pf _ (w.peers false s h))
-  in_7 (Heard (Rnr nr pf) role) s m b t g n h = rnr_numbered nr _ (n nr refl) (polled role pf _ (w.peers true s h))
-  in_7 (Expiry T203) s m b t g n h = w.follows _ (w.states _ _ (w.enquires _ (w.rcs 0 _ (w.expires T203 _ h))))
-  in_7 (Expiry T200) s m b t g n h = expiring_7 s (g refl) h
-  in_7 input s m b t g n h = w.follows _ (in_both input s m b h)
+  in_7 (Heard (I ns nr p) Command) s m b t g n x h = i_frame_numbered nr _ (n nr refl) (w.takes ns p s (t ns nr p refl) h)
+  in_7 (Heard (Dm true) Answer) s m b t g n x h = w.follows _ (w.puts _ _ tt h)
+  in_7 (Heard (Rr nr pf) role) s m b t g n x h = rr_numbered nr _ (n nr refl) (polled role pf _ (w.peers false s h))
+  in_7 (Heard (Rej nr pf) role) s m b t g n x h = rej_numbered nr _ (n nr refl) (polled role pf _ (w.peers false s h))
+  in_7 (Heard (Rnr nr pf) role) s m b t g n x h = rnr_numbered nr _ (n nr refl) (polled role pf _ (w.peers true s h))
+  in_7 (Expiry T203) s m b t g n x h = w.follows _ (w.states _ _ (w.enquires _ (w.rcs 0 _ (w.expires T203 _ (x T203 refl) h))))
+  in_7 (Expiry T200) s m b t g n x h = expiring_7 s (x T200 refl) (g refl) h
+  in_7 input s m b t g n x h = w.follows _ (in_both input s m b h)
 
   polled_in_recovery : (role : Role) (pf : Bool) (s : StepState) → P s → P (poll role pf s)
   unfolding poll
@@ -271,32 +272,32 @@ module _ (r : Reading) (P Q : StepState → Type 0) (M : List ℕ → Type 0) (B
   polled_in_recovery Command false s h = h
   polled_in_recovery Answer false s h = h
 
-  expiring_8 : (s : StepState) → P s → P (timer_recovery_t200 s)
+  expiring_8 : (s : StepState) → E T200 s → P s → P (timer_recovery_t200 s)
   unfolding timer_recovery_t200
-  expiring_8 s h = either P (nat_lt s.end.rc s.end.parameters.n200) _ _
-      (λ _. w.enquires _ (w.expires T200 _ (w.increments _ h))) (λ _. reestablishing _ (w.puts _ _ tt (w.expires T200 _ h)))
+  expiring_8 s x h = either P (nat_lt s.end.rc s.end.parameters.n200) _ _
+      (λ _. w.enquires _ (w.expires T200 _ (w.still_expires T200 _ x) (w.increments _ h))) (λ _. reestablishing _ (w.puts _ _ tt (w.expires T200 _ x h)))
 
   in_8 : (input : Input) (s : StepState) → ((message : List ℕ) → input ≡ Give message → M message) → (is_sabme input ≡ true → B) → ((ns nr : ℕ) (p : Bool) → input ≡ Heard (I ns nr p) Command → T)
-      → ((nr : ℕ) → received_number input ≡ Some nr → N nr) → P s → Q (timer_recovery r input s)
+      → ((nr : ℕ) → received_number input ≡ Some nr → N nr) → ((timer : Timer) → input ≡ Expiry timer → E timer s) → P s → Q (timer_recovery r input s)
   unfolding timer_recovery
-  in_8 (Heard (I ns nr p) Command) s m b t n h = i_frame_in_recovery nr _ (n nr refl) (w.takes ns p s (t ns nr p refl) h)
-  in_8 (Heard (Dm true) Answer) s m b t n h = w.follows _ (reestablishing _ (w.puts _ _ tt h))
-  in_8 (Heard (Rr nr pf) role) s m b t n h = rr_in_recovery (is_final role pf) nr _ (n nr refl) (polled_in_recovery role pf _ (w.peers false s h))
-  in_8 (Heard (Rej nr pf) role) s m b t n h = rr_in_recovery (is_final role pf) nr _ (n nr refl) (polled_in_recovery role pf _ (w.peers false s h))
-  in_8 (Heard (Rnr nr pf) role) s m b t n h = rnr_in_recovery (is_final role pf) nr _ (n nr refl) (polled_in_recovery role pf _ (w.peers true s h))
-  in_8 (Expiry T200) s m b t n h = w.follows _ (expiring_8 s h)
-  in_8 input s m b t n h = w.follows _ (in_both input s m b h)
+  in_8 (Heard (I ns nr p) Command) s m b t n x h = i_frame_in_recovery nr _ (n nr refl) (w.takes ns p s (t ns nr p refl) h)
+  in_8 (Heard (Dm true) Answer) s m b t n x h = w.follows _ (reestablishing _ (w.puts _ _ tt h))
+  in_8 (Heard (Rr nr pf) role) s m b t n x h = rr_in_recovery (is_final role pf) nr _ (n nr refl) (polled_in_recovery role pf _ (w.peers false s h))
+  in_8 (Heard (Rej nr pf) role) s m b t n x h = rr_in_recovery (is_final role pf) nr _ (n nr refl) (polled_in_recovery role pf _ (w.peers false s h))
+  in_8 (Heard (Rnr nr pf) role) s m b t n x h = rnr_in_recovery (is_final role pf) nr _ (n nr refl) (polled_in_recovery role pf _ (w.peers true s h))
+  in_8 (Expiry T200) s m b t n x h = w.follows _ (expiring_8 s (x T200 refl) h)
+  in_8 input s m b t n x h = w.follows _ (in_both input s m b h)
 
   -- ---- All rows.
 
   in_state : (state : State) (input : Input) (s : StepState) → ((message : List ℕ) → input ≡ Give message → M message) → (begins state s.end.release_pending input ≡ true → B)
-      → (is_7_or_8 state ≡ true → (ns nr : ℕ) (p : Bool) → input ≡ Heard (I ns nr p) Command → T) → (state ≡ MultipleFrameEstablished → input ≡ Expiry T200 → G) → ((nr : ℕ) → received_number input ≡ Some nr → N nr) → P s → Q (by_state r state input s)
+      → (is_7_or_8 state ≡ true → (ns nr : ℕ) (p : Bool) → input ≡ Heard (I ns nr p) Command → T) → (state ≡ MultipleFrameEstablished → input ≡ Expiry T200 → G) → ((nr : ℕ) → received_number input ≡ Some nr → N nr) → ((timer : Timer) → input ≡ Expiry timer → E timer s) → P s → Q (by_state r state input s)
   unfolding by_state
-  in_state TeiAssigned input s m b t g n h = w.follows _ (in_4 input s b h)
-  in_state AwaitingEstablishment input s m b t g n h = w.follows _ (in_5 input s m b h)
-  in_state AwaitingRelease input s m b t g n h = w.follows _ (in_6 input s h)
-  in_state MultipleFrameEstablished input s m b t g n h = in_7 input s m b (t refl) (g refl) n h
-  in_state TimerRecovery input s m b t g n h = in_8 input s m b (t refl) n h
+  in_state TeiAssigned input s m b t g n x h = w.follows _ (in_4 input s b h)
+  in_state AwaitingEstablishment input s m b t g n x h = w.follows _ (in_5 input s m b x h)
+  in_state AwaitingRelease input s m b t g n x h = w.follows _ (in_6 input s x h)
+  in_state MultipleFrameEstablished input s m b t g n x h = in_7 input s m b (t refl) (g refl) n x h
+  in_state TimerRecovery input s m b t g n x h = in_8 input s m b (t refl) n x h
 
   faulty : (state : State) (kind : FaultKind) (s : StepState) → P s → P (report_fault state kind s)
   unfolding report_fault
@@ -307,13 +308,13 @@ module _ (r : Reading) (P Q : StepState → Type 0) (M : List ℕ → Type 0) (B
   faulty TimerRecovery kind s h = reestablishing _ (w.puts _ s tt h)
 
   pub row_keeps : (state : State) (input : Input) (s : StepState) → ((message : List ℕ) → input ≡ Give message → M message) → (begins state s.end.release_pending input ≡ true → B)
-      → (is_7_or_8 state ≡ true → (ns nr : ℕ) (p : Bool) → input ≡ Heard (I ns nr p) Command → T) → (hears_unit input ≡ true → U) → (state ≡ MultipleFrameEstablished → input ≡ Expiry T200 → G) → ((nr : ℕ) → received_number input ≡ Some nr → N nr) → P s → Q (row r state input s)
+      → (is_7_or_8 state ≡ true → (ns nr : ℕ) (p : Bool) → input ≡ Heard (I ns nr p) Command → T) → (hears_unit input ≡ true → U) → (state ≡ MultipleFrameEstablished → input ≡ Expiry T200 → G) → ((nr : ℕ) → received_number input ≡ Some nr → N nr) → ((timer : Timer) → input ≡ Expiry timer → E timer s) → P s → Q (row r state input s)
   unfolding row
-  row_keeps state (Heard control role) s m b t u g n h = either Q (is_unit_data control role) _ _ (λ unit. w.follows _ (w.unit_ups s (u unit) h)) (λ _. in_state state (Heard control role) s m b t g n h)
-  row_keeps state (UnitData len) s m b t u g n h = w.follows _ (w.puts _ s tt h)
-  row_keeps state (Faulty kind) s m b t u g n h = w.follows _ (faulty state kind s h)
-  row_keeps state (Expiry timer) s m b t u g n h = either Q (runs timer s.end) _ _ (λ _. in_state state (Expiry timer) s m b t g n h) (λ _. w.follows s h)
-  row_keeps state input s m b t u g n h = in_state state input s m b t g n h
+  row_keeps state (Heard control role) s m b t u g n x h = either Q (is_unit_data control role) _ _ (λ unit. w.follows _ (w.unit_ups s (u unit) h)) (λ _. in_state state (Heard control role) s m b t g n x h)
+  row_keeps state (UnitData len) s m b t u g n x h = w.follows _ (w.puts _ s tt h)
+  row_keeps state (Faulty kind) s m b t u g n x h = w.follows _ (faulty state kind s h)
+  row_keeps state (Expiry timer) s m b t u g n x h = either Q (runs timer s.end) _ _ (λ _. in_state state (Expiry timer) s m b t g n x h) (λ _. w.follows s h)
+  row_keeps state input s m b t u g n x h = in_state state input s m b t g n x h
 
   -- ---- The end of a step, and a whole one.
 

@@ -162,7 +162,7 @@ module _ (r : Reading) (e : End) (n : ℕ) (gives begins takes : Bool) (Fits : T
   timed T202 on s h = h
   timed T203 on s h = h
 
-  pub kept : KeptByActions r IsKept IsKept (λ message. (gives ≡ true) × (Fits → length message ≤ n201)) (begins ≡ true) (takes ≡ true) (Unit {0}) (Unit {0}) (λ nr. Unit {0})
+  pub kept : KeptByActions r (λ timer s. Unit {0}) IsKept IsKept (λ message. (gives ≡ true) × (Fits → length message ≤ n201)) (begins ≡ true) (takes ≡ true) (Unit {0}) (Unit {0}) (λ nr. Unit {0})
   unfolding put state_to rc_to increment_rc layer3_initiated_to release_pending_to start stop expired clear_exception_conditions zero_state_variables set_peer_busy set_own_busy enquiry_response transmit_enquiry retransmit_last_i_frame transmit_rr queue_up discard_i_queue acknowledge invoke_retransmission discard_unacknowledged i_frame_ns transmit_i_frame ensure_t200
   kept = record {
     puts = λ out s ok h. added (out ∷ []) (put_is_quiet out ok) h;
@@ -174,7 +174,8 @@ module _ (r : Reading) (e : End) (n : ℕ) (gives begins takes : Bool) (Fits : T
     pendings = λ on s h. h;
     starts = λ timer s h. added (Start timer ∷ []) ((tt, tt), refl) (timed timer true s h);
     stops = λ timer s h. added (out_where (runs timer s.end) (Stop timer)) (quiet_where (runs timer s.end) (Stop timer) ((tt, tt), refl)) (timed timer false s h);
-    expires = λ timer s h. timed timer false s h;
+    still_expires = λ timer s x. tt;
+    expires = λ timer s x h. timed timer false s h;
     clears = λ s h. h;
     zeroes = λ s b h. record { same_parameters = h.same_parameters; same_given = h.same_given; short = h.short; same_establishment = λ no. cc; spoken = h.spoken; same_ups = h.same_ups };
     peers = λ on s h. h;
@@ -233,14 +234,14 @@ KeptBy r input e s = IsKept r e 0 (is_give input) (begins e.state e.release_pend
 pub kept_by_row : (r : Reading) (input : Input) (e : End) → KeptBy r input e (row r e.state input (begin e))
 unfolding begin
 kept_by_row r input e =
-    row_keeps r (KeptBy r input e) (KeptBy r input e) _ _ _ _ _ _ (kept r e 0 (is_give input) (begins e.state e.release_pending input) (is_taken e.state input) (Fits input)) e.state input (begin e)
-    (λ message same. (rw same refl, λ fit. fit message same)) (λ b. b) (λ opened ns nr p same. rw same opened) (λ u. tt) (λ there same. tt) (λ nr same. tt)
+    row_keeps r _ (KeptBy r input e) (KeptBy r input e) _ _ _ _ _ _ (kept r e 0 (is_give input) (begins e.state e.release_pending input) (is_taken e.state input) (Fits input)) e.state input (begin e)
+    (λ message same. (rw same refl, λ fit. fit message same)) (λ b. b) (λ opened ns nr p same. rw same opened) (λ u. tt) (λ there same. tt) (λ nr same. tt) (λ timer same. tt)
     (record { same_parameters = refl; same_given = λ _. refl; short = λ _ before. before; same_establishment = λ _. refl; spoken = tt; same_ups = λ _. refl })
 
 -- the end of a step keeps all of this
 pub closed : (r : Reading) (s : StepState) → AreSpoken s.outs → IsKept r s.end (ups s.outs) false false false (Unit {0}) (end_step r s)
 closed r s spoken =
-    close_keeps r (IsKept r s.end (ups s.outs) false false false (Unit {0})) (IsKept r s.end (ups s.outs) false false false (Unit {0})) _ _ _ _ _ _ (kept r s.end (ups s.outs) false false false (Unit {0})) s tt
+    close_keeps r _ (IsKept r s.end (ups s.outs) false false false (Unit {0})) (IsKept r s.end (ups s.outs) false false false (Unit {0})) _ _ _ _ _ _ (kept r s.end (ups s.outs) false false false (Unit {0})) s tt
     (record { same_parameters = refl; same_given = λ _. refl; short = λ _ before. before; same_establishment = λ _. refl; spoken = spoken; same_ups = λ _. refl })
 
 abbrev Done : StepState → Result StepState LinkFault
@@ -256,7 +257,7 @@ taken (Some fault) s t h = cc
 
 pub kept_by_close : (r : Reading) (input : Input) (e : End) → KeptBy r input e (end_step r (row r e.state input (begin e)))
 kept_by_close r input e =
-    close_keeps r (KeptBy r input e) (KeptBy r input e) _ _ _ _ _ _ (kept r e 0 (is_give input) (begins e.state e.release_pending input) (is_taken e.state input) (Fits input))
+    close_keeps r _ (KeptBy r input e) (KeptBy r input e) _ _ _ _ _ _ (kept r e 0 (is_give input) (begins e.state e.release_pending input) (is_taken e.state input) (Fits input))
     (row r e.state input (begin e)) tt (kept_by_row r input e)
 
 pub kept_by_step : (r : Reading) (input : Input) (e : End) (s : StepState) → step r input e ≡ Ok s → KeptBy r input e s

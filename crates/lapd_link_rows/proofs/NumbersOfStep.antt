@@ -109,7 +109,7 @@ timed T201 on s h = h
 timed T202 on s h = h
 timed T203 on s h = h
 
-tags : KeptByActions Tagged AllTags AllTags (λ message. Unit {0}) (Unit {0}) (Unit {0}) (Unit {0}) (Unit {0}) (λ nr. nr < 128)
+tags : KeptByActions Tagged (λ timer s. Unit {0}) AllTags AllTags (λ message. Unit {0}) (Unit {0}) (Unit {0}) (Unit {0}) (Unit {0}) (λ nr. nr < 128)
 unfolding put retransmit_last_i_frame state_to rc_to increment_rc layer3_initiated_to release_pending_to start stop expired clear_exception_conditions zero_state_variables set_peer_busy set_own_busy enquiry_response transmit_enquiry transmit_rr queue_up discard_i_queue acknowledge invoke_retransmission discard_unacknowledged i_frame_ns transmit_i_frame ensure_t200
 tags = record {
   puts = λ out s ok h. sending (out ∷ []) (put_is_tagged out ok) h;
@@ -121,7 +121,8 @@ tags = record {
   pendings = λ on s h. h;
   starts = λ timer s h. sending (Start timer ∷ []) (tt, tt) (timed timer true s h);
   stops = λ timer s h. sending (out_where (runs timer s.end) (Stop timer)) (tagged_where (runs timer s.end) (Stop timer) tt) (timed timer false s h);
-  expires = λ timer s h. timed timer false s h;
+  still_expires = λ timer s x. tt;
+  expires = λ timer s x h. timed timer false s h;
   clears = λ s h. changed _ (without_exceptions_are_tags s.end.window h.tags) h;
   zeroes = λ s b h. changed _ (with_zero_counters_are_tags s.end.window) h;
   peers = λ on s h. changed _ (peer_busy_are_tags on s.end.window h.tags) h;
@@ -168,8 +169,8 @@ tags_of_step : (input : Input) (e : End) (s : StepState) → AreTags e.window �
 unfolding step begin
 tags_of_step input e s numbers heard done =
     subst AllTags (taken (refused input e) (end_step Tagged (row Tagged e.state input (begin e))) s done).1
-    (close_keeps Tagged AllTags AllTags _ _ _ _ _ _ tags (row Tagged e.state input (begin e)) tt
-    (row_keeps Tagged AllTags AllTags _ _ _ _ _ _ tags e.state input (begin e) (λ message same. tt) (λ b. tt) (λ opened ns nr p same. tt) (λ u. tt) (λ there same. tt) (λ nr same. heard_is_tag input nr heard same)
+    (close_keeps Tagged _ AllTags AllTags _ _ _ _ _ _ tags (row Tagged e.state input (begin e)) tt
+    (row_keeps Tagged _ AllTags AllTags _ _ _ _ _ _ tags e.state input (begin e) (λ message same. tt) (λ b. tt) (λ opened ns nr p same. tt) (λ u. tt) (λ there same. tt) (λ nr same. heard_is_tag input nr heard same) (λ timer same. tt)
     (record { tags = numbers; sent = tt })))
 
 any_numbers : (outs : List Out) → AreNumbered Whole outs

@@ -128,7 +128,7 @@ calm_unless false outs h = h
 calm_where : (on : Bool) (out : Out) → leaving (out ∷ []) ≡ 0 → AreSilent (out ∷ []) → (leaving (out_where on out) ≡ 0) × AreSilent (out_where on out)
 calm_where on out nothing none = (nothing_where on out nothing, none_where on out none)
 
-orders : (r : Reading) (silence : Bool) → KeptByActions r (λ s. IsSilent s.outs) (λ s. IsInOrder silence s.outs) (λ message. Unit {0}) (Unit {0}) (Unit {0}) (Unit {0}) (silence ≡ false) (λ nr. Unit {0})
+orders : (r : Reading) (silence : Bool) → KeptByActions r (λ timer s. Unit {0}) (λ s. IsSilent s.outs) (λ s. IsInOrder silence s.outs) (λ message. Unit {0}) (Unit {0}) (Unit {0}) (Unit {0}) (silence ≡ false) (λ nr. Unit {0})
 unfolding put retransmit_last_i_frame state_to rc_to increment_rc layer3_initiated_to release_pending_to start stop expired clear_exception_conditions zero_state_variables set_peer_busy set_own_busy enquiry_response transmit_enquiry transmit_rr queue_up discard_i_queue acknowledge invoke_retransmission discard_unacknowledged i_frame_ns transmit_i_frame ensure_t200
 orders r silence = record {
   puts = λ out s ok h. silent (out ∷ []) (put_sends_none out ok) h;
@@ -140,7 +140,8 @@ orders r silence = record {
   pendings = λ on s h. h;
   starts = λ timer s h. silent (Start timer ∷ []) (tt, tt) h;
   stops = λ timer s h. silent (out_where (runs timer s.end) (Stop timer)) (none_where (runs timer s.end) (Stop timer) (tt, tt)) h;
-  expires = λ timer s h. h;
+  still_expires = λ timer s x. tt;
+  expires = λ timer s x h. h;
   clears = λ s h. h;
   zeroes = λ s b h. h;
   peers = λ on s h. h;
@@ -178,7 +179,7 @@ order_of_row : (r : Reading) (silence : Bool) (state : State) (input : Input) (e
 order_of_row r silence state input e loud =
     let P : StepState → Type 0 = λ t. IsSilent t.outs in
     let Q : StepState → Type 0 = λ t. IsInOrder silence t.outs in
-    row_keeps r P Q _ _ _ _ _ _ (orders r silence) state input (begin e) (λ message same. tt) (λ b. tt) (λ opened ns nr p same. tt) (λ u. tt) loud (λ nr same. tt) (begins_silent e)
+    row_keeps r _ P Q _ _ _ _ _ _ (orders r silence) state input (begin e) (λ message same. tt) (λ b. tt) (λ opened ns nr p same. tt) (λ u. tt) loud (λ nr same. tt) (λ timer same. tt) (begins_silent e)
 
 -- but for T200 in state 7, a row sends no message
 pub silent_row : (r : Reading) (state : State) (input : Input) (e : End) → (state ≡ MultipleFrameEstablished → input ≡ Expiry T200 → ⊥) → AreSilent (row r state input (begin e)).outs
@@ -189,5 +190,5 @@ unfolding step
 order_of_step r input e s done =
     let P : StepState → Type 0 = λ t. IsSilent t.outs in
     let Q : StepState → Type 0 = λ t. IsInOrder false t.outs in
-    (subst Q (taken (refused input e) (end_step r (row r e.state input (begin e))) s done).1 (close_keeps r P Q _ _ _ _ _ _ (orders r false) (row r e.state input (begin e)) refl
+    (subst Q (taken (refused input e) (end_step r (row r e.state input (begin e))) s done).1 (close_keeps r _ P Q _ _ _ _ _ _ (orders r false) (row r e.state input (begin e)) refl
     (order_of_row r false e.state input e (λ there same. refl)))).order

@@ -77,7 +77,7 @@ pub record AreUnits (n : ℕ) (outs : List Out) : Type 0 where
 more : {n : ℕ} {outs : List Out} (added : List Out) → unit_ups added ≡ 0 → AreUnits n outs → AreUnits n (outs ++ added)
 more {outs = outs} added none h = record { count = omega (arith, units_both outs added, none, h.count) }
 
-units : (r : Reading) (n : ℕ) → KeptByActions r (λ s. AreUnits n s.outs) (λ s. AreUnits n s.outs) (λ message. Unit {0}) (Unit {0}) (Unit {0}) ⊥ (Unit {0}) (λ nr. Unit {0})
+units : (r : Reading) (n : ℕ) → KeptByActions r (λ timer s. Unit {0}) (λ s. AreUnits n s.outs) (λ s. AreUnits n s.outs) (λ message. Unit {0}) (Unit {0}) (Unit {0}) ⊥ (Unit {0}) (λ nr. Unit {0})
 unfolding put retransmit_last_i_frame state_to rc_to increment_rc layer3_initiated_to release_pending_to start stop expired clear_exception_conditions zero_state_variables set_peer_busy set_own_busy enquiry_response transmit_enquiry transmit_rr queue_up discard_i_queue acknowledge invoke_retransmission discard_unacknowledged i_frame_ns transmit_i_frame ensure_t200
 units r n = record {
   puts = λ out s ok h. more (out ∷ []) (put_is_none out ok) h;
@@ -89,7 +89,8 @@ units r n = record {
   pendings = λ on s h. h;
   starts = λ timer s h. more (Start timer ∷ []) refl h;
   stops = λ timer s h. more (out_where (runs timer s.end) (Stop timer)) (none_where (runs timer s.end) (Stop timer) refl) h;
-  expires = λ timer s h. h;
+  still_expires = λ timer s x. tt;
+  expires = λ timer s x h. h;
   clears = λ s h. h;
   zeroes = λ s b h. h;
   peers = λ on s h. h;
@@ -123,7 +124,7 @@ absent hears none some = cc
 none_by_row : (r : Reading) (input : Input) (e : End) → hears_unit input ≡ false → AreUnits 0 (row r e.state input (begin e)).outs
 unfolding begin
 none_by_row r input e none =
-    row_keeps r (λ s. AreUnits 0 s.outs) (λ s. AreUnits 0 s.outs) _ _ _ _ _ _ (units r 0) e.state input (begin e) (λ message same. tt) (λ b. tt) (λ opened ns nr p same. tt) (absent (hears_unit input) none) (λ there same. tt) (λ nr same. tt) (record { count = refl })
+    row_keeps r _ (λ s. AreUnits 0 s.outs) (λ s. AreUnits 0 s.outs) _ _ _ _ _ _ (units r 0) e.state input (begin e) (λ message same. tt) (λ b. tt) (λ opened ns nr p same. tt) (absent (hears_unit input) none) (λ there same. tt) (λ nr same. tt) (λ timer same. tt) (record { count = refl })
 
 one_where : (unit : Bool) (s t : StepState) → unit ≡ true → AreUnits 1 s.outs → AreUnits 1 (if unit then s else t).outs
 one_where true s t h one = one
@@ -137,7 +138,7 @@ by_step : (r : Reading) (n : ℕ) (input : Input) (e : End) (s : StepState) → 
 unfolding step
 by_step r n input e s there done =
     let P : StepState → Type 0 = λ t. AreUnits n t.outs in
-    (subst P (taken (refused input e) (end_step r (row r e.state input (begin e))) s done).1 (close_keeps r P P _ _ _ _ _ _ (units r n) (row r e.state input (begin e)) tt there)).count
+    (subst P (taken (refused input e) (end_step r (row r e.state input (begin e))) s done).1 (close_keeps r _ P P _ _ _ _ _ _ (units r n) (row r e.state input (begin e)) tt there)).count
 
 by_frame : (r : Reading) (control : Control) (role : Role) (e : End) (s : StepState) (unit : Bool) → is_unit_data control role ≡ unit → step r (Heard control role) e ≡ Ok s → unit_ups s.outs ≡ (if unit then 1 else 0)
 by_frame r control role e s true unit done = by_step r 1 (Heard control role) e s (one_by_row r control role e unit) done

@@ -266,7 +266,7 @@ acts_kept r who Restart v acted kept is = quietly_kept r (restarts v) acted (res
 
 -- ---- The world.
 
-view_of_kept : (r : Reading) (who : Side) (w : World) → IsKeptWorld r w → IsKeptView r (view_of who w)
+pub view_of_kept : (r : Reading) (who : Side) (w : World) → IsKeptWorld r w → IsKeptView r (view_of who w)
 view_of_kept r side.User w kept = record { station = kept.user; coming = kept.to_user; numbers_coming = kept.numbers_to_user; going = kept.to_network; numbers_going = kept.numbers_to_network }
 view_of_kept r side.Network w kept = record { station = kept.network; coming = kept.to_network; numbers_coming = kept.numbers_to_network; going = kept.to_user; numbers_going = kept.numbers_to_user }
 
