@@ -1,0 +1,13 @@
+pub mod LinkParts
+pub mod Managed
+pub mod Networks
+pub mod Users
+pub mod Timed
+pub mod Frames
+pub mod Lines
+pub mod Deeds
+pub mod Asked
+pub mod Whole
+pub mod Called
+pub mod Known
+pub mod Computed

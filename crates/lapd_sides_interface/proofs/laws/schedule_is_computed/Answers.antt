@@ -1,0 +1,12 @@
+use Rattle.lapd_sides_interface.proofs.Computed.{both_links_so}
+use Rattle.lapd_sides_interface.proofs.laws.schedule_is_computed.Goals as goal
+
+pub returns : goal.returns
+returns c = record {
+  call_premises = λ message answer one two. (both_links_so message answer one two).call_premises;
+  packet_premises = λ message answer one two. (both_links_so message answer one two).packet_premises;
+  call_to_user = λ message answer one two. (both_links_so message answer one two).call_to_user;
+  call_to_network = λ message answer one two. (both_links_so message answer one two).call_to_network;
+  packet_to_user = λ message answer one two. (both_links_so message answer one two).packet_to_user;
+  packet_to_network = λ message answer one two. (both_links_so message answer one two).packet_to_network;
+}

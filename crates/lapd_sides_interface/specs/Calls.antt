@@ -1,0 +1,34 @@
+-- How the calls of a side in code are deeds.
+use Rattle.std.specs.Prelude.{◌≡◌, ℕ, ◌++◌, Result, Ok, Err, ⊤}
+use Rattle.lapd_sides_links.specs.declared.config.Config.{Config}
+use Rattle.lapd_sides_links.specs.Effects.{Effects}
+use Rattle.lapd_sides.specs.declared.net_side.NetSide.{NetSide}
+use Rattle.lapd_sides.specs.declared.user_side.UserSide.{UserSide}
+use Rattle.lapd_sides.specs.Network.{Network}
+use Rattle.lapd_sides.specs.ShowsNetwork.{ShowNetwork}
+use Rattle.lapd_sides.specs.ShowsUser.{ShowUser}
+use Rattle.lapd_sides.specs.User.{User}
+use Rattle.lapd_sides_interface.specs.Interface.{network_behaviour, user_behaviour}
+use Rattle.lapd_sides_interface.specs.SideView.{Behaviour, Deed, SideView, Take, Lose, does}
+
+-- What a deed sent and told, all of it, is what a call put here.
+pub record Puts {S : Type 0} (w : Behaviour S) (acts : Effects) (deed : Deed) (v : SideView S) :
+    Type 0 where
+  pub sent : (does w deed v).outgoing ≡ v.outgoing ++ acts.frames
+  pub told : (does w deed v).told ≡ v.told ++ acts.primitives
+
+-- The side in code shows the side after the deed, and what the call put is what the deed sent and told.
+pub record NetworkDoes (code : NetSide) (config : Config) (acts : Effects) (deed : Deed)
+    (v : SideView Network) : Type 0 where
+  pub shown : ShowNetwork code config (does (network_behaviour config) deed v).now
+  pub puts : Puts (network_behaviour config) acts deed v
+
+pub record UserDoes (code : UserSide) (config : Config) (acts : Effects) (deed : Deed)
+    (v : SideView User) : Type 0 where
+  pub shown : ShowUser code config (does (user_behaviour config) deed v).now
+  pub puts : Puts (user_behaviour config) acts deed v
+
+-- octets that are taken; those for which there was no memory, and that are not taken again, are lost
+abbrev pub take_of : {E : Type 0} → Result ⊤ E → ℕ → Deed
+take_of (Ok done) now = Take now
+take_of (Err fault) now = Lose 0

@@ -1,0 +1,8 @@
+pub mod Addressed
+pub mod Told
+pub mod SideView
+pub mod Interface
+pub mod Premises
+pub mod Projects
+pub mod Calls
+pub mod Schedule

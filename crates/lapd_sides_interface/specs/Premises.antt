@@ -1,0 +1,62 @@
+-- The premises of one link: its T200 is timely, and its TEI stays.
+use Rattle.std.specs.Prelude.{◌≡◌, ℕ, ◌==◌, Bool, false, List, [], ◌∷◌, Some}
+use Rattle.std.specs.List.{list_any}
+use Rattle.lapd_timers.specs.declared.timer.Timer.TheVariants.{T200}
+use Rattle.lapd_frame.specs.declared.Side.{Side}
+use Rattle.lapd_frame.specs.declared.Side.TheVariants as side
+use Rattle.lapd_frame.specs.Address.{other_side}
+use Rattle.lapd_tei.specs.declared.out.TeiOut.TheVariants as outcome
+use Rattle.lapd_table.specs.declared.link_id.LinkId.{LinkId}
+use Rattle.lapd_sides_links.specs.declared.primitive.Primitive.{Primitive}
+use Rattle.lapd_sides_links.specs.declared.primitive.Primitive.TheVariants.{Management}
+use Rattle.lapd_sides_interface.specs.Addressed.{is_poll_for, is_final_for}
+use Rattle.lapd_sides_interface.specs.Interface.{Configs, Interface, Move, user_behaviour, network_behaviour, by_user, by_network, happens}
+use Rattle.lapd_sides_interface.specs.SideView.{Behaviour, SideView, Deed, Expire, reaction}
+
+-- ---- Of one deed.
+
+-- T200 of the link does not expire while a command with P=1 of this side, or a response with F=1 to it, is on the line.
+abbrev pub IsTimely : {S : Type 0} → Side → LinkId → Deed → SideView S → Type 0
+IsTimely side id (Expire timer of now) v = timer ≡ T200 → of ≡ Some id
+    → (list_any (is_poll_for side id) v.outgoing ≡ false)
+    × (list_any (is_final_for (other_side side) id) v.incoming ≡ false)
+IsTimely side id deed v = Unit {0}
+
+-- it is told that the TEI is given or got, freed, removed or given up
+abbrev pub tells_change : ℕ → Primitive → Bool
+tells_change tei (Management (outcome.Given t)) = t == tei
+tells_change tei (Management (outcome.Got t)) = t == tei
+tells_change tei (Management (outcome.Free t)) = t == tei
+tells_change tei (Management (outcome.Doubled t)) = t == tei
+tells_change tei (Management (outcome.Gone t)) = t == tei
+tells_change tei other = false
+
+-- the TEI of the link is neither given nor taken away
+abbrev pub KeepsTei : {S : Type 0} → Behaviour S → LinkId → Deed → SideView S → Type 0
+KeepsTei w id deed v =
+    list_any (tells_change id.tei) (reaction w deed v).effects.primitives ≡ false
+
+-- ---- Of all moves of a run.
+
+abbrev pub IsTimelyMove : LinkId → Side → Deed → Interface → Type 0
+IsTimelyMove id side.User deed i = IsTimely side.User id deed (by_user i)
+IsTimelyMove id side.Network deed i = IsTimely side.Network id deed (by_network i)
+
+abbrev pub IsMoveKeepingTei : Configs → LinkId → Side → Deed → Interface → Type 0
+IsMoveKeepingTei c id side.User deed i = KeepsTei (user_behaviour c.user) id deed (by_user i)
+IsMoveKeepingTei c id side.Network deed i =
+    KeepsTei (network_behaviour c.network) id deed (by_network i)
+
+abbrev pub AreTimely : Configs → LinkId → List Move → Interface → Type 0
+AreTimely c id [] i = Unit {0}
+AreTimely c id (move ∷ moves) i = IsTimelyMove id move.side move.deed i
+    × AreTimely c id moves (happens c move i)
+
+abbrev pub KeepTei : Configs → LinkId → List Move → Interface → Type 0
+KeepTei c id [] i = Unit {0}
+KeepTei c id (move ∷ moves) i = IsMoveKeepingTei c id move.side move.deed i
+    × KeepTei c id moves (happens c move i)
+
+-- both
+abbrev pub KeepPremises : Configs → LinkId → List Move → Interface → Type 0
+KeepPremises c id moves i = AreTimely c id moves i × KeepTei c id moves i

@@ -1,0 +1,147 @@
+//! Laws of an interface. They do nothing when they are called.
+
+ghost use Rattle.std.specs.Prelude.{◌≡◌, ◌<◌, ◌≤◌, [], ◌∷◌, ℕ, true, List, Some, Option, Result, Vec, ⊤};
+ghost use Rattle.std.specs.declared.alloc.Global.{Global};
+ghost use Rattle.rand_pcg.specs.Lcg.{Lcg};
+ghost use Rattle.lapd_frame.specs.declared.Side.TheVariants as side;
+ghost use Rattle.lapd_timers.specs.Durations.{Lengths};
+ghost use Rattle.lapd_link_rows.specs.Parameters.{Parameters};
+ghost use Rattle.lapd_tei.specs.Assigner.{is_held, known_held};
+ghost use Rattle.lapd_table.specs.declared.link_id.LinkId.{LinkId};
+ghost use Rattle.lapd_sides_links.specs.declared.config.Config.{Config};
+ghost use Rattle.lapd_sides_links.specs.declared.primitive.What.TheVariants as what;
+ghost use Rattle.lapd_sides_links.specs.declared.running_timer.RunningTimer.{RunningTimer};
+ghost use Rattle.lapd_sides_links.specs.declared.side_fault.SideFault.{SideFault};
+ghost use Rattle.lapd_sides_links.specs.Effects.{Effects};
+ghost use Rattle.lapd_sides_links.specs.Expiries.{IsDue};
+ghost use Rattle.lapd_sides_links.specs.Links.{new_linked, is_served, parameters_for};
+ghost use Rattle.lapd_sides.specs.declared.net_side.NetSide.{NetSide};
+ghost use Rattle.lapd_sides.specs.declared.request.Request.{Request};
+ghost use Rattle.lapd_sides.specs.declared.user_side.UserSide.{UserSide};
+ghost use Rattle.lapd_sides.specs.Network.{Network, new_network, given_for, network_takes, network_requested};
+ghost use Rattle.lapd_sides.specs.ShowsNetwork as net;
+ghost use Rattle.lapd_sides.specs.ShowsUser as usr;
+ghost use Rattle.lapd_sides.specs.User.{User, new_user, got_for, user_takes, user_requested};
+ghost use Rattle.lapd_sides_interface.specs.Addressed.{those_for};
+ghost use Rattle.lapd_sides_interface.specs.Calls.{NetworkDoes, UserDoes, take_of};
+ghost use Rattle.lapd_sides_interface.specs.Interface.{Configs, Move, Interface, new_interface, from_here, run};
+ghost use Rattle.lapd_sides_interface.specs.Premises.{AreTimely, KeepTei, KeepPremises};
+ghost use Rattle.lapd_sides_interface.specs.Projects.{IsRight, IsSafeAt};
+ghost use Rattle.lapd_sides_interface.specs.Schedule.{configs, call, packet, at_first, IsMessage, both_links, hasty, regained, with_old_frames, answered_before};
+ghost use Rattle.lapd_sides_interface.specs.SideView.{SideView, Expire, Ask};
+ghost use Rattle.lapd_sides_interface.specs.Told.{told_of};
+
+/// After every run of two sides and the octets between them, a link whose T200 was timely and whose TEI stayed is safe, in both
+/// directions: what layer 3 at one end was told to have come on this link is, in order and once each, among what the other's
+/// layer 3 gave to it; within one establishment nothing is skipped; what counts as acknowledged was received; and no error but
+/// F, G, H and I was reported of it. So it is whatever the other links and TEI management do meanwhile.
+///
+/// `safe`: of a link that was there as new from the start, on both sides. `known`: of a link of a fixed TEI that the network
+/// knows. `from_here`: of a link that is new on both sides at some moment of an interface, when no octets for it are on their
+/// way; what is told and given counts from then on.
+pub fn each_link_is_safe()
+    ensures safe { (c : Configs) (id : LinkId) (user : User) (network : Network)
+        (p q : Parameters) (m n : Lengths) → id.tei < 127 → p.k ≤ 127 → q.k ≤ 127
+        → user.served.links id ≡ Some (new_linked p m)
+        → network.served.links id ≡ Some (new_linked q n)
+        → (moves : List Move) → KeepPremises c id moves (new_interface user network)
+        → IsSafeAt c id (run c moves (new_interface user network)) }
+    ensures known { (c : Configs) (id : LinkId) (known : List ℕ) (random : Lcg) → id.tei < 127
+        → is_served c.user id.sapi ≡ true → is_served c.network id.sapi ≡ true
+        → is_held (known_held known).held id.tei ≡ true
+        → (parameters_for c.user id.sapi).k ≤ 127 → (parameters_for c.network id.sapi).k ≤ 127
+        → (moves : List Move)
+        → KeepPremises c id moves
+        (new_interface (new_user c.user (Some id.tei) random) (new_network c.network known))
+        → IsSafeAt c id (run c moves
+        (new_interface (new_user c.user (Some id.tei) random) (new_network c.network known))) }
+    ensures from_here { (c : Configs) (id : LinkId) (i : Interface)
+        (p q : Parameters) (m n : Lengths) → id.tei < 127 → p.k ≤ 127 → q.k ≤ 127
+        → i.user.served.links id ≡ Some (new_linked p m)
+        → i.network.served.links id ≡ Some (new_linked q n)
+        → those_for side.Network id i.to_user ≡ [] → those_for side.User id i.to_network ≡ []
+        → (moves : List Move) → KeepPremises c id moves (from_here i)
+        → IsSafeAt c id (run c moves (from_here i)) }
+{}
+
+/// The calls of a side in code are deeds, by their contracts: of whatever side was shown before, the side in code shows what
+/// the deed leaves, and the frames and primitives that it put are those that the deed sends and tells. A `take` that finds no
+/// memory is a loss of these octets, where they are not taken again. A `tick` that does something is the expiry of the timer
+/// that is due. A `request` is one that is asked, be it granted or refused.
+pub fn calls_are_deeds()
+    ensures network_takes { (old new : NetSide) (acts : Effects) (result : Result ⊤ SideFault)
+        (octets : List ℕ) (rest : List (List ℕ)) (now : ℕ)
+        → net.Hears result old new acts (λ s. given_for s.assigner octets)
+        (λ config. network_takes config octets now)
+        → (config : Config) (v : SideView Network) → net.ShowNetwork old config v.now
+        → v.incoming ≡ octets ∷ rest → NetworkDoes new config acts (take_of result now) v }
+    ensures network_ticks { (old new : NetSide) (acts : Effects) (now : ℕ)
+        → net.Expires old new acts now
+        → (config : Config) (v : SideView Network) → net.ShowNetwork old config v.now
+        → (e : RunningTimer) × IsDue now v.now.served (Some e)
+        × NetworkDoes new config acts (Expire e.timer e.of now) v }
+    ensures network_requests { (old new : NetSide) (acts : Effects) (result : Result ⊤ SideFault)
+        (message : Option (Vec ℕ Global)) (request : Request) (now : ℕ)
+        → net.Answers result old new acts message (λ config. network_requested config request now)
+        → (config : Config) (v : SideView Network) → net.ShowNetwork old config v.now
+        → NetworkDoes new config acts (Ask request now) v }
+    ensures user_takes { (old new : UserSide) (acts : Effects) (result : Result ⊤ SideFault)
+        (octets : List ℕ) (rest : List (List ℕ)) (now : ℕ)
+        → usr.Hears result old new acts (λ s. got_for s octets)
+        (λ config. user_takes config octets now)
+        → (config : Config) (v : SideView User) → usr.ShowUser old config v.now
+        → v.incoming ≡ octets ∷ rest → UserDoes new config acts (take_of result now) v }
+    ensures user_ticks { (old new : UserSide) (acts : Effects) (now : ℕ)
+        → usr.Expires old new acts now
+        → (config : Config) (v : SideView User) → usr.ShowUser old config v.now
+        → (e : RunningTimer) × IsDue now v.now.served (Some e)
+        × UserDoes new config acts (Expire e.timer e.of now) v }
+    ensures user_requests { (old new : UserSide) (acts : Effects) (result : Result ⊤ SideFault)
+        (message : Option (Vec ℕ Global)) (request : Request) (now : ℕ)
+        → usr.Answers result old new acts message (λ config. user_requested config request now)
+        → (config : Config) (v : SideView User) → usr.ShowUser old config v.now
+        → UserDoes new config acts (Ask request now) v }
+{}
+
+/// The premises of two links are met by a worked run, with a message on each, in both directions, and a loss on each: a SABME
+/// is lost and a message, T200 expires for each, and both messages are received and acknowledged.
+pub fn schedule_is_computed()
+    ensures call_premises { (message answer : Vec ℕ Global) → IsMessage 1 message
+        → IsMessage 2 answer → KeepPremises configs call (both_links message answer) at_first }
+    ensures packet_premises { (message answer : Vec ℕ Global) → IsMessage 1 message
+        → IsMessage 2 answer → KeepPremises configs packet (both_links message answer) at_first }
+    ensures call_to_user { (message answer : Vec ℕ Global) → IsMessage 1 message
+        → IsMessage 2 answer
+        → told_of call (run configs (both_links message answer) at_first).told_to_user
+        ≡ what.Confirmed ∷ what.Acknowledged 1 ∷ [] }
+    ensures call_to_network { (message answer : Vec ℕ Global) → IsMessage 1 message
+        → IsMessage 2 answer
+        → told_of call (run configs (both_links message answer) at_first).told_to_network
+        ≡ what.Established ∷ what.Up (1 ∷ []) ∷ [] }
+    ensures packet_to_user { (message answer : Vec ℕ Global) → IsMessage 1 message
+        → IsMessage 2 answer
+        → told_of packet (run configs (both_links message answer) at_first).told_to_user
+        ≡ what.Confirmed ∷ what.Up (2 ∷ []) ∷ [] }
+    ensures packet_to_network { (message answer : Vec ℕ Global) → IsMessage 1 message
+        → IsMessage 2 answer
+        → told_of packet (run configs (both_links message answer) at_first).told_to_network
+        ≡ what.Established ∷ what.Acknowledged 1 ∷ [] }
+{}
+
+/// Each premise is needed, and of that link: where T200 of the link expires although the answer that it waits for is on its way,
+/// where its TEI is taken away and given again, or where frames from before are on the line, a run of some ten to twenty moves
+/// ends with a message that counts as acknowledged and never came. In the first of these the premises of another link are kept.
+pub fn each_premise_is_needed()
+    ensures t200 { (first second : Vec ℕ Global) → IsMessage 1 first → IsMessage 2 second
+        → KeepTei configs call (hasty first second) at_first
+        × (IsRight call (run configs (hasty first second) at_first) → ⊥) }
+    ensures of_that_link { (first second : Vec ℕ Global) → IsMessage 1 first → IsMessage 2 second
+        → KeepPremises configs packet (hasty first second) at_first
+        × (IsRight call (run configs (hasty first second) at_first) → ⊥) }
+    ensures tei { (first second : Vec ℕ Global) → IsMessage 1 first → IsMessage 2 second
+        → AreTimely configs call (regained first second) at_first
+        × (IsRight call (run configs (regained first second) at_first) → ⊥) }
+    ensures line { (message : Vec ℕ Global) → IsMessage 1 message
+        → KeepPremises configs call (answered_before message) with_old_frames
+        × (IsRight call (run configs (answered_before message) with_old_frames) → ⊥) }
+{}
