@@ -1,5 +1,5 @@
 -- What a request that is granted to a link is to one of the links.
-use Rattle.std.proofs.Common.{◌≡◌, ◌⊎◌, inl, inr, ℕ, List, [], ◌∷◌, length, Bool, true, false, if◌then◌else◌, Some, None, Ok, refl, sym, subst}
+use Rattle.std.proofs.Common.{◌≡◌, ◌⊎◌, inl, inr, ℕ, List, [], ◌∷◌, length, Bool, true, false, if◌then◌else◌, Some, None, Ok, refl, sym, subst, Option}
 use Rattle.lapd_timers.specs.declared.timer.Timer.{Timer}
 use Rattle.lapd_frame.specs.declared.Side.{Side}
 use Rattle.lapd_mod128.specs.Counting.{Tagged}
@@ -14,7 +14,7 @@ use Rattle.lapd_pair_world.specs.Move as world
 use Rattle.lapd_pair_world.specs.Move.{View, takes, acts}
 use Rattle.lapd_sides_interface.specs.Told.{given_to}
 use Rattle.lapd_sides_interface.proofs.Deeds.{IsRequest, IsNoRequest}
-use Rattle.lapd_sides_interface.proofs.LinkParts.{other_acts, own_granted}
+use Rattle.lapd_sides_interface.proofs.LinkParts.{other_acts, own_granted, absent_refuses}
 
 -- ---- What each request of a link is in the world.
 
@@ -50,28 +50,26 @@ unit_wish side octets = record { deed = world.UnitData octets; is_deed = λ v. r
 
 -- ---- A request that is granted among links.
 
-by_test : (side : Side) (id : LinkId) (links : Links) (now : ℕ) (other : LinkId) (input : Input) (octets : List ℕ) (l : Linked) (a : Reaction Links) (given : List (LinkId × List ℕ)) (test : Bool) → IsWish side input octets → links id ≡ Some l
-    → id_eq id other ≡ test → given_to id given ≡ (if test then messages_of input else []) → in_links other (link_acts side other now input octets) links ≡ Ok a
-    → IsNoRequest side id links a.after a.effects given ⊎ IsRequest side id now links a.after a.effects given
-by_test side id links now other input octets l a given true wish was is given_is granted =
-    let same : id ≡ other = same_id_eq id other is in
-    let own : in_links id (link_acts side id now input octets) links ≡ Ok a = subst (λ (k : LinkId). in_links k (link_acts side k now input octets) links ≡ Ok a) (sym same) granted in
-    inr (record {
-      deed = wish.deed;
-      input = input;
-      octets = octets;
-      is_deed = wish.is_deed;
-      no_expiry = wish.no_expiry;
-      is_step = (own_granted side id links now input octets l a was own).is_step;
-      given_is = given_is;
-    })
-by_test side id links now other input octets l a given false wish was is given_is granted =
-    inl (record { passes = other_acts side id other links now input octets a is granted; none_given = given_is })
+module _ (side : Side) (id : LinkId) (fresh : Linked) (links : Links) (now : ℕ) (other : LinkId) (input : Input) (octets : List ℕ) (a : Reaction Links) (given : List (LinkId × List ℕ)) (wish : IsWish side input octets) where
+  abbrev Granted : Type 0
+  Granted = IsNoRequest side id now fresh links a.after a.effects given ⊎ IsRequest side id now links a.after a.effects given
 
-pub granted_part : (side : Side) (id : LinkId) (links : Links) (now : ℕ) (other : LinkId) (input : Input) (octets : List ℕ) (l : Linked) (a : Reaction Links) (given : List (LinkId × List ℕ)) → IsWish side input octets → links id ≡ Some l
-    → given_to id given ≡ (if id_eq id other then messages_of input else []) → in_links other (link_acts side other now input octets) links ≡ Ok a
-    → IsNoRequest side id links a.after a.effects given ⊎ IsRequest side id now links a.after a.effects given
-granted_part side id links now other input octets l a given wish was given_is granted = by_test side id links now other input octets l a given (id_eq id other) wish was refl given_is granted
+  own_by : (o : Option Linked) → links id ≡ o → given_to id given ≡ messages_of input → in_links id (link_acts side id now input octets) links ≡ Ok a → Granted
+  own_by (Some l) was given_is own = inr (record {
+    deed = wish.deed; input = input; octets = octets; is_deed = wish.is_deed; no_expiry = wish.no_expiry;
+    is_step = (own_granted side id links now input octets l a was own).is_step;
+    given_is = given_is;
+  })
+  own_by None was given_is own = let refused = absent_refuses side id links now input octets was in cc
+
+  by_test : (test : Bool) → id_eq id other ≡ test → given_to id given ≡ (if test then messages_of input else []) → in_links other (link_acts side other now input octets) links ≡ Ok a → Granted
+  by_test true is given_is granted =
+      let same : id ≡ other = same_id_eq id other is in
+      own_by (links id) refl given_is (subst (λ (k : LinkId). in_links k (link_acts side k now input octets) links ≡ Ok a) (sym same) granted)
+  by_test false is given_is granted = inl (record { goes = inl (other_acts side id other links now input octets a is granted); none_given = given_is })
+
+  pub granted_part : given_to id given ≡ (if id_eq id other then messages_of input else []) → in_links other (link_acts side other now input octets) links ≡ Ok a → Granted
+  granted_part given_is granted = by_test (id_eq id other) refl given_is granted
 
 -- no message is given
 pub none_given : (test : Bool) (xs : List (List ℕ)) → xs ≡ [] → [] ≡ (if test then xs else [])

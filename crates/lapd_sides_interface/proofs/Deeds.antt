@@ -1,5 +1,5 @@
 -- What one deed of a side is to one of its links in the world of two ends: nothing, or one move.
-use Rattle.std.proofs.Common.{◌≡◌, ◌⊎◌, inl, inr, ℕ, ◌<◌, nat_lt, List, [], ◌∷◌, ◌++◌, drop, length, Bool, true, false, if◌then◌else◌, Option, Some, None, Result, Ok, Err, refl, sym, ap, subst, ◌∙◌}
+use Rattle.std.proofs.Common.{◌≡◌, ◌⊎◌, inl, inr, ℕ, ◌<◌, nat_lt, List, [], ◌∷◌, ◌++◌, drop, length, Bool, true, false, if◌then◌else◌, Option, Some, None, Result, Ok, Err, refl, sym, ap, subst, ◌∙◌, arith}
 use Rattle.std.specs.Prelude.{is_some}
 use Rattle.std.specs.List.{filter_map, list_any, remove}
 use Rattle.std.proofs.lemmas.List.Elements.{filter-append, filter_map-append}
@@ -15,6 +15,7 @@ use Rattle.lapd_mod128.specs.Counting.{Tagged}
 use Rattle.lapd_link_rows.specs.EndOfStep.{end_step}
 use Rattle.lapd_link_rows.specs.Counts.{messages_of}
 use Rattle.lapd_link_rows.specs.End.{End, StepState, begin}
+use Rattle.lapd_link_rows.specs.Input as input
 use Rattle.lapd_link_rows.specs.Input.{Input, Heard, Expiry}
 use Rattle.lapd_link_rows.specs.Table.{row, step}
 use Rattle.lapd_link_rows.proofs.InputsThatCount.{given_after}
@@ -23,7 +24,7 @@ use Rattle.lapd_table.specs.LinkId.{id_eq}
 use Rattle.lapd_table.proofs.Ids.{same_id_eq}
 use Rattle.lapd_sides_links.specs.declared.side_fault.SideKind.{SideKind}
 use Rattle.lapd_sides_links.specs.Effects.{Effects, what_of, stopped, timed}
-use Rattle.lapd_sides_links.specs.Links.{Links, Linked, Reaction}
+use Rattle.lapd_sides_links.specs.Links.{Links, Linked, Reaction, with_link}
 use Rattle.lapd_sides.specs.declared.request.Request.{Request}
 use Rattle.lapd_sides.specs.declared.request.Request.TheVariants as request
 use Rattle.lapd_pair_world.specs.Histories.{Occasion, Story, with_beginning}
@@ -34,11 +35,11 @@ use Rattle.lapd_pair_world.specs.Move.{View, Turn, story_after, view_after, step
 use Rattle.lapd_pair_world.proofs.Keeping.{IsKeptView, outputs_in_order}
 use Rattle.lapd_sides_interface.specs.Addressed.{is_for, those_for, spelled, all_spelled}
 use Rattle.lapd_sides_interface.specs.Told.{Known, nothing_known, learns, learns_all, what_for, told_of, message_for, given_to, known_of}
-use Rattle.lapd_sides_interface.specs.Premises.{tells_change, IsTimely, KeepsTei}
+use Rattle.lapd_sides_interface.specs.Premises.{IsTimely, LeavesTei, KeepsTei}
 use Rattle.lapd_sides_interface.specs.SideView.{Behaviour, Deed, Take, Lose, Expire, Ask, SideView, unmoved, takes_first, runs_on, or_unmoved, if_granted, accepted_by, reaction, does}
-use Rattle.lapd_sides_interface.specs.Projects.{IsTimed, Projects}
+use Rattle.lapd_sides_interface.specs.Projects.{IsTimed, HasLink, AwaitsLink, Projects}
 use Rattle.lapd_sides_interface.proofs.Frames.{told_frames, told_is_known}
-use Rattle.lapd_sides_interface.proofs.LinkParts.{PassesBy, IsStep, passes_by_nothing}
+use Rattle.lapd_sides_interface.proofs.LinkParts.{PassesBy, IsStep, Goes, now_there, passes_by_nothing}
 use Rattle.lapd_sides_interface.proofs.Lines.{where_lost, removed_spelled, IsFirst, first_of, no_poll, no_final}
 use Rattle.lapd_sides_interface.proofs.Timed.{Agree, is_on, timed_by_step, link_timed, timed_link, stopped_is_off, stopped_agrees}
 
@@ -54,27 +55,28 @@ pub record IsRequest (side : Side) (id : LinkId) (now : ℕ) (before after : Lin
   pub is_step : IsStep side id now input octets (λ t. t) before after effects
   pub given_is : given_to id given ≡ messages_of input
 
-pub record IsNoRequest (side : Side) (id : LinkId) (before after : Links) (effects : Effects) (given : List (LinkId × List ℕ)) : Type 0 where
-  pub passes : PassesBy side id before after effects
+pub record IsNoRequest (side : Side) (id : LinkId) (now : ℕ) (fresh : Linked) (before after : Links) (effects : Effects) (given : List (LinkId × List ℕ)) : Type 0 where
+  pub goes : Goes side id now fresh before after effects
   pub none_given : given_to id given ≡ []
 
-abbrev pub Stays : {S : Type 0} → LinkId → Reaction S → Type 0
-Stays id a = list_any (tells_change id.tei) a.effects.primitives ≡ false
-
--- octets of other links, other timers and other requests are nothing to the link; its own are steps of it
+-- Octets of other links, other timers and other requests are no step of the link, where its TEI is left to it; its own are steps
+-- of it, and octets that come before it does are discarded.
 pub record ServesLink {S : Type 0} (w : Behaviour S) (side : Side) (id : LinkId) : Type 0 where
-  pub takes_other : (octets : List ℕ) (now : ℕ) (s : S) → is_for (other_side side) id octets ≡ false → Stays id (w.takes octets now s)
-      → PassesBy side id (w.served s).links (w.served (w.takes octets now s).after).links (w.takes octets now s).effects
+  pub takes_other : (octets : List ℕ) (now : ℕ) (s : S) → is_for (other_side side) id octets ≡ false → LeavesTei id (w.served s).links (w.takes octets now s).effects
+      → Goes side id now (w.fresh id) (w.served s).links (w.served (w.takes octets now s).after).links (w.takes octets now s).effects
   pub takes_own : (frame : Flight) (now : ℕ) (s : S) (l : Linked) (d : StepState) → content_fault frame.role frame.control (length frame.info) ≡ None → (w.served s).links id ≡ Some l
       → step Tagged (Heard frame.control frame.role) l.end ≡ Ok d
       → IsStep side id now (Heard frame.control frame.role) frame.info (λ t. t) (w.served s).links (w.served (w.takes (spelled (other_side side) id frame) now s).after).links (w.takes (spelled (other_side side) id frame) now s).effects
-  pub expires_other : (now : ℕ) (timer : Timer) (of : Option LinkId) (s : S) → ((other : LinkId) → of ≡ Some other → id_eq id other ≡ false) → Stays id (w.expires now timer of s)
-      → PassesBy side id (w.served s).links (w.served (w.expires now timer of s).after).links (w.expires now timer of s).effects
+  pub takes_absent : (frame : Flight) (now : ℕ) (s : S) → content_fault frame.role frame.control (length frame.info) ≡ None → (w.served s).links id ≡ None
+      → PassesBy side id (w.served s).links (w.served (w.takes (spelled (other_side side) id frame) now s).after).links (w.takes (spelled (other_side side) id frame) now s).effects
+  pub expires_other : (now : ℕ) (timer : Timer) (of : Option LinkId) (s : S) → ((other : LinkId) → of ≡ Some other → id_eq id other ≡ false) → LeavesTei id (w.served s).links (w.expires now timer of s).effects
+      → Goes side id now (w.fresh id) (w.served s).links (w.served (w.expires now timer of s).after).links (w.expires now timer of s).effects
   pub expires_own : (now : ℕ) (timer : Timer) (s : S) (l : Linked) (d : StepState) → (w.served s).links id ≡ Some l → step Tagged (Expiry timer) l.end ≡ Ok d
       → IsStep side id now (Expiry timer) [] (stopped timer) (w.served s).links (w.served (w.expires now timer (Some id) s).after).links (w.expires now timer (Some id) s).effects
-  pub asked : (request : Request) (now : ℕ) (s : S) (l : Linked) (a : Reaction S) → (w.served s).links id ≡ Some l → w.requested request now s ≡ Ok a → Stays id a
-      → IsNoRequest side id (w.served s).links (w.served a.after).links a.effects (accepted_by w request now s)
-      ⊎ IsRequest side id now (w.served s).links (w.served a.after).links a.effects (accepted_by w request now s)
+  pub asked : (request : Request) (now : ℕ) (s : S) (a : Reaction S) → w.requested request now s ≡ Ok a → LeavesTei id (w.served s).links a.effects
+      → IsNoRequest side id now (w.fresh id) (w.served s).links (w.served a.after).links a.effects (accepted_by w request now s)
+        ⊎ IsRequest side id now (w.served s).links (w.served a.after).links a.effects (accepted_by w request now s)
+  pub fresh_is_timed : IsTimed (w.fresh id)
 
 -- ---- What is learned in two parts.
 
@@ -101,25 +103,29 @@ module _ (S : Type 0) (w : Behaviour S) (side : Side) (id : LinkId) where
 
   -- ---- Nothing.
 
-  still_told : (v : SideView S) (a : Reaction S) → PassesBy side id (w.served v.now).links (w.served a.after).links a.effects → told_of id (v.told ++ a.effects.primitives) ≡ told_of id v.told
-  still_told v a passes = filter_map-append (what_for id) v.told a.effects.primitives ∙ rw (passes.told) (append-nil (told_of id v.told))
+  still_told : (v : SideView S) (a : Reaction S) (before : Links) → PassesBy side id before (w.served a.after).links a.effects → told_of id (v.told ++ a.effects.primitives) ≡ told_of id v.told
+  still_told v a before passes = filter_map-append (what_for id) v.told a.effects.primitives ∙ rw (passes.told) (append-nil (told_of id v.told))
+
+  still_sent : (v : SideView S) (a : Reaction S) (before : Links) → PassesBy side id before (w.served a.after).links a.effects → those_for side id (v.outgoing ++ a.effects.frames) ≡ those_for side id v.outgoing
+  still_sent v a before passes = filter-append (is_for side id) v.outgoing a.effects.frames ∙ rw (passes.frames) (append-nil (those_for side id v.outgoing))
+
+  still_given : (v : SideView S) (more : List (LinkId × List ℕ)) → given_to id more ≡ [] → given_to id (v.given ++ more) ≡ given_to id v.given
+  still_given v more none = filter_map-append (message_for id) v.given more ∙ rw none (append-nil (given_to id v.given))
+
+  link_stays : (before now : Links) (end : End) → now id ≡ before id → HasLink before id end ⊎ AwaitsLink (w.fresh id) before id end → HasLink now id end ⊎ AwaitsLink (w.fresh id) now id end
+  link_stays before now end same (inl h) = inl (record { linked = h.linked; there = same ∙ h.there; end = h.end; timed = h.timed })
+  link_stays before now end same (inr h) = inr (record { absent = same ∙ h.absent; end = h.end })
 
   projected_pass : (v : SideView S) (view : View) (a : Reaction S) (more : List (LinkId × List ℕ)) (line : List (List ℕ)) (frames : List Flight) → Projects w side id v view
       → PassesBy side id (w.served v.now).links (w.served a.after).links a.effects → given_to id more ≡ [] → those_for (other_side side) id line ≡ all_spelled (other_side side) id frames
       → Projects w side id (view_after_deed v a more line) (record view { incoming = frames })
-  projected_pass v view a more line frames p passes none on =
-      let quiet : those_for side id (v.outgoing ++ a.effects.frames) ≡ those_for side id v.outgoing = filter-append (is_for side id) v.outgoing a.effects.frames ∙ rw (passes.frames) (append-nil (those_for side id v.outgoing)) in
-      let idle : given_to id (v.given ++ more) ≡ given_to id v.given = filter_map-append (message_for id) v.given more ∙ rw none (append-nil (given_to id v.given)) in
-      record {
-        linked = p.linked;
-        there = passes.links ∙ p.there;
-        end = p.end;
-        timed = p.timed;
-        incoming = on;
-        outgoing = quiet ∙ p.outgoing;
-        known = ap (λ ws. learns_all ws nothing_known) (still_told v a passes) ∙ p.known;
-        given = idle ∙ p.given;
-      }
+  projected_pass v view a more line frames p passes none on = record {
+    link = link_stays (w.served v.now).links (w.served a.after).links view.station.end passes.links p.link;
+    incoming = on;
+    outgoing = still_sent v a _ passes ∙ p.outgoing;
+    known = ap (λ ws. learns_all ws nothing_known) (still_told v a _ passes) ∙ p.known;
+    given = still_given v more none ∙ p.given;
+  }
 
   -- ---- A step.
 
@@ -130,15 +136,15 @@ module _ (S : Type 0) (w : Behaviour S) (side : Side) (id : LinkId) where
     pub tells : told_of id v.told ≡ told_of id before.told ++ filter_map (what_of octets) done.outs
 
   projected_step : (v : SideView S) (view : View) (a : Reaction S) (more : List (LinkId × List ℕ)) (line : List (List ℕ)) (frames : List Flight) (now : ℕ) (input : Input) (octets : List ℕ) (place : ℕ) (change : Timers → Timers)
-      → Projects w side id v view → IsKept Tagged view.station
-      → IsStep side id now input octets change (w.served v.now).links (w.served a.after).links a.effects
+      → Projects w side id v view → IsKept Tagged view.station → (links : Links) → HasLink links id view.station.end
+      → IsStep side id now input octets change links (w.served a.after).links a.effects
       → ((timer : Timer) (t : Timers) → input ≡ Expiry timer → is_on timer (change t) ≡ false) → ((t : Timers) (x y : Bool) → Agree t x y → Agree (change t) x y)
       → given_to id more ≡ messages_of input → those_for (other_side side) id line ≡ all_spelled (other_side side) id frames
       → IsProjected v (view_after_deed v a more line) (record view { incoming = frames }) input octets place
   unfolding view_after story_after
-  projected_step v view a more line frames now input octets place change p kept x off agrees given_is on =
-      let same : x.linked ≡ p.linked = same_linked x.linked p.linked _ x.was p.there in
-      let end : x.linked.end ≡ view.station.end = ap (λ (l : Linked). l.end) same ∙ p.end in
+  projected_step v view a more line frames now input octets place change p kept links has x off agrees given_is on =
+      let same : x.linked ≡ has.linked = same_linked x.linked has.linked _ x.was has.there in
+      let end : x.linked.end ≡ view.station.end = ap (λ (l : Linked). l.end) same ∙ has.end in
       let d = x.done in
       let is : step Tagged input view.station.end ≡ Ok d = subst (λ (e : End). step Tagged input e ≡ Ok d) end x.is in
       let before : Story = record { line = view.outgoing; history = with_beginning view.station.end.establishments d.end.establishments view.station.history } in
@@ -151,12 +157,14 @@ module _ (S : Type 0) (w : Behaviour S) (side : Side) (id : LinkId) where
         is = is;
         tells = tells;
         shows = record {
-          linked = record { end = d.end; timers = timed now d.outs (change x.linked.timers) };
-          there = x.links;
-          end = refl;
-          timed = timed_link d.end (timed now d.outs (change x.linked.timers))
-              (timed_by_step Tagged now input (change x.linked.timers) x.linked.end d (λ timer e. off timer x.linked.timers e)
-              (agrees x.linked.timers x.linked.end.t200 x.linked.end.t203 (link_timed x.linked (subst IsTimed (sym same) p.timed))) x.is);
+          link = inl (record {
+            linked = record { end = d.end; timers = timed now d.outs (change x.linked.timers) };
+            there = x.links;
+            end = refl;
+            timed = timed_link d.end (timed now d.outs (change x.linked.timers))
+                (timed_by_step Tagged now input (change x.linked.timers) x.linked.end d (λ timer e. off timer x.linked.timers e)
+                (agrees x.linked.timers x.linked.end.t200 x.linked.end.t203 (link_timed x.linked (subst IsTimed (sym same) has.timed))) x.is);
+          });
           incoming = on;
           outgoing = filter-append (is_for side id) v.outgoing a.effects.frames
               ∙ ap (λ l. l ++ those_for side id a.effects.frames) p.outgoing
@@ -192,28 +200,81 @@ module _ (S : Type 0) (w : Behaviour S) (side : Side) (id : LinkId) where
       → Outcome v (view_after_deed v a more line) view
   passing v view a more line p passes none same = inl (record {
     shows = projected_pass v view a more line view.incoming p passes none (same ∙ p.incoming);
-    tells = still_told v a passes;
+    tells = still_told v a _ passes;
   })
 
   no_effect : (v : SideView S) → PassesBy side id (w.served v.now).links (w.served (unmoved v.now).after).links (unmoved v.now).effects
   no_effect v = passes_by_nothing side id (w.served v.now).links
 
+  -- ---- The link comes.
+
+  has_come : ServesLink w side id → (v : SideView S) (end : End) → (w.served v.now).links id ≡ None → HasLink (w.served v.now).links id end ⊎ AwaitsLink (w.fresh id) (w.served v.now).links id end
+      → HasLink (with_link id (Some (w.fresh id)) (w.served v.now).links) id end
+  has_come serves v end none (inl h) = cc
+  has_come serves v end none (inr h) = record { linked = w.fresh id; there = now_there id (w.fresh id) (w.served v.now).links; end = sym h.end; timed = serves.fresh_is_timed }
+
+  -- by itself
+  comes_alone : (v : SideView S) (view : View) (a : Reaction S) (more : List (LinkId × List ℕ)) (line : List (List ℕ)) (come : Links) → Projects w side id v view → HasLink come id view.station.end
+      → PassesBy side id come (w.served a.after).links a.effects → given_to id more ≡ [] → those_for (other_side side) id line ≡ those_for (other_side side) id v.incoming
+      → Outcome v (view_after_deed v a more line) view
+  comes_alone v view a more line come p has passes none same = inl (record {
+    shows = record {
+      link = inl (record { linked = has.linked; there = passes.links ∙ has.there; end = has.end; timed = has.timed });
+      incoming = same ∙ p.incoming;
+      outgoing = still_sent v a come passes ∙ p.outgoing;
+      known = ap (λ ws. learns_all ws nothing_known) (still_told v a come passes) ∙ p.known;
+      given = still_given v more none ∙ p.given;
+    };
+    tells = still_told v a come passes;
+  })
+
+  -- and the establishment that was kept for it is done
+  comes_and_establishes : (v : SideView S) (view : View) (a : Reaction S) (more : List (LinkId × List ℕ)) (line : List (List ℕ)) (now : ℕ) (come : Links) → Projects w side id v view → IsKept Tagged view.station → HasLink come id view.station.end
+      → IsStep side id now input.Establish [] (λ t. t) come (w.served a.after).links a.effects → given_to id more ≡ [] → those_for (other_side side) id line ≡ those_for (other_side side) id v.incoming
+      → Outcome v (view_after_deed v a more line) view
+  unfolding acts takes
+  comes_and_establishes v view a more line now come p kept has does none same =
+      let x = projected_step v view a more line view.incoming now input.Establish [] 0 (λ t. t) p kept come has does (λ timer t e. absurd (no_expiry timer e)) (λ t y z h. h) none (same ∙ p.incoming) in
+      inr (record {
+        deed = world.Establish;
+        turn = record { view = view_after [] 0 view x.done; outs = x.done.outs };
+        octets = [];
+        tells = x.tells;
+        is = ap (stepped [] 0 view) x.is;
+        shows = x.shows;
+      })
+    where
+      no_expiry : (timer : Timer) → input.Establish ≡ Expiry timer → ⊥
+      no_expiry timer e = cc
+
+  going : ServesLink w side id → (v : SideView S) (view : View) (a : Reaction S) (more : List (LinkId × List ℕ)) (line : List (List ℕ)) (now : ℕ) → Projects w side id v view → IsKept Tagged view.station
+      → Goes side id now (w.fresh id) (w.served v.now).links (w.served a.after).links a.effects → given_to id more ≡ [] → those_for (other_side side) id line ≡ those_for (other_side side) id v.incoming
+      → Outcome v (view_after_deed v a more line) view
+  going serves v view a more line now p kept (inl passes) none same = passing v view a more line p passes none same
+  going serves v view a more line now p kept (inr comes) none same =
+      let come : Links = with_link id (Some (w.fresh id)) (w.served v.now).links in
+      let has = has_come serves v view.station.end comes.absent p.link in
+      elim comes.comes [
+        | inl alone ↦ comes_alone v view a more line come p has alone none same
+        | inr does ↦ comes_and_establishes v view a more line now come p kept has does none same
+      ]
+
   -- ---- Octets are taken.
 
   -- those of the link
-  takes_its : ServesLink w side id → (v : SideView S) (view : View) (now : ℕ) (octets : List ℕ) (rest : List (List ℕ)) → Projects w side id v view → IsKeptView Tagged view
+  takes_its : ServesLink w side id → (v : SideView S) (view : View) (now : ℕ) (octets : List ℕ) (rest : List (List ℕ)) → Projects w side id v view → IsKeptView Tagged view → HasLink (w.served v.now).links id view.station.end
       → IsFirst (other_side side) id octets (those_for (other_side side) id rest) view.incoming → Outcome v (view_after_deed v (w.takes octets now v.now) [] rest) view
   unfolding acts delivers hears
-  takes_its ways v view now octets rest p kept first =
+  takes_its ways v view now octets rest p kept has first =
       let frame = first.frame in
       let behind = first.behind in
       let proper : AreProper (frame ∷ behind) = subst AreProper first.are kept.coming in
       let spelled_so : spelled (other_side side) id frame ≡ octets = sym first.head in
-      let done = heard_is_done frame p.linked.end in
-      let its = ways.takes_own frame now v.now p.linked _ proper.0 p.there done in
+      let done = heard_is_done frame has.linked.end in
+      let its = ways.takes_own frame now v.now has.linked _ proper.0 has.there done in
       let step_of : IsStep side id now (Heard frame.control frame.role) frame.info (λ t. t) (w.served v.now).links (w.served (w.takes octets now v.now).after).links (w.takes octets now v.now).effects =
       subst (λ (o : List ℕ). IsStep side id now (Heard frame.control frame.role) frame.info (λ t. t) (w.served v.now).links (w.served (w.takes o now v.now).after).links (w.takes o now v.now).effects) spelled_so its in
-      let x = projected_step v view (w.takes octets now v.now) [] rest behind now (Heard frame.control frame.role) frame.info frame.place (λ t. t) p kept.station step_of
+      let x = projected_step v view (w.takes octets now v.now) [] rest behind now (Heard frame.control frame.role) frame.info frame.place (λ t. t) p kept.station (w.served v.now).links has step_of
       (λ timer t e. absurd (heard_is_no_expiry frame timer e)) (λ t a b h. h) refl first.tail in
       let left : View = record view { incoming = behind } in
       inr (record {
@@ -228,18 +289,46 @@ module _ (S : Type 0) (w : Behaviour S) (side : Side) (id : LinkId) where
       heard_is_no_expiry : (frame : Flight) (timer : Timer) → Heard frame.control frame.role ≡ Expiry timer → ⊥
       heard_is_no_expiry frame timer e = cc
 
+  -- those that come before it are lost
+  takes_early : ServesLink w side id → (v : SideView S) (view : View) (now : ℕ) (octets : List ℕ) (rest : List (List ℕ)) → Projects w side id v view → IsKeptView Tagged view → (w.served v.now).links id ≡ None
+      → IsFirst (other_side side) id octets (those_for (other_side side) id rest) view.incoming → Outcome v (view_after_deed v (w.takes octets now v.now) [] rest) view
+  unfolding acts loses
+  takes_early ways v view now octets rest p kept none first =
+      let frame = first.frame in
+      let behind = first.behind in
+      let proper : AreProper (frame ∷ behind) = subst AreProper first.are kept.coming in
+      let spelled_so : spelled (other_side side) id frame ≡ octets = sym first.head in
+      let passes : PassesBy side id (w.served v.now).links (w.served (w.takes octets now v.now).after).links (w.takes octets now v.now).effects =
+          subst (λ (o : List ℕ). PassesBy side id (w.served v.now).links (w.served (w.takes o now v.now).after).links (w.takes o now v.now).effects) spelled_so (ways.takes_absent frame now v.now proper.0 none) in
+      let within : nat_lt 0 (length view.incoming) ≡ true = lt-ltb 0 (length view.incoming) (subst (λ (frames : List Flight). 0 < length frames) (sym first.are) (omega arith)) in
+      inr (record {
+        deed = world.Lose 0;
+        turn = record { view = record view { incoming = remove view.incoming 0 }; outs = [] };
+        octets = [];
+        tells = still_told v (w.takes octets now v.now) _ passes ∙ sym (append-nil (told_of id v.told));
+        is = ap (λ (b : Bool). if b then quietly (record view { incoming = remove view.incoming 0 }) else Err world.NothingThere) within;
+        shows = projected_pass v view (w.takes octets now v.now) [] rest (remove view.incoming 0) p passes refl
+            (first.tail ∙ ap (λ (frames : List Flight). all_spelled (other_side side) id (remove frames 0)) (sym first.are));
+      })
+
+  takes_by_link : ServesLink w side id → (v : SideView S) (view : View) (now : ℕ) (octets : List ℕ) (rest : List (List ℕ)) → Projects w side id v view → IsKeptView Tagged view
+      → HasLink (w.served v.now).links id view.station.end ⊎ AwaitsLink (w.fresh id) (w.served v.now).links id view.station.end
+      → IsFirst (other_side side) id octets (those_for (other_side side) id rest) view.incoming → Outcome v (view_after_deed v (w.takes octets now v.now) [] rest) view
+  takes_by_link ways v view now octets rest p kept (inl has) first = takes_its ways v view now octets rest p kept has first
+  takes_by_link ways v view now octets rest p kept (inr early) first = takes_early ways v view now octets rest p kept early.absent first
+
   takes_by_test : ServesLink w side id → (v : SideView S) (view : View) (now : ℕ) (octets : List ℕ) (rest : List (List ℕ)) (test : Bool) → is_for (other_side side) id octets ≡ test → v.incoming ≡ octets ∷ rest
-      → Projects w side id v view → IsKeptView Tagged view → Stays id (w.takes octets now v.now) → Outcome v (view_after_deed v (w.takes octets now v.now) [] rest) view
+      → Projects w side id v view → IsKeptView Tagged view → LeavesTei id (w.served v.now).links (w.takes octets now v.now).effects → Outcome v (view_after_deed v (w.takes octets now v.now) [] rest) view
   takes_by_test ways v view now octets rest true is are p kept stays =
       let on : octets ∷ those_for (other_side side) id rest ≡ all_spelled (other_side side) id view.incoming =
       sym (ap (λ (b : Bool). if b then octets ∷ those_for (other_side side) id rest else those_for (other_side side) id rest) is) ∙ ap (those_for (other_side side) id) (sym are) ∙ p.incoming in
-      takes_its ways v view now octets rest p kept (first_of (other_side side) id octets (those_for (other_side side) id rest) view.incoming on)
+      takes_by_link ways v view now octets rest p kept p.link (first_of (other_side side) id octets (those_for (other_side side) id rest) view.incoming on)
   takes_by_test ways v view now octets rest false is are p kept stays =
-      passing v view (w.takes octets now v.now) [] rest p (ways.takes_other octets now v.now is stays) refl
+      going ways v view (w.takes octets now v.now) [] rest now p kept.station (ways.takes_other octets now v.now is stays) refl
       (sym (ap (λ (b : Bool). if b then octets ∷ those_for (other_side side) id rest else those_for (other_side side) id rest) is) ∙ ap (those_for (other_side side) id) (sym are))
 
   takes_first_of : ServesLink w side id → (v : SideView S) (view : View) (now : ℕ) (incoming : List (List ℕ)) → v.incoming ≡ incoming → Projects w side id v view → IsKeptView Tagged view
-      → Stays id (takes_first w now incoming v.now) → Outcome v (view_after_deed v (takes_first w now incoming v.now) [] (drop 1 incoming)) view
+      → LeavesTei id (w.served v.now).links (takes_first w now incoming v.now).effects → Outcome v (view_after_deed v (takes_first w now incoming v.now) [] (drop 1 incoming)) view
   takes_first_of ways v view now [] are p kept stays = passing v view (unmoved v.now) [] [] p (no_effect v) refl (ap (those_for (other_side side) id) (sym are))
   takes_first_of ways v view now (octets ∷ rest) are p kept stays = takes_by_test ways v view now octets rest (is_for (other_side side) id octets) refl are p kept stays
 
@@ -255,7 +344,7 @@ module _ (S : Type 0) (w : Behaviour S) (side : Side) (id : LinkId) where
           deed = world.Lose lost.place;
           turn = record { view = record view { incoming = remove view.incoming lost.place }; outs = [] };
           octets = [];
-          tells = still_told v (unmoved v.now) (no_effect v) ∙ sym (append-nil (told_of id v.told));
+          tells = still_told v (unmoved v.now) _ (no_effect v) ∙ sym (append-nil (told_of id v.told));
           is = ap (λ (b : Bool). if b then quietly (record view { incoming = remove view.incoming lost.place }) else Err world.NothingThere) within;
           shows = projected_pass v view (unmoved v.now) [] (remove v.incoming at) (remove view.incoming lost.place) p (no_effect v) refl
               (lost.left ∙ ap (λ l. remove l lost.place) p.incoming ∙ removed_spelled (spelled (other_side side) id) view.incoming lost.place);
@@ -266,11 +355,11 @@ module _ (S : Type 0) (w : Behaviour S) (side : Side) (id : LinkId) where
 
   -- a timer of the link, in the one move that it is
   expires_its : ServesLink w side id → (v : SideView S) (view : View) (now : ℕ) (timer : Timer) (deed : world.Deed) → acts Tagged side deed view ≡ takes Tagged (Expiry timer) [] view
-      → Projects w side id v view → IsKeptView Tagged view → Outcome v (view_after_deed v (w.expires now timer (Some id) v.now) [] v.incoming) view
+      → Projects w side id v view → IsKeptView Tagged view → HasLink (w.served v.now).links id view.station.end → Outcome v (view_after_deed v (w.expires now timer (Some id) v.now) [] v.incoming) view
   unfolding takes
-  expires_its ways v view now timer deed is_deed p kept =
-      let its = ways.expires_own now timer v.now p.linked _ p.there (expiry_is_done timer p.linked.end) in
-      let x = projected_step v view (w.expires now timer (Some id) v.now) [] v.incoming view.incoming now (Expiry timer) [] 0 (stopped timer) p kept.station its
+  expires_its ways v view now timer deed is_deed p kept has =
+      let its = ways.expires_own now timer v.now has.linked _ has.there (expiry_is_done timer has.linked.end) in
+      let x = projected_step v view (w.expires now timer (Some id) v.now) [] v.incoming view.incoming now (Expiry timer) [] 0 (stopped timer) p kept.station (w.served v.now).links has its
       (λ other t e. subst (λ (k : Timer). is_on k (stopped timer t) ≡ false) (same_timer timer other e) (stopped_is_off timer t)) (λ t a b h. stopped_agrees timer t a b h) refl p.incoming in
       inr (record {
         deed = deed;
@@ -288,6 +377,11 @@ module _ (S : Type 0) (w : Behaviour S) (side : Side) (id : LinkId) where
   runs_by : (timer : Timer) (l : Linked) (o : Option Linked) → o ≡ Some l → runs_on timer o ≡ true → is_some (deadline_of timer l.timers) ≡ true
   runs_by timer l o there runs = sym (ap (runs_on timer) there) ∙ runs
 
+  -- the link is there, where its timer runs
+  is_there : (v : SideView S) (timer : Timer) (end : End) → HasLink (w.served v.now).links id end ⊎ AwaitsLink (w.fresh id) (w.served v.now).links id end → runs_on timer ((w.served v.now).links id) ≡ true → HasLink (w.served v.now).links id end
+  is_there v timer end (inl has) runs = has
+  is_there v timer end (inr early) runs = let never : false ≡ true = sym (ap (runs_on timer) early.absent) ∙ runs in cc
+
   t200_is_deed : (view : View) → view.station.end.t200 ≡ true → first_poll view.outgoing ≡ None → first_final view.incoming ≡ None → acts Tagged side world.Expire200 view ≡ takes Tagged (Expiry T200) [] view
   unfolding acts expires_200
   t200_is_deed view on no_poll no_final =
@@ -302,13 +396,13 @@ module _ (S : Type 0) (w : Behaviour S) (side : Side) (id : LinkId) where
   -- of a link that is named
   named_expires : ServesLink w side id → (v : SideView S) (view : View) (now : ℕ) (timer : Timer) (other : LinkId) (test : Bool) → id_eq id other ≡ test → runs_on timer ((w.served v.now).links other) ≡ true
       → (runs_on timer ((w.served v.now).links id) ≡ true → Some other ≡ Some id → Outcome v (view_after_deed v (w.expires now timer (Some id) v.now) [] v.incoming) view)
-      → Projects w side id v view → Stays id (w.expires now timer (Some other) v.now) → Outcome v (view_after_deed v (w.expires now timer (Some other) v.now) [] v.incoming) view
-  named_expires ways v view now timer other true is runs own p stays =
+      → Projects w side id v view → IsKeptView Tagged view → LeavesTei id (w.served v.now).links (w.expires now timer (Some other) v.now).effects → Outcome v (view_after_deed v (w.expires now timer (Some other) v.now) [] v.incoming) view
+  named_expires ways v view now timer other true is runs own p kept stays =
       let same : id ≡ other = same_id_eq id other is in
       subst (λ (k : LinkId). Outcome v (view_after_deed v (w.expires now timer (Some k) v.now) [] v.incoming) view) same
       (own (subst (λ (k : LinkId). runs_on timer ((w.served v.now).links k) ≡ true) (sym same) runs) (ap (λ (k : LinkId). Some k) (sym same)))
-  named_expires ways v view now timer other false is runs own p stays =
-      passing v view (w.expires now timer (Some other) v.now) [] v.incoming p
+  named_expires ways v view now timer other false is runs own p kept stays =
+      going ways v view (w.expires now timer (Some other) v.now) [] v.incoming now p kept.station
       (ways.expires_other now timer (Some other) v.now (λ k e. subst (λ (x : LinkId). id_eq id x ≡ false) (some_id other k e) is) stays) refl refl
     where
       some_id : (a b : LinkId) → Some a ≡ Some b → a ≡ b
@@ -318,46 +412,48 @@ module _ (S : Type 0) (w : Behaviour S) (side : Side) (id : LinkId) where
       → runs_on T200 ((w.served v.now).links id) ≡ true → of ≡ Some id → Outcome v (view_after_deed v (w.expires now T200 (Some id) v.now) [] v.incoming) view
   t200_expires ways v view now of timely p kept runs is =
       let clear = timely refl is in
-      let on : view.station.end.t200 ≡ true = sym (ap (λ (e : End). e.t200) p.end) ∙ p.timed.t200 (runs_by T200 p.linked _ p.there runs) in
+      let has = is_there v T200 view.station.end p.link runs in
+      let on : view.station.end.t200 ≡ true = sym (ap (λ (e : End). e.t200) has.end) ∙ has.timed.t200 (runs_by T200 has.linked _ has.there runs) in
       expires_its ways v view now T200 world.Expire200
-      (t200_is_deed view on (no_poll side id v.outgoing view.outgoing kept.going p.outgoing clear.0) (no_final (other_side side) id v.incoming view.incoming kept.coming p.incoming clear.1)) p kept
+      (t200_is_deed view on (no_poll side id v.outgoing view.outgoing kept.going p.outgoing clear.0) (no_final (other_side side) id v.incoming view.incoming kept.coming p.incoming clear.1)) p kept has
 
   t203_expires : ServesLink w side id → (v : SideView S) (view : View) (now : ℕ) → Projects w side id v view → IsKeptView Tagged view
       → runs_on T203 ((w.served v.now).links id) ≡ true → Outcome v (view_after_deed v (w.expires now T203 (Some id) v.now) [] v.incoming) view
   t203_expires ways v view now p kept runs =
-      let on : view.station.end.t203 ≡ true = sym (ap (λ (e : End). e.t203) p.end) ∙ p.timed.t203 (runs_by T203 p.linked _ p.there runs) in
-      expires_its ways v view now T203 world.Expire203 (t203_is_deed view on) p kept
+      let has = is_there v T203 view.station.end p.link runs in
+      let on : view.station.end.t203 ≡ true = sym (ap (λ (e : End). e.t203) has.end) ∙ has.timed.t203 (runs_by T203 has.linked _ has.there runs) in
+      expires_its ways v view now T203 world.Expire203 (t203_is_deed view on) p kept has
 
-  if_runs : (v : SideView S) (view : View) (test : Bool) (a : Reaction S) → Projects w side id v view → (test ≡ true → Stays id a → Outcome v (view_after_deed v a [] v.incoming) view)
-      → Stays id (if test then a else unmoved v.now) → Outcome v (view_after_deed v (if test then a else unmoved v.now) [] v.incoming) view
+  if_runs : (v : SideView S) (view : View) (test : Bool) (a : Reaction S) → Projects w side id v view → (test ≡ true → LeavesTei id (w.served v.now).links a.effects → Outcome v (view_after_deed v a [] v.incoming) view)
+      → LeavesTei id (w.served v.now).links (if test then a else unmoved v.now).effects → Outcome v (view_after_deed v (if test then a else unmoved v.now) [] v.incoming) view
   if_runs v view true a p does stays = does refl stays
   if_runs v view false a p does stays = passing v view (unmoved v.now) [] v.incoming p (no_effect v) refl refl
 
   expires : ServesLink w side id → (v : SideView S) (view : View) (timer : Timer) (of : Option LinkId) (now : ℕ) → IsTimely side id (Expire timer of now) v → Projects w side id v view → IsKeptView Tagged view
-      → Stays id (reaction w (Expire timer of now) v) → Outcome v (view_after_deed v (reaction w (Expire timer of now) v) [] v.incoming) view
+      → LeavesTei id (w.served v.now).links (reaction w (Expire timer of now) v).effects → Outcome v (view_after_deed v (reaction w (Expire timer of now) v) [] v.incoming) view
   expires ways v view timer None now timely p kept stays =
       if_runs v view _ (w.expires now timer None v.now) p
-      (λ runs stays. passing v view (w.expires now timer None v.now) [] v.incoming p (ways.expires_other now timer None v.now (λ k e. absurd (none_is_some k e)) stays) refl refl) stays
+      (λ runs stays. going ways v view (w.expires now timer None v.now) [] v.incoming now p kept.station (ways.expires_other now timer None v.now (λ k e. absurd (none_is_some k e)) stays) refl refl) stays
     where
       none_is_some : (k : LinkId) → None ≡ Some k → ⊥
       none_is_some k e = cc
   expires ways v view T200 (Some other) now timely p kept stays =
       if_runs v view (runs_on T200 ((w.served v.now).links other)) (w.expires now T200 (Some other) v.now) p
-      (λ runs stays. named_expires ways v view now T200 other (id_eq id other) refl runs (λ its is. t200_expires ways v view now (Some other) timely p kept its is) p stays) stays
+      (λ runs stays. named_expires ways v view now T200 other (id_eq id other) refl runs (λ its is. t200_expires ways v view now (Some other) timely p kept its is) p kept stays) stays
   expires ways v view T203 (Some other) now timely p kept stays =
       if_runs v view (runs_on T203 ((w.served v.now).links other)) (w.expires now T203 (Some other) v.now) p
-      (λ runs stays. named_expires ways v view now T203 other (id_eq id other) refl runs (λ its is. t203_expires ways v view now p kept its) p stays) stays
+      (λ runs stays. named_expires ways v view now T203 other (id_eq id other) refl runs (λ its is. t203_expires ways v view now p kept its) p kept stays) stays
   expires ways v view T201 (Some other) now timely p kept stays = passing v view (unmoved v.now) [] v.incoming p (no_effect v) refl refl
   expires ways v view T202 (Some other) now timely p kept stays = passing v view (unmoved v.now) [] v.incoming p (no_effect v) refl refl
 
   -- ---- A request.
 
-  request_is_move : (v : SideView S) (view : View) (a : Reaction S) (now : ℕ) (more : List (LinkId × List ℕ)) → Projects w side id v view → IsKeptView Tagged view
+  request_is_move : (v : SideView S) (view : View) (a : Reaction S) (now : ℕ) (more : List (LinkId × List ℕ)) → Projects w side id v view → IsKeptView Tagged view → HasLink (w.served v.now).links id view.station.end
       → IsRequest side id now (w.served v.now).links (w.served a.after).links a.effects more → Outcome v (view_after_deed v a more v.incoming) view
   unfolding takes
-  request_is_move v view a now more p kept asked =
+  request_is_move v view a now more p kept has asked =
       let d = asked.is_step in
-      let x = projected_step v view a more v.incoming view.incoming now asked.input asked.octets 0 (λ t. t) p kept.station d
+      let x = projected_step v view a more v.incoming view.incoming now asked.input asked.octets 0 (λ t. t) p kept.station (w.served v.now).links has d
       (λ timer t e. absurd (asked.no_expiry timer e)) (λ t a b h. h) asked.given_is p.incoming in
       inr (record {
         deed = asked.deed;
@@ -367,6 +463,11 @@ module _ (S : Type 0) (w : Behaviour S) (side : Side) (id : LinkId) where
         is = asked.is_deed view ∙ ap (stepped asked.octets 0 view) x.is;
         shows = x.shows;
       })
+
+  -- the link is there, where it does a step
+  is_there_for : (v : SideView S) (end : End) (l : Linked) → HasLink (w.served v.now).links id end ⊎ AwaitsLink (w.fresh id) (w.served v.now).links id end → (w.served v.now).links id ≡ Some l → HasLink (w.served v.now).links id end
+  is_there_for v end l (inl has) was = has
+  is_there_for v end l (inr early) was = let gone = early.absent in cc
 
   none_accepted : (request : Request) (now : ℕ) (s : S) (kind : SideKind) → w.requested request now s ≡ Err kind → accepted_by w request now s ≡ []
   none_accepted (request.Give other message) now s kind is = ap (if_granted (w.means s other) message.items) is
@@ -378,10 +479,10 @@ module _ (S : Type 0) (w : Behaviour S) (side : Side) (id : LinkId) where
   none_accepted (request.Check tei) now s kind is = refl
 
   asks_by : ServesLink w side id → (v : SideView S) (view : View) (request : Request) (now : ℕ) (r : Result (Reaction S) SideKind) → w.requested request now v.now ≡ r → Projects w side id v view → IsKeptView Tagged view
-      → Stays id (or_unmoved v.now r) → Outcome v (view_after_deed v (or_unmoved v.now r) (accepted_by w request now v.now) v.incoming) view
-  asks_by ways v view request now (Ok a) is p kept stays = elim (ways.asked request now v.now p.linked a p.there is stays) [
-    | inl none ↦ passing v view a (accepted_by w request now v.now) v.incoming p none.passes none.none_given refl
-    | inr its ↦ request_is_move v view a now (accepted_by w request now v.now) p kept its
+      → LeavesTei id (w.served v.now).links (or_unmoved v.now r).effects → Outcome v (view_after_deed v (or_unmoved v.now r) (accepted_by w request now v.now) v.incoming) view
+  asks_by ways v view request now (Ok a) is p kept stays = elim (ways.asked request now v.now a is stays) [
+    | inl none ↦ going ways v view a (accepted_by w request now v.now) v.incoming now p kept.station none.goes none.none_given refl
+    | inr its ↦ request_is_move v view a now (accepted_by w request now v.now) p kept (is_there_for v view.station.end its.is_step.linked p.link its.is_step.was) its
   ]
   asks_by ways v view request now (Err kind) is p kept stays =
       passing v view (unmoved v.now) (accepted_by w request now v.now) v.incoming p (no_effect v) (ap (given_to id) (none_accepted request now v.now kind is)) refl

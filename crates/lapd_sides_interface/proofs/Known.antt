@@ -1,38 +1,38 @@
--- A link of a known TEI is there from the start, on both sides.
-use Rattle.std.proofs.Common.{◌≡◌, ℕ, ◌<◌, ◌≤◌, ◌==◌, ◌&&◌, nat_lt, List, Bool, true, false, if◌then◌else◌, Some, None, refl, ap}
-use Rattle.std.proofs.lemmas.Bool.{lt-ltb, eq-eqb}
+-- As both sides are made, each of their links is there as new, or not there yet.
+use Rattle.std.proofs.Common.{◌≡◌, ◌⊎◌, inl, inr, ℕ, ◌<◌, ◌≤◌, ◌&&◌, List, Bool, true, false, if◌then◌else◌, Option, Some, None, refl}
 use Rattle.rand_pcg.specs.Lcg.{Lcg}
-use Rattle.lapd_tei.specs.Assigner.{is_held, known_held}
+use Rattle.lapd_link_rows.specs.End.{new_end}
+use Rattle.lapd_tei.specs.Assigner.{known_held}
 use Rattle.lapd_table.specs.declared.link_id.LinkId.{LinkId}
 use Rattle.lapd_sides_links.specs.declared.config.Config.{Config}
-use Rattle.lapd_sides_links.specs.Links.{is_served, parameters_for, new_linked, with_tei, is_held_below, links_below, no_links}
+use Rattle.lapd_sides_links.specs.Links.{Links, Linked, is_served, is_link_of, parameters_for, with_tei, is_held_below, links_below}
 use Rattle.lapd_sides.specs.Network.{new_network}
 use Rattle.lapd_sides.specs.User.{new_user}
-use Rattle.lapd_sides_interface.specs.Interface.{Configs, Move, new_interface, run}
+use Rattle.lapd_sides_interface.specs.Interface.{Configs, Move, fresh_link, new_interface, run}
 use Rattle.lapd_sides_interface.specs.Premises.{KeepPremises}
-use Rattle.lapd_sides_interface.specs.Projects.{IsSafeAt}
-use Rattle.lapd_sides_interface.proofs.Whole.{link_safe}
+use Rattle.lapd_sides_interface.specs.Projects.{HasLink, AwaitsLink, IsSafeAt}
+use Rattle.lapd_sides_interface.proofs.Timed.{new_is_timed}
+use Rattle.lapd_sides_interface.proofs.Whole.{link_safe_as}
 
-both : (a b : Bool) → a ≡ true → b ≡ true → (a && b) ≡ true
-both true b p q = q
-both false b p q = cc
+abbrev IsNew : Config → LinkId → Links → Type 0
+IsNew config id links = HasLink links id (new_end (parameters_for config id.sapi)) ⊎ AwaitsLink (fresh_link config id) links id (new_end (parameters_for config id.sapi))
 
-fixed_there : (config : Config) (id : LinkId) (random : Lcg) → is_served config id.sapi ≡ true → (new_user config (Some id.tei) random).served.links id ≡ Some (new_linked (parameters_for config id.sapi) config.durations)
+new_by : (config : Config) (id : LinkId) (links : Links) (test : Bool) → links id ≡ (if test then Some (fresh_link config id) else None) → IsNew config id links
+new_by config id links true is = inl (record { linked = fresh_link config id; there = is; end = refl; timed = new_is_timed (parameters_for config id.sapi) config.durations })
+new_by config id links false is = inr (record { absent = is; end = refl })
+
+new_of_user : (config : Config) (id : LinkId) (fixed : Option ℕ) (random : Lcg) → IsNew config id (new_user config fixed random).served.links
 unfolding with_tei
-fixed_there config id random served =
-    ap (λ (b : Bool). if b then Some (new_linked (parameters_for config id.sapi) config.durations) else no_links id) (both (is_served config id.sapi) (id.tei == id.tei) served (eq-eqb id.tei id.tei refl))
+new_of_user config id None random = inr (record { absent = refl; end = refl })
+new_of_user config id (Some tei) random = new_by config id _ (is_link_of config tei id) refl
 
-known_there : (config : Config) (id : LinkId) (known : List ℕ) → is_served config id.sapi ≡ true → id.tei < 127 → is_held (known_held known).held id.tei ≡ true
-    → (new_network config known).served.links id ≡ Some (new_linked (parameters_for config id.sapi) config.durations)
+new_of_network : (config : Config) (id : LinkId) (known : List ℕ) → IsNew config id (new_network config known).served.links
 unfolding links_below
-known_there config id known served low held =
-    ap (λ (b : Bool). if b then Some (new_linked (parameters_for config id.sapi) config.durations) else None)
-    (both (is_served config id.sapi) (is_held_below (known_held known).held 127 id.tei) served (both (nat_lt id.tei 127) (is_held (known_held known).held id.tei) (lt-ltb id.tei 127 low) held))
+new_of_network config id known = new_by config id _ (is_served config id.sapi && is_held_below (known_held known).held 127 id.tei) refl
 
-pub known_link_safe : (c : Configs) (id : LinkId) (known : List ℕ) (random : Lcg) → id.tei < 127 → is_served c.user id.sapi ≡ true → is_served c.network id.sapi ≡ true → is_held (known_held known).held id.tei ≡ true
-    → (parameters_for c.user id.sapi).k ≤ 127 → (parameters_for c.network id.sapi).k ≤ 127
-    → (moves : List Move) → KeepPremises c id moves (new_interface (new_user c.user (Some id.tei) random) (new_network c.network known))
-    → IsSafeAt c id (run c moves (new_interface (new_user c.user (Some id.tei) random) (new_network c.network known)))
-known_link_safe c id known random low by_user by_network held few_u few_n moves premises =
-    link_safe c id low (parameters_for c.user id.sapi) (parameters_for c.network id.sapi) few_u few_n (new_user c.user (Some id.tei) random) (new_network c.network known) c.user.durations c.network.durations
-    (fixed_there c.user id random by_user) (known_there c.network id known by_network low held) moves premises
+pub made_link_safe : (c : Configs) (id : LinkId) (fixed : Option ℕ) (known : List ℕ) (random : Lcg) → id.tei < 127 → (parameters_for c.user id.sapi).k ≤ 127 → (parameters_for c.network id.sapi).k ≤ 127
+    → (moves : List Move) → KeepPremises c id moves (new_interface (new_user c.user fixed random) (new_network c.network known))
+    → IsSafeAt c id (run c moves (new_interface (new_user c.user fixed random) (new_network c.network known)))
+made_link_safe c id fixed known random low few_u few_n moves premises =
+    link_safe_as c id low (parameters_for c.user id.sapi) (parameters_for c.network id.sapi) few_u few_n (new_interface (new_user c.user fixed random) (new_network c.network known))
+    (new_of_user c.user id fixed random) (new_of_network c.network id known) refl refl moves premises

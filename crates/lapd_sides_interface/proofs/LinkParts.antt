@@ -1,7 +1,8 @@
 -- What a step among the links of a side is to one of them.
-use Rattle.std.proofs.Common.{◌≡◌, ℕ, List, [], ◌∷◌, map, length, Bool, true, false, if◌then◌else◌, Option, Some, None, Result, Ok, Err, refl, ap, subst, ◌∙◌}
+use Rattle.std.proofs.Common.{◌≡◌, ℕ, List, [], ◌∷◌, map, length, Bool, true, false, if◌then◌else◌, Option, Some, None, Result, Ok, Err, refl, ap, subst, ◌∙◌, ◌⊎◌, ◌++◌, sym, inl, inr}
 use Rattle.std.specs.Prelude.{IfSome, IfOk}
 use Rattle.std.specs.List.{filter, filter_map}
+use Rattle.std.proofs.lemmas.List.{append-nil}
 use Rattle.std.proofs.lemmas.List.Elements.{filter-append, filter_map-append}
 use Rattle.lapd_timers.specs.declared.timer.Timer.{Timer}
 use Rattle.lapd_timers.specs.Due.{Timers}
@@ -22,12 +23,12 @@ use Rattle.lapd_link_rows.specs.declared.event.LinkFault.{LinkFault}
 use Rattle.lapd_link_rows.specs.declared.out.Out.{Out}
 use Rattle.lapd_link_rows.specs.declared.out.Out.TheVariants.{Send, SendMessage, SendUnit, Up, UnitUp, Established, Confirmed, Released, ReleaseConfirm, Acknowledged, Dropped, Start, Stop, Report}
 use Rattle.lapd_link_rows.specs.End.{End, StepState}
-use Rattle.lapd_link_rows.specs.Input.{Input, Expiry}
+use Rattle.lapd_link_rows.specs.Input.{Input, Expiry, Establish}
 use Rattle.lapd_link_rows.specs.Table.{step}
 use Rattle.lapd_table.specs.declared.link_id.LinkId.{LinkId}
 use Rattle.lapd_table.specs.LinkId.{id_eq, id_of_address, setup_for}
 use Rattle.lapd_table.specs.Octets.{heard_by}
-use Rattle.lapd_table.proofs.Ids.{id_eq_self}
+use Rattle.lapd_table.proofs.Ids.{id_eq_self, same_id_eq}
 use Rattle.lapd_sides_links.specs.declared.primitive.Primitive.TheVariants.{Of}
 use Rattle.lapd_sides_links.specs.declared.primitive.What.{What}
 use Rattle.lapd_sides_links.specs.declared.side_fault.SideKind.{SideKind}
@@ -55,6 +56,15 @@ pub record IsStep (side : Side) (id : LinkId) (at : ℕ) (input : Input) (octets
   pub links : now id ≡ Some (record { end = done.end; timers = timed at done.outs (change linked.timers) })
   pub frames : those_for side id effects.frames ≡ filter_map (sent_by (setup_for side id) done.end octets) done.outs
   pub told : told_of id effects.primitives ≡ filter_map (what_of octets) done.outs
+
+-- The link comes, as it is new; and then it is left alone, or does the establishment that was kept for it.
+pub record IsComing (side : Side) (id : LinkId) (at : ℕ) (fresh : Linked) (before now : Links) (effects : Effects) : Type 0 where
+  pub absent : before id ≡ None
+  pub comes : PassesBy side id (with_link id (Some fresh) before) now effects ⊎ IsStep side id at Establish [] (λ t. t) (with_link id (Some fresh) before) now effects
+
+-- what is no step of a link that is there
+abbrev pub Goes : Side → LinkId → ℕ → Linked → Links → Links → Effects → Type 0
+Goes side id at fresh before now effects = PassesBy side id before now effects ⊎ IsComing side id at fresh before now effects
 
 -- ---- Lists of which all or none pass.
 
@@ -241,3 +251,49 @@ passes_by_both side id first second third a b ha hb = record {
   frames = filter-append (is_for side id) a.frames b.frames ∙ rw (ha.frames, hb.frames) refl;
   told = filter_map-append (what_for id) a.primitives b.primitives ∙ rw (ha.told, hb.told) refl;
 }
+
+pub pass_then_step : (side : Side) (id : LinkId) (at : ℕ) (input : Input) (octets : List ℕ) (change : Timers → Timers) (first second third : Links) (a b : Effects)
+    → PassesBy side id first second a → IsStep side id at input octets change second third b → IsStep side id at input octets change first third (and_then a b)
+pass_then_step side id at input octets change first second third a b p x = record {
+  linked = x.linked;
+  was = sym p.links ∙ x.was;
+  done = x.done;
+  is = x.is;
+  links = x.links;
+  frames = filter-append (is_for side id) a.frames b.frames ∙ ap (λ l. l ++ those_for side id b.frames) p.frames ∙ x.frames;
+  told = filter_map-append (what_for id) a.primitives b.primitives ∙ ap (λ l. l ++ told_of id b.primitives) p.told ∙ x.told;
+}
+
+pub step_then_pass : (side : Side) (id : LinkId) (at : ℕ) (input : Input) (octets : List ℕ) (change : Timers → Timers) (first second third : Links) (a b : Effects)
+    → IsStep side id at input octets change first second a → PassesBy side id second third b → IsStep side id at input octets change first third (and_then a b)
+step_then_pass side id at input octets change first second third a b x p = record {
+  linked = x.linked;
+  was = x.was;
+  done = x.done;
+  is = x.is;
+  links = p.links ∙ x.links;
+  frames = filter-append (is_for side id) a.frames b.frames ∙ ap (λ l. those_for side id a.frames ++ l) p.frames ∙ append-nil (those_for side id a.frames) ∙ x.frames;
+  told = filter_map-append (what_for id) a.primitives b.primitives ∙ ap (λ l. told_of id a.primitives ++ l) p.told ∙ append-nil (told_of id a.primitives) ∙ x.told;
+}
+
+-- ---- A link that is not there.
+
+pub now_there : (id : LinkId) (fresh : Linked) (links : Links) → with_link id (Some fresh) links id ≡ Some fresh
+now_there id fresh links = ap (λ (t : Bool). if t then Some fresh else links id) (id_eq_self id)
+
+pub absent_refuses : (side : Side) (id : LinkId) (links : Links) (now : ℕ) (input : Input) (octets : List ℕ) → links id ≡ None → in_links id (link_acts side id now input octets) links ≡ Err kind.NoLink
+unfolding in_links link_acts
+absent_refuses side id links now input octets none = ap (λ (o : Option Linked). where_there id links o (λ (m : Linked). acted side id now octets m.timers (step Tagged input m.end))) none
+
+absent_by : (side : Side) (id other : LinkId) (links : Links) (now : ℕ) (input : Input) (octets : List ℕ) (a : Reaction Links) (test : Bool) → links id ≡ None → id_eq id other ≡ test
+    → in_links other (link_acts side other now input octets) links ≡ Ok a → PassesBy side id links a.after a.effects
+absent_by side id other links now input octets a false none apart is = other_acts side id other links now input octets a apart is
+absent_by side id other links now input octets a true none same is =
+    let err : in_links other (link_acts side other now input octets) links ≡ Err kind.NoLink =
+        subst (λ (k : LinkId). in_links k (link_acts side k now input octets) links ≡ Err kind.NoLink) (same_id_eq id other same) (absent_refuses side id links now input octets none) in
+    cc
+
+-- what any link does
+pub absent_acts : (side : Side) (id other : LinkId) (links : Links) (now : ℕ) (input : Input) (octets : List ℕ) (a : Reaction Links) → links id ≡ None
+    → in_links other (link_acts side other now input octets) links ≡ Ok a → PassesBy side id links a.after a.effects
+absent_acts side id other links now input octets a none is = absent_by side id other links now input octets a (id_eq id other) none refl is

@@ -1,5 +1,5 @@
 -- TEI management is nothing to a link whose TEI it neither gives nor takes away.
-use Rattle.std.proofs.Common.{◌≡◌, ℕ, ◌<◌, ◌==◌, ◌&&◌, List, [], ◌∷◌, ◌++◌, Bool, true, false, if◌then◌else◌, Option, Some, None, refl, ap, subst, ◌∙◌, arith}
+use Rattle.std.proofs.Common.{◌≡◌, ℕ, ◌<◌, ◌==◌, ◌&&◌, List, [], ◌∷◌, ◌++◌, Bool, true, false, if◌then◌else◌, Option, Some, None, refl, ap, subst, ◌∙◌, arith, ◌⊎◌, sym, inl, inr}
 use Rattle.std.specs.Prelude.{◌||◌, IfSome}
 use Rattle.std.specs.List.{list_any, filter_map}
 use Rattle.std.proofs.lemmas.Bool.Decides.{nat_tests}
@@ -14,14 +14,16 @@ use Rattle.lapd_tei.specs.Out.{tei_given, tei_freed}
 use Rattle.lapd_table.specs.declared.link_id.LinkId.{LinkId}
 use Rattle.lapd_table.specs.LinkId.{id_eq}
 use Rattle.lapd_sides_links.specs.declared.config.Config.{Config}
+use Rattle.lapd_sides_links.specs.declared.primitive.Primitive.{Primitive}
 use Rattle.lapd_sides_links.specs.declared.primitive.What.{What}
 use Rattle.lapd_sides_links.specs.Effects.{message_sent, outcome_of}
-use Rattle.lapd_sides_links.specs.Links.{Links, Linked, Served, of_sapi, is_served, new_linked, parameters_for, with_tei, without_tei, release_at_removal, primitives_of, told_at_removal, told_of_tei}
+use Rattle.lapd_sides_links.specs.Links.{Links, Linked, Served, of_sapi, is_served, new_linked, parameters_for, with_tei, without_tei, release_at_removal, primitives_of, told_at_removal, told_of_tei, Reaction, with_link, is_link_of}
 use Rattle.lapd_sides.specs.Management.{links_with, links_without, told_without, manages}
 use Rattle.lapd_sides_interface.specs.Addressed.{is_for}
 use Rattle.lapd_sides_interface.specs.Told.{what_for, told_of}
-use Rattle.lapd_sides_interface.specs.Premises.{tells_change}
-use Rattle.lapd_sides_interface.proofs.LinkParts.{PassesBy, none_pass, spelled_is_for}
+use Rattle.lapd_sides_interface.specs.Premises.{tells_removal, tells_assignment}
+use Rattle.lapd_sides_interface.specs.Interface.{fresh_link}
+use Rattle.lapd_sides_interface.proofs.LinkParts.{PassesBy, none_pass, spelled_is_for, now_there}
 
 -- ---- Tests.
 
@@ -59,23 +61,23 @@ not_of_group sapi id low = and_not _ (id.tei == 127) (grind (arith, nat_tests))
 some_same : (x y : ℕ) → Some x ≡ Some y → x ≡ y
 some_same x y h = cc
 
-given_is_other : (tei : ℕ) (outs : List TeiOut) → list_any (tells_change tei) (filter_map outcome_of outs) ≡ false → (t : ℕ) → tei_given outs ≡ Some t → (t == tei) ≡ false
+given_is_other : (tei : ℕ) (outs : List TeiOut) → list_any (tells_assignment tei) (filter_map outcome_of outs) ≡ false → (t : ℕ) → tei_given outs ≡ Some t → (t == tei) ≡ false
 given_is_other tei [] h t is = cc
 given_is_other tei (outcome.Given u ∷ outs) h t is = subst (λ (x : ℕ). (x == tei) ≡ false) (some_same u t is) (neither (u == tei) _ h).0
 given_is_other tei (outcome.Got u ∷ outs) h t is = subst (λ (x : ℕ). (x == tei) ≡ false) (some_same u t is) (neither (u == tei) _ h).0
-given_is_other tei (outcome.Free u ∷ outs) h t is = given_is_other tei outs (neither (u == tei) _ h).1 t is
-given_is_other tei (outcome.Doubled u ∷ outs) h t is = given_is_other tei outs (neither (u == tei) _ h).1 t is
-given_is_other tei (outcome.Gone u ∷ outs) h t is = given_is_other tei outs (neither (u == tei) _ h).1 t is
+given_is_other tei (outcome.Free u ∷ outs) h t is = given_is_other tei outs h t is
+given_is_other tei (outcome.Doubled u ∷ outs) h t is = given_is_other tei outs h t is
+given_is_other tei (outcome.Gone u ∷ outs) h t is = given_is_other tei outs h t is
 given_is_other tei (outcome.InUse u ∷ outs) h t is = given_is_other tei outs h t is
 given_is_other tei (outcome.Failed ∷ outs) h t is = given_is_other tei outs h t is
 given_is_other tei (outcome.Send message ∷ outs) h t is = given_is_other tei outs h t is
 given_is_other tei (outcome.Start timer ∷ outs) h t is = given_is_other tei outs h t is
 given_is_other tei (outcome.Stop timer ∷ outs) h t is = given_is_other tei outs h t is
 
-freed_is_other : (tei : ℕ) (outs : List TeiOut) → list_any (tells_change tei) (filter_map outcome_of outs) ≡ false → (t : ℕ) → tei_freed outs ≡ Some t → (t == tei) ≡ false
+freed_is_other : (tei : ℕ) (outs : List TeiOut) → list_any (tells_removal tei) (filter_map outcome_of outs) ≡ false → (t : ℕ) → tei_freed outs ≡ Some t → (t == tei) ≡ false
 freed_is_other tei [] h t is = cc
-freed_is_other tei (outcome.Given u ∷ outs) h t is = freed_is_other tei outs (neither (u == tei) _ h).1 t is
-freed_is_other tei (outcome.Got u ∷ outs) h t is = freed_is_other tei outs (neither (u == tei) _ h).1 t is
+freed_is_other tei (outcome.Given u ∷ outs) h t is = freed_is_other tei outs h t is
+freed_is_other tei (outcome.Got u ∷ outs) h t is = freed_is_other tei outs h t is
 freed_is_other tei (outcome.Free u ∷ outs) h t is = subst (λ (x : ℕ). (x == tei) ≡ false) (some_same u t is) (neither (u == tei) _ h).0
 freed_is_other tei (outcome.Doubled u ∷ outs) h t is = subst (λ (x : ℕ). (x == tei) ≡ false) (some_same u t is) (neither (u == tei) _ h).0
 freed_is_other tei (outcome.Gone u ∷ outs) h t is = subst (λ (x : ℕ). (x == tei) ≡ false) (some_same u t is) (neither (u == tei) _ h).0
@@ -92,6 +94,16 @@ unfolding with_tei
 with_other config id None links other = refl
 with_other config id (Some t) links other =
     ap (λ (b : Bool). if b then Some (new_linked (parameters_for config id.sapi) config.durations) else links id) (and_not (is_served config id.sapi) (id.tei == t) (let h = other t refl in grind (arith, nat_tests)))
+
+given_by : (test : Bool) (fresh : Linked) (o : Option Linked) → o ≡ None → ((if test then Some fresh else o) ≡ None) ⊎ ((if test then Some fresh else o) ≡ Some fresh)
+given_by true fresh o none = inr refl
+given_by false fresh o none = inl none
+
+with_given : (config : Config) (id : LinkId) (given : Option ℕ) (links : Links) → links id ≡ None
+    → (links_with config given links id ≡ None) ⊎ (links_with config given links id ≡ Some (fresh_link config id))
+unfolding with_tei
+with_given config id None links none = inl none
+with_given config id (Some t) links none = given_by (is_link_of config t id) (fresh_link config id) (links id) none
 
 without_other : (id : LinkId) (freed : Option ℕ) (links : Links) → ((t : ℕ) → freed ≡ Some t → (t == id.tei) ≡ false) → links_without freed links id ≡ links id
 unfolding without_tei
@@ -143,23 +155,41 @@ outcomes_are_other id (outcome.Doubled t ∷ outs) = outcomes_are_other id outs
 
 -- ---- A step of it.
 
-pub managing_passes_by : (side : Side) (config : Config) (now : ℕ) (outs : List TeiOut) (s : Served) (id : LinkId) → id.tei < 127
-    → list_any (tells_change id.tei) (manages side config now outs s).effects.primitives ≡ false
-    → PassesBy side id s.links (manages side config now outs s).after.links (manages side config now outs s).effects
-unfolding manages
-managing_passes_by side config now outs s id low stays =
-    let told = any_first (tells_change id.tei) (filter_map outcome_of outs) (told_without (tei_freed outs) (links_with config (tei_given outs) s.links)) stays in
-    let given = given_is_other id.tei outs told in
-    let freed = freed_is_other id.tei outs told in
-    record {
-      links = without_other id (tei_freed outs) (links_with config (tei_given outs) s.links) freed ∙ with_other config id (tei_given outs) s.links given;
-      frames = none_pass (is_for side id) (message_sent side) outs (λ out. message_is_other side id out low);
-      told = filter_map-append (what_for id) (filter_map outcome_of outs) (told_without (tei_freed outs) (links_with config (tei_given outs) s.links))
-          ∙ rw (outcomes_are_other id outs, told_without_other id (tei_freed outs) (links_with config (tei_given outs) s.links) freed) refl;
-    }
+module _ (side : Side) (config : Config) (now : ℕ) (outs : List TeiOut) (s : Served) (id : LinkId) (low : id.tei < 127) where
+  abbrev Managed : Reaction Served
+  Managed = manages side config now outs s
 
--- where it tells of no change, no outcome names the TEI
-pub outcomes_spare : (side : Side) (config : Config) (now : ℕ) (outs : List TeiOut) (s : Served) (tei : ℕ) → list_any (tells_change tei) (manages side config now outs s).effects.primitives ≡ false
-    → list_any (tells_change tei) (filter_map outcome_of outs) ≡ false
-unfolding manages
-outcomes_spare side config now outs s tei stays = any_first (tells_change tei) (filter_map outcome_of outs) (told_without (tei_freed outs) (links_with config (tei_given outs) s.links)) stays
+  abbrev PassesFrom : Links → Type 0
+  PassesFrom before = PassesBy side id before Managed.after.links Managed.effects
+
+  -- what its outputs say of TEIs is told first
+  outcomes_tell : (tells : Primitive → Bool) → list_any tells Managed.effects.primitives ≡ false → list_any tells (filter_map outcome_of outs) ≡ false
+  unfolding manages
+  outcomes_tell tells none = any_first tells (filter_map outcome_of outs) (told_without (tei_freed outs) (links_with config (tei_given outs) s.links)) none
+
+  -- its frames and what it tells are of no link of a TEI that is not taken away
+  by_links : (before : Links) → list_any (tells_removal id.tei) Managed.effects.primitives ≡ false → links_with config (tei_given outs) s.links id ≡ before id → PassesFrom before
+  unfolding manages
+  by_links before not_removed links =
+      let freed = freed_is_other id.tei outs (outcomes_tell (tells_removal id.tei) not_removed) in
+      record {
+        links = without_other id (tei_freed outs) (links_with config (tei_given outs) s.links) freed ∙ links;
+        frames = none_pass (is_for side id) (message_sent side) outs (λ out. message_is_other side id out low);
+        told = filter_map-append (what_for id) (filter_map outcome_of outs) (told_without (tei_freed outs) (links_with config (tei_given outs) s.links))
+            ∙ rw (outcomes_are_other id outs, told_without_other id (tei_freed outs) (links_with config (tei_given outs) s.links) freed) refl;
+      }
+
+  pub managing_passes_by : list_any (tells_removal id.tei) Managed.effects.primitives ≡ false → list_any (tells_assignment id.tei) Managed.effects.primitives ≡ false → PassesFrom s.links
+  managing_passes_by not_removed not_given =
+      by_links s.links not_removed (with_other config id (tei_given outs) s.links (given_is_other id.tei outs (outcomes_tell (tells_assignment id.tei) not_given)))
+
+  -- where the link is not there, it stays so, or it comes
+  pub managing_absent : list_any (tells_removal id.tei) Managed.effects.primitives ≡ false → s.links id ≡ None → PassesFrom s.links ⊎ PassesFrom (with_link id (Some (fresh_link config id)) s.links)
+  managing_absent not_removed none = elim (with_given config id (tei_given outs) s.links none) [
+    | inl stays ↦ inl (by_links s.links not_removed (stays ∙ sym none))
+    | inr comes ↦ inr (by_links (with_link id (Some (fresh_link config id)) s.links) not_removed (comes ∙ sym (now_there id (fresh_link config id) s.links)))
+  ]
+
+  -- where it is told of no assignment, no outcome is one
+  pub outcomes_spare : list_any (tells_assignment id.tei) Managed.effects.primitives ≡ false → list_any (tells_assignment id.tei) (filter_map outcome_of outs) ≡ false
+  outcomes_spare none = outcomes_tell (tells_assignment id.tei) none

@@ -1,10 +1,11 @@
 -- Each move of an interface is nothing, or one move, to each of its links; hence each link is safe after every run.
-use Rattle.std.proofs.Common.{◌≡◌, inl, inr, ℕ, ◌<◌, ◌≤◌, List, [], ◌∷◌, ◌++◌, map, Option, Some, Ok, refl, sym, ap, subst, ◌∙◌}
+use Rattle.std.proofs.Common.{◌≡◌, inl, inr, ℕ, ◌<◌, ◌≤◌, List, [], ◌∷◌, ◌++◌, map, Option, Some, Ok, refl, sym, ap, subst, ◌∙◌, ◌⊎◌}
 use Rattle.std.specs.List.{filter_map}
 use Rattle.lapd_timers.specs.Durations.{Lengths}
 use Rattle.lapd_frame.specs.declared.Side.{Side}
 use Rattle.lapd_frame.specs.declared.Side.TheVariants as side
 use Rattle.lapd_mod128.specs.Counting.{Tagged}
+use Rattle.lapd_link_rows.specs.End.{new_end}
 use Rattle.lapd_link_rows.specs.Parameters.{Parameters}
 use Rattle.lapd_link_rows.specs.Reports.{AreExpected}
 use Rattle.lapd_pair_world.specs.Histories.{Receipt}
@@ -24,9 +25,9 @@ use Rattle.lapd_sides_links.specs.Links.{new_linked}
 use Rattle.lapd_sides.specs.Network.{Network}
 use Rattle.lapd_sides.specs.User.{User}
 use Rattle.lapd_sides_interface.specs.Addressed.{those_for}
-use Rattle.lapd_sides_interface.specs.Interface.{Configs, Interface, Move, user_behaviour, network_behaviour, new_interface, from_here, by_user, by_network, with_user, with_network, side_does, happens, run}
+use Rattle.lapd_sides_interface.specs.Interface.{fresh_link, Configs, Interface, Move, user_behaviour, network_behaviour, new_interface, from_here, by_user, by_network, with_user, with_network, side_does, happens, run}
 use Rattle.lapd_sides_interface.specs.Premises.{IsTimelyMove, IsMoveKeepingTei, AreTimely, KeepTei, KeepPremises}
-use Rattle.lapd_sides_interface.specs.Projects.{Projects, ProjectsTo, IsRight, IsSafeAt}
+use Rattle.lapd_sides_interface.specs.Projects.{HasLink, AwaitsLink, Projects, ProjectsTo, IsRight, IsSafeAt}
 use Rattle.lapd_sides_interface.specs.SideView.{Deed, SideView, does}
 use Rattle.lapd_sides_interface.specs.Told.{told_of, IsReceived, AreExpectedWhats}
 use Rattle.lapd_sides_interface.proofs.Deeds.{each_deed}
@@ -78,10 +79,7 @@ module _ (c : Configs) (id : LinkId) (low : id.tei < 127) where
   network_beside : (v : SideView User) (i : Interface) (view : View) (w : World) → Projects (user_behaviour c.user) side.User id v view → Projects (network_behaviour c.network) side.Network id (by_network i) (view_of side.Network w)
       → Projects (network_behaviour c.network) side.Network id (by_network (with_user v i)) (view_of side.Network (with_view side.User view w))
   network_beside v i view w acted other = record {
-    linked = other.linked;
-    there = other.there;
-    end = other.end;
-    timed = other.timed;
+    link = other.link;
     known = other.known;
     given = other.given;
     incoming = acted.outgoing;
@@ -91,10 +89,7 @@ module _ (c : Configs) (id : LinkId) (low : id.tei < 127) where
   user_beside : (v : SideView Network) (i : Interface) (view : View) (w : World) → Projects (network_behaviour c.network) side.Network id v view → Projects (user_behaviour c.user) side.User id (by_user i) (view_of side.User w)
       → Projects (user_behaviour c.user) side.User id (by_user (with_network v i)) (view_of side.User (with_view side.Network view w))
   user_beside v i view w acted other = record {
-    linked = other.linked;
-    there = other.there;
-    end = other.end;
-    timed = other.timed;
+    link = other.link;
     known = other.known;
     given = other.given;
     incoming = acted.outgoing;
@@ -192,25 +187,34 @@ module _ (c : Configs) (id : LinkId) (low : id.tei < 127) where
     all_moves i [] timely stays r = r
     all_moves i (move ∷ moves) timely stays r = all_moves (happens c move i) moves timely.1 stays.1 (one_move i move.side move.deed timely.0 stays.0 r)
 
-    -- at a moment at which the link is new on both sides, and no octets for it are on their way
-    begins : (i : Interface) (m n : Lengths) → i.user.served.links id ≡ Some (new_linked p m) → i.network.served.links id ≡ Some (new_linked q n)
+    -- the link is new on both sides, there or not there yet, and no octets for it are on their way
+    begins : (i : Interface) → HasLink i.user.served.links id (new_end p) ⊎ AwaitsLink (fresh_link c.user id) i.user.served.links id (new_end p)
+        → HasLink i.network.served.links id (new_end q) ⊎ AwaitsLink (fresh_link c.network id) i.network.served.links id (new_end q)
         → those_for side.Network id i.to_user ≡ [] → those_for side.User id i.to_network ≡ [] → IsReached (from_here i)
-    begins i m n of_u of_n no_to_user no_to_network = record {
+    begins i of_u of_n no_to_user no_to_network = record {
       moves = [];
       shows = record {
-        user = record { linked = new_linked p m; there = of_u; end = refl; timed = new_is_timed p m; incoming = no_to_user; outgoing = no_to_network; known = refl; given = refl };
-        network = record { linked = new_linked q n; there = of_n; end = refl; timed = new_is_timed q n; incoming = no_to_network; outgoing = no_to_user; known = refl; given = refl };
+        user = record { link = of_u; incoming = no_to_user; outgoing = no_to_network; known = refl; given = refl };
+        network = record { link = of_n; incoming = no_to_network; outgoing = no_to_user; known = refl; given = refl };
       };
       reports_to_user = tt;
       reports_to_network = tt;
     }
 
-    pub link_safe_from : (i : Interface) (m n : Lengths) → i.user.served.links id ≡ Some (new_linked p m) → i.network.served.links id ≡ Some (new_linked q n)
+    pub link_safe_as : (i : Interface) → HasLink i.user.served.links id (new_end p) ⊎ AwaitsLink (fresh_link c.user id) i.user.served.links id (new_end p)
+        → HasLink i.network.served.links id (new_end q) ⊎ AwaitsLink (fresh_link c.network id) i.network.served.links id (new_end q)
         → those_for side.Network id i.to_user ≡ [] → those_for side.User id i.to_network ≡ [] → (moves : List Move) → KeepPremises c id moves (from_here i) → IsSafeAt c id (run c moves (from_here i))
-    link_safe_from i m n of_u of_n no_to_user no_to_network moves premises =
-        let r = all_moves (from_here i) moves premises.0 premises.1 (begins i m n of_u of_n no_to_user no_to_network) in
+    link_safe_as i of_u of_n no_to_user no_to_network moves premises =
+        let r = all_moves (from_here i) moves premises.0 premises.1 (begins i of_u of_n no_to_user no_to_network) in
         let safe = every_run_safe Tagged p q small_p small_q r.moves in
         record { user = p; network = q; moves = r.moves; shows = r.shows; safe = safe; right = right_of (run c moves (from_here i)) (Reached r.moves) r.shows safe r.reports_to_user r.reports_to_network }
+
+    pub link_safe_from : (i : Interface) (m n : Lengths) → i.user.served.links id ≡ Some (new_linked p m) → i.network.served.links id ≡ Some (new_linked q n)
+        → those_for side.Network id i.to_user ≡ [] → those_for side.User id i.to_network ≡ [] → (moves : List Move) → KeepPremises c id moves (from_here i) → IsSafeAt c id (run c moves (from_here i))
+    link_safe_from i m n of_u of_n no_to_user no_to_network moves premises = link_safe_as i
+        (inl (record { linked = new_linked p m; there = of_u; end = refl; timed = new_is_timed p m }))
+        (inl (record { linked = new_linked q n; there = of_n; end = refl; timed = new_is_timed q n }))
+        no_to_user no_to_network moves premises
 
     pub link_safe : (user : User) (network : Network) (m n : Lengths) → user.served.links id ≡ Some (new_linked p m) → network.served.links id ≡ Some (new_linked q n)
         → (moves : List Move) → KeepPremises c id moves (new_interface user network) → IsSafeAt c id (run c moves (new_interface user network))

@@ -7,12 +7,16 @@ use Rattle.lapd_tei.specs.declared.phase.Phase.TheVariants.{Unassigned, Awaiting
 use Rattle.lapd_table.specs.declared.link_id.LinkId.{LinkId}
 use Rattle.lapd_sides_links.specs.declared.config.Config.{Config}
 use Rattle.lapd_sides_links.specs.declared.primitive.Primitive.{Primitive}
-use Rattle.lapd_sides_links.specs.Links.{of_sapi}
+use Rattle.lapd_sides_links.specs.Links.{Linked, of_sapi, new_linked, parameters_for}
 use Rattle.lapd_sides.specs.Network.{Network, network_takes, network_expires, network_requested}
 use Rattle.lapd_sides.specs.User.{User, user_takes, user_expires, user_requested}
 use Rattle.lapd_sides_interface.specs.SideView.{Behaviour, SideView, Deed, does}
 
 -- ---- The two sides.
+
+-- a link as it comes with its TEI
+abbrev pub fresh_link : Config → LinkId → Linked
+fresh_link config id = new_linked (parameters_for config id.sapi) config.durations
 
 -- a request of the user side means the link of the terminal's own TEI
 abbrev pub own_link : Phase → LinkId → LinkId
@@ -27,6 +31,7 @@ network_behaviour config = record {
   requested = network_requested config;
   means = λ s id. id;
   served = λ s. s.served;
+  fresh = fresh_link config;
 }
 
 abbrev pub user_behaviour : Config → Behaviour User
@@ -36,6 +41,7 @@ user_behaviour config = record {
   requested = user_requested config;
   means = λ s id. own_link s.terminal id;
   served = λ s. s.served;
+  fresh = fresh_link config;
 }
 
 -- with what both were made

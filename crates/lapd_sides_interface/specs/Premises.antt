@@ -1,5 +1,5 @@
--- The premises of one link: its T200 is timely, and its TEI stays.
-use Rattle.std.specs.Prelude.{◌≡◌, ℕ, ◌==◌, Bool, false, List, [], ◌∷◌, Some}
+-- The premises of one link: its T200 is timely, and its TEI stays, once it is there.
+use Rattle.std.specs.Prelude.{◌≡◌, ℕ, ◌==◌, Bool, true, false, List, [], ◌∷◌, Some, is_some}
 use Rattle.std.specs.List.{list_any}
 use Rattle.lapd_timers.specs.declared.timer.Timer.TheVariants.{T200}
 use Rattle.lapd_frame.specs.declared.Side.{Side}
@@ -9,6 +9,8 @@ use Rattle.lapd_tei.specs.declared.out.TeiOut.TheVariants as outcome
 use Rattle.lapd_table.specs.declared.link_id.LinkId.{LinkId}
 use Rattle.lapd_sides_links.specs.declared.primitive.Primitive.{Primitive}
 use Rattle.lapd_sides_links.specs.declared.primitive.Primitive.TheVariants.{Management}
+use Rattle.lapd_sides_links.specs.Effects.{Effects}
+use Rattle.lapd_sides_links.specs.Links.{Links}
 use Rattle.lapd_sides_interface.specs.Addressed.{is_poll_for, is_final_for}
 use Rattle.lapd_sides_interface.specs.Interface.{Configs, Interface, Move, user_behaviour, network_behaviour, by_user, by_network, happens}
 use Rattle.lapd_sides_interface.specs.SideView.{Behaviour, SideView, Deed, Expire, reaction}
@@ -22,19 +24,27 @@ IsTimely side id (Expire timer of now) v = timer ≡ T200 → of ≡ Some id
     × (list_any (is_final_for (other_side side) id) v.incoming ≡ false)
 IsTimely side id deed v = Unit {0}
 
--- it is told that the TEI is given or got, freed, removed or given up
-abbrev pub tells_change : ℕ → Primitive → Bool
-tells_change tei (Management (outcome.Given t)) = t == tei
-tells_change tei (Management (outcome.Got t)) = t == tei
-tells_change tei (Management (outcome.Free t)) = t == tei
-tells_change tei (Management (outcome.Doubled t)) = t == tei
-tells_change tei (Management (outcome.Gone t)) = t == tei
-tells_change tei other = false
+-- it is told that the TEI is freed, removed or given up
+abbrev pub tells_removal : ℕ → Primitive → Bool
+tells_removal tei (Management (outcome.Free t)) = t == tei
+tells_removal tei (Management (outcome.Doubled t)) = t == tei
+tells_removal tei (Management (outcome.Gone t)) = t == tei
+tells_removal tei other = false
 
--- the TEI of the link is neither given nor taken away
+-- it is told that the TEI is given or got
+abbrev pub tells_assignment : ℕ → Primitive → Bool
+tells_assignment tei (Management (outcome.Given t)) = t == tei
+tells_assignment tei (Management (outcome.Got t)) = t == tei
+tells_assignment tei other = false
+
+-- The TEI of the link is not taken away, and it is not given where the link is there already.
+pub record LeavesTei (id : LinkId) (links : Links) (effects : Effects) : Type 0 where
+  pub not_removed : list_any (tells_removal id.tei) effects.primitives ≡ false
+  pub not_given_again : is_some (links id) ≡ true
+      → list_any (tells_assignment id.tei) effects.primitives ≡ false
+
 abbrev pub KeepsTei : {S : Type 0} → Behaviour S → LinkId → Deed → SideView S → Type 0
-KeepsTei w id deed v =
-    list_any (tells_change id.tei) (reaction w deed v).effects.primitives ≡ false
+KeepsTei w id deed v = LeavesTei id (w.served v.now).links (reaction w deed v).effects
 
 -- ---- Of all moves of a run.
 

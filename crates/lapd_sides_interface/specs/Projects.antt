@@ -1,18 +1,19 @@
 -- How what a side sees shows, for one link, what a side of the world of two ends sees; and that the link is safe.
-use Rattle.std.specs.Prelude.{◌≡◌, true, List, map, Some, is_some}
+use Rattle.std.specs.Prelude.{◌≡◌, ◌⊎◌, true, List, map, Some, None, is_some}
 use Rattle.lapd_timers.specs.declared.timer.Timer.TheVariants.{T200, T203}
 use Rattle.lapd_timers.specs.Due.{deadline_of}
 use Rattle.lapd_frame.specs.declared.Side.{Side}
 use Rattle.lapd_frame.specs.declared.Side.TheVariants as side
 use Rattle.lapd_frame.specs.Address.{other_side}
 use Rattle.lapd_mod128.specs.Counting.{Tagged}
+use Rattle.lapd_link_rows.specs.End.{End}
 use Rattle.lapd_link_rows.specs.Parameters.{Parameters}
 use Rattle.lapd_pair_world.specs.Histories.{History, Receipt}
 use Rattle.lapd_pair_world.specs.Move as world
 use Rattle.lapd_pair_world.specs.Safe.{AreSafe}
 use Rattle.lapd_pair_world.specs.World.{World, view_of, new_world, run}
 use Rattle.lapd_table.specs.declared.link_id.LinkId.{LinkId}
-use Rattle.lapd_sides_links.specs.Links.{Linked}
+use Rattle.lapd_sides_links.specs.Links.{Links, Linked}
 use Rattle.lapd_sides_interface.specs.Addressed.{those_for, all_spelled}
 use Rattle.lapd_sides_interface.specs.Interface.{Configs, Interface, user_behaviour, network_behaviour, by_user, by_network}
 use Rattle.lapd_sides_interface.specs.SideView.{Behaviour, SideView}
@@ -33,14 +34,23 @@ known_by h = record {
   passed = h.passed;
 }
 
--- The link is there, and its end is the world's; the octets for it are the frames on their way, spelled; and what was told
--- of it, and given to it, is what the world wrote down.
+-- a link is there, and its end is this one; or it is not there yet, and this is the end that it will have
+pub record HasLink (links : Links) (id : LinkId) (e : End) : Type 0 where
+  pub linked : Linked
+  pub there : links id ≡ Some linked
+  pub end : linked.end ≡ e
+  pub timed : IsTimed linked
+
+pub record AwaitsLink (fresh : Linked) (links : Links) (id : LinkId) (e : End) : Type 0 where
+  pub absent : links id ≡ None
+  pub end : e ≡ fresh.end
+
+-- The end of the link, there or not there yet, is the world's; the octets for it are the frames on their way, spelled; and what
+-- was told of it, and given to it, is what the world wrote down.
 pub record Projects {S : Type 0} (w : Behaviour S) (side : Side) (id : LinkId) (v : SideView S)
     (view : world.View) : Type 0 where
-  pub linked : Linked
-  pub there : (w.served v.now).links id ≡ Some linked
-  pub end : linked.end ≡ view.station.end
-  pub timed : IsTimed linked
+  pub link : HasLink (w.served v.now).links id view.station.end
+      ⊎ AwaitsLink (w.fresh id) (w.served v.now).links id view.station.end
   pub incoming : those_for (other_side side) id v.incoming
       ≡ all_spelled (other_side side) id view.incoming
   pub outgoing : those_for side id v.outgoing ≡ all_spelled side id view.outgoing

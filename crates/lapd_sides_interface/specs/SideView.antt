@@ -13,14 +13,15 @@ use Rattle.lapd_sides_links.specs.Links.{Linked, Served, Reaction}
 use Rattle.lapd_sides.specs.declared.request.Request.{Request}
 use Rattle.lapd_sides.specs.declared.request.Request.TheVariants as request
 
--- What a side of either kind does: with octets, when a timer expires, and by a request; which link a request means; and its
--- links and timers.
+-- What a side of either kind does: with octets, when a timer expires, and by a request; which link a request means; its links
+-- and timers; and what a link is when it comes.
 pub record Behaviour (S : Type 0) : Type 0 where
   pub takes : List ℕ → ℕ → S → Reaction S
   pub expires : ℕ → Timer → Option LinkId → S → Reaction S
   pub requested : Request → ℕ → S → Result (Reaction S) SideKind
   pub means : S → LinkId → LinkId
   pub served : S → Served
+  pub fresh : LinkId → Linked
 
 -- A side, all that the layers above it were told, the messages that it accepted from them, each with the link that it was
 -- given to, and the octets on their way to it and from it.

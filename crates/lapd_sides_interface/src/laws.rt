@@ -1,12 +1,11 @@
 //! Laws of an interface. They do nothing when they are called.
 
-ghost use Rattle.std.specs.Prelude.{◌≡◌, ◌<◌, ◌≤◌, [], ◌∷◌, ℕ, true, List, Some, Option, Result, Vec, ⊤};
+ghost use Rattle.std.specs.Prelude.{◌≡◌, ◌<◌, ◌≤◌, [], ◌∷◌, ℕ, List, Some, Option, Result, Vec, ⊤};
 ghost use Rattle.std.specs.declared.alloc.Global.{Global};
 ghost use Rattle.rand_pcg.specs.Lcg.{Lcg};
 ghost use Rattle.lapd_frame.specs.declared.Side.TheVariants as side;
 ghost use Rattle.lapd_timers.specs.Durations.{Lengths};
 ghost use Rattle.lapd_link_rows.specs.Parameters.{Parameters};
-ghost use Rattle.lapd_tei.specs.Assigner.{is_held, known_held};
 ghost use Rattle.lapd_table.specs.declared.link_id.LinkId.{LinkId};
 ghost use Rattle.lapd_sides_links.specs.declared.config.Config.{Config};
 ghost use Rattle.lapd_sides_links.specs.declared.primitive.What.TheVariants as what;
@@ -14,7 +13,7 @@ ghost use Rattle.lapd_sides_links.specs.declared.running_timer.RunningTimer.{Run
 ghost use Rattle.lapd_sides_links.specs.declared.side_fault.SideFault.{SideFault};
 ghost use Rattle.lapd_sides_links.specs.Effects.{Effects};
 ghost use Rattle.lapd_sides_links.specs.Expiries.{IsDue};
-ghost use Rattle.lapd_sides_links.specs.Links.{new_linked, is_served, parameters_for};
+ghost use Rattle.lapd_sides_links.specs.Links.{new_linked, parameters_for};
 ghost use Rattle.lapd_sides.specs.declared.net_side.NetSide.{NetSide};
 ghost use Rattle.lapd_sides.specs.declared.request.Request.{Request};
 ghost use Rattle.lapd_sides.specs.declared.user_side.UserSide.{UserSide};
@@ -46,15 +45,14 @@ pub fn each_link_is_safe()
         → network.served.links id ≡ Some (new_linked q n)
         → (moves : List Move) → KeepPremises c id moves (new_interface user network)
         → IsSafeAt c id (run c moves (new_interface user network)) }
-    ensures known { (c : Configs) (id : LinkId) (known : List ℕ) (random : Lcg) → id.tei < 127
-        → is_served c.user id.sapi ≡ true → is_served c.network id.sapi ≡ true
-        → is_held (known_held known).held id.tei ≡ true
+    ensures as_made { (c : Configs) (id : LinkId) (fixed : Option ℕ) (known : List ℕ)
+        (random : Lcg) → id.tei < 127
         → (parameters_for c.user id.sapi).k ≤ 127 → (parameters_for c.network id.sapi).k ≤ 127
         → (moves : List Move)
         → KeepPremises c id moves
-        (new_interface (new_user c.user (Some id.tei) random) (new_network c.network known))
+        (new_interface (new_user c.user fixed random) (new_network c.network known))
         → IsSafeAt c id (run c moves
-        (new_interface (new_user c.user (Some id.tei) random) (new_network c.network known))) }
+        (new_interface (new_user c.user fixed random) (new_network c.network known))) }
     ensures from_here { (c : Configs) (id : LinkId) (i : Interface)
         (p q : Parameters) (m n : Lengths) → id.tei < 127 → p.k ≤ 127 → q.k ≤ 127
         → i.user.served.links id ≡ Some (new_linked p m)
