@@ -56,7 +56,11 @@ module _ (side : Side) (id : LinkId) (fresh : Linked) (links : Links) (now : ℕ
 
   own_by : (o : Option Linked) → links id ≡ o → given_to id given ≡ messages_of input → in_links id (link_acts side id now input octets) links ≡ Ok a → Granted
   own_by (Some l) was given_is own = inr (record {
-    deed = wish.deed; input = input; octets = octets; is_deed = wish.is_deed; no_expiry = wish.no_expiry;
+    deed = wish.deed;
+    input = input;
+    octets = octets;
+    is_deed = wish.is_deed;
+    no_expiry = wish.no_expiry;
     is_step = (own_granted side id links now input octets l a was own).is_step;
     given_is = given_is;
   })

@@ -1,5 +1,5 @@
 -- The worked runs, computed; and that what the last three come to is not right.
-use Rattle.std.proofs.Common.{◌≡◌, inl, inr, ℕ, ◌≤◌, List, [], ◌∷◌, length, map, slice_get, Option, Some, None, refl, sym, ap, subst, arith}
+use Rattle.std.proofs.Common.{◌≡◌, inl, inr, ℕ, ◌≤◌, List, [], ◌∷◌, length, map, slice_get, Option, Some, None, refl, sym, ap, subst, arith, true, false}
 use Rattle.std.specs.Prelude.{Vec}
 use Rattle.std.specs.declared.alloc.Global.{Global}
 use Rattle.lapd_mod128.specs.Counting.{after, steps, lies_within}
@@ -23,7 +23,7 @@ use Rattle.lapd_sides.specs.User.{link_of_user, terminal_acts, user_takes, user_
 use Rattle.lapd_sides_interface.specs.Interface.{run}
 use Rattle.lapd_sides_interface.specs.Premises.{AreTimely, KeepTei, KeepPremises}
 use Rattle.lapd_sides_interface.specs.Projects.{IsRight}
-use Rattle.lapd_sides_interface.specs.Schedule.{configs, call, packet, at_first, IsMessage, both_links, hasty, regained, with_old_frames, answered_before}
+use Rattle.lapd_sides_interface.specs.Schedule.{configs, call, packet, at_first, unassigned, IsMessage, both_links, assigned, hasty, regained, with_old_frames, answered_before}
 use Rattle.lapd_sides_interface.specs.SideView.{does}
 use Rattle.lapd_sides_interface.specs.Told.{told_of, given_to, known_of, IsReceived}
 
@@ -65,6 +65,24 @@ both_links_hold v w x y = record {
 
 pub both_links_so : (message answer : Vec ℕ Global) → IsMessage 1 message → IsMessage 2 answer → BothLinks message answer
 both_links_so = with_both BothLinks (1 ∷ []) (2 ∷ []) both_links_hold
+
+-- ---- A TEI that is assigned.
+
+pub record Assigned (message : Vec ℕ Global) : Type 0 where
+  pub premises : KeepPremises configs call (assigned message) unassigned
+  pub to_user : told_of call (run configs (assigned message) unassigned).told_to_user ≡ what.Confirmed ∷ what.Acknowledged 1 ∷ []
+  pub to_network : told_of call (run configs (assigned message) unassigned).told_to_network ≡ what.Established ∷ what.Up (1 ∷ []) ∷ []
+
+assigned_holds : (v : Vec ℕ Global) (x : Fits v (1 ∷ [])) → Assigned (holding v (1 ∷ []) x)
+unfolding link_acts link_expires in_links with_tei without_tei told_of_tei manages assigner_acts link_of_network network_takes network_expires network_requested begin put state_to rc_to increment_rc layer3_initiated_to release_pending_to start stop expired clear_exception_conditions zero_state_variables set_peer_busy set_own_busy enquiry_response transmit_enquiry queue_up discard_i_queue acknowledge invoke_retransmission i_frame_ns discard_unacknowledged transmit_i_frame ensure_t200 transmit_rr establish_data_link reestablish_data_link end_establishment tei_assigned confirm_or_indicate ua_final awaiting_establishment_t200 awaiting_establishment confirm_release awaiting_release_t200 awaiting_release acknowledge_with_timers nr_error_recovery i_frame_nr i_frame_nr_in_recovery poll_or_final poll rr_nr rej_nr rnr_nr rr_nr_in_recovery rnr_nr_in_recovery timer_recovery_t200 busy_on busy_off in_7_and_8 established_t200 multiple_frame_established timer_recovery by_state report_fault row send_all acknowledge_pending end_step step initial_variables without_exceptions with_zero_counters status_frame acknowledgement without_ack_pending poll_response is_accepted is_rejected after_i_frame i_frame_response is_valid_nr with_va acknowledged_count acknowledges_all with_vs may_send next_i_frame after_sending with_own_busy with_peer_busy after steps lies_within link_of_user terminal_acts user_takes user_expires user_requested links_below does
+assigned_holds v x = record {
+  premises = ((tt, (tt, (tt, (tt, (tt, (tt, (tt, (tt, tt)))))))), (record { not_removed = refl; not_given_again = λ there. refl }, (record { not_removed = refl; not_given_again = λ there. (let never : false ≡ true = there in cc) }, (record { not_removed = refl; not_given_again = λ there. (let never : false ≡ true = there in cc) }, (record { not_removed = refl; not_given_again = λ there. refl }, (record { not_removed = refl; not_given_again = λ there. refl }, (record { not_removed = refl; not_given_again = λ there. refl }, (record { not_removed = refl; not_given_again = λ there. refl }, (record { not_removed = refl; not_given_again = λ there. refl }, tt)))))))));
+  to_user = refl;
+  to_network = refl;
+}
+
+pub assigned_so : (message : Vec ℕ Global) → IsMessage 1 message → Assigned message
+assigned_so = with_octets Assigned (1 ∷ []) assigned_holds
 
 -- ---- A place that counts as acknowledged and was not received.
 

@@ -1,7 +1,7 @@
 -- What one deed of a side is to one of its links in the world of two ends: nothing, or one move.
 use Rattle.std.proofs.Common.{◌≡◌, ◌⊎◌, inl, inr, ℕ, ◌<◌, nat_lt, List, [], ◌∷◌, ◌++◌, drop, length, Bool, true, false, if◌then◌else◌, Option, Some, None, Result, Ok, Err, refl, sym, ap, subst, ◌∙◌, arith}
 use Rattle.std.specs.Prelude.{is_some}
-use Rattle.std.specs.List.{filter_map, list_any, remove}
+use Rattle.std.specs.List.{filter_map, remove}
 use Rattle.std.proofs.lemmas.List.Elements.{filter-append, filter_map-append}
 use Rattle.std.proofs.lemmas.Bool.{lt-ltb}
 use Rattle.std.proofs.lemmas.List.{append-nil, length-map}
@@ -75,7 +75,7 @@ pub record ServesLink {S : Type 0} (w : Behaviour S) (side : Side) (id : LinkId)
       → IsStep side id now (Expiry timer) [] (stopped timer) (w.served s).links (w.served (w.expires now timer (Some id) s).after).links (w.expires now timer (Some id) s).effects
   pub asked : (request : Request) (now : ℕ) (s : S) (a : Reaction S) → w.requested request now s ≡ Ok a → LeavesTei id (w.served s).links a.effects
       → IsNoRequest side id now (w.fresh id) (w.served s).links (w.served a.after).links a.effects (accepted_by w request now s)
-        ⊎ IsRequest side id now (w.served s).links (w.served a.after).links a.effects (accepted_by w request now s)
+      ⊎ IsRequest side id now (w.served s).links (w.served a.after).links a.effects (accepted_by w request now s)
   pub fresh_is_timed : IsTimed (w.fresh id)
 
 -- ---- What is learned in two parts.
@@ -299,7 +299,7 @@ module _ (S : Type 0) (w : Behaviour S) (side : Side) (id : LinkId) where
       let proper : AreProper (frame ∷ behind) = subst AreProper first.are kept.coming in
       let spelled_so : spelled (other_side side) id frame ≡ octets = sym first.head in
       let passes : PassesBy side id (w.served v.now).links (w.served (w.takes octets now v.now).after).links (w.takes octets now v.now).effects =
-          subst (λ (o : List ℕ). PassesBy side id (w.served v.now).links (w.served (w.takes o now v.now).after).links (w.takes o now v.now).effects) spelled_so (ways.takes_absent frame now v.now proper.0 none) in
+      subst (λ (o : List ℕ). PassesBy side id (w.served v.now).links (w.served (w.takes o now v.now).after).links (w.takes o now v.now).effects) spelled_so (ways.takes_absent frame now v.now proper.0 none) in
       let within : nat_lt 0 (length view.incoming) ≡ true = lt-ltb 0 (length view.incoming) (subst (λ (frames : List Flight). 0 < length frames) (sym first.are) (omega arith)) in
       inr (record {
         deed = world.Lose 0;

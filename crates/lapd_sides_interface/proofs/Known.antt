@@ -5,7 +5,7 @@ use Rattle.lapd_link_rows.specs.End.{new_end}
 use Rattle.lapd_tei.specs.Assigner.{known_held}
 use Rattle.lapd_table.specs.declared.link_id.LinkId.{LinkId}
 use Rattle.lapd_sides_links.specs.declared.config.Config.{Config}
-use Rattle.lapd_sides_links.specs.Links.{Links, Linked, is_served, is_link_of, parameters_for, with_tei, is_held_below, links_below}
+use Rattle.lapd_sides_links.specs.Links.{Links, is_served, is_link_of, parameters_for, with_tei, is_held_below, links_below}
 use Rattle.lapd_sides.specs.Network.{new_network}
 use Rattle.lapd_sides.specs.User.{new_user}
 use Rattle.lapd_sides_interface.specs.Interface.{Configs, Move, fresh_link, new_interface, run}

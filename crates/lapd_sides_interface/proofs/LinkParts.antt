@@ -1,5 +1,5 @@
 -- What a step among the links of a side is to one of them.
-use Rattle.std.proofs.Common.{◌≡◌, ℕ, List, [], ◌∷◌, map, length, Bool, true, false, if◌then◌else◌, Option, Some, None, Result, Ok, Err, refl, ap, subst, ◌∙◌, ◌⊎◌, ◌++◌, sym, inl, inr}
+use Rattle.std.proofs.Common.{◌≡◌, ℕ, List, [], ◌∷◌, map, length, Bool, true, false, if◌then◌else◌, Option, Some, None, Result, Ok, Err, refl, ap, subst, ◌∙◌, ◌⊎◌, ◌++◌, sym}
 use Rattle.std.specs.Prelude.{IfSome, IfOk}
 use Rattle.std.specs.List.{filter, filter_map}
 use Rattle.std.proofs.lemmas.List.{append-nil}
@@ -290,7 +290,7 @@ absent_by : (side : Side) (id other : LinkId) (links : Links) (now : ℕ) (input
 absent_by side id other links now input octets a false none apart is = other_acts side id other links now input octets a apart is
 absent_by side id other links now input octets a true none same is =
     let err : in_links other (link_acts side other now input octets) links ≡ Err kind.NoLink =
-        subst (λ (k : LinkId). in_links k (link_acts side k now input octets) links ≡ Err kind.NoLink) (same_id_eq id other same) (absent_refuses side id links now input octets none) in
+    subst (λ (k : LinkId). in_links k (link_acts side k now input octets) links ≡ Err kind.NoLink) (same_id_eq id other same) (absent_refuses side id links now input octets none) in
     cc
 
 -- what any link does

@@ -214,7 +214,7 @@ module _ (config : Config) (id : LinkId) (low : id.tei < 127) where
           | inr two ↦ inr (pass_then_step side.User id now Establish [] (λ t. t) s.served.links first.after.served.links second.after.served.links first.effects second.effects one two.1)
         ]
         | inr one ↦ inr (step_then_pass side.User id now Establish [] (λ t. t) s.served.links first.after.served.links second.after.served.links first.effects second.effects one.1
-          (establishing s.kept.packet now (of_sapi sapi.Packet own) first.after (packet_is_other own one.0)))
+            (establishing s.kept.packet now (of_sapi sapi.Packet own) first.after (packet_is_other own one.0)))
       ]
 
   keeping_there : (now : ℕ) (outs : List TeiOut) (s : User) (l : Linked) → s.served.links id ≡ Some l → Passes s (kept_after now outs s) ⊎ IsEstablished now s (kept_after now outs s)
@@ -251,7 +251,7 @@ module _ (config : Config) (id : LinkId) (low : id.tei < 127) where
       let not_removed = any_first (tells_removal id.tei) m.effects.primitives rest.effects.primitives stays.not_removed in
       elim (managing_absent side.User config now step.outs s.served id low not_removed there) [
         | inl stayed ↦ inl (passes_by_both side.User id s.served.links m.after.links rest.after.served.links m.effects rest.effects
-          stayed (keeping_absent now step.outs middle (stayed.links ∙ there)))
+            stayed (keeping_absent now step.outs middle (stayed.links ∙ there)))
         | inr came ↦ inr (record {
           absent = there;
           comes = elim (keeping_there now step.outs middle fresh (came.links ∙ now_there id fresh s.served.links)) [

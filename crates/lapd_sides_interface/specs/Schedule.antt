@@ -59,6 +59,17 @@ recovering = by_network (Expire T200 (Some packet) 2000) ∷ by_user (Take 2000)
 abbrev pub both_links : Vec ℕ Global → Vec ℕ Global → List Move
 both_links message answer = establishing ++ giving message answer ++ recovering
 
+-- The same of a user that has no TEI, and of a network that knows none.
+abbrev pub unassigned : Interface
+unassigned = new_interface (new_user sides.both_sapis None sides.random)
+    (new_network sides.both_sapis [])
+
+-- Layer 3 of the user asks for the link. It is kept until TEI 64 is assigned, and done with it; then a message is given.
+abbrev pub assigned : Vec ℕ Global → List Move
+assigned message = by_user (Ask (request.Establish call) 0) ∷ by_network (Take 0)
+    ∷ by_user (Take 0) ∷ by_network (Take 0) ∷ by_user (Take 0)
+    ∷ by_user (Ask (request.Give call message) 0) ∷ by_network (Take 0) ∷ by_user (Take 0) ∷ []
+
 -- ---- Each premise is needed.
 
 -- T200 of call control expires while the answer to its SABME is on its way: the second SABME begins another establishment of
