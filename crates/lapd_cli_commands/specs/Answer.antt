@@ -32,7 +32,10 @@ pub record Session : Type 0 where
 
 -- the link of `answer` has SAPI 0 and TEI 64
 abbrev pub new_session : Side → Parameters → Session
-new_session from parameters = record { setup = record { side = from; sapi = Call; tei = 64 }; end = new_end parameters }
+new_session from parameters = record {
+  setup = record { side = from; sapi = Call; tei = 64 };
+  end = new_end parameters;
+}
 
 -- ---- What a step of the link gives.
 
@@ -42,7 +45,10 @@ messages_of e = drop e.first e.given
 
 -- the text of a step, and the session after it
 abbrev pub step_ended : Session → List ℕ → Result StepState LinkFault → List ℕ × Session
-step_ended s handed (Ok done) = (outs_text s.setup (messages_of done.end) handed done.outs, record { setup = s.setup; end = done.end })
+step_ended s handed (Ok done) = (
+  outs_text s.setup (messages_of done.end) handed done.outs,
+  record { setup = s.setup; end = done.end },
+)
 step_ended s handed (Err fault) = (refusal_line fault, s)
 
 -- a step of the link, to which these octets are handed
@@ -60,7 +66,8 @@ hear_fault s kind None = (text_line (codes "discarded " ++ fault_name kind), s)
 hear_fault s kind (Some a) = if_mine s (is_address_of s.setup a) (link_step s (Faulty kind) [])
 
 abbrev pub hear_frame : Session → Fields → List ℕ × Session
-hear_frame s f = if_mine s (is_address_of s.setup f.address) (link_step s (Heard f.control f.address.role) f.info)
+hear_frame s f = if_mine s (is_address_of s.setup f.address)
+    (link_step s (Heard f.control f.address.role) f.info)
 
 -- a frame, or what came in its place
 abbrev pub hear_read : Session → Result Fields FrameFault → List ℕ × Session
@@ -97,8 +104,10 @@ answer_word s word behind =
     if bytes_eq word (codes "t203") then alone behind (link_step s (Expiry T203) []) else (
     if bytes_eq word (codes "establish") then alone behind (link_step s Establish []) else (
     if bytes_eq word (codes "release") then alone behind (link_step s Release []) else (
-    if bytes_eq word (codes "give") then with_octets behind (λ message. link_step s (Give message) []) else (
-    if bytes_eq word (codes "unit") then with_octets behind (λ octets. link_step s (UnitData (length octets)) octets) else (
+    if bytes_eq word (codes "give")
+    then with_octets behind (λ message. link_step s (Give message) []) else (
+    if bytes_eq word (codes "unit")
+    then with_octets behind (λ octets. link_step s (UnitData (length octets)) octets) else (
     if bytes_eq word (codes "busy") then busy s behind else (
     if bytes_eq word (codes "state") then alone behind (state_line s.end, s) else None))))))))
 

@@ -17,7 +17,8 @@ abbrev pub terminal_text : ℕ → List ℕ
 terminal_text t = codes "terminal " ++ decimal t
 
 abbrev pub terminal_line : ℕ → TeiOut → List ℕ
-terminal_line t (out.Send m) = text_line (codes "up" ++ digits_of (spelling User (frame_of_message m)))
+terminal_line t (out.Send m) =
+    text_line (codes "up" ++ digits_of (spelling User (frame_of_message m)))
 terminal_line t (out.Got tei) = terminal_text t ++ text_line (codes " got " ++ decimal tei)
 terminal_line t (out.Gone tei) = terminal_text t ++ text_line (codes " gone " ++ decimal tei)
 terminal_line t out.Failed = terminal_text t ++ text_line (codes " failed")
@@ -25,7 +26,8 @@ terminal_line t other = []
 
 -- an output of the network side
 abbrev pub network_line : TeiOut → List ℕ
-network_line (out.Send m) = text_line (codes "down" ++ digits_of (spelling Network (frame_of_message m)))
+network_line (out.Send m) =
+    text_line (codes "down" ++ digits_of (spelling Network (frame_of_message m)))
 network_line (out.Free tei) = text_line (codes "net free " ++ decimal tei)
 network_line (out.InUse tei) = text_line (codes "net in-use " ++ decimal tei)
 network_line (out.Doubled tei) = text_line (codes "net doubled " ++ decimal tei)

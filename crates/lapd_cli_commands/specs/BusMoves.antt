@@ -13,7 +13,8 @@ is_digit octet = nat_le 48 octet && nat_le octet 57
 -- the number that these decimal digits write behind the digits of another one
 abbrev pub number_behind : ℕ → List ℕ → Option ℕ
 number_behind n [] = Some n
-number_behind n (octet ∷ octets) = if is_digit octet then number_behind (n * 10 + (octet - 48)) octets else None
+number_behind n (octet ∷ octets) =
+    if is_digit octet then number_behind (n * 10 + (octet - 48)) octets else None
 
 -- a number, where it fits sixty-four bits
 abbrev pub fitting : ℕ → Option ℕ
@@ -49,7 +50,8 @@ joined a b c d = None
 
 -- the reference that a word of four hexadecimal digits writes
 abbrev pub reference_of : List ℕ → Option ℕ
-reference_of (a ∷ b ∷ c ∷ d ∷ []) = joined (digit_value a) (digit_value b) (digit_value c) (digit_value d)
+reference_of (a ∷ b ∷ c ∷ d ∷ []) =
+    joined (digit_value a) (digit_value b) (digit_value c) (digit_value d)
 reference_of word = None
 
 -- ---- The words behind the first.
@@ -85,15 +87,18 @@ nothing_behind behind = None
 
 abbrev pub move_by : List ℕ → List (List ℕ) → Option BusMove
 move_by word behind =
-    if bytes_eq word (codes "ask") then option_map (λ p. Ask p.0 p.1) (terminal_and_reference behind) else (
-    if bytes_eq word (codes "t202") then option_map (λ p. T202 p.0 p.1) (terminal_and_reference behind) else (
+    if bytes_eq word (codes "ask")
+    then option_map (λ p. Ask p.0 p.1) (terminal_and_reference behind) else (
+    if bytes_eq word (codes "t202")
+    then option_map (λ p. T202 p.0 p.1) (terminal_and_reference behind) else (
     if bytes_eq word (codes "hear") then hear behind else (
     if bytes_eq word (codes "drop") then option_map Drop (alone number_of behind) else (
     if bytes_eq word (codes "hear-up") then option_map HearUp (alone number_of behind) else (
     if bytes_eq word (codes "drop-up") then option_map DropUp (alone number_of behind) else (
     if bytes_eq word (codes "check") then option_map Check (alone tei_of_word behind) else (
     if bytes_eq word (codes "t201") then nothing_behind behind else (
-    if bytes_eq word (codes "leave") then option_map Leave (alone number_of behind) else None))))))))
+    if bytes_eq word (codes "leave")
+    then option_map Leave (alone number_of behind) else None))))))))
 
 abbrev pub move_of : List (List ℕ) → Option BusMove
 move_of [] = None

@@ -9,7 +9,8 @@ use Rattle.lapd_cli_script.specs.Script.{Outcome}
 
 -- the trace line of the octets behind; there is nothing to remember
 abbrev pub trace_of : Side → List (List ℕ) → Outcome ⊤
-trace_of from behind = option_map (λ octets. (text_line (trace_line from octets), tt)) (octets_behind behind)
+trace_of from behind =
+    option_map (λ octets. (text_line (trace_line from octets), tt)) (octets_behind behind)
 
 -- a line names the sender, and behind it the octets, where there are any
 abbrev pub decode_words : List (List ℕ) → Outcome ⊤

@@ -32,5 +32,6 @@ frames_put w [] = []
 frames_put w (line ∷ lines) = put_first w (outcome_of move_step w line) (λ v. frames_put v lines)
 
 -- how the command ends
-abbrev pub LoopEndsAs : World → Result ⊤ ScriptFault → List (List ℕ) → Option (List ℕ) → Option (List ℕ) → Type 0
+abbrev pub LoopEndsAs : World → Result ⊤ ScriptFault → List (List ℕ) → Option (List ℕ)
+    → Option (List ℕ) → Type 0
 LoopEndsAs w result lines old new = ClosesAs move_step w result lines old new

@@ -18,7 +18,15 @@ pub record LoopState : Type 0 where
 
 -- what a move comes to is printed as by `pair`, and the frames that it puts on the line cross
 abbrev pub after_line : LoopState → List ℕ × World → List ℕ × LoopState
-after_line s (text, v) = (text, record { world = v; crossed = s.crossed ++ put_between s.world v; rest = s.rest; written = s.written })
+after_line s (text, v) = (
+  text,
+  record {
+    world = v;
+    crossed = s.crossed ++ put_between s.world v;
+    rest = s.rest;
+    written = s.written;
+  },
+)
 
 abbrev pub loop_step : Step LoopState
 loop_step s line = option_map (after_line s) (move_step s.world line)
@@ -29,4 +37,5 @@ new_loop w rest written = record { world = w; crossed = []; rest = rest; written
 
 -- the ends stand for the world, where the source has these octets left and the sink has taken those
 abbrev pub IsLooped : Mover → Option (List ℕ) → Option (List ℕ) → LoopState → Type 0
-IsLooped mover left grown s = IsMover mover s.world × HaveCrossed s.rest left s.written grown s.crossed
+IsLooped mover left grown s = IsMover mover s.world
+    × HaveCrossed s.rest left s.written grown s.crossed

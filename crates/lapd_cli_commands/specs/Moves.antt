@@ -29,20 +29,24 @@ busy_move side (word ∷ behind) =
 -- the move that a word names, with its side and the words behind that
 abbrev pub move_named : List ℕ → Side → List (List ℕ) → Option Move
 move_named word side behind =
-    if bytes_eq word (codes "give") then option_map (λ message. move_by side (Give message)) (octets_behind behind) else (
+    if bytes_eq word (codes "give")
+    then option_map (λ message. move_by side (Give message)) (octets_behind behind) else (
     if bytes_eq word (codes "establish") then bare_move side Establish behind else (
     if bytes_eq word (codes "release") then bare_move side Release behind else (
     if bytes_eq word (codes "deliver") then bare_move side Deliver behind else (
-    if bytes_eq word (codes "lose") then option_map (λ at. move_by side (Lose at)) (number_behind behind) else (
+    if bytes_eq word (codes "lose")
+    then option_map (λ at. move_by side (Lose at)) (number_behind behind) else (
     if bytes_eq word (codes "expire200") then bare_move side Expire200 behind else (
     if bytes_eq word (codes "expire203") then bare_move side Expire203 behind else (
     if bytes_eq word (codes "busy") then busy_move side behind else (
-    if bytes_eq word (codes "unit") then option_map (λ octets. move_by side (UnitData octets)) (octets_behind behind) else (
+    if bytes_eq word (codes "unit")
+    then option_map (λ octets. move_by side (UnitData octets)) (octets_behind behind) else (
     if bytes_eq word (codes "restart") then bare_move side Restart behind else None)))))))))
 
 abbrev pub move_with_side : List ℕ → List (List ℕ) → Option Move
 move_with_side word [] = None
-move_with_side word (name ∷ behind) = option_and_then (λ side. move_named word side behind) (side_named name)
+move_with_side word (name ∷ behind) =
+    option_and_then (λ side. move_named word side behind) (side_named name)
 
 abbrev pub move_of_words : List (List ℕ) → Option Move
 move_of_words [] = None

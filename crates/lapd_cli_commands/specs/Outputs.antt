@@ -41,7 +41,8 @@ frame_or_primitive from None handed output = primitive_line handed output
 -- `messages` are those that are neither acknowledged nor dropped after the step, and `handed` is the information of the
 -- frame, or the octets of the unit data, that was just handed in
 abbrev pub out_line : Setup → List (List ℕ) → List ℕ → Out → List ℕ
-out_line setup messages handed output = frame_or_primitive setup.side (sent_frame setup messages handed output) handed output
+out_line setup messages handed output =
+    frame_or_primitive setup.side (sent_frame setup messages handed output) handed output
 
 abbrev pub outs_text : Setup → List (List ℕ) → List ℕ → List Out → List ℕ
 outs_text setup messages handed outs = flat_map (out_line setup messages handed) outs

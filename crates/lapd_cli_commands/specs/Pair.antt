@@ -58,13 +58,16 @@ side_line side octets output = side_name side ++ (32 ∷ primitive_line octets o
 
 -- a frame that goes on the line, as a trace line, or what else is put out
 abbrev pub frame_or_side_line : Side → Option Fields → List ℕ → Out → List ℕ
-frame_or_side_line side (Some frame) octets output = text_line (trace_line side (spelling side frame))
+frame_or_side_line side (Some frame) octets output =
+    text_line (trace_line side (spelling side frame))
 frame_or_side_line side None octets output = side_line side octets output
 
 -- an output of a side that stands so after the move, where `unit` is the unit data to be sent
 abbrev pub told_line : Side → Station → List ℕ → Out → List ℕ
 told_line side s unit output =
-    frame_or_side_line side (sent_frame (setup_for side) (messages_of s.end) (octets_for s.history unit output) output) (octets_for s.history unit output) output
+    frame_or_side_line side
+    (sent_frame (setup_for side) (messages_of s.end) (octets_for s.history unit output) output)
+    (octets_for s.history unit output) output
 
 abbrev pub told_lines : Side → Station → List ℕ → List Out → List ℕ
 told_lines side s unit outs = flat_map (told_line side s unit) outs
@@ -75,7 +78,8 @@ told_lines side s unit outs = flat_map (told_line side s unit) outs
 abbrev pub not_admitted : Refusal → List ℕ
 not_admitted NothingThere = text_line (codes "refused P1 NothingThere")
 not_admitted NotRunning = text_line (codes "refused P2 NotRunning")
-not_admitted (NotYet to at) = text_line (codes "refused P3 NotYet " ++ (side_name to ++ (32 ∷ decimal at)))
+not_admitted (NotYet to at) =
+    text_line (codes "refused P3 NotYet " ++ (side_name to ++ (32 ∷ decimal at)))
 not_admitted (Refused fault) = refusal_line fault
 
 -- the unit data that a deed sends
@@ -85,7 +89,10 @@ unit_of deed = []
 
 -- its text, and the world after it
 abbrev pub move_told : World → Move → Result Happened Refusal → List ℕ × World
-move_told w move (Ok happened) = (told_lines move.side (view_of move.side happened.world).station (unit_of move.deed) happened.outs, happened.world)
+move_told w move (Ok happened) = (
+  told_lines move.side (view_of move.side happened.world).station (unit_of move.deed) happened.outs,
+  happened.world,
+)
 move_told w move (Err refusal) = (not_admitted refusal, w)
 
 abbrev pub move_made : World → Move → List ℕ × World
@@ -127,8 +134,10 @@ figures_of s = record {
 }
 
 abbrev pub figures_line : Side → Figures → List ℕ
-figures_line side f = side_name side ++ (codes ": state " ++ (decimal f.state ++ (codes ", given " ++ (decimal f.given
-    ++ (codes ", received " ++ (decimal f.received ++ (codes ", acknowledged " ++ (decimal f.acknowledged
+figures_line side f =
+    side_name side ++ (codes ": state " ++ (decimal f.state
+    ++ (codes ", given " ++ (decimal f.given ++ (codes ", received " ++ (decimal f.received
+    ++ (codes ", acknowledged " ++ (decimal f.acknowledged
     ++ (codes ", dropped " ++ text_line (decimal f.dropped))))))))))
 
 abbrev pub closing_line : Side → Station → List ℕ
@@ -138,11 +147,14 @@ abbrev pub closing_lines : World → List ℕ
 closing_lines w = closing_line User w.user ++ closing_line Network w.network
 
 -- how a command ends whose lines call for this: a script that is done to its end has these two lines behind it
-abbrev pub ClosesAs : Step World → World → Result ⊤ ScriptFault → List (List ℕ) → Option (List ℕ) → Option (List ℕ) → Type 0
+abbrev pub ClosesAs : Step World → World → Result ⊤ ScriptFault → List (List ℕ) → Option (List ℕ)
+    → Option (List ℕ) → Type 0
 ClosesAs step w (Ok done) lines old new =
-    (bad_line step w lines ≡ None) × Appends old new (output_of step w lines ++ closing_lines (state_after step w lines))
+    (bad_line step w lines ≡ None)
+    × Appends old new (output_of step w lines ++ closing_lines (state_after step w lines))
 ClosesAs step w (Err fault) lines old new = EndsAs step w (Err fault) lines old new
 
 -- how the command `pair` ends
-abbrev pub PairEndsAs : World → Result ⊤ ScriptFault → List (List ℕ) → Option (List ℕ) → Option (List ℕ) → Type 0
+abbrev pub PairEndsAs : World → Result ⊤ ScriptFault → List (List ℕ) → Option (List ℕ)
+    → Option (List ℕ) → Type 0
 PairEndsAs w result lines old new = ClosesAs pair_step w result lines old new

@@ -19,7 +19,8 @@ IsHandedWith input octets = length octets ≤ n201
 
 -- the line of an output, by the frame that is made of it
 abbrev pub made_line : Setup → List (List ℕ) → List ℕ → Out → List ℕ
-made_line setup messages handed output = frame_or_primitive setup.side (made_frame setup messages handed output) handed output
+made_line setup messages handed output =
+    frame_or_primitive setup.side (made_frame setup messages handed output) handed output
 
 abbrev pub made_text : Setup → List (List ℕ) → List ℕ → List Out → List ℕ
 made_text setup messages handed outs = flat_map (made_line setup messages handed) outs

@@ -28,7 +28,9 @@ made_side_line side None octets output = side_line side octets output
 
 abbrev pub made_told_line : Side → Station → List ℕ → Out → List ℕ
 made_told_line side s unit output =
-    made_side_line side (made_frame (setup_for side) (messages_of s.end) (octets_for s.history unit output) output) (octets_for s.history unit output) output
+    made_side_line side
+    (made_frame (setup_for side) (messages_of s.end) (octets_for s.history unit output) output)
+    (octets_for s.history unit output) output
 
 abbrev pub made_told_lines : Side → Station → List ℕ → List Out → List ℕ
 made_told_lines side s unit outs = flat_map (made_told_line side s unit) outs

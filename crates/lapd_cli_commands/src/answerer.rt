@@ -34,7 +34,8 @@ pub fn answer<R: Read, W: Write>(
     side: Side,
     params: Params,
 ) -> Result<(), ScriptFault>
-    ensures { IfSome (R.remaining script.old) (λ octets. EndsAs answer_step (new_session side params) result
+    ensures { IfSome (R.remaining script.old)
+        (λ octets. EndsAs answer_step (new_session side params) result
         (lines_of octets) (W.contents out.old) (W.contents out.new)) }
 {
     let mut answerer = match Answerer::new(alloc, side, params) {
@@ -106,7 +107,8 @@ impl Answerer {
         out: &mut W,
     ) -> Result<(), LineFault>
         ensures { (s : Session) → IsAnswerer self.old s
-            → LineEndsAs IsAnswerer (answer_word s word.now behind.entry) result self.new (W.contents out.old) (W.contents out.new) }
+            → LineEndsAs IsAnswerer (answer_word s word.now behind.entry) result self.new
+            (W.contents out.old) (W.contents out.new) }
     {
         if is(word, b"frame") {
             self.hear(behind, out)
@@ -141,7 +143,8 @@ impl Answerer {
         requires for_link { IsForLink self.old.link event }
         requires handed { IsHandedWith (input_of event) [] }
         ensures { (s : Session) → IsAnswerer self.old s
-            → LineEndsAs IsAnswerer (alone behind.entry (link_step s (input_of event.entry) [])) result self.new (W.contents out.old) (W.contents out.new) }
+            → LineEndsAs IsAnswerer (alone behind.entry (link_step s (input_of event.entry) []))
+            result self.new (W.contents out.old) (W.contents out.new) }
     {
         behind.nothing()?;
         self.step(event, &[], out)
@@ -150,7 +153,8 @@ impl Answerer {
     /// Prints the state.
     fn put_state<W: Write>(&mut self, behind: Words<'_>, out: &mut W) -> Result<(), LineFault>
         ensures { (s : Session) → IsAnswerer self.old s
-            → LineEndsAs IsAnswerer (alone behind.entry (state_line s.end, s)) result self.new (W.contents out.old) (W.contents out.new) }
+            → LineEndsAs IsAnswerer (alone behind.entry (state_line s.end, s)) result self.new
+            (W.contents out.old) (W.contents out.new) }
     {
         behind.nothing()?;
         put_number(b"state ", u64::from(self.link.state()), out)
@@ -159,7 +163,8 @@ impl Answerer {
     /// Begins or ends the own receiver busy condition.
     fn busy<W: Write>(&mut self, mut behind: Words<'_>, out: &mut W) -> Result<(), LineFault>
         ensures { (s : Session) → IsAnswerer self.old s
-            → LineEndsAs IsAnswerer (busy s behind.entry) result self.new (W.contents out.old) (W.contents out.new) }
+            → LineEndsAs IsAnswerer (busy s behind.entry) result self.new (W.contents out.old)
+            (W.contents out.new) }
     {
         match behind.next_word() {
             Some(b"on") => self.alone(behind, Event::BusyOn, out),
@@ -171,7 +176,8 @@ impl Answerer {
     /// Takes the octets behind a word, which the other side sent.
     fn hear<W: Write>(&mut self, behind: Words<'_>, out: &mut W) -> Result<(), LineFault>
         ensures { (s : Session) → IsAnswerer self.old s
-            → LineEndsAs IsAnswerer (with_octets behind.entry (hear s)) result self.new (W.contents out.old) (W.contents out.new) }
+            → LineEndsAs IsAnswerer (with_octets behind.entry (hear s)) result self.new
+            (W.contents out.old) (W.contents out.new) }
     {
         let octets = behind.octets(self.alloc)?;
         match lapd_frame::read(octets.as_slice(), self.link.side().other()) {
@@ -184,7 +190,8 @@ impl Answerer {
     fn hear_frame<W: Write>(&mut self, frame: &Frame<'_>, out: &mut W) -> Result<(), LineFault>
         requires fits { length frame.now.info ≤ 260 }
         ensures { (s : Session) → IsAnswerer self.old s
-            → LineEndsAs IsAnswerer (Some (hear_frame s frame.now)) result self.new (W.contents out.old) (W.contents out.new) }
+            → LineEndsAs IsAnswerer (Some (hear_frame s frame.now)) result self.new
+            (W.contents out.old) (W.contents out.new) }
     {
         if self.link.is_for(&frame.address()) {
             self.step(Event::Heard(frame), frame.info(), out)
@@ -195,9 +202,11 @@ impl Answerer {
 
     /// Takes octets that are no frame, by their first fault.
     fn hear_fault<W: Write>(&mut self, fault: &FrameFault, out: &mut W) -> Result<(), LineFault>
-        requires for_link { (a : Address) → fault.now.address ≡ Some a → is_for_link fault.now.kind ≡ true }
+        requires for_link { (a : Address) → fault.now.address ≡ Some a
+            → is_for_link fault.now.kind ≡ true }
         ensures { (s : Session) → IsAnswerer self.old s
-            → LineEndsAs IsAnswerer (Some (hear_fault s fault.now.kind fault.now.address)) result self.new (W.contents out.old) (W.contents out.new) }
+            → LineEndsAs IsAnswerer (Some (hear_fault s fault.now.kind fault.now.address)) result
+            self.new (W.contents out.old) (W.contents out.new) }
     {
         match &fault.address {
             None => put_line(b"discarded ", fault.kind.name().as_bytes(), out),
@@ -216,7 +225,8 @@ impl Answerer {
         requires for_link { IsForLink self.old.link event }
         requires handed { IsHandedWith (input_of event) handed.now }
         ensures { (s : Session) → IsAnswerer self.old s
-            → LineEndsAs IsAnswerer (Some (link_step s (input_of event.entry) handed.now)) result self.new (W.contents out.old) (W.contents out.new) }
+            → LineEndsAs IsAnswerer (Some (link_step s (input_of event.entry) handed.now)) result
+            self.new (W.contents out.old) (W.contents out.new) }
     {
         match self.link.handle_into(event, &mut self.outs) {
             Ok(()) => self.put_outs(handed, out),
@@ -227,7 +237,9 @@ impl Answerer {
     /// Gives the octets behind a word to the link as a message, and prints the step's outputs.
     fn give<W: Write>(&mut self, behind: Words<'_>, out: &mut W) -> Result<(), LineFault>
         ensures { (s : Session) → IsAnswerer self.old s
-            → LineEndsAs IsAnswerer (with_octets behind.entry (λ message. link_step s (Give message) [])) result self.new (W.contents out.old) (W.contents out.new) }
+            → LineEndsAs IsAnswerer
+            (with_octets behind.entry (λ message. link_step s (Give message) [])) result
+            self.new (W.contents out.old) (W.contents out.new) }
     {
         let message = behind.octets(self.alloc)?;
         match self.link.give_into(message, &mut self.outs) {
@@ -239,7 +251,9 @@ impl Answerer {
     /// Sends the octets behind a word as unit data.
     fn unit<W: Write>(&mut self, behind: Words<'_>, out: &mut W) -> Result<(), LineFault>
         ensures { (s : Session) → IsAnswerer self.old s
-            → LineEndsAs IsAnswerer (with_octets behind.entry (λ octets. link_step s (UnitData (length octets)) octets)) result self.new (W.contents out.old) (W.contents out.new) }
+            → LineEndsAs IsAnswerer
+            (with_octets behind.entry (λ octets. link_step s (UnitData (length octets)) octets))
+            result self.new (W.contents out.old) (W.contents out.new) }
     {
         let octets = behind.octets(self.alloc)?;
         self.step(Event::Unit(octets.len()), octets.as_slice(), out)
@@ -248,7 +262,9 @@ impl Answerer {
     /// Prints the outputs of the step that was just done, to which these octets were handed.
     fn put_outs<W: Write>(&self, handed: &[u8], out: &mut W) -> Result<(), LineFault>
         ensures ok { (s : Session) → IsAnswerer self.now s
-            → OnOk result (Appends (W.contents out.old) (W.contents out.new) (made_text s.setup (messages_of s.end) handed.now self.now.outs.items)) }
+            → OnOk result
+            (Appends (W.contents out.old) (W.contents out.new)
+            (made_text s.setup (messages_of s.end) handed.now self.now.outs.items)) }
         ensures err { IsOkUnless result LineFault.Device }
     {
         put_outs(&self.link, handed, self.outs.as_slice(), out)

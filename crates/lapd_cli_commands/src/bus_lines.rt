@@ -19,7 +19,8 @@ use std::io::Write;
 /// `Device`, where the writer fails.
 pub fn put_outs<W: Write>(who: Option<usize>, outs: &[TeiOut], out: &mut W) -> Result<(), LineFault>
     requires { All IsInRange outs.now }
-    ensures ok { OnOk result (Appends (W.contents out.old) (W.contents out.new) (outs_text who outs.now)) }
+    ensures ok { OnOk result
+        (Appends (W.contents out.old) (W.contents out.new) (outs_text who outs.now)) }
     ensures err { IsOkUnless result LineFault.Device }
 {
     for given in outs {
@@ -49,7 +50,8 @@ pub fn mover(m: &BusMove) -> Option<usize>
 ///
 /// `Device`, where the writer fails.
 pub fn put_refusal<W: Write>(fault: BusFault, out: &mut W) -> Result<(), LineFault>
-    ensures ok { OnOk result (Appends (W.contents out.old) (W.contents out.new) (refusal_line fault)) }
+    ensures ok { OnOk result
+        (Appends (W.contents out.old) (W.contents out.new) (refusal_line fault)) }
     ensures err { IsOkUnless result LineFault.Device }
 {
     put_line(b"refused ", fault.name().as_bytes(), out)
@@ -58,7 +60,8 @@ pub fn put_refusal<W: Write>(fault: BusFault, out: &mut W) -> Result<(), LineFau
 /// Prints one output.
 fn put_out<W: Write>(who: Option<usize>, given: &TeiOut, out: &mut W) -> Result<(), LineFault>
     requires { IsInRange given.now }
-    ensures ok { OnOk result (Appends (W.contents out.old) (W.contents out.new) (out_line who given.now)) }
+    ensures ok { OnOk result
+        (Appends (W.contents out.old) (W.contents out.new) (out_line who given.now)) }
     ensures err { IsOkUnless result LineFault.Device }
 {
     match who {
@@ -70,7 +73,8 @@ fn put_out<W: Write>(who: Option<usize>, given: &TeiOut, out: &mut W) -> Result<
 /// Prints an output of a terminal.
 fn put_terminal_out<W: Write>(t: usize, given: &TeiOut, out: &mut W) -> Result<(), LineFault>
     requires { IsInRange given.now }
-    ensures ok { OnOk result (Appends (W.contents out.old) (W.contents out.new) (terminal_line t given.now)) }
+    ensures ok { OnOk result
+        (Appends (W.contents out.old) (W.contents out.new) (terminal_line t given.now)) }
     ensures err { IsOkUnless result LineFault.Device }
 {
     match given {
@@ -103,7 +107,8 @@ fn put_terminal<W: Write>(t: usize, out: &mut W) -> Result<(), LineFault>
 /// Prints an output of the network side.
 fn put_network_out<W: Write>(given: &TeiOut, out: &mut W) -> Result<(), LineFault>
     requires { IsInRange given.now }
-    ensures ok { OnOk result (Appends (W.contents out.old) (W.contents out.new) (network_line given.now)) }
+    ensures ok { OnOk result
+        (Appends (W.contents out.old) (W.contents out.new) (network_line given.now)) }
     ensures err { IsOkUnless result LineFault.Device }
 {
     match given {

@@ -64,7 +64,9 @@ impl Runner {
 
     /// Makes a move, and prints what it gives.
     fn make<W: Write>(&mut self, m: BusMove, out: &mut W) -> Result<(), LineFault>
-        ensures { (b : BusState) → self.old.bus ≡ b → LineEndsAs (λ runner c. runner.bus ≡ c) (Some (made b m)) result self.new (W.contents out.old) (W.contents out.new) }
+        ensures { (b : BusState) → self.old.bus ≡ b
+            → LineEndsAs (λ runner c. runner.bus ≡ c) (Some (made b m)) result self.new
+            (W.contents out.old) (W.contents out.new) }
     {
         let who = mover(&m);
         match self.bus.apply(m) {

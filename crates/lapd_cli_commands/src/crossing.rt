@@ -20,7 +20,9 @@ pub(crate) fn cross_all<S: Source, K: Sink>(
     port: &mut Port<S, K>,
     frames: &[FrameOctets],
 ) -> Result<(), LineFault>
-    ensures ok { OnOk result (HaveCrossed (S.rest port.old.source) (S.rest port.new.source) (K.written port.old.sink) (K.written port.new.sink)
+    ensures ok { OnOk result
+        (HaveCrossed (S.rest port.old.source) (S.rest port.new.source) (K.written port.old.sink)
+        (K.written port.new.sink)
         (map (λ frame. frame.items) frames.now)) }
     ensures err { IsOkUnless result LineFault.Device }
 {
@@ -37,7 +39,9 @@ pub(crate) fn cross_all<S: Source, K: Sink>(
 /// `Device`, where a call of the port answers a fault, or another frame comes in. So too for octets that no frame has, too
 /// few or too many.
 fn cross<S: Source, K: Sink>(port: &mut Port<S, K>, frame: &[u8]) -> Result<(), LineFault>
-    ensures ok { OnOk result (HaveCrossed (S.rest port.old.source) (S.rest port.new.source) (K.written port.old.sink) (K.written port.new.sink) (frame.now ∷ [])) }
+    ensures ok { OnOk result
+        (HaveCrossed (S.rest port.old.source) (S.rest port.new.source) (K.written port.old.sink)
+        (K.written port.new.sink) (frame.now ∷ [])) }
     ensures err { IsOkUnless result LineFault.Device }
 {
     if !(LEAST_OCTETS..=MOST_OCTETS).contains(&frame.len()) {

@@ -52,7 +52,8 @@ impl Command for Decoder {
 impl Decoder {
     /// Prints the trace line of the octets behind a word, which this side sent.
     fn trace<W: Write>(&self, from: Side, behind: Words<'_>, out: &mut W) -> Result<(), LineFault>
-        ensures { LineEndsAs (λ state none. ⊤) (trace_of from behind.entry) result self.now (W.contents out.old) (W.contents out.new) }
+        ensures { LineEndsAs (λ state none. ⊤) (trace_of from behind.entry) result self.now
+            (W.contents out.old) (W.contents out.new) }
     {
         let octets = behind.octets(self.alloc)?;
         match lapd_trace::line(self.alloc, from, octets.as_slice()) {

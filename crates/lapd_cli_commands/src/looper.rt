@@ -37,9 +37,11 @@ pub fn loop_over<R: Read, W: Write, S: Source, K: Sink>(
     network: Params,
     port: Port<S, K>,
 ) -> (Result<(), ScriptFault>, Port<S, K>)
-    ensures text { IfSome (R.remaining script.old) (λ octets. LoopEndsAs (new_world user network) result.0
+    ensures text { IfSome (R.remaining script.old)
+        (λ octets. LoopEndsAs (new_world user network) result.0
         (lines_of octets) (W.contents out.old) (W.contents out.new)) }
-    ensures crossed { IfSome (R.remaining script.old) (λ octets. OnOk result.0 (HaveCrossed (S.rest port.source) (S.rest result.1.source)
+    ensures crossed { IfSome (R.remaining script.old)
+        (λ octets. OnOk result.0 (HaveCrossed (S.rest port.source) (S.rest result.1.source)
         (K.written port.sink) (K.written result.1.sink) (frames_put (new_world user network) (lines_of octets)))) }
 {
     let mover = match Mover::new(alloc, user, network) {
@@ -69,7 +71,8 @@ impl<S: Source, K: Sink> Command for Looper<S, K> {
 
     ghost step = { loop_step };
 
-    ghost stands_for = { λ looper s. IsLooped looper.mover (S.rest looper.port.source) (K.written looper.port.sink) s };
+    ghost stands_for = { λ looper s. IsLooped looper.mover (S.rest looper.port.source)
+        (K.written looper.port.sink) s };
 
     fn run<W: Write>(&mut self, line: &[u8], out: &mut W) -> Result<(), LineFault> {
         let before = self.on_line();
@@ -92,8 +95,10 @@ impl<S: Source, K: Sink> Looper<S, K> {
 
     /// How many frames stand on the line.
     fn on_line(&self) -> OnLine
-        ensures to_user { (w : World) → IsMover self.now.mover w → result.to_user ≡ length (line_to User w) }
-        ensures to_network { (w : World) → IsMover self.now.mover w → result.to_network ≡ length (line_to Network w) }
+        ensures to_user { (w : World) → IsMover self.now.mover w
+            → result.to_user ≡ length (line_to User w) }
+        ensures to_network { (w : World) → IsMover self.now.mover w
+            → result.to_network ≡ length (line_to Network w) }
     {
         let pair = self.mover.pair();
         OnLine {
@@ -108,7 +113,8 @@ impl<S: Source, K: Sink> Looper<S, K> {
     ///
     /// `Device`, where one does not cross.
     fn cross(&mut self, before: OnLine) -> Result<(), LineFault>
-        ensures ok { (w : World) → IsMover self.old.mover w → OnOk result (HaveCrossed (S.rest self.old.port.source) (S.rest self.new.port.source)
+        ensures ok { (w : World) → IsMover self.old.mover w
+            → OnOk result (HaveCrossed (S.rest self.old.port.source) (S.rest self.new.port.source)
             (K.written self.old.port.sink) (K.written self.new.port.sink)
             (drop before.to_user (line_to User w) ++ drop before.to_network (line_to Network w))) }
         ensures err { IsOkUnless result LineFault.Device }

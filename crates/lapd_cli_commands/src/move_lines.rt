@@ -51,7 +51,8 @@ fn push_line(
     text: &mut Vec<u8>,
 ) -> Result<(), LineFault>
     ensures ok { (w : World) → PairStandsFor pair.now w → OnOk result
-        (text.new.items ≡ text.old.items ++ made_told_line side (view_of side w).station unit.now given.now) }
+        (text.new.items
+        ≡ text.old.items ++ made_told_line side (view_of side w).station unit.now given.now) }
     ensures err { IsOkUnless result LineFault.Memory }
 {
     let octets = octets_for(pair, side, unit, given);
@@ -106,7 +107,8 @@ fn push_side_line(
     given: &Out,
     text: &mut Vec<u8>,
 ) -> Result<(), LineFault>
-    ensures ok { OnOk result (text.new.items ≡ text.old.items ++ side_line side octets.now given.now) }
+    ensures ok { OnOk result
+        (text.new.items ≡ text.old.items ++ side_line side octets.now given.now) }
     ensures err { IsOkUnless result LineFault.Memory }
 {
     match given {
@@ -133,7 +135,8 @@ fn push_primitive(
     text: &mut Vec<u8>,
 ) -> Result<(), LineFault>
     ensures ok { OnOk result
-        (text.new.items ≡ text.old.items ++ name_of side ++ (32 ∷ primitive_line octets.now given.now)) }
+        (text.new.items
+        ≡ text.old.items ++ name_of side ++ (32 ∷ primitive_line octets.now given.now)) }
     ensures err { IsOkUnless result LineFault.Memory }
 {
     let front = match side {

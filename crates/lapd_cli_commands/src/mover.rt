@@ -83,7 +83,8 @@ impl Mover {
     /// Makes a move, and prints what it comes to.
     fn make<W: Write>(&mut self, deed: &Move, out: &mut W) -> Result<(), LineFault>
         ensures { (w : World) → IsMover self.old w
-            → LineEndsAs IsMover (Some (move_made w (move_of deed.now))) result self.new (W.contents out.old) (W.contents out.new) }
+            → LineEndsAs IsMover (Some (move_made w (move_of deed.now))) result self.new
+            (W.contents out.old) (W.contents out.new) }
     {
         match self.pair.apply_into(deed, &mut self.outs) {
             Ok(()) => {
@@ -124,7 +125,8 @@ impl Mover {
     ///
     /// `Device`, where a write or the flush fails.
     pub fn close<W: Write>(&self, out: &mut W) -> Result<(), ScriptFault>
-        ensures ok { (w : World) → IsMover self.now w → OnOk result (Appends (W.contents out.old) (W.contents out.new) (closing_lines w)) }
+        ensures ok { (w : World) → IsMover self.now w
+            → OnOk result (Appends (W.contents out.old) (W.contents out.new) (closing_lines w)) }
         ensures err { IsOkUnless result ScriptFault.Device }
     {
         let Ok(()) = self.put_closing(Side::User, out) else {
@@ -142,7 +144,9 @@ impl Mover {
     /// Prints where a side is in the end, and how many messages it was given, received, and saw acknowledged or dropped.
     fn put_closing<W: Write>(&self, side: Side, out: &mut W) -> Result<(), LineFault>
         ensures ok { (w : World) → IsMover self.now w
-            → OnOk result (Appends (W.contents out.old) (W.contents out.new) (closing_line side (view_of side w).station)) }
+            → OnOk result
+            (Appends (W.contents out.old) (W.contents out.new)
+            (closing_line side (view_of side w).station)) }
         ensures err { IsOkUnless result LineFault.Device }
     {
         put_figures(side, self.figures(side), out)
@@ -174,7 +178,8 @@ struct Figures {
 
 /// Prints the figures of a side.
 fn put_figures<W: Write>(side: Side, figures: Figures, out: &mut W) -> Result<(), LineFault>
-    ensures ok { OnOk result (Appends (W.contents out.old) (W.contents out.new) (figures_line side figures)) }
+    ensures ok { OnOk result
+        (Appends (W.contents out.old) (W.contents out.new) (figures_line side figures)) }
     ensures err { IsOkUnless result LineFault.Device }
 {
     let Figures {
@@ -229,7 +234,8 @@ fn side_name(side: Side) -> &'static str
 
 /// Prints that T200 may not expire yet, for the frame at this place on its way to this side.
 fn put_not_yet<W: Write>(to: Side, place: usize, out: &mut W) -> Result<(), LineFault>
-    ensures ok { OnOk result (Appends (W.contents out.old) (W.contents out.new) (not_admitted (NotYet to place))) }
+    ensures ok { OnOk result
+        (Appends (W.contents out.old) (W.contents out.new) (not_admitted (NotYet to place))) }
     ensures err { IsOkUnless result LineFault.Device }
 {
     match to {

@@ -24,7 +24,9 @@ pub fn put_outs<W: Write>(
     out: &mut W,
 ) -> Result<(), LineFault>
     ensures ok { (e : End) → LinkStandsFor link.now e
-        → OnOk result (Appends (W.contents out.old) (W.contents out.new) (made_text (setup_of link.now) (drop e.first e.given) handed.now outs.now)) }
+        → OnOk result
+        (Appends (W.contents out.old) (W.contents out.new)
+        (made_text (setup_of link.now) (drop e.first e.given) handed.now outs.now)) }
     ensures err { IsOkUnless result LineFault.Device }
 {
     for given in outs {
@@ -36,7 +38,9 @@ pub fn put_outs<W: Write>(
 /// Prints one output: a frame, or a primitive, a timer or a report.
 fn put_out<W: Write>(link: &Link, handed: &[u8], given: &Out, out: &mut W) -> Result<(), LineFault>
     ensures ok { (e : End) → LinkStandsFor link.now e
-        → OnOk result (Appends (W.contents out.old) (W.contents out.new) (made_line (setup_of link.now) (drop e.first e.given) handed.now given.now)) }
+        → OnOk result
+        (Appends (W.contents out.old) (W.contents out.new)
+        (made_line (setup_of link.now) (drop e.first e.given) handed.now given.now)) }
     ensures err { IsOkUnless result LineFault.Device }
 {
     match link.frame(given, handed) {
@@ -47,7 +51,8 @@ fn put_out<W: Write>(link: &Link, handed: &[u8], given: &Out, out: &mut W) -> Re
 
 /// Prints a frame that goes out.
 fn put_send<W: Write>(frame: &Frame<'_>, side: Side, out: &mut W) -> Result<(), LineFault>
-    ensures ok { OnOk result (Appends (W.contents out.old) (W.contents out.new) (send_line side frame.now)) }
+    ensures ok { OnOk result
+        (Appends (W.contents out.old) (W.contents out.new) (send_line side frame.now)) }
     ensures err { IsOkUnless result LineFault.Device }
 {
     let mut octets = [0; MOST_OCTETS];
@@ -61,7 +66,8 @@ fn put_send<W: Write>(frame: &Frame<'_>, side: Side, out: &mut W) -> Result<(), 
 ///
 /// `Device`, where the writer fails.
 pub fn put_primitive<W: Write>(handed: &[u8], given: &Out, out: &mut W) -> Result<(), LineFault>
-    ensures ok { OnOk result (Appends (W.contents out.old) (W.contents out.new) (primitive_line handed.now given.now)) }
+    ensures ok { OnOk result
+        (Appends (W.contents out.old) (W.contents out.new) (primitive_line handed.now given.now)) }
     ensures err { IsOkUnless result LineFault.Device }
 {
     match given {
@@ -86,7 +92,8 @@ pub fn put_primitive<W: Write>(handed: &[u8], given: &Out, out: &mut W) -> Resul
 ///
 /// `Device`, where the writer fails.
 pub fn put_refusal<W: Write>(fault: LinkFault, out: &mut W) -> Result<(), LineFault>
-    ensures ok { OnOk result (Appends (W.contents out.old) (W.contents out.new) (refusal_line fault)) }
+    ensures ok { OnOk result
+        (Appends (W.contents out.old) (W.contents out.new) (refusal_line fault)) }
     ensures err { IsOkUnless result LineFault.Device }
 {
     put_line(b"refused ", fault.name().as_bytes(), out)

@@ -137,10 +137,11 @@ abbrev pub wishes_of : Side → List (List ℕ) → List Wish
 wishes_of side lines = flat_map (line_wishes side) lines
 
 -- A side has done all lines of a script, from moment 0 on, with this around it before and afterwards.
-pub record HasServed (side : EitherSide) (wishes : List Wish) (before after : Devices) : Type 0 where
-  pub ended : EitherSide
-  pub moment : ℕ
-  pub did : LinesDo wishes (at_work side 0 before) (at_work ended moment after)
+pub record HasServed (side : EitherSide) (wishes : List Wish) (before after : Devices) : Type 0
+  where
+    pub ended : EitherSide
+    pub moment : ℕ
+    pub did : LinesDo wishes (at_work side 0 before) (at_work ended moment after)
 
 -- ---- The commands, at basic access (Q.921 5.9).
 

@@ -34,7 +34,8 @@ impl AddressOption {
     /// Where it has not: nothing can be listened on there, or connected to.
     pub fn address(self, written: &str) -> Result<&str, NoAddress<'_>>
         ensures ok { IfOk result (λ address. address.now ≡ written.now) }
-        ensures err { IfErr result (λ none. none ≡ record { option = self; written = written.entry }) }
+        ensures err { IfErr result
+            (λ none. none ≡ record { option = self; written = written.entry }) }
     {
         if is_address(written) {
             Ok(written)

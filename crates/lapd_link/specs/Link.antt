@@ -42,7 +42,8 @@ IsForLink link other = ⊤
 
 -- the step of the table: its outputs, in order, and a link that stands for the end after it
 abbrev pub Steps : Link → Link → Input → List Out → Type 0
-Steps old new input outs = (e : End) → LinkStandsFor old e → (s : StepState) × (step Tagged input e ≡ Ok s) × (s.outs ≡ outs) × LinkStandsFor new s.end
+Steps old new input outs = (e : End) → LinkStandsFor old e
+    → (s : StepState) × (step Tagged input e ≡ Ok s) × (s.outs ≡ outs) × LinkStandsFor new s.end
 
 -- the table refuses
 abbrev pub Refuses : Link → Input → LinkFault → Type 0

@@ -25,7 +25,11 @@ link_address setup role = record { sapi = setup.sapi; tei = setup.tei; role = ro
 
 -- the parts of a frame of the link
 abbrev pub link_parts : Setup → Role → Control → List ℕ → Fields
-link_parts setup role control info = record { address = link_address setup role; control = control; info = info }
+link_parts setup role control info = record {
+  address = link_address setup role;
+  control = control;
+  info = info;
+}
 
 -- The frame of each output that is sent, and none of any other: `messages` are those that are neither acknowledged nor dropped
 -- after the step, and `handed` are the octets of the unit data that was just handed in.
@@ -40,7 +44,8 @@ sent_frame setup messages handed other = None
 
 -- the frame of these parts, where the control table has it (Q.921 Table 5)
 abbrev pub link_frame : Setup → Role → Control → List ℕ → Option Fields
-link_frame setup role control info = result_ok (frame_of (link_address setup role) control info (content_fault role control (length info)))
+link_frame setup role control info = result_ok
+    (frame_of (link_address setup role) control info (content_fault role control (length info)))
 
 -- the frame that carries a message, none where no message is there
 abbrev pub message_frame : Setup → Control → Option (List ℕ) → Option Fields
@@ -50,7 +55,8 @@ message_frame setup control (Some message) = link_frame setup Command control me
 -- the frame that is made of an output: none also where its message is not there, or its parts are no frame
 abbrev pub made_frame : Setup → List (List ℕ) → List ℕ → Out → Option Fields
 made_frame setup messages handed (out.Send role control) = link_frame setup role control []
-made_frame setup messages handed (out.SendMessage place control) = message_frame setup control (slice_get messages place)
+made_frame setup messages handed (out.SendMessage place control) =
+    message_frame setup control (slice_get messages place)
 made_frame setup messages handed out.SendUnit = link_frame setup Command (Ui false) handed
 made_frame setup messages handed other = None
 
@@ -60,11 +66,13 @@ made_frame setup messages handed other = None
 -- handed in, of up to N201 octets.
 abbrev pub HaveFrames : Setup → List (List ℕ) → List Out → Type 0
 HaveFrames setup messages outs = (handed : List ℕ) → length handed ≤ n201
-    → All (λ output. made_frame setup messages handed output ≡ sent_frame setup messages handed output) outs
+    → All (λ output. made_frame setup messages handed output
+    ≡ sent_frame setup messages handed output) outs
 
 -- a link has them, after the step that gave these outputs
 abbrev pub HasFramesOf : Link → List Out → Type 0
-HasFramesOf link outs = (e : End) → LinkStandsFor link e → HaveFrames (setup_of link) (drop e.first e.given) outs
+HasFramesOf link outs = (e : End) → LinkStandsFor link e
+    → HaveFrames (setup_of link) (drop e.first e.given) outs
 
 -- What an end keeps from step to step, so that the outputs of each have their frames: its window has at most 127 places, its
 -- sent messages are outstanding, its numbers are tags, and its messages have at most N201 octets.

@@ -19,10 +19,13 @@ ghost use Rattle.lapd_link.specs.SentFrame.{HaveFrames, HasFramesOf, KeepsFrames
 /// has the frames of its outputs.
 pub fn sent_outputs_have_frames()
     ensures begins { (p : Parameters) → p.k ≤ 127 → KeepsFrames (new_end p) }
-    ensures stays { (input : Input) (e : End) (s : StepState) → KeepsFrames e → HearsNumbers Tagged input
+    ensures stays { (input : Input) (e : End) (s : StepState) → KeepsFrames e
+        → HearsNumbers Tagged input
         → step Tagged input e ≡ Ok s → KeepsFrames s.end }
     ensures frames { (setup : Setup) (input : Input) (e : End) (s : StepState) → KeepsFrames e
         → step Tagged input e ≡ Ok s → HaveFrames setup (drop s.end.first s.end.given) s.outs }
-    ensures units { (len : ℕ) (e : End) (s : StepState) → step Tagged (UnitData len) e ≡ Ok s → len ≤ n201 }
-    ensures links { (old new : Link) (input : Input) (outs : List Out) → Steps old new input outs → HasFramesOf new outs }
+    ensures units { (len : ℕ) (e : End) (s : StepState) → step Tagged (UnitData len) e ≡ Ok s
+        → len ≤ n201 }
+    ensures links { (old new : Link) (input : Input) (outs : List Out) → Steps old new input outs
+        → HasFramesOf new outs }
 {}

@@ -56,7 +56,8 @@ impl Link {
         requires sapi { sapi ≢ Sapi.Management }
         requires tei { tei < 127 }
         ensures end { IfOk result (λ link. LinkStandsFor link (new_end params)) }
-        ensures setup { IfOk result (λ link. setup_of link ≡ record { side = side; sapi = sapi; tei = tei }) }
+        ensures setup { IfOk result
+            (λ link. setup_of link ≡ record { side = side; sapi = sapi; tei = tei }) }
     {
         let machine = Machine::new(alloc, params)?;
         Ok(Link {
@@ -126,7 +127,9 @@ impl Link {
     pub fn give(&mut self, message: Vec<u8>) -> Result<Outs, Refused>
         ensures ok { IfOk result (λ outs. Steps self.old self.new (Give message.items) outs.items) }
         ensures frames { IfOk result (λ outs. HasFramesOf self.new outs.items) }
-        ensures err { IfErr result (λ refused. (refused.message ≡ message) × Refuses self.old (Give message.items) refused.fault) }
+        ensures err { IfErr result
+            (λ refused. (refused.message ≡ message)
+            × Refuses self.old (Give message.items) refused.fault) }
         ensures unchanged { OnErr result (self.new ≡ self.old) }
         ensures setup { setup_of self.new ≡ setup_of self.old }
     {
@@ -144,7 +147,9 @@ impl Link {
     pub fn give_into(&mut self, message: Vec<u8>, outs: &mut Outs) -> Result<(), Refused>
         ensures ok { OnOk result (Steps self.old self.new (Give message.items) outs.new.items) }
         ensures frames { OnOk result (HasFramesOf self.new outs.new.items) }
-        ensures err { IfErr result (λ refused. (refused.message ≡ message) × Refuses self.old (Give message.items) refused.fault) }
+        ensures err { IfErr result
+            (λ refused. (refused.message ≡ message)
+            × Refuses self.old (Give message.items) refused.fault) }
         ensures unchanged { OnErr result (self.new ≡ self.old) }
         ensures empty { OnErr result (outs.new.items ≡ []) }
         ensures setup { setup_of self.new ≡ setup_of self.old }
@@ -174,7 +179,8 @@ impl Link {
 
     /// Why [`Link::give`] would refuse a message of so many octets; `None` where it would not.
     pub fn give_refusal(&self, len: usize) -> Option<LinkFault>
-        ensures { (message : List ℕ) (e : End) → length message ≡ len → LinkStandsFor self.now e → result ≡ refused (Give message) e }
+        ensures { (message : List ℕ) (e : End) → length message ≡ len → LinkStandsFor self.now e
+            → result ≡ refused (Give message) e }
     {
         match self.machine.refuses_message(len) {
             Some(fault) => Some(fault),
@@ -186,7 +192,8 @@ impl Link {
     /// Whether an establishment begins with this event: with a SABME in states 4, 7 and 8, and with the answer to this
     /// end's own in state 5, where no release waits for it (Q.921 5.5.1.2).
     pub fn begins(&self, event: &Event) -> bool
-        ensures { (e : End) → LinkStandsFor self.now e → result ≡ begins e.state e.release_pending (input_of event.now) }
+        ensures { (e : End) → LinkStandsFor self.now e
+            → result ≡ begins e.state e.release_pending (input_of event.now) }
     {
         self.machine.begins(event)
     }

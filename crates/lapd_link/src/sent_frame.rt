@@ -24,7 +24,8 @@ impl Link {
     /// of the control table (Q.921 Table 5): the wrong role, more than 260 octets, a place where no message is.
     #[inline(always)]
     pub fn frame<'a>(&'a self, out: &Out, handed: &'a [u8]) -> Option<Frame<'a>>
-        ensures { (e : End) → LinkStandsFor self.now e → result ≡ made_frame (setup_of self.now) (drop e.first e.given) handed.now out.now }
+        ensures { (e : End) → LinkStandsFor self.now e
+            → result ≡ made_frame (setup_of self.now) (drop e.first e.given) handed.now out.now }
     {
         match out {
             Out::Send(role, control) => self.frame_with(*role, *control, &[]),
@@ -37,7 +38,9 @@ impl Link {
     /// The I command with the message at this place of the queue.
     #[inline(always)]
     fn message_frame(&self, place: u16, control: Control) -> Option<Frame<'_>>
-        ensures { (e : End) → LinkStandsFor self.now e → result ≡ message_frame (setup_of self.now) control (slice_get (drop e.first e.given) place) }
+        ensures { (e : End) → LinkStandsFor self.now e
+            → result ≡ message_frame (setup_of self.now) control
+            (slice_get (drop e.first e.given) place) }
     {
         self.frame_with(Role::Command, control, self.queue().get(place)?)
     }

@@ -87,7 +87,8 @@ impl Eq for LinkId {
 impl PartialOrd for LinkId {
     ghost partial_cmp = { as_partial_cmp id_cmp };
 
-    ghost laws = { partial_order_from_own_ties (Prim.search (comparing, rules)) (Prim.search (comparing, rules)) };
+    ghost laws = { partial_order_from_own_ties (Prim.search (comparing, rules))
+        (Prim.search (comparing, rules)) };
 
     fn partial_cmp(&self, other: &LinkId) -> Option<Ordering> {
         Some(self.cmp(other))

@@ -29,7 +29,13 @@ impl Model for TimerSet {
       t203 = s.t203;
     } };
 
-    ghost inverse = { λ s. record { durations = s.durations; t200 = s.t200; t201 = s.t201; t202 = s.t202; t203 = s.t203 } };
+    ghost inverse = { λ s. record {
+      durations = s.durations;
+      t200 = s.t200;
+      t201 = s.t201;
+      t202 = s.t202;
+      t203 = s.t203;
+    } };
 }
 
 /// A timer with its deadline, a moment in milliseconds.
