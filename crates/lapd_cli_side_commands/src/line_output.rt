@@ -94,7 +94,7 @@ impl LineOutput {
         ensures err { IsOkUnless result LineFault.Device }
     {
         for sent in &self.frames[..self.count] {
-            if let Err(fault) = port.write_frame(sent.octets()) {
+            if let Err(fault) = sent.send(port) {
                 return Ok(Some(fault));
             }
             out.write_all(sent.line())?;

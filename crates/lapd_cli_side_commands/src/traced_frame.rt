@@ -1,12 +1,14 @@
 ghost use Rattle.std.specs.Prelude.{◌≡◌, ◌≤◌, ◌++◌, length, IfOk, OnOk, IsOkUnless};
 ghost use Rattle.std.specs.String.{string_bytes};
-ghost use Rattle.lapd_port.specs.SocketText.{IsFrameLength};
+ghost use Rattle.std.specs.Io.KnownBytes.{Appends};
+ghost use Rattle.lapd_port.specs.SocketText.{frame_text};
 ghost use Rattle.lapd_sides_links.specs.Effects.{HasLeastOctets};
 ghost use Rattle.lapd_cli_side_commands.specs.SideTexts.{frame_text_line};
 
 use arrayvec::ArrayVec;
 use lapd_cli_script::LineFault;
 use lapd_frame::{MOST_OCTETS, Side};
+use lapd_port::{Port, PortFault, Sink, Source};
 use std::alloc::{AllocError, Global};
 
 /// A frame that is to be sent, of at least three octets, and its trace line, with the line's end.
@@ -70,12 +72,17 @@ impl TracedFrame {
         Ok(())
     }
 
-    /// The octets of the frame.
-    pub(crate) fn octets(&self) -> &[u8]
-        ensures octets { result.now ≡ self.now.octets.items }
-        ensures length { IsFrameLength (length result.now) }
+    /// Sends it, in one write.
+    ///
+    /// # Errors
+    ///
+    /// As the port.
+    pub(crate) fn send<S: Source, K: Sink>(&self, port: &mut Port<S, K>) -> Result<(), PortFault>
+        ensures text { OnOk result (Appends (K.written port.old.sink) (K.written port.new.sink)
+            (frame_text self.now.octets.items)) }
+        ensures source { port.new.source ≡ port.old.source }
     {
-        self.octets.as_slice()
+        port.write_frame(self.octets.as_slice())
     }
 
     /// The octets of the trace line.

@@ -1,6 +1,6 @@
 //! What the outputs of a link's step come to: frames, primitives and timers.
 
-ghost use Rattle.std.specs.Prelude.{◌≡◌, ◌≤◌, ◌+◌, ◌++◌, length, map};
+ghost use Rattle.std.specs.Prelude.{◌≡◌, ◌≤◌, ◌+◌, ◌++◌, false, length, map, ℕ, List, None};
 ghost use Rattle.std.specs.List.{filter_map};
 ghost use Rattle.lapd_link.specs.Link.{LinkStandsFor, setup_of};
 ghost use Rattle.lapd_link_rows.specs.End.{End};
@@ -42,10 +42,23 @@ pub fn tell_all(id: &LinkId, octets: &[u8], outs: &[Out], acts: &mut Acts)
     ensures at_most { length acts.new.primitives ≤ length acts.old.primitives + length outs.now }
 {
     for out in outs {
+        if !is_told(out) {
+            continue;
+        }
         if let Some(what) = what_of(out, octets) {
             acts.tell(of_link(id, what));
         }
     }
+}
+
+/// Whether an output is for the layers above. Of one that is not, no `What` is made, whose room would be cleared.
+fn is_told(out: &Out) -> bool
+    ensures { result ≡ false → (octets : List ℕ) → what_of octets out.now ≡ None }
+{
+    !matches!(
+        out,
+        Out::Send(..) | Out::SendMessage(..) | Out::SendUnit | Out::Start(_) | Out::Stop(_)
+    )
 }
 
 /// What is told of the link with this name.
