@@ -50,9 +50,9 @@ unit_wish side octets = record { deed = world.UnitData octets; is_deed = λ v. r
 
 -- ---- A request that is granted among links.
 
-module _ (side : Side) (id : LinkId) (fresh : Linked) (links : Links) (now : ℕ) (other : LinkId) (input : Input) (octets : List ℕ) (a : Reaction Links) (given : List (LinkId × List ℕ)) (wish : IsWish side input octets) where
+module _ (side : Side) (id : LinkId) (fresh : Linked) (removed : Bool) (links : Links) (now : ℕ) (other : LinkId) (input : Input) (octets : List ℕ) (a : Reaction Links) (given : List (LinkId × List ℕ)) (wish : IsWish side input octets) where
   abbrev Granted : Type 0
-  Granted = IsNoRequest side id now fresh links a.after a.effects given ⊎ IsRequest side id now links a.after a.effects given
+  Granted = IsNoRequest side id now fresh removed links a.after a.effects given ⊎ IsRequest side id now links a.after a.effects given
 
   own_by : (o : Option Linked) → links id ≡ o → given_to id given ≡ messages_of input → in_links id (link_acts side id now input octets) links ≡ Ok a → Granted
   own_by (Some l) was given_is own = inr (record {

@@ -21,7 +21,7 @@ use Rattle.lapd_sides.specs.Management.{manages}
 use Rattle.lapd_sides.specs.Network.{assigner_acts, link_of_network, network_takes, network_expires, network_requested}
 use Rattle.lapd_sides.specs.User.{link_of_user, terminal_acts, user_takes, user_expires, user_requested}
 use Rattle.lapd_sides_interface.specs.Interface.{run}
-use Rattle.lapd_sides_interface.specs.Premises.{AreTimely, KeepTei, KeepPremises}
+use Rattle.lapd_sides_interface.specs.Premises.{AreTimely, GiveTeiOnce, KeepPremises}
 use Rattle.lapd_sides_interface.specs.Projects.{IsRight}
 use Rattle.lapd_sides_interface.specs.Schedule.{configs, call, packet, at_first, unassigned, IsMessage, both_links, assigned, hasty, regained, with_old_frames, answered_before}
 use Rattle.lapd_sides_interface.specs.SideView.{does}
@@ -55,8 +55,8 @@ pub record BothLinks (message answer : Vec ℕ Global) : Type 0 where
 both_links_hold : (v w : Vec ℕ Global) (x : Fits v (1 ∷ [])) (y : Fits w (2 ∷ [])) → BothLinks (holding v (1 ∷ []) x) (holding w (2 ∷ []) y)
 unfolding link_acts link_expires in_links with_tei without_tei told_of_tei manages assigner_acts link_of_network network_takes network_expires network_requested begin put state_to rc_to increment_rc layer3_initiated_to release_pending_to start stop expired clear_exception_conditions zero_state_variables set_peer_busy set_own_busy enquiry_response transmit_enquiry queue_up discard_i_queue acknowledge invoke_retransmission i_frame_ns discard_unacknowledged transmit_i_frame ensure_t200 transmit_rr establish_data_link reestablish_data_link end_establishment tei_assigned confirm_or_indicate ua_final awaiting_establishment_t200 awaiting_establishment confirm_release awaiting_release_t200 awaiting_release acknowledge_with_timers nr_error_recovery i_frame_nr i_frame_nr_in_recovery poll_or_final poll rr_nr rej_nr rnr_nr rr_nr_in_recovery rnr_nr_in_recovery timer_recovery_t200 busy_on busy_off in_7_and_8 established_t200 multiple_frame_established timer_recovery by_state report_fault row send_all acknowledge_pending end_step step initial_variables without_exceptions with_zero_counters status_frame acknowledgement without_ack_pending poll_response is_accepted is_rejected after_i_frame i_frame_response is_valid_nr with_va acknowledged_count acknowledges_all with_vs may_send next_i_frame after_sending with_own_busy with_peer_busy after steps lies_within link_of_user terminal_acts user_takes user_expires user_requested links_below does
 both_links_hold v w x y = record {
-  call_premises = ((tt, (tt, (tt, (tt, (tt, (λ t o. (refl, refl), (tt, (tt, (tt, (tt, (tt, (tt, (tt, (λ t o. (refl, refl), (tt, (tt, (tt, (tt, tt)))))))))))))))))), (record { not_removed = refl; not_given_again = λ there. refl }, (record { not_removed = refl; not_given_again = λ there. refl }, (record { not_removed = refl; not_given_again = λ there. refl }, (record { not_removed = refl; not_given_again = λ there. refl }, (record { not_removed = refl; not_given_again = λ there. refl }, (record { not_removed = refl; not_given_again = λ there. refl }, (record { not_removed = refl; not_given_again = λ there. refl }, (record { not_removed = refl; not_given_again = λ there. refl }, (record { not_removed = refl; not_given_again = λ there. refl }, (record { not_removed = refl; not_given_again = λ there. refl }, (record { not_removed = refl; not_given_again = λ there. refl }, (record { not_removed = refl; not_given_again = λ there. refl }, (record { not_removed = refl; not_given_again = λ there. refl }, (record { not_removed = refl; not_given_again = λ there. refl }, (record { not_removed = refl; not_given_again = λ there. refl }, (record { not_removed = refl; not_given_again = λ there. refl }, (record { not_removed = refl; not_given_again = λ there. refl }, (record { not_removed = refl; not_given_again = λ there. refl }, tt)))))))))))))))))));
-  packet_premises = ((tt, (tt, (tt, (tt, (tt, (λ t o. (refl, refl), (tt, (tt, (tt, (tt, (tt, (tt, (tt, (λ t o. (refl, refl), (tt, (tt, (tt, (tt, tt)))))))))))))))))), (record { not_removed = refl; not_given_again = λ there. refl }, (record { not_removed = refl; not_given_again = λ there. refl }, (record { not_removed = refl; not_given_again = λ there. refl }, (record { not_removed = refl; not_given_again = λ there. refl }, (record { not_removed = refl; not_given_again = λ there. refl }, (record { not_removed = refl; not_given_again = λ there. refl }, (record { not_removed = refl; not_given_again = λ there. refl }, (record { not_removed = refl; not_given_again = λ there. refl }, (record { not_removed = refl; not_given_again = λ there. refl }, (record { not_removed = refl; not_given_again = λ there. refl }, (record { not_removed = refl; not_given_again = λ there. refl }, (record { not_removed = refl; not_given_again = λ there. refl }, (record { not_removed = refl; not_given_again = λ there. refl }, (record { not_removed = refl; not_given_again = λ there. refl }, (record { not_removed = refl; not_given_again = λ there. refl }, (record { not_removed = refl; not_given_again = λ there. refl }, (record { not_removed = refl; not_given_again = λ there. refl }, (record { not_removed = refl; not_given_again = λ there. refl }, tt)))))))))))))))))));
+  call_premises = ((tt, (tt, (tt, (tt, (tt, (λ t o. (refl, refl), (tt, (tt, (tt, (tt, (tt, (tt, (tt, (λ t o. (refl, refl), (tt, (tt, (tt, (tt, tt)))))))))))))))))), (λ there. refl, (λ there. refl, (λ there. refl, (λ there. refl, (λ there. refl, (λ there. refl, (λ there. refl, (λ there. refl, (λ there. refl, (λ there. refl, (λ there. refl, (λ there. refl, (λ there. refl, (λ there. refl, (λ there. refl, (λ there. refl, (λ there. refl, (λ there. refl, tt)))))))))))))))))));
+  packet_premises = ((tt, (tt, (tt, (tt, (tt, (λ t o. (refl, refl), (tt, (tt, (tt, (tt, (tt, (tt, (tt, (λ t o. (refl, refl), (tt, (tt, (tt, (tt, tt)))))))))))))))))), (λ there. refl, (λ there. refl, (λ there. refl, (λ there. refl, (λ there. refl, (λ there. refl, (λ there. refl, (λ there. refl, (λ there. refl, (λ there. refl, (λ there. refl, (λ there. refl, (λ there. refl, (λ there. refl, (λ there. refl, (λ there. refl, (λ there. refl, (λ there. refl, tt)))))))))))))))))));
   call_to_user = refl;
   call_to_network = refl;
   packet_to_user = refl;
@@ -76,7 +76,7 @@ pub record Assigned (message : Vec ℕ Global) : Type 0 where
 assigned_holds : (v : Vec ℕ Global) (x : Fits v (1 ∷ [])) → Assigned (holding v (1 ∷ []) x)
 unfolding link_acts link_expires in_links with_tei without_tei told_of_tei manages assigner_acts link_of_network network_takes network_expires network_requested begin put state_to rc_to increment_rc layer3_initiated_to release_pending_to start stop expired clear_exception_conditions zero_state_variables set_peer_busy set_own_busy enquiry_response transmit_enquiry queue_up discard_i_queue acknowledge invoke_retransmission i_frame_ns discard_unacknowledged transmit_i_frame ensure_t200 transmit_rr establish_data_link reestablish_data_link end_establishment tei_assigned confirm_or_indicate ua_final awaiting_establishment_t200 awaiting_establishment confirm_release awaiting_release_t200 awaiting_release acknowledge_with_timers nr_error_recovery i_frame_nr i_frame_nr_in_recovery poll_or_final poll rr_nr rej_nr rnr_nr rr_nr_in_recovery rnr_nr_in_recovery timer_recovery_t200 busy_on busy_off in_7_and_8 established_t200 multiple_frame_established timer_recovery by_state report_fault row send_all acknowledge_pending end_step step initial_variables without_exceptions with_zero_counters status_frame acknowledgement without_ack_pending poll_response is_accepted is_rejected after_i_frame i_frame_response is_valid_nr with_va acknowledged_count acknowledges_all with_vs may_send next_i_frame after_sending with_own_busy with_peer_busy after steps lies_within link_of_user terminal_acts user_takes user_expires user_requested links_below does
 assigned_holds v x = record {
-  premises = ((tt, (tt, (tt, (tt, (tt, (tt, (tt, (tt, tt)))))))), (record { not_removed = refl; not_given_again = λ there. refl }, (record { not_removed = refl; not_given_again = λ there. (let never : false ≡ true = there in cc) }, (record { not_removed = refl; not_given_again = λ there. (let never : false ≡ true = there in cc) }, (record { not_removed = refl; not_given_again = λ there. refl }, (record { not_removed = refl; not_given_again = λ there. refl }, (record { not_removed = refl; not_given_again = λ there. refl }, (record { not_removed = refl; not_given_again = λ there. refl }, (record { not_removed = refl; not_given_again = λ there. refl }, tt)))))))));
+  premises = ((tt, (tt, (tt, (tt, (tt, (tt, (tt, (tt, tt)))))))), (λ there. refl, (λ there. (let never : false ≡ true = there in cc), (λ there. (let never : false ≡ true = there in cc), (λ there. refl, (λ there. refl, (λ there. refl, (λ there. refl, (λ there. refl, tt)))))))));
   to_user = refl;
   to_network = refl;
 }
@@ -117,7 +117,7 @@ received_as given given_now acked acked_now received received_now g a r h =
 -- ---- T200, and of that link.
 
 pub record Hasty (first second : Vec ℕ Global) : Type 0 where
-  pub tei : KeepTei configs call (hasty first second) at_first
+  pub tei : GiveTeiOnce configs call (hasty first second) at_first
   pub packet_premises : KeepPremises configs packet (hasty first second) at_first
   pub given : given_to call (run configs (hasty first second) at_first).given_to_network ≡ two_messages
   pub acked : (known_of call (run configs (hasty first second) at_first).told_to_network).acked ≡ 1 ∷ []
@@ -126,8 +126,8 @@ pub record Hasty (first second : Vec ℕ Global) : Type 0 where
 hasty_holds : (v w : Vec ℕ Global) (x : Fits v (1 ∷ [])) (y : Fits w (2 ∷ [])) → Hasty (holding v (1 ∷ []) x) (holding w (2 ∷ []) y)
 unfolding link_acts link_expires in_links with_tei without_tei told_of_tei manages assigner_acts link_of_network network_takes network_expires network_requested begin put state_to rc_to increment_rc layer3_initiated_to release_pending_to start stop expired clear_exception_conditions zero_state_variables set_peer_busy set_own_busy enquiry_response transmit_enquiry queue_up discard_i_queue acknowledge invoke_retransmission i_frame_ns discard_unacknowledged transmit_i_frame ensure_t200 transmit_rr establish_data_link reestablish_data_link end_establishment tei_assigned confirm_or_indicate ua_final awaiting_establishment_t200 awaiting_establishment confirm_release awaiting_release_t200 awaiting_release acknowledge_with_timers nr_error_recovery i_frame_nr i_frame_nr_in_recovery poll_or_final poll rr_nr rej_nr rnr_nr rr_nr_in_recovery rnr_nr_in_recovery timer_recovery_t200 busy_on busy_off in_7_and_8 established_t200 multiple_frame_established timer_recovery by_state report_fault row send_all acknowledge_pending end_step step initial_variables without_exceptions with_zero_counters status_frame acknowledgement without_ack_pending poll_response is_accepted is_rejected after_i_frame i_frame_response is_valid_nr with_va acknowledged_count acknowledges_all with_vs may_send next_i_frame after_sending with_own_busy with_peer_busy after steps lies_within link_of_user terminal_acts user_takes user_expires user_requested links_below does
 hasty_holds v w x y = record {
-  tei = (record { not_removed = refl; not_given_again = λ there. refl }, (record { not_removed = refl; not_given_again = λ there. refl }, (record { not_removed = refl; not_given_again = λ there. refl }, (record { not_removed = refl; not_given_again = λ there. refl }, (record { not_removed = refl; not_given_again = λ there. refl }, (record { not_removed = refl; not_given_again = λ there. refl }, (record { not_removed = refl; not_given_again = λ there. refl }, (record { not_removed = refl; not_given_again = λ there. refl }, (record { not_removed = refl; not_given_again = λ there. refl }, tt)))))))));
-  packet_premises = ((tt, (tt, (tt, (λ t o. (refl, refl), (tt, (tt, (tt, (tt, (tt, tt))))))))), (record { not_removed = refl; not_given_again = λ there. refl }, (record { not_removed = refl; not_given_again = λ there. refl }, (record { not_removed = refl; not_given_again = λ there. refl }, (record { not_removed = refl; not_given_again = λ there. refl }, (record { not_removed = refl; not_given_again = λ there. refl }, (record { not_removed = refl; not_given_again = λ there. refl }, (record { not_removed = refl; not_given_again = λ there. refl }, (record { not_removed = refl; not_given_again = λ there. refl }, (record { not_removed = refl; not_given_again = λ there. refl }, tt))))))))));
+  tei = (λ there. refl, (λ there. refl, (λ there. refl, (λ there. refl, (λ there. refl, (λ there. refl, (λ there. refl, (λ there. refl, (λ there. refl, tt)))))))));
+  packet_premises = ((tt, (tt, (tt, (λ t o. (refl, refl), (tt, (tt, (tt, (tt, (tt, tt))))))))), (λ there. refl, (λ there. refl, (λ there. refl, (λ there. refl, (λ there. refl, (λ there. refl, (λ there. refl, (λ there. refl, (λ there. refl, tt))))))))));
   given = refl;
   acked = refl;
   received = refl;
@@ -179,7 +179,7 @@ pub record AnsweredBefore (message : Vec ℕ Global) : Type 0 where
 answered_before_holds : (v : Vec ℕ Global) (x : Fits v (1 ∷ [])) → AnsweredBefore (holding v (1 ∷ []) x)
 unfolding link_acts link_expires in_links with_tei without_tei told_of_tei manages assigner_acts link_of_network network_takes network_expires network_requested begin put state_to rc_to increment_rc layer3_initiated_to release_pending_to start stop expired clear_exception_conditions zero_state_variables set_peer_busy set_own_busy enquiry_response transmit_enquiry queue_up discard_i_queue acknowledge invoke_retransmission i_frame_ns discard_unacknowledged transmit_i_frame ensure_t200 transmit_rr establish_data_link reestablish_data_link end_establishment tei_assigned confirm_or_indicate ua_final awaiting_establishment_t200 awaiting_establishment confirm_release awaiting_release_t200 awaiting_release acknowledge_with_timers nr_error_recovery i_frame_nr i_frame_nr_in_recovery poll_or_final poll rr_nr rej_nr rnr_nr rr_nr_in_recovery rnr_nr_in_recovery timer_recovery_t200 busy_on busy_off in_7_and_8 established_t200 multiple_frame_established timer_recovery by_state report_fault row send_all acknowledge_pending end_step step initial_variables without_exceptions with_zero_counters status_frame acknowledgement without_ack_pending poll_response is_accepted is_rejected after_i_frame i_frame_response is_valid_nr with_va acknowledged_count acknowledges_all with_vs may_send next_i_frame after_sending with_own_busy with_peer_busy after steps lies_within link_of_user terminal_acts user_takes user_expires user_requested links_below does
 answered_before_holds v x = record {
-  premises = ((tt, (tt, (tt, (tt, tt)))), (record { not_removed = refl; not_given_again = λ there. refl }, (record { not_removed = refl; not_given_again = λ there. refl }, (record { not_removed = refl; not_given_again = λ there. refl }, (record { not_removed = refl; not_given_again = λ there. refl }, tt)))));
+  premises = ((tt, (tt, (tt, (tt, tt)))), (λ there. refl, (λ there. refl, (λ there. refl, (λ there. refl, tt)))));
   given = refl;
   acked = refl;
   received = refl;

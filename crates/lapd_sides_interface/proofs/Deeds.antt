@@ -1,7 +1,7 @@
 -- What one deed of a side is to one of its links in the world of two ends: nothing, or one move.
 use Rattle.std.proofs.Common.{◌≡◌, ◌⊎◌, inl, inr, ℕ, ◌<◌, nat_lt, List, [], ◌∷◌, ◌++◌, drop, length, Bool, true, false, if◌then◌else◌, Option, Some, None, Result, Ok, Err, refl, sym, ap, subst, ◌∙◌, arith}
 use Rattle.std.specs.Prelude.{is_some}
-use Rattle.std.specs.List.{filter_map, remove}
+use Rattle.std.specs.List.{filter_map, remove, list_any}
 use Rattle.std.proofs.lemmas.List.Elements.{filter-append, filter_map-append}
 use Rattle.std.proofs.lemmas.Bool.{lt-ltb}
 use Rattle.std.proofs.lemmas.List.{append-nil, length-map}
@@ -22,6 +22,7 @@ use Rattle.lapd_link_rows.proofs.InputsThatCount.{given_after}
 use Rattle.lapd_table.specs.declared.link_id.LinkId.{LinkId}
 use Rattle.lapd_table.specs.LinkId.{id_eq}
 use Rattle.lapd_table.proofs.Ids.{same_id_eq}
+use Rattle.lapd_sides_links.specs.declared.primitive.Primitive.{Primitive}
 use Rattle.lapd_sides_links.specs.declared.side_fault.SideKind.{SideKind}
 use Rattle.lapd_sides_links.specs.Effects.{Effects, what_of, stopped, timed}
 use Rattle.lapd_sides_links.specs.Links.{Links, Linked, Reaction, with_link}
@@ -34,12 +35,12 @@ use Rattle.lapd_pair_world.specs.Move as world
 use Rattle.lapd_pair_world.specs.Move.{View, Turn, story_after, view_after, stepped, quietly, hears, takes, delivers, loses, unless_under_way, expires_200, expires_203, acts}
 use Rattle.lapd_pair_world.proofs.Keeping.{IsKeptView, outputs_in_order}
 use Rattle.lapd_sides_interface.specs.Addressed.{is_for, those_for, spelled, all_spelled}
-use Rattle.lapd_sides_interface.specs.Told.{Known, nothing_known, learns, learns_all, what_for, told_of, message_for, given_to, known_of}
-use Rattle.lapd_sides_interface.specs.Premises.{IsTimely, LeavesTei, KeepsTei}
+use Rattle.lapd_sides_interface.specs.Told.{nothing_known, learns_all, what_for, told_of, message_for, given_to, known_of, AreExpectedWhats}
+use Rattle.lapd_sides_interface.specs.Premises.{tells_removal, IsTimely, IsGivenOnce, GivesTeiOnce}
 use Rattle.lapd_sides_interface.specs.SideView.{Behaviour, Deed, Take, Lose, Expire, Ask, SideView, unmoved, takes_first, runs_on, or_unmoved, if_granted, accepted_by, reaction, does}
-use Rattle.lapd_sides_interface.specs.Projects.{IsTimed, HasLink, AwaitsLink, Projects}
+use Rattle.lapd_sides_interface.specs.Projects.{IsTimed, HasLink, ShowsEnd, Projects}
 use Rattle.lapd_sides_interface.proofs.Frames.{told_frames, told_is_known}
-use Rattle.lapd_sides_interface.proofs.LinkParts.{PassesBy, IsStep, Goes, now_there, passes_by_nothing}
+use Rattle.lapd_sides_interface.proofs.LinkParts.{PassesBy, IsStep, IsRemoval, Goes, now_there, passes_by_nothing, any_more, any_behind, learns_both, expected_both}
 use Rattle.lapd_sides_interface.proofs.Lines.{where_lost, removed_spelled, IsFirst, first_of, no_poll, no_final}
 use Rattle.lapd_sides_interface.proofs.Timed.{Agree, is_on, timed_by_step, link_timed, timed_link, stopped_is_off, stopped_agrees}
 
@@ -55,34 +56,28 @@ pub record IsRequest (side : Side) (id : LinkId) (now : ℕ) (before after : Lin
   pub is_step : IsStep side id now input octets (λ t. t) before after effects
   pub given_is : given_to id given ≡ messages_of input
 
-pub record IsNoRequest (side : Side) (id : LinkId) (now : ℕ) (fresh : Linked) (before after : Links) (effects : Effects) (given : List (LinkId × List ℕ)) : Type 0 where
-  pub goes : Goes side id now fresh before after effects
+pub record IsNoRequest (side : Side) (id : LinkId) (now : ℕ) (fresh : Linked) (removed : Bool) (before after : Links) (effects : Effects) (given : List (LinkId × List ℕ)) : Type 0 where
+  pub goes : Goes side id now fresh removed before after effects
   pub none_given : given_to id given ≡ []
 
--- Octets of other links, other timers and other requests are no step of the link, where its TEI is left to it; its own are steps
--- of it, and octets that come before it does are discarded.
-pub record ServesLink {S : Type 0} (w : Behaviour S) (side : Side) (id : LinkId) : Type 0 where
-  pub takes_other : (octets : List ℕ) (now : ℕ) (s : S) → is_for (other_side side) id octets ≡ false → LeavesTei id (w.served s).links (w.takes octets now s).effects
-      → Goes side id now (w.fresh id) (w.served s).links (w.served (w.takes octets now s).after).links (w.takes octets now s).effects
+-- Octets of other links, other timers and other requests are no step of the link, where its TEI is given once; its own are steps
+-- of it, and octets that come where it is not there are discarded.
+pub record ServesLink {S : Type 0} (w : Behaviour S) (side : Side) (id : LinkId) (removed : Bool) : Type 0 where
+  pub takes_other : (octets : List ℕ) (now : ℕ) (s : S) → is_for (other_side side) id octets ≡ false → IsGivenOnce id (w.served s).links removed (w.takes octets now s).effects
+      → Goes side id now (w.fresh id) removed (w.served s).links (w.served (w.takes octets now s).after).links (w.takes octets now s).effects
   pub takes_own : (frame : Flight) (now : ℕ) (s : S) (l : Linked) (d : StepState) → content_fault frame.role frame.control (length frame.info) ≡ None → (w.served s).links id ≡ Some l
       → step Tagged (Heard frame.control frame.role) l.end ≡ Ok d
       → IsStep side id now (Heard frame.control frame.role) frame.info (λ t. t) (w.served s).links (w.served (w.takes (spelled (other_side side) id frame) now s).after).links (w.takes (spelled (other_side side) id frame) now s).effects
   pub takes_absent : (frame : Flight) (now : ℕ) (s : S) → content_fault frame.role frame.control (length frame.info) ≡ None → (w.served s).links id ≡ None
       → PassesBy side id (w.served s).links (w.served (w.takes (spelled (other_side side) id frame) now s).after).links (w.takes (spelled (other_side side) id frame) now s).effects
-  pub expires_other : (now : ℕ) (timer : Timer) (of : Option LinkId) (s : S) → ((other : LinkId) → of ≡ Some other → id_eq id other ≡ false) → LeavesTei id (w.served s).links (w.expires now timer of s).effects
-      → Goes side id now (w.fresh id) (w.served s).links (w.served (w.expires now timer of s).after).links (w.expires now timer of s).effects
+  pub expires_other : (now : ℕ) (timer : Timer) (of : Option LinkId) (s : S) → ((other : LinkId) → of ≡ Some other → id_eq id other ≡ false) → IsGivenOnce id (w.served s).links removed (w.expires now timer of s).effects
+      → Goes side id now (w.fresh id) removed (w.served s).links (w.served (w.expires now timer of s).after).links (w.expires now timer of s).effects
   pub expires_own : (now : ℕ) (timer : Timer) (s : S) (l : Linked) (d : StepState) → (w.served s).links id ≡ Some l → step Tagged (Expiry timer) l.end ≡ Ok d
       → IsStep side id now (Expiry timer) [] (stopped timer) (w.served s).links (w.served (w.expires now timer (Some id) s).after).links (w.expires now timer (Some id) s).effects
-  pub asked : (request : Request) (now : ℕ) (s : S) (a : Reaction S) → w.requested request now s ≡ Ok a → LeavesTei id (w.served s).links a.effects
-      → IsNoRequest side id now (w.fresh id) (w.served s).links (w.served a.after).links a.effects (accepted_by w request now s)
+  pub asked : (request : Request) (now : ℕ) (s : S) (a : Reaction S) → w.requested request now s ≡ Ok a → IsGivenOnce id (w.served s).links removed a.effects
+      → IsNoRequest side id now (w.fresh id) removed (w.served s).links (w.served a.after).links a.effects (accepted_by w request now s)
       ⊎ IsRequest side id now (w.served s).links (w.served a.after).links a.effects (accepted_by w request now s)
   pub fresh_is_timed : IsTimed (w.fresh id)
-
--- ---- What is learned in two parts.
-
-learns_both : (xs ys : List (Rattle.lapd_sides_links.specs.declared.primitive.What.What)) (k : Known) → learns_all (xs ++ ys) k ≡ learns_all ys (learns_all xs k)
-learns_both [] ys k = refl
-learns_both (x ∷ xs) ys k = learns_both xs ys (learns x k)
 
 same_linked : (a b : Linked) (o : Option Linked) → o ≡ Some a → o ≡ Some b → a ≡ b
 same_linked a b o p q = cc
@@ -97,6 +92,16 @@ unfolding step
 expiry_is_done timer e = refl
 
 module _ (S : Type 0) (w : Behaviour S) (side : Side) (id : LinkId) where
+  abbrev pub Serves : Type 0
+  Serves = (removed : Bool) → ServesLink w side id removed
+
+  -- the TEI was taken away before
+  abbrev was_removed : SideView S → Bool
+  was_removed v = list_any (tells_removal id.tei) v.told
+
+  abbrev Once : SideView S → Reaction S → Type 0
+  Once v a = IsGivenOnce id (w.served v.now).links (was_removed v) a.effects
+
   -- a side after a deed
   abbrev pub view_after_deed : SideView S → Reaction S → List (LinkId × List ℕ) → List (List ℕ) → SideView S
   view_after_deed v a more line = record { now = a.after; told = v.told ++ a.effects.primitives; given = v.given ++ more; incoming = line; outgoing = v.outgoing ++ a.effects.frames }
@@ -112,15 +117,16 @@ module _ (S : Type 0) (w : Behaviour S) (side : Side) (id : LinkId) where
   still_given : (v : SideView S) (more : List (LinkId × List ℕ)) → given_to id more ≡ [] → given_to id (v.given ++ more) ≡ given_to id v.given
   still_given v more none = filter_map-append (message_for id) v.given more ∙ rw none (append-nil (given_to id v.given))
 
-  link_stays : (before now : Links) (end : End) → now id ≡ before id → HasLink before id end ⊎ AwaitsLink (w.fresh id) before id end → HasLink now id end ⊎ AwaitsLink (w.fresh id) now id end
-  link_stays before now end same (inl h) = inl (record { linked = h.linked; there = same ∙ h.there; end = h.end; timed = h.timed })
-  link_stays before now end same (inr h) = inr (record { absent = same ∙ h.absent; end = h.end })
+  link_stays : (before now : Links) (told more : List Primitive) (e : End) → now id ≡ before id → ShowsEnd (w.fresh id) before id told e → ShowsEnd (w.fresh id) now id (told ++ more) e
+  link_stays before now told more e same (inl h) = inl (record { linked = h.linked; there = same ∙ h.there; end = h.end; timed = h.timed })
+  link_stays before now told more e same (inr (inl h)) = inr (inl (record { absent = same ∙ h.absent; end = h.end }))
+  link_stays before now told more e same (inr (inr h)) = inr (inr (record { absent = same ∙ h.absent; removed = any_more (tells_removal id.tei) told more h.removed }))
 
   projected_pass : (v : SideView S) (view : View) (a : Reaction S) (more : List (LinkId × List ℕ)) (line : List (List ℕ)) (frames : List Flight) → Projects w side id v view
       → PassesBy side id (w.served v.now).links (w.served a.after).links a.effects → given_to id more ≡ [] → those_for (other_side side) id line ≡ all_spelled (other_side side) id frames
       → Projects w side id (view_after_deed v a more line) (record view { incoming = frames })
   projected_pass v view a more line frames p passes none on = record {
-    link = link_stays (w.served v.now).links (w.served a.after).links view.station.end passes.links p.link;
+    link = link_stays (w.served v.now).links (w.served a.after).links v.told a.effects.primitives view.station.end passes.links p.link;
     incoming = on;
     outgoing = still_sent v a _ passes ∙ p.outgoing;
     known = ap (λ ws. learns_all ws nothing_known) (still_told v a _ passes) ∙ p.known;
@@ -189,7 +195,7 @@ module _ (S : Type 0) (w : Behaviour S) (side : Side) (id : LinkId) where
 
   pub record IsNothing (before v : SideView S) (view : View) : Type 0 where
     pub shows : Projects w side id v view
-    pub tells : told_of id v.told ≡ told_of id before.told
+    pub expected : AreExpectedWhats (told_of id before.told) → AreExpectedWhats (told_of id v.told)
 
   abbrev pub Outcome : SideView S → SideView S → View → Type 0
   Outcome before v view = IsNothing before v view ⊎ IsMove before v view
@@ -200,7 +206,7 @@ module _ (S : Type 0) (w : Behaviour S) (side : Side) (id : LinkId) where
       → Outcome v (view_after_deed v a more line) view
   passing v view a more line p passes none same = inl (record {
     shows = projected_pass v view a more line view.incoming p passes none (same ∙ p.incoming);
-    tells = still_told v a _ passes;
+    expected = subst AreExpectedWhats (sym (still_told v a _ passes));
   })
 
   no_effect : (v : SideView S) → PassesBy side id (w.served v.now).links (w.served (unmoved v.now).after).links (unmoved v.now).effects
@@ -208,10 +214,10 @@ module _ (S : Type 0) (w : Behaviour S) (side : Side) (id : LinkId) where
 
   -- ---- The link comes.
 
-  has_come : ServesLink w side id → (v : SideView S) (end : End) → (w.served v.now).links id ≡ None → HasLink (w.served v.now).links id end ⊎ AwaitsLink (w.fresh id) (w.served v.now).links id end
-      → HasLink (with_link id (Some (w.fresh id)) (w.served v.now).links) id end
-  has_come serves v end none (inl h) = cc
-  has_come serves v end none (inr h) = record { linked = w.fresh id; there = now_there id (w.fresh id) (w.served v.now).links; end = sym h.end; timed = serves.fresh_is_timed }
+  has_come : Serves → (v : SideView S) (e : End) → (w.served v.now).links id ≡ None → was_removed v ≡ false → ShowsEnd (w.fresh id) (w.served v.now).links id v.told e → HasLink (with_link id (Some (w.fresh id)) (w.served v.now).links) id e
+  has_come serves v e none not_removed (inl h) = let there = h.there in cc
+  has_come serves v e none not_removed (inr (inl h)) = record { linked = w.fresh id; there = now_there id (w.fresh id) (w.served v.now).links; end = sym h.end; timed = (serves (was_removed v)).fresh_is_timed }
+  has_come serves v e none not_removed (inr (inr h)) = let removed = h.removed in cc
 
   -- by itself
   comes_alone : (v : SideView S) (view : View) (a : Reaction S) (more : List (LinkId × List ℕ)) (line : List (List ℕ)) (come : Links) → Projects w side id v view → HasLink come id view.station.end
@@ -225,7 +231,7 @@ module _ (S : Type 0) (w : Behaviour S) (side : Side) (id : LinkId) where
       known = ap (λ ws. learns_all ws nothing_known) (still_told v a come passes) ∙ p.known;
       given = still_given v more none ∙ p.given;
     };
-    tells = still_told v a come passes;
+    expected = subst AreExpectedWhats (sym (still_told v a come passes));
   })
 
   -- and the establishment that was kept for it is done
@@ -247,22 +253,44 @@ module _ (S : Type 0) (w : Behaviour S) (side : Side) (id : LinkId) where
       no_expiry : (timer : Timer) → input.Establish ≡ Expiry timer → ⊥
       no_expiry timer e = cc
 
-  going : ServesLink w side id → (v : SideView S) (view : View) (a : Reaction S) (more : List (LinkId × List ℕ)) (line : List (List ℕ)) (now : ℕ) → Projects w side id v view → IsKept Tagged view.station
-      → Goes side id now (w.fresh id) (w.served v.now).links (w.served a.after).links a.effects → given_to id more ≡ [] → those_for (other_side side) id line ≡ those_for (other_side side) id v.incoming
+  -- ---- The link goes.
+
+  is_removed : (v : SideView S) (view : View) (a : Reaction S) (more : List (LinkId × List ℕ)) (line : List (List ℕ)) → Projects w side id v view
+      → IsRemoval side id (w.served a.after).links a.effects → given_to id more ≡ [] → those_for (other_side side) id line ≡ those_for (other_side side) id v.incoming
+      → Outcome v (view_after_deed v a more line) view
+  is_removed v view a more line p goes none same =
+      let told : told_of id (v.told ++ a.effects.primitives) ≡ told_of id v.told ++ told_of id a.effects.primitives = filter_map-append (what_for id) v.told a.effects.primitives in
+      let sent : those_for side id (v.outgoing ++ a.effects.frames) ≡ those_for side id v.outgoing = filter-append (is_for side id) v.outgoing a.effects.frames ∙ rw (goes.frames) (append-nil (those_for side id v.outgoing)) in
+      inl (record {
+        shows = record {
+          link = inr (inr (record { absent = goes.gone; removed = any_behind (tells_removal id.tei) v.told a.effects.primitives goes.tells }));
+          incoming = same ∙ p.incoming;
+          outgoing = sent ∙ p.outgoing;
+          known = ap (λ ws. learns_all ws nothing_known) told ∙ learns_both (told_of id v.told) (told_of id a.effects.primitives) nothing_known ∙ goes.told.teaches (known_of id v.told) ∙ p.known;
+          given = still_given v more none ∙ p.given;
+        };
+        expected = λ h. subst AreExpectedWhats (sym told) (expected_both (told_of id v.told) (told_of id a.effects.primitives) h goes.told.expected);
+      })
+
+  -- ---- What is no step of a link that is there.
+
+  going : Serves → (v : SideView S) (view : View) (a : Reaction S) (more : List (LinkId × List ℕ)) (line : List (List ℕ)) (now : ℕ) → Projects w side id v view → IsKept Tagged view.station
+      → Goes side id now (w.fresh id) (was_removed v) (w.served v.now).links (w.served a.after).links a.effects → given_to id more ≡ [] → those_for (other_side side) id line ≡ those_for (other_side side) id v.incoming
       → Outcome v (view_after_deed v a more line) view
   going serves v view a more line now p kept (inl passes) none same = passing v view a more line p passes none same
-  going serves v view a more line now p kept (inr comes) none same =
+  going serves v view a more line now p kept (inr (inl comes)) none same =
       let come : Links = with_link id (Some (w.fresh id)) (w.served v.now).links in
-      let has = has_come serves v view.station.end comes.absent p.link in
+      let has = has_come serves v view.station.end comes.absent comes.not_removed p.link in
       elim comes.comes [
         | inl alone ↦ comes_alone v view a more line come p has alone none same
         | inr does ↦ comes_and_establishes v view a more line now come p kept has does none same
       ]
+  going serves v view a more line now p kept (inr (inr goes)) none same = is_removed v view a more line p goes none same
 
   -- ---- Octets are taken.
 
   -- those of the link
-  takes_its : ServesLink w side id → (v : SideView S) (view : View) (now : ℕ) (octets : List ℕ) (rest : List (List ℕ)) → Projects w side id v view → IsKeptView Tagged view → HasLink (w.served v.now).links id view.station.end
+  takes_its : Serves → (v : SideView S) (view : View) (now : ℕ) (octets : List ℕ) (rest : List (List ℕ)) → Projects w side id v view → IsKeptView Tagged view → HasLink (w.served v.now).links id view.station.end
       → IsFirst (other_side side) id octets (those_for (other_side side) id rest) view.incoming → Outcome v (view_after_deed v (w.takes octets now v.now) [] rest) view
   unfolding acts delivers hears
   takes_its ways v view now octets rest p kept has first =
@@ -271,7 +299,7 @@ module _ (S : Type 0) (w : Behaviour S) (side : Side) (id : LinkId) where
       let proper : AreProper (frame ∷ behind) = subst AreProper first.are kept.coming in
       let spelled_so : spelled (other_side side) id frame ≡ octets = sym first.head in
       let done = heard_is_done frame has.linked.end in
-      let its = ways.takes_own frame now v.now has.linked _ proper.0 has.there done in
+      let its = (ways (was_removed v)).takes_own frame now v.now has.linked _ proper.0 has.there done in
       let step_of : IsStep side id now (Heard frame.control frame.role) frame.info (λ t. t) (w.served v.now).links (w.served (w.takes octets now v.now).after).links (w.takes octets now v.now).effects =
       subst (λ (o : List ℕ). IsStep side id now (Heard frame.control frame.role) frame.info (λ t. t) (w.served v.now).links (w.served (w.takes o now v.now).after).links (w.takes o now v.now).effects) spelled_so its in
       let x = projected_step v view (w.takes octets now v.now) [] rest behind now (Heard frame.control frame.role) frame.info frame.place (λ t. t) p kept.station (w.served v.now).links has step_of
@@ -289,8 +317,8 @@ module _ (S : Type 0) (w : Behaviour S) (side : Side) (id : LinkId) where
       heard_is_no_expiry : (frame : Flight) (timer : Timer) → Heard frame.control frame.role ≡ Expiry timer → ⊥
       heard_is_no_expiry frame timer e = cc
 
-  -- those that come before it are lost
-  takes_early : ServesLink w side id → (v : SideView S) (view : View) (now : ℕ) (octets : List ℕ) (rest : List (List ℕ)) → Projects w side id v view → IsKeptView Tagged view → (w.served v.now).links id ≡ None
+  -- those that come where it is not there are lost
+  takes_early : Serves → (v : SideView S) (view : View) (now : ℕ) (octets : List ℕ) (rest : List (List ℕ)) → Projects w side id v view → IsKeptView Tagged view → (w.served v.now).links id ≡ None
       → IsFirst (other_side side) id octets (those_for (other_side side) id rest) view.incoming → Outcome v (view_after_deed v (w.takes octets now v.now) [] rest) view
   unfolding acts loses
   takes_early ways v view now octets rest p kept none first =
@@ -299,7 +327,7 @@ module _ (S : Type 0) (w : Behaviour S) (side : Side) (id : LinkId) where
       let proper : AreProper (frame ∷ behind) = subst AreProper first.are kept.coming in
       let spelled_so : spelled (other_side side) id frame ≡ octets = sym first.head in
       let passes : PassesBy side id (w.served v.now).links (w.served (w.takes octets now v.now).after).links (w.takes octets now v.now).effects =
-      subst (λ (o : List ℕ). PassesBy side id (w.served v.now).links (w.served (w.takes o now v.now).after).links (w.takes o now v.now).effects) spelled_so (ways.takes_absent frame now v.now proper.0 none) in
+      subst (λ (o : List ℕ). PassesBy side id (w.served v.now).links (w.served (w.takes o now v.now).after).links (w.takes o now v.now).effects) spelled_so ((ways (was_removed v)).takes_absent frame now v.now proper.0 none) in
       let within : nat_lt 0 (length view.incoming) ≡ true = lt-ltb 0 (length view.incoming) (subst (λ (frames : List Flight). 0 < length frames) (sym first.are) (omega arith)) in
       inr (record {
         deed = world.Lose 0;
@@ -311,24 +339,25 @@ module _ (S : Type 0) (w : Behaviour S) (side : Side) (id : LinkId) where
             (first.tail ∙ ap (λ (frames : List Flight). all_spelled (other_side side) id (remove frames 0)) (sym first.are));
       })
 
-  takes_by_link : ServesLink w side id → (v : SideView S) (view : View) (now : ℕ) (octets : List ℕ) (rest : List (List ℕ)) → Projects w side id v view → IsKeptView Tagged view
-      → HasLink (w.served v.now).links id view.station.end ⊎ AwaitsLink (w.fresh id) (w.served v.now).links id view.station.end
+  takes_by_link : Serves → (v : SideView S) (view : View) (now : ℕ) (octets : List ℕ) (rest : List (List ℕ)) → Projects w side id v view → IsKeptView Tagged view
+      → ShowsEnd (w.fresh id) (w.served v.now).links id v.told view.station.end
       → IsFirst (other_side side) id octets (those_for (other_side side) id rest) view.incoming → Outcome v (view_after_deed v (w.takes octets now v.now) [] rest) view
   takes_by_link ways v view now octets rest p kept (inl has) first = takes_its ways v view now octets rest p kept has first
-  takes_by_link ways v view now octets rest p kept (inr early) first = takes_early ways v view now octets rest p kept early.absent first
+  takes_by_link ways v view now octets rest p kept (inr (inl early)) first = takes_early ways v view now octets rest p kept early.absent first
+  takes_by_link ways v view now octets rest p kept (inr (inr late)) first = takes_early ways v view now octets rest p kept late.absent first
 
-  takes_by_test : ServesLink w side id → (v : SideView S) (view : View) (now : ℕ) (octets : List ℕ) (rest : List (List ℕ)) (test : Bool) → is_for (other_side side) id octets ≡ test → v.incoming ≡ octets ∷ rest
-      → Projects w side id v view → IsKeptView Tagged view → LeavesTei id (w.served v.now).links (w.takes octets now v.now).effects → Outcome v (view_after_deed v (w.takes octets now v.now) [] rest) view
+  takes_by_test : Serves → (v : SideView S) (view : View) (now : ℕ) (octets : List ℕ) (rest : List (List ℕ)) (test : Bool) → is_for (other_side side) id octets ≡ test → v.incoming ≡ octets ∷ rest
+      → Projects w side id v view → IsKeptView Tagged view → Once v (w.takes octets now v.now) → Outcome v (view_after_deed v (w.takes octets now v.now) [] rest) view
   takes_by_test ways v view now octets rest true is are p kept stays =
       let on : octets ∷ those_for (other_side side) id rest ≡ all_spelled (other_side side) id view.incoming =
       sym (ap (λ (b : Bool). if b then octets ∷ those_for (other_side side) id rest else those_for (other_side side) id rest) is) ∙ ap (those_for (other_side side) id) (sym are) ∙ p.incoming in
       takes_by_link ways v view now octets rest p kept p.link (first_of (other_side side) id octets (those_for (other_side side) id rest) view.incoming on)
   takes_by_test ways v view now octets rest false is are p kept stays =
-      going ways v view (w.takes octets now v.now) [] rest now p kept.station (ways.takes_other octets now v.now is stays) refl
+      going ways v view (w.takes octets now v.now) [] rest now p kept.station ((ways (was_removed v)).takes_other octets now v.now is stays) refl
       (sym (ap (λ (b : Bool). if b then octets ∷ those_for (other_side side) id rest else those_for (other_side side) id rest) is) ∙ ap (those_for (other_side side) id) (sym are))
 
-  takes_first_of : ServesLink w side id → (v : SideView S) (view : View) (now : ℕ) (incoming : List (List ℕ)) → v.incoming ≡ incoming → Projects w side id v view → IsKeptView Tagged view
-      → LeavesTei id (w.served v.now).links (takes_first w now incoming v.now).effects → Outcome v (view_after_deed v (takes_first w now incoming v.now) [] (drop 1 incoming)) view
+  takes_first_of : Serves → (v : SideView S) (view : View) (now : ℕ) (incoming : List (List ℕ)) → v.incoming ≡ incoming → Projects w side id v view → IsKeptView Tagged view
+      → Once v (takes_first w now incoming v.now) → Outcome v (view_after_deed v (takes_first w now incoming v.now) [] (drop 1 incoming)) view
   takes_first_of ways v view now [] are p kept stays = passing v view (unmoved v.now) [] [] p (no_effect v) refl (ap (those_for (other_side side) id) (sym are))
   takes_first_of ways v view now (octets ∷ rest) are p kept stays = takes_by_test ways v view now octets rest (is_for (other_side side) id octets) refl are p kept stays
 
@@ -354,11 +383,11 @@ module _ (S : Type 0) (w : Behaviour S) (side : Side) (id : LinkId) where
   -- ---- A timer expires.
 
   -- a timer of the link, in the one move that it is
-  expires_its : ServesLink w side id → (v : SideView S) (view : View) (now : ℕ) (timer : Timer) (deed : world.Deed) → acts Tagged side deed view ≡ takes Tagged (Expiry timer) [] view
+  expires_its : Serves → (v : SideView S) (view : View) (now : ℕ) (timer : Timer) (deed : world.Deed) → acts Tagged side deed view ≡ takes Tagged (Expiry timer) [] view
       → Projects w side id v view → IsKeptView Tagged view → HasLink (w.served v.now).links id view.station.end → Outcome v (view_after_deed v (w.expires now timer (Some id) v.now) [] v.incoming) view
   unfolding takes
   expires_its ways v view now timer deed is_deed p kept has =
-      let its = ways.expires_own now timer v.now has.linked _ has.there (expiry_is_done timer has.linked.end) in
+      let its = (ways (was_removed v)).expires_own now timer v.now has.linked _ has.there (expiry_is_done timer has.linked.end) in
       let x = projected_step v view (w.expires now timer (Some id) v.now) [] v.incoming view.incoming now (Expiry timer) [] 0 (stopped timer) p kept.station (w.served v.now).links has its
       (λ other t e. subst (λ (k : Timer). is_on k (stopped timer t) ≡ false) (same_timer timer other e) (stopped_is_off timer t)) (λ t a b h. stopped_agrees timer t a b h) refl p.incoming in
       inr (record {
@@ -378,9 +407,10 @@ module _ (S : Type 0) (w : Behaviour S) (side : Side) (id : LinkId) where
   runs_by timer l o there runs = sym (ap (runs_on timer) there) ∙ runs
 
   -- the link is there, where its timer runs
-  is_there : (v : SideView S) (timer : Timer) (end : End) → HasLink (w.served v.now).links id end ⊎ AwaitsLink (w.fresh id) (w.served v.now).links id end → runs_on timer ((w.served v.now).links id) ≡ true → HasLink (w.served v.now).links id end
+  is_there : (v : SideView S) (timer : Timer) (end : End) → ShowsEnd (w.fresh id) (w.served v.now).links id v.told end → runs_on timer ((w.served v.now).links id) ≡ true → HasLink (w.served v.now).links id end
   is_there v timer end (inl has) runs = has
-  is_there v timer end (inr early) runs = let never : false ≡ true = sym (ap (runs_on timer) early.absent) ∙ runs in cc
+  is_there v timer end (inr (inl early)) runs = let never : false ≡ true = sym (ap (runs_on timer) early.absent) ∙ runs in cc
+  is_there v timer end (inr (inr late)) runs = let never : false ≡ true = sym (ap (runs_on timer) late.absent) ∙ runs in cc
 
   t200_is_deed : (view : View) → view.station.end.t200 ≡ true → first_poll view.outgoing ≡ None → first_final view.incoming ≡ None → acts Tagged side world.Expire200 view ≡ takes Tagged (Expiry T200) [] view
   unfolding acts expires_200
@@ -394,21 +424,21 @@ module _ (S : Type 0) (w : Behaviour S) (side : Side) (id : LinkId) where
   t203_is_deed view on = ap (λ (b : Bool). if b then takes Tagged (Expiry T203) [] view else Err world.NotRunning) on
 
   -- of a link that is named
-  named_expires : ServesLink w side id → (v : SideView S) (view : View) (now : ℕ) (timer : Timer) (other : LinkId) (test : Bool) → id_eq id other ≡ test → runs_on timer ((w.served v.now).links other) ≡ true
+  named_expires : Serves → (v : SideView S) (view : View) (now : ℕ) (timer : Timer) (other : LinkId) (test : Bool) → id_eq id other ≡ test → runs_on timer ((w.served v.now).links other) ≡ true
       → (runs_on timer ((w.served v.now).links id) ≡ true → Some other ≡ Some id → Outcome v (view_after_deed v (w.expires now timer (Some id) v.now) [] v.incoming) view)
-      → Projects w side id v view → IsKeptView Tagged view → LeavesTei id (w.served v.now).links (w.expires now timer (Some other) v.now).effects → Outcome v (view_after_deed v (w.expires now timer (Some other) v.now) [] v.incoming) view
+      → Projects w side id v view → IsKeptView Tagged view → Once v (w.expires now timer (Some other) v.now) → Outcome v (view_after_deed v (w.expires now timer (Some other) v.now) [] v.incoming) view
   named_expires ways v view now timer other true is runs own p kept stays =
       let same : id ≡ other = same_id_eq id other is in
       subst (λ (k : LinkId). Outcome v (view_after_deed v (w.expires now timer (Some k) v.now) [] v.incoming) view) same
       (own (subst (λ (k : LinkId). runs_on timer ((w.served v.now).links k) ≡ true) (sym same) runs) (ap (λ (k : LinkId). Some k) (sym same)))
   named_expires ways v view now timer other false is runs own p kept stays =
       going ways v view (w.expires now timer (Some other) v.now) [] v.incoming now p kept.station
-      (ways.expires_other now timer (Some other) v.now (λ k e. subst (λ (x : LinkId). id_eq id x ≡ false) (some_id other k e) is) stays) refl refl
+      ((ways (was_removed v)).expires_other now timer (Some other) v.now (λ k e. subst (λ (x : LinkId). id_eq id x ≡ false) (some_id other k e) is) stays) refl refl
     where
       some_id : (a b : LinkId) → Some a ≡ Some b → a ≡ b
       some_id a b e = cc
 
-  t200_expires : ServesLink w side id → (v : SideView S) (view : View) (now : ℕ) (of : Option LinkId) → IsTimely side id (Expire T200 of now) v → Projects w side id v view → IsKeptView Tagged view
+  t200_expires : Serves → (v : SideView S) (view : View) (now : ℕ) (of : Option LinkId) → IsTimely side id (Expire T200 of now) v → Projects w side id v view → IsKeptView Tagged view
       → runs_on T200 ((w.served v.now).links id) ≡ true → of ≡ Some id → Outcome v (view_after_deed v (w.expires now T200 (Some id) v.now) [] v.incoming) view
   t200_expires ways v view now of timely p kept runs is =
       let clear = timely refl is in
@@ -417,23 +447,23 @@ module _ (S : Type 0) (w : Behaviour S) (side : Side) (id : LinkId) where
       expires_its ways v view now T200 world.Expire200
       (t200_is_deed view on (no_poll side id v.outgoing view.outgoing kept.going p.outgoing clear.0) (no_final (other_side side) id v.incoming view.incoming kept.coming p.incoming clear.1)) p kept has
 
-  t203_expires : ServesLink w side id → (v : SideView S) (view : View) (now : ℕ) → Projects w side id v view → IsKeptView Tagged view
+  t203_expires : Serves → (v : SideView S) (view : View) (now : ℕ) → Projects w side id v view → IsKeptView Tagged view
       → runs_on T203 ((w.served v.now).links id) ≡ true → Outcome v (view_after_deed v (w.expires now T203 (Some id) v.now) [] v.incoming) view
   t203_expires ways v view now p kept runs =
       let has = is_there v T203 view.station.end p.link runs in
       let on : view.station.end.t203 ≡ true = sym (ap (λ (e : End). e.t203) has.end) ∙ has.timed.t203 (runs_by T203 has.linked _ has.there runs) in
       expires_its ways v view now T203 world.Expire203 (t203_is_deed view on) p kept has
 
-  if_runs : (v : SideView S) (view : View) (test : Bool) (a : Reaction S) → Projects w side id v view → (test ≡ true → LeavesTei id (w.served v.now).links a.effects → Outcome v (view_after_deed v a [] v.incoming) view)
-      → LeavesTei id (w.served v.now).links (if test then a else unmoved v.now).effects → Outcome v (view_after_deed v (if test then a else unmoved v.now) [] v.incoming) view
+  if_runs : (v : SideView S) (view : View) (test : Bool) (a : Reaction S) → Projects w side id v view → (test ≡ true → Once v a → Outcome v (view_after_deed v a [] v.incoming) view)
+      → Once v (if test then a else unmoved v.now) → Outcome v (view_after_deed v (if test then a else unmoved v.now) [] v.incoming) view
   if_runs v view true a p does stays = does refl stays
   if_runs v view false a p does stays = passing v view (unmoved v.now) [] v.incoming p (no_effect v) refl refl
 
-  expires : ServesLink w side id → (v : SideView S) (view : View) (timer : Timer) (of : Option LinkId) (now : ℕ) → IsTimely side id (Expire timer of now) v → Projects w side id v view → IsKeptView Tagged view
-      → LeavesTei id (w.served v.now).links (reaction w (Expire timer of now) v).effects → Outcome v (view_after_deed v (reaction w (Expire timer of now) v) [] v.incoming) view
+  expires : Serves → (v : SideView S) (view : View) (timer : Timer) (of : Option LinkId) (now : ℕ) → IsTimely side id (Expire timer of now) v → Projects w side id v view → IsKeptView Tagged view
+      → Once v (reaction w (Expire timer of now) v) → Outcome v (view_after_deed v (reaction w (Expire timer of now) v) [] v.incoming) view
   expires ways v view timer None now timely p kept stays =
       if_runs v view _ (w.expires now timer None v.now) p
-      (λ runs stays. going ways v view (w.expires now timer None v.now) [] v.incoming now p kept.station (ways.expires_other now timer None v.now (λ k e. absurd (none_is_some k e)) stays) refl refl) stays
+      (λ runs stays. going ways v view (w.expires now timer None v.now) [] v.incoming now p kept.station ((ways (was_removed v)).expires_other now timer None v.now (λ k e. absurd (none_is_some k e)) stays) refl refl) stays
     where
       none_is_some : (k : LinkId) → None ≡ Some k → ⊥
       none_is_some k e = cc
@@ -465,9 +495,10 @@ module _ (S : Type 0) (w : Behaviour S) (side : Side) (id : LinkId) where
       })
 
   -- the link is there, where it does a step
-  is_there_for : (v : SideView S) (end : End) (l : Linked) → HasLink (w.served v.now).links id end ⊎ AwaitsLink (w.fresh id) (w.served v.now).links id end → (w.served v.now).links id ≡ Some l → HasLink (w.served v.now).links id end
+  is_there_for : (v : SideView S) (end : End) (l : Linked) → ShowsEnd (w.fresh id) (w.served v.now).links id v.told end → (w.served v.now).links id ≡ Some l → HasLink (w.served v.now).links id end
   is_there_for v end l (inl has) was = has
-  is_there_for v end l (inr early) was = let gone = early.absent in cc
+  is_there_for v end l (inr (inl early)) was = let gone = early.absent in cc
+  is_there_for v end l (inr (inr late)) was = let gone = late.absent in cc
 
   none_accepted : (request : Request) (now : ℕ) (s : S) (kind : SideKind) → w.requested request now s ≡ Err kind → accepted_by w request now s ≡ []
   none_accepted (request.Give other message) now s kind is = ap (if_granted (w.means s other) message.items) is
@@ -478,9 +509,9 @@ module _ (S : Type 0) (w : Behaviour S) (side : Side) (id : LinkId) where
   none_accepted request.AskTei now s kind is = refl
   none_accepted (request.Check tei) now s kind is = refl
 
-  asks_by : ServesLink w side id → (v : SideView S) (view : View) (request : Request) (now : ℕ) (r : Result (Reaction S) SideKind) → w.requested request now v.now ≡ r → Projects w side id v view → IsKeptView Tagged view
-      → LeavesTei id (w.served v.now).links (or_unmoved v.now r).effects → Outcome v (view_after_deed v (or_unmoved v.now r) (accepted_by w request now v.now) v.incoming) view
-  asks_by ways v view request now (Ok a) is p kept stays = elim (ways.asked request now v.now a is stays) [
+  asks_by : Serves → (v : SideView S) (view : View) (request : Request) (now : ℕ) (r : Result (Reaction S) SideKind) → w.requested request now v.now ≡ r → Projects w side id v view → IsKeptView Tagged view
+      → Once v (or_unmoved v.now r) → Outcome v (view_after_deed v (or_unmoved v.now r) (accepted_by w request now v.now) v.incoming) view
+  asks_by ways v view request now (Ok a) is p kept stays = elim ((ways (was_removed v)).asked request now v.now a is stays) [
     | inl none ↦ going ways v view a (accepted_by w request now v.now) v.incoming now p kept.station none.goes none.none_given refl
     | inr its ↦ request_is_move v view a now (accepted_by w request now v.now) p kept (is_there_for v view.station.end its.is_step.linked p.link its.is_step.was) its
   ]
@@ -489,7 +520,7 @@ module _ (S : Type 0) (w : Behaviour S) (side : Side) (id : LinkId) where
 
   -- ---- All deeds.
 
-  pub each_deed : ServesLink w side id → (v : SideView S) (view : View) (deed : Deed) → IsTimely side id deed v → KeepsTei w id deed v → Projects w side id v view → IsKeptView Tagged view → Outcome v (does w deed v) view
+  pub each_deed : Serves → (v : SideView S) (view : View) (deed : Deed) → IsTimely side id deed v → GivesTeiOnce w id deed v → Projects w side id v view → IsKeptView Tagged view → Outcome v (does w deed v) view
   unfolding does
   each_deed ways v view (Take now) timely stays p kept = takes_first_of ways v view now v.incoming refl p kept stays
   each_deed ways v view (Lose at) timely stays p kept = loses_one v view at p

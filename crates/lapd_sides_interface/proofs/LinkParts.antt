@@ -1,7 +1,7 @@
 -- What a step among the links of a side is to one of them.
 use Rattle.std.proofs.Common.{◌≡◌, ℕ, List, [], ◌∷◌, map, length, Bool, true, false, if◌then◌else◌, Option, Some, None, Result, Ok, Err, refl, ap, subst, ◌∙◌, ◌⊎◌, ◌++◌, sym}
-use Rattle.std.specs.Prelude.{IfSome, IfOk}
-use Rattle.std.specs.List.{filter, filter_map}
+use Rattle.std.specs.Prelude.{IfSome, IfOk, ◌||◌}
+use Rattle.std.specs.List.{filter, filter_map, list_any}
 use Rattle.std.proofs.lemmas.List.{append-nil}
 use Rattle.std.proofs.lemmas.List.Elements.{filter-append, filter_map-append}
 use Rattle.lapd_timers.specs.declared.timer.Timer.{Timer}
@@ -36,7 +36,8 @@ use Rattle.lapd_sides_links.specs.declared.side_fault.SideKind.TheVariants as ki
 use Rattle.lapd_sides_links.specs.Effects.{Effects, no_effects, sent_by, what_of, timed, stopped, effects_of_link, and_then}
 use Rattle.lapd_sides_links.specs.Links.{Links, Linked, Reaction, acted, link_acts, link_expires, in_place, where_there, in_links, with_link}
 use Rattle.lapd_sides_interface.specs.Addressed.{is_named, is_for, those_for}
-use Rattle.lapd_sides_interface.specs.Told.{what_for, told_of}
+use Rattle.lapd_sides_interface.specs.Premises.{tells_removal}
+use Rattle.lapd_sides_interface.specs.Told.{what_for, told_of, Known, learns, learns_all, AreExpectedWhats}
 
 -- ---- What a deed of a side is to one of its links: nothing, or one step of it.
 
@@ -57,14 +58,28 @@ pub record IsStep (side : Side) (id : LinkId) (at : ℕ) (input : Input) (octets
   pub frames : those_for side id effects.frames ≡ filter_map (sent_by (setup_for side id) done.end octets) done.outs
   pub told : told_of id effects.primitives ≡ filter_map (what_of octets) done.outs
 
--- The link comes, as it is new; and then it is left alone, or does the establishment that was kept for it.
-pub record IsComing (side : Side) (id : LinkId) (at : ℕ) (fresh : Linked) (before now : Links) (effects : Effects) : Type 0 where
+-- The link comes, as it is new, where its TEI was not taken away before; and then it is left alone, or does the establishment
+-- that was kept for it.
+pub record IsComing (side : Side) (id : LinkId) (at : ℕ) (fresh : Linked) (removed : Bool) (before now : Links) (effects : Effects) : Type 0 where
   pub absent : before id ≡ None
+  pub not_removed : removed ≡ false
   pub comes : PassesBy side id (with_link id (Some fresh) before) now effects ⊎ IsStep side id at Establish [] (λ t. t) (with_link id (Some fresh) before) now effects
 
+-- what is told of a link that goes teaches nothing, and reports no error
+pub record AreSilent (whats : List What) : Type 0 where
+  pub teaches : (k : Known) → learns_all whats k ≡ k
+  pub expected : AreExpectedWhats whats
+
+-- its TEI is taken away
+pub record IsRemoval (side : Side) (id : LinkId) (now : Links) (effects : Effects) : Type 0 where
+  pub gone : now id ≡ None
+  pub frames : those_for side id effects.frames ≡ []
+  pub told : AreSilent (told_of id effects.primitives)
+  pub tells : list_any (tells_removal id.tei) effects.primitives ≡ true
+
 -- what is no step of a link that is there
-abbrev pub Goes : Side → LinkId → ℕ → Linked → Links → Links → Effects → Type 0
-Goes side id at fresh before now effects = PassesBy side id before now effects ⊎ IsComing side id at fresh before now effects
+abbrev pub Goes : Side → LinkId → ℕ → Linked → Bool → Links → Links → Effects → Type 0
+Goes side id at fresh removed before now effects = PassesBy side id before now effects ⊎ (IsComing side id at fresh removed before now effects ⊎ IsRemoval side id now effects)
 
 -- ---- Lists of which all or none pass.
 
@@ -297,3 +312,43 @@ absent_by side id other links now input octets a true none same is =
 pub absent_acts : (side : Side) (id other : LinkId) (links : Links) (now : ℕ) (input : Input) (octets : List ℕ) (a : Reaction Links) → links id ≡ None
     → in_links other (link_acts side other now input octets) links ≡ Ok a → PassesBy side id links a.after a.effects
 absent_acts side id other links now input octets a none is = absent_by side id other links now input octets a (id_eq id other) none refl is
+
+-- ---- What is told of one that goes.
+
+or_more : (a b c : Bool) → (b ≡ true → c ≡ true) → (a || b) ≡ true → (a || c) ≡ true
+or_more true b c more h = refl
+or_more false b c more h = more h
+
+pub any_more : {X : Type 0} (test : X → Bool) (xs ys : List X) → list_any test xs ≡ true → list_any test (xs ++ ys) ≡ true
+any_more test [] ys h = cc
+any_more test (x ∷ xs) ys h = or_more (test x) (list_any test xs) (list_any test (xs ++ ys)) (any_more test xs ys) h
+
+pub any_behind : {X : Type 0} (test : X → Bool) (xs ys : List X) → list_any test ys ≡ true → list_any test (xs ++ ys) ≡ true
+any_behind test [] ys h = h
+any_behind test (x ∷ xs) ys h = rw (any_behind test xs ys h) (or_true (test x))
+  where
+    or_true : (b : Bool) → (b || true) ≡ true
+    or_true true = refl
+    or_true false = refl
+
+pub learns_both : (xs ys : List What) (k : Known) → learns_all (xs ++ ys) k ≡ learns_all ys (learns_all xs k)
+learns_both [] ys k = refl
+learns_both (x ∷ xs) ys k = learns_both xs ys (learns x k)
+
+pub expected_both : (xs ys : List What) → AreExpectedWhats xs → AreExpectedWhats ys → AreExpectedWhats (xs ++ ys)
+expected_both [] ys hx hy = hy
+expected_both (x ∷ xs) ys hx hy = (hx.0, expected_both xs ys hx.1 hy)
+
+pub silent_both : (xs ys : List What) → AreSilent xs → AreSilent ys → AreSilent (xs ++ ys)
+silent_both xs ys hx hy = record {
+  teaches = λ k. learns_both xs ys k ∙ ap (learns_all ys) (hx.teaches k) ∙ hy.teaches k;
+  expected = expected_both xs ys hx.expected hy.expected;
+}
+
+pub removal_then_pass : (side : Side) (id : LinkId) (second third : Links) (a b : Effects) → IsRemoval side id second a → PassesBy side id second third b → IsRemoval side id third (and_then a b)
+removal_then_pass side id second third a b r p = record {
+  gone = p.links ∙ r.gone;
+  frames = filter-append (is_for side id) a.frames b.frames ∙ ap (λ l. those_for side id a.frames ++ l) p.frames ∙ append-nil (those_for side id a.frames) ∙ r.frames;
+  told = subst AreSilent (sym (filter_map-append (what_for id) a.primitives b.primitives ∙ ap (λ l. told_of id a.primitives ++ l) p.told ∙ append-nil (told_of id a.primitives))) r.told;
+  tells = any_more (tells_removal id.tei) a.primitives b.primitives r.tells;
+}

@@ -1,6 +1,5 @@
 -- What a deed of a network side is to one of its links.
 use Rattle.std.proofs.Common.{◌≡◌, ◌⊎◌, inl, ℕ, ◌<◌, ◌==◌, ◌&&◌, nat_lt, List, [], ◌∷◌, length, Bool, true, false, if◌then◌else◌, Option, Some, None, Result, Ok, Err, refl, sym, ap, subst, ◌∙◌, arith, inr}
-use Rattle.std.specs.Prelude.{is_some}
 use Rattle.std.proofs.lemmas.Bool.Decides.{nat_tests}
 use Rattle.lapd_timers.specs.declared.timer.Timer.{Timer}
 use Rattle.lapd_timers.specs.Due.{Timers}
@@ -40,24 +39,24 @@ use Rattle.lapd_sides.specs.declared.request.Request.TheVariants as request
 use Rattle.lapd_pair_world.specs.Line.{Flight}
 use Rattle.lapd_sides_interface.specs.Addressed.{is_named, is_for, parts_of, spelled}
 use Rattle.lapd_sides_interface.specs.Told.{given_to}
-use Rattle.lapd_sides_interface.specs.Premises.{LeavesTei}
+use Rattle.lapd_sides_interface.specs.Premises.{IsGivenOnce}
 use Rattle.lapd_sides_interface.specs.Interface.{fresh_link, network_behaviour}
 use Rattle.lapd_sides_interface.specs.SideView.{if_granted, accepted_by}
 use Rattle.lapd_sides_interface.proofs.Asked.{IsWish, establish_wish, release_wish, busy_wish, free_wish, give_wish, unit_wish, granted_part, none_given, one_given}
 use Rattle.lapd_sides_interface.proofs.Deeds.{IsRequest, IsNoRequest, ServesLink}
 use Rattle.lapd_sides_interface.proofs.LinkParts.{PassesBy, IsStep, Goes, absent_refuses, spelled_is_for, other_acts, other_expires, own_is_step, own_acts, own_expires, passes_by_nothing}
 use Rattle.lapd_sides_interface.proofs.Timed.{new_is_timed}
-use Rattle.lapd_sides_interface.proofs.Managed.{managing_passes_by, managing_absent, and_not, not_of_group}
+use Rattle.lapd_sides_interface.proofs.Managed.{managing, and_not, not_of_group}
 
-module _ (config : Config) (id : LinkId) (low : id.tei < 127) where
+module _ (config : Config) (id : LinkId) (low : id.tei < 127) (removed : Bool) where
   abbrev pub Passes : Network → Reaction Network → Type 0
   Passes s a = PassesBy side.Network id s.served.links a.after.served.links a.effects
 
   abbrev pub Stays : Network → Reaction Network → Type 0
-  Stays s a = LeavesTei id s.served.links a.effects
+  Stays s a = IsGivenOnce id s.served.links removed a.effects
 
   abbrev pub NetworkGoes : ℕ → Network → Reaction Network → Type 0
-  NetworkGoes now s a = Goes side.Network id now (fresh_link config id) s.served.links a.after.served.links a.effects
+  NetworkGoes now s a = Goes side.Network id now (fresh_link config id) removed s.served.links a.after.served.links a.effects
 
   abbrev pub Steps : ℕ → Input → List ℕ → (Timers → Timers) → Network → Reaction Network → Type 0
   Steps now input octets change s a = IsStep side.Network id now input octets change s.served.links a.after.served.links a.effects
@@ -67,17 +66,13 @@ module _ (config : Config) (id : LinkId) (low : id.tei < 127) where
 
   -- ---- TEI management.
 
-  assigned_by : (now : ℕ) (event : AssignerEvent) (s : Network) (o : Option Linked) → s.served.links id ≡ o → Stays s (assigner_acts config now event s) → NetworkGoes now s (assigner_acts config now event s)
-  unfolding assigner_acts
-  assigned_by now event s (Some l) there stays =
-      inl (managing_passes_by side.Network config now (assigner_step s.assigner event).outs s.served id low stays.not_removed (stays.not_given_again (ap is_some there)))
-  assigned_by now event s None there stays = elim (managing_absent side.Network config now (assigner_step s.assigner event).outs s.served id low stays.not_removed there) [
-    | inl passes ↦ inl passes
-    | inr comes ↦ inr (record { absent = there; comes = inl comes })
-  ]
-
   assigning : (now : ℕ) (event : AssignerEvent) (s : Network) → Stays s (assigner_acts config now event s) → NetworkGoes now s (assigner_acts config now event s)
-  assigning now event s stays = assigned_by now event s (s.served.links id) refl stays
+  unfolding assigner_acts
+  assigning now event s stays = elim (managing side.Network config now (assigner_step s.assigner event).outs s.served id low removed stays) [
+    | inl passes ↦ inl passes
+    | inr (inl comes) ↦ inr (inl (record { absent = comes.absent; not_removed = comes.not_removed; comes = inl comes.passes }))
+    | inr (inr goes) ↦ inr (inr goes)
+  ]
 
   message : (now : ℕ) (r : Result TeiMessage TeiFault) (s : Network) → Stays s (message_heard config now r s) → NetworkGoes now s (message_heard config now r s)
   message now (Ok m) s stays = assigning now (event.Heard m) s stays
@@ -165,7 +160,7 @@ module _ (config : Config) (id : LinkId) (low : id.tei < 127) where
 
   abbrev Asked : ℕ → Network → Reaction Network → List (LinkId × List ℕ) → Type 0
   Asked now s a given =
-      IsNoRequest side.Network id now (fresh_link config id) s.served.links a.after.served.links a.effects given ⊎ IsRequest side.Network id now s.served.links a.after.served.links a.effects given
+      IsNoRequest side.Network id now (fresh_link config id) removed s.served.links a.after.served.links a.effects given ⊎ IsRequest side.Network id now s.served.links a.after.served.links a.effects given
 
   abbrev Granted : Reaction Network → Result (Reaction Network) SideKind
   Granted x = Ok x
@@ -174,7 +169,7 @@ module _ (config : Config) (id : LinkId) (low : id.tei < 127) where
   same_network x y h = cc
 
   among : (now : ℕ) (s : Network) (a : Reaction Network) (given : List (LinkId × List ℕ)) (r : Result (Reaction Links) SideKind)
-      → ((b : Reaction Links) → r ≡ Ok b → IsNoRequest side.Network id now (fresh_link config id) s.served.links b.after b.effects given ⊎ IsRequest side.Network id now s.served.links b.after b.effects given)
+      → ((b : Reaction Links) → r ≡ Ok b → IsNoRequest side.Network id now (fresh_link config id) removed s.served.links b.after b.effects given ⊎ IsRequest side.Network id now s.served.links b.after b.effects given)
       → among_links s r ≡ Ok a → Asked now s a given
   among now s a given (Ok b) each is = subst (λ (x : Reaction Network). Asked now s x given) (same_network (with_links s b) a is) (each b refl)
   among now s a given (Err kind) each is = cc
@@ -183,7 +178,7 @@ module _ (config : Config) (id : LinkId) (low : id.tei < 127) where
       → given_to id given ≡ (if id_eq id other then messages_of input else []) → link_of_network now other input octets s ≡ Ok a → Asked now s a given
   unfolding link_of_network
   link_asked now other input octets s a given wish given_is is =
-      among now s a given (in_links other (link_acts side.Network other now input octets) s.served.links) (λ b granted. granted_part side.Network id (fresh_link config id) s.served.links now other input octets b given wish given_is granted) is
+      among now s a given (in_links other (link_acts side.Network other now input octets) s.served.links) (λ b granted. granted_part side.Network id (fresh_link config id) removed s.served.links now other input octets b given wish given_is granted) is
 
   -- unit data to all terminals
   group_asked : (now : ℕ) (sapi : Sapi) (octets : List ℕ) (s : Network) (a : Reaction Network) (long : Bool) → nat_lt n201 (length octets) ≡ long
@@ -218,5 +213,5 @@ module _ (config : Config) (id : LinkId) (low : id.tei < 127) where
 
   -- ---- A network side.
 
-  pub of_network : ServesLink (network_behaviour config) side.Network id
+  pub of_network : ServesLink (network_behaviour config) side.Network id removed
   of_network = record { takes_other = takes_other; takes_own = takes_own; takes_absent = takes_absent; fresh_is_timed = new_is_timed (parameters_for config id.sapi) config.durations; expires_other = expires_other; expires_own = expires_own; asked = asked }

@@ -43,7 +43,7 @@ use Rattle.lapd_sides_links.specs.declared.side_fault.SideKind.TheVariants.{NoLi
 use Rattle.lapd_sides_links.specs.Effects.{no_effects, stopped, outcome_of}
 use Rattle.lapd_sides_links.specs.Links.{Links, Linked, Reaction, of_sapi, is_served, in_links, link_acts, link_expires, parameters_for, with_link}
 use Rattle.lapd_table.proofs.Ids.{same_id_eq, id_eq_self}
-use Rattle.std.specs.Prelude.{is_some}
+use Rattle.std.specs.Prelude.{is_some, ◌||◌}
 use Rattle.lapd_sides.specs.declared.request.Request.{Request}
 use Rattle.lapd_sides.specs.declared.request.Request.TheVariants as request
 use Rattle.lapd_sides.specs.Management.{carries_message, is_unit_to_group, is_management, is_ui, manages}
@@ -53,22 +53,22 @@ use Rattle.lapd_sides_interface.specs.Addressed.{is_named, is_for, parts_of, spe
 use Rattle.lapd_sides_interface.specs.Interface.{fresh_link, user_behaviour, own_link}
 use Rattle.lapd_sides_interface.specs.SideView.{if_granted, accepted_by}
 use Rattle.lapd_sides_interface.specs.Told.{what_for, told_of, given_to}
-use Rattle.lapd_sides_interface.specs.Premises.{LeavesTei, tells_removal, tells_assignment}
+use Rattle.lapd_sides_interface.specs.Premises.{IsGivenOnce, tells_assignment}
 use Rattle.lapd_sides_interface.proofs.Asked.{IsWish, establish_wish, release_wish, busy_wish, free_wish, give_wish, unit_wish, granted_part, none_given, one_given}
 use Rattle.lapd_sides_interface.proofs.Deeds.{IsRequest, IsNoRequest, ServesLink}
-use Rattle.lapd_sides_interface.proofs.LinkParts.{PassesBy, IsStep, Goes, now_there, absent_refuses, absent_acts, own_granted, pass_then_step, step_then_pass, other_acts, other_expires, own_is_step, own_acts, own_expires, passes_by_nothing, passes_by_both}
+use Rattle.lapd_sides_interface.proofs.LinkParts.{PassesBy, IsStep, Goes, now_there, absent_refuses, absent_acts, own_granted, pass_then_step, step_then_pass, removal_then_pass, other_acts, other_expires, own_is_step, own_acts, own_expires, passes_by_nothing, passes_by_both}
 use Rattle.lapd_sides_interface.proofs.Timed.{new_is_timed}
-use Rattle.lapd_sides_interface.proofs.Managed.{managing_passes_by, managing_absent, outcomes_spare, and_not, neither, any_first, other_tei, not_of_group}
+use Rattle.lapd_sides_interface.proofs.Managed.{managing, outcomes_spare, and_not, neither, any_first, other_tei, not_of_group}
 
-module _ (config : Config) (id : LinkId) (low : id.tei < 127) where
+module _ (config : Config) (id : LinkId) (low : id.tei < 127) (removed : Bool) where
   abbrev pub Passes : User → Reaction User → Type 0
   Passes s a = PassesBy side.User id s.served.links a.after.served.links a.effects
 
   abbrev pub Stays : User → Reaction User → Type 0
-  Stays s a = LeavesTei id s.served.links a.effects
+  Stays s a = IsGivenOnce id s.served.links removed a.effects
 
   abbrev pub UserGoes : ℕ → User → Reaction User → Type 0
-  UserGoes now s a = Goes side.User id now (fresh_link config id) s.served.links a.after.served.links a.effects
+  UserGoes now s a = Goes side.User id now (fresh_link config id) removed s.served.links a.after.served.links a.effects
 
   abbrev pub Steps : ℕ → Input → List ℕ → (Timers → Timers) → User → Reaction User → Type 0
   Steps now input octets change s a = IsStep side.User id now input octets change s.served.links a.after.served.links a.effects
@@ -232,37 +232,36 @@ module _ (config : Config) (id : LinkId) (low : id.tei < 127) where
 
   -- ---- A step of the terminal.
 
-  assigned_by : (now : ℕ) (step : TerminalStep) (s : User) (o : Option Linked) → s.served.links id ≡ o → Stays s (assigned config now step s) → UserGoes now s (assigned config now step s)
-  assigned_by now step s (Some l) there stays =
-      let m = manages side.User config now step.outs s.served in
-      let middle : User = record s { served = m.after; terminal = step.now; random = drawn step.outs s.random } in
-      let rest = kept_after now step.outs middle in
-      let not_removed = any_first (tells_removal id.tei) m.effects.primitives rest.effects.primitives stays.not_removed in
-      let not_given = any_first (tells_assignment id.tei) m.effects.primitives rest.effects.primitives (stays.not_given_again (ap is_some there)) in
-      inl (passes_by_both side.User id s.served.links m.after.links rest.after.served.links m.effects rest.effects
-      (managing_passes_by side.User config now step.outs s.served id low not_removed not_given)
-      (keeping now step.outs middle (outcomes_spare side.User config now step.outs s.served id low not_given)))
-  assigned_by now step s None there stays =
+  -- what TEI management left alone, the establishments that are kept leave alone
+  keeping_as : (now : ℕ) (outs : List TeiOut) (s : User) (o : Option Linked) → s.served.links id ≡ o → (is_some o ≡ true → list_any (tells_assignment id.tei) (filter_map outcome_of outs) ≡ false) → Passes s (kept_after now outs s)
+  keeping_as now outs s (Some l) is spared = keeping now outs s (spared refl)
+  keeping_as now outs s None is spared = keeping_absent now outs s is
+
+  there_so : (o : Option Linked) → is_some o ≡ true → (is_some o || removed) ≡ true
+  there_so (Some l) h = refl
+  there_so None h = cc
+
+  assigning : (now : ℕ) (step : TerminalStep) (s : User) → Stays s (assigned config now step s) → UserGoes now s (assigned config now step s)
+  assigning now step s stays =
       let m = manages side.User config now step.outs s.served in
       let middle : User = record s { served = m.after; terminal = step.now; random = drawn step.outs s.random } in
       let rest = kept_after now step.outs middle in
       let fresh = fresh_link config id in
       let come : Links = with_link id (Some fresh) s.served.links in
-      let not_removed = any_first (tells_removal id.tei) m.effects.primitives rest.effects.primitives stays.not_removed in
-      elim (managing_absent side.User config now step.outs s.served id low not_removed there) [
-        | inl stayed ↦ inl (passes_by_both side.User id s.served.links m.after.links rest.after.served.links m.effects rest.effects
-            stayed (keeping_absent now step.outs middle (stayed.links ∙ there)))
-        | inr came ↦ inr (record {
-          absent = there;
-          comes = elim (keeping_there now step.outs middle fresh (came.links ∙ now_there id fresh s.served.links)) [
-            | inl left ↦ inl (passes_by_both side.User id come m.after.links rest.after.served.links m.effects rest.effects came left)
-            | inr does ↦ inr (pass_then_step side.User id now Establish [] (λ t. t) come m.after.links rest.after.served.links m.effects rest.effects came does)
+      let once : IsGivenOnce id s.served.links removed m.effects = λ h. any_first (tells_assignment id.tei) m.effects.primitives rest.effects.primitives (stays h) in
+      elim (managing side.User config now step.outs s.served id low removed once) [
+        | inl passes ↦ inl (passes_by_both side.User id s.served.links m.after.links rest.after.served.links m.effects rest.effects passes
+            (keeping_as now step.outs middle (s.served.links id) passes.links (λ there. outcomes_spare side.User config now step.outs s.served id low (once (there_so (s.served.links id) there)))))
+        | inr (inl came) ↦ inr (inl (record {
+          absent = came.absent;
+          not_removed = came.not_removed;
+          comes = elim (keeping_there now step.outs middle fresh (came.passes.links ∙ now_there id fresh s.served.links)) [
+            | inl left ↦ inl (passes_by_both side.User id come m.after.links rest.after.served.links m.effects rest.effects came.passes left)
+            | inr does ↦ inr (pass_then_step side.User id now Establish [] (λ t. t) come m.after.links rest.after.served.links m.effects rest.effects came.passes does)
           ];
-        })
+        }))
+        | inr (inr goes) ↦ inr (inr (removal_then_pass side.User id m.after.links rest.after.served.links m.effects rest.effects goes (keeping_absent now step.outs middle goes.gone)))
       ]
-
-  assigning : (now : ℕ) (step : TerminalStep) (s : User) → Stays s (assigned config now step s) → UserGoes now s (assigned config now step s)
-  assigning now step s stays = assigned_by now step s (s.served.links id) refl stays
 
   acting : (now : ℕ) (event : ℕ → TerminalEvent) (s : User) → Stays s (terminal_acts config now event s) → UserGoes now s (terminal_acts config now event s)
   unfolding terminal_acts
@@ -353,7 +352,7 @@ module _ (config : Config) (id : LinkId) (low : id.tei < 127) where
 
   abbrev Asked : ℕ → User → Reaction User → List (LinkId × List ℕ) → Type 0
   Asked now s a given =
-      IsNoRequest side.User id now (fresh_link config id) s.served.links a.after.served.links a.effects given ⊎ IsRequest side.User id now s.served.links a.after.served.links a.effects given
+      IsNoRequest side.User id now (fresh_link config id) removed s.served.links a.after.served.links a.effects given ⊎ IsRequest side.User id now s.served.links a.after.served.links a.effects given
 
   abbrev Granted : Reaction User → Result (Reaction User) SideKind
   Granted x = Ok x
@@ -362,7 +361,7 @@ module _ (config : Config) (id : LinkId) (low : id.tei < 127) where
   same_user x y h = cc
 
   among : (now : ℕ) (s : User) (a : Reaction User) (given : List (LinkId × List ℕ)) (r : Result (Reaction Links) SideKind)
-      → ((b : Reaction Links) → r ≡ Ok b → IsNoRequest side.User id now (fresh_link config id) s.served.links b.after b.effects given ⊎ IsRequest side.User id now s.served.links b.after b.effects given)
+      → ((b : Reaction Links) → r ≡ Ok b → IsNoRequest side.User id now (fresh_link config id) removed s.served.links b.after b.effects given ⊎ IsRequest side.User id now s.served.links b.after b.effects given)
       → among_links s r ≡ Ok a → Asked now s a given
   among now s a given (Ok b) each is = subst (λ (x : Reaction User). Asked now s x given) (same_user (with_links s b) a is) (each b refl)
   among now s a given (Err kind) each is = cc
@@ -371,7 +370,7 @@ module _ (config : Config) (id : LinkId) (low : id.tei < 127) where
       → given_to id given ≡ (if id_eq id other then messages_of input else []) → link_of_user now other input octets s ≡ Ok a → Asked now s a given
   unfolding link_of_user
   link_asked now other input octets s a given wish given_is is =
-      among now s a given (in_links other (link_acts side.User other now input octets) s.served.links) (λ b granted. granted_part side.User id (fresh_link config id) s.served.links now other input octets b given wish given_is granted) is
+      among now s a given (in_links other (link_acts side.User other now input octets) s.served.links) (λ b granted. granted_part side.User id (fresh_link config id) removed s.served.links now other input octets b given wish given_is granted) is
 
   -- no message is given, and what is done without TEI is nothing to the link
   plainly : (now : ℕ) (phase : Phase) (at : Sapi) (input : Input) (octets : List ℕ) (otherwise : Result (Reaction User) SideKind) (s : User) (a : Reaction User) → IsWish side.User input octets → messages_of input ≡ []
@@ -421,5 +420,5 @@ module _ (config : Config) (id : LinkId) (low : id.tei < 127) where
 
   -- ---- A user side.
 
-  pub of_user : ServesLink (user_behaviour config) side.User id
+  pub of_user : ServesLink (user_behaviour config) side.User id removed
   of_user = record { takes_other = takes_other; takes_own = takes_own; takes_absent = takes_absent; fresh_is_timed = new_is_timed (parameters_for config id.sapi) config.durations; expires_other = expires_other; expires_own = expires_own; asked = asked }

@@ -21,17 +21,18 @@ use Rattle.lapd_pair_proof.proofs.Reached.{every_run_safe, every_run_reports}
 use Rattle.lapd_table.specs.declared.link_id.LinkId.{LinkId}
 use Rattle.lapd_sides_links.specs.declared.primitive.What.{What}
 use Rattle.lapd_sides_links.specs.Effects.{what_of}
-use Rattle.lapd_sides_links.specs.Links.{new_linked}
+use Rattle.lapd_sides_links.specs.Links.{new_linked, Links, Linked}
 use Rattle.lapd_sides.specs.Network.{Network}
 use Rattle.lapd_sides.specs.User.{User}
 use Rattle.lapd_sides_interface.specs.Addressed.{those_for}
 use Rattle.lapd_sides_interface.specs.Interface.{fresh_link, Configs, Interface, Move, user_behaviour, network_behaviour, new_interface, from_here, by_user, by_network, with_user, with_network, side_does, happens, run}
-use Rattle.lapd_sides_interface.specs.Premises.{IsTimelyMove, IsMoveKeepingTei, AreTimely, KeepTei, KeepPremises}
-use Rattle.lapd_sides_interface.specs.Projects.{HasLink, AwaitsLink, Projects, ProjectsTo, IsRight, IsSafeAt}
+use Rattle.lapd_sides_interface.specs.Premises.{IsTimelyMove, IsMoveGivingTeiOnce, AreTimely, GiveTeiOnce, KeepPremises}
+use Rattle.lapd_sides_interface.specs.Projects.{HasLink, AwaitsLink, ShowsEnd, Projects, ProjectsTo, IsRight, IsSafeAt}
 use Rattle.lapd_sides_interface.specs.SideView.{Deed, SideView, does}
 use Rattle.lapd_sides_interface.specs.Told.{told_of, IsReceived, AreExpectedWhats}
 use Rattle.lapd_sides_interface.proofs.Deeds.{each_deed}
 use Rattle.lapd_sides_interface.proofs.Frames.{told_is_expected}
+use Rattle.lapd_sides_interface.proofs.LinkParts.{expected_both}
 use Rattle.lapd_sides_interface.proofs.Networks.{of_network}
 use Rattle.lapd_sides_interface.proofs.Timed.{new_is_timed}
 use Rattle.lapd_sides_interface.proofs.Users.{of_user}
@@ -56,9 +57,14 @@ module _ (who : Side) (deed : world.Deed) (w : World) (turn : world.Turn) (is : 
   unfolding world_of.happens
   outs_are_expected h = subst (λ o. ReportsExpected (in_world who w o)) is h
 
-expected_both : (xs ys : List What) → AreExpectedWhats xs → AreExpectedWhats ys → AreExpectedWhats (xs ++ ys)
-expected_both [] ys hx hy = hy
-expected_both (x ∷ xs) ys hx hy = (hx.0, expected_both xs ys hx.1 hy)
+-- a link is there as new, or not there yet
+abbrev pub IsNew : Linked → Links → LinkId → Parameters → Type 0
+IsNew fresh links id p = HasLink links id (new_end p) ⊎ AwaitsLink fresh links id (new_end p)
+
+-- so it shows a new end, whatever was told before
+new_shows : (fresh : Linked) (links : Links) (id : LinkId) (p : Parameters) → IsNew fresh links id p → ShowsEnd fresh links id [] (new_end p)
+new_shows fresh links id p (inl h) = inl h
+new_shows fresh links id p (inr h) = inr (inl h)
 
 -- ---- What is safe is right.
 
@@ -145,7 +151,7 @@ module _ (c : Configs) (id : LinkId) (low : id.tei < 127) where
         let outs = outs_are_expected who deed (Reached moves) turn is (last_is_expected moves (record { side = who; deed = deed }) (new_world p q) all) in
         subst AreExpectedWhats (sym tells) (expected_both before (filter_map (what_of octets) turn.outs) h (told_is_expected octets turn.outs outs))
 
-    one_move : (i : Interface) (who : Side) (deed : Deed) → IsTimelyMove id who deed i → IsMoveKeepingTei c id who deed i → IsReached i → IsReached (side_does c who deed i)
+    one_move : (i : Interface) (who : Side) (deed : Deed) → IsTimelyMove id who deed i → IsMoveGivingTeiOnce c id who deed i → IsReached i → IsReached (side_does c who deed i)
     one_move i side.User deed timely stays r =
         let w = Reached r.moves in
         let v = does (user_behaviour c.user) deed (by_user i) in
@@ -153,7 +159,7 @@ module _ (c : Configs) (id : LinkId) (low : id.tei < 127) where
           | inl n ↦ record {
             moves = r.moves;
             shows = by_user_after v i (view_of side.User w) w n.shows r.shows.network;
-            reports_to_user = subst AreExpectedWhats (sym n.tells) r.reports_to_user;
+            reports_to_user = n.expected r.reports_to_user;
             reports_to_network = r.reports_to_network;
           }
           | inr m ↦ record {
@@ -171,7 +177,7 @@ module _ (c : Configs) (id : LinkId) (low : id.tei < 127) where
             moves = r.moves;
             shows = by_network_after v i (view_of side.Network w) w n.shows r.shows.user;
             reports_to_user = r.reports_to_user;
-            reports_to_network = subst AreExpectedWhats (sym n.tells) r.reports_to_network;
+            reports_to_network = n.expected r.reports_to_network;
           }
           | inr m ↦ record {
             moves = More r.moves side.Network m.deed;
@@ -183,26 +189,26 @@ module _ (c : Configs) (id : LinkId) (low : id.tei < 127) where
 
     -- ---- Every run.
 
-    all_moves : (i : Interface) (moves : List Move) → AreTimely c id moves i → KeepTei c id moves i → IsReached i → IsReached (run c moves i)
+    all_moves : (i : Interface) (moves : List Move) → AreTimely c id moves i → GiveTeiOnce c id moves i → IsReached i → IsReached (run c moves i)
     all_moves i [] timely stays r = r
     all_moves i (move ∷ moves) timely stays r = all_moves (happens c move i) moves timely.1 stays.1 (one_move i move.side move.deed timely.0 stays.0 r)
 
     -- the link is new on both sides, there or not there yet, and no octets for it are on their way
-    begins : (i : Interface) → HasLink i.user.served.links id (new_end p) ⊎ AwaitsLink (fresh_link c.user id) i.user.served.links id (new_end p)
-        → HasLink i.network.served.links id (new_end q) ⊎ AwaitsLink (fresh_link c.network id) i.network.served.links id (new_end q)
+    begins : (i : Interface) → IsNew (fresh_link c.user id) i.user.served.links id p
+        → IsNew (fresh_link c.network id) i.network.served.links id q
         → those_for side.Network id i.to_user ≡ [] → those_for side.User id i.to_network ≡ [] → IsReached (from_here i)
     begins i of_u of_n no_to_user no_to_network = record {
       moves = [];
       shows = record {
-        user = record { link = of_u; incoming = no_to_user; outgoing = no_to_network; known = refl; given = refl };
-        network = record { link = of_n; incoming = no_to_network; outgoing = no_to_user; known = refl; given = refl };
+        user = record { link = new_shows _ _ id p of_u; incoming = no_to_user; outgoing = no_to_network; known = refl; given = refl };
+        network = record { link = new_shows _ _ id q of_n; incoming = no_to_network; outgoing = no_to_user; known = refl; given = refl };
       };
       reports_to_user = tt;
       reports_to_network = tt;
     }
 
-    pub link_safe_as : (i : Interface) → HasLink i.user.served.links id (new_end p) ⊎ AwaitsLink (fresh_link c.user id) i.user.served.links id (new_end p)
-        → HasLink i.network.served.links id (new_end q) ⊎ AwaitsLink (fresh_link c.network id) i.network.served.links id (new_end q)
+    pub link_safe_as : (i : Interface) → IsNew (fresh_link c.user id) i.user.served.links id p
+        → IsNew (fresh_link c.network id) i.network.served.links id q
         → those_for side.Network id i.to_user ≡ [] → those_for side.User id i.to_network ≡ [] → (moves : List Move) → KeepPremises c id moves (from_here i) → IsSafeAt c id (run c moves (from_here i))
     link_safe_as i of_u of_n no_to_user no_to_network moves premises =
         let r = all_moves (from_here i) moves premises.0 premises.1 (begins i of_u of_n no_to_user no_to_network) in

@@ -1,5 +1,5 @@
--- The premises of one link: its T200 is timely, and its TEI stays, once it is there.
-use Rattle.std.specs.Prelude.{◌≡◌, ℕ, ◌==◌, Bool, true, false, List, [], ◌∷◌, Some, is_some}
+-- The premises of one link: its T200 is timely, and its TEI is given once.
+use Rattle.std.specs.Prelude.{◌≡◌, ℕ, ◌==◌, ◌||◌, Bool, true, false, List, [], ◌∷◌, Some, is_some}
 use Rattle.std.specs.List.{list_any}
 use Rattle.lapd_timers.specs.declared.timer.Timer.TheVariants.{T200}
 use Rattle.lapd_frame.specs.declared.Side.{Side}
@@ -37,14 +37,14 @@ tells_assignment tei (Management (outcome.Given t)) = t == tei
 tells_assignment tei (Management (outcome.Got t)) = t == tei
 tells_assignment tei other = false
 
--- The TEI of the link is not taken away, and it is not given where the link is there already.
-pub record LeavesTei (id : LinkId) (links : Links) (effects : Effects) : Type 0 where
-  pub not_removed : list_any (tells_removal id.tei) effects.primitives ≡ false
-  pub not_given_again : is_some (links id) ≡ true
-      → list_any (tells_assignment id.tei) effects.primitives ≡ false
+-- The TEI is not given where the link is there, nor where the TEI was taken away before.
+abbrev pub IsGivenOnce : LinkId → Links → Bool → Effects → Type 0
+IsGivenOnce id links removed effects = (is_some (links id) || removed) ≡ true
+    → list_any (tells_assignment id.tei) effects.primitives ≡ false
 
-abbrev pub KeepsTei : {S : Type 0} → Behaviour S → LinkId → Deed → SideView S → Type 0
-KeepsTei w id deed v = LeavesTei id (w.served v.now).links (reaction w deed v).effects
+abbrev pub GivesTeiOnce : {S : Type 0} → Behaviour S → LinkId → Deed → SideView S → Type 0
+GivesTeiOnce w id deed v = IsGivenOnce id (w.served v.now).links
+    (list_any (tells_removal id.tei) v.told) (reaction w deed v).effects
 
 -- ---- Of all moves of a run.
 
@@ -52,21 +52,21 @@ abbrev pub IsTimelyMove : LinkId → Side → Deed → Interface → Type 0
 IsTimelyMove id side.User deed i = IsTimely side.User id deed (by_user i)
 IsTimelyMove id side.Network deed i = IsTimely side.Network id deed (by_network i)
 
-abbrev pub IsMoveKeepingTei : Configs → LinkId → Side → Deed → Interface → Type 0
-IsMoveKeepingTei c id side.User deed i = KeepsTei (user_behaviour c.user) id deed (by_user i)
-IsMoveKeepingTei c id side.Network deed i =
-    KeepsTei (network_behaviour c.network) id deed (by_network i)
+abbrev pub IsMoveGivingTeiOnce : Configs → LinkId → Side → Deed → Interface → Type 0
+IsMoveGivingTeiOnce c id side.User deed i = GivesTeiOnce (user_behaviour c.user) id deed (by_user i)
+IsMoveGivingTeiOnce c id side.Network deed i =
+    GivesTeiOnce (network_behaviour c.network) id deed (by_network i)
 
 abbrev pub AreTimely : Configs → LinkId → List Move → Interface → Type 0
 AreTimely c id [] i = Unit {0}
 AreTimely c id (move ∷ moves) i = IsTimelyMove id move.side move.deed i
     × AreTimely c id moves (happens c move i)
 
-abbrev pub KeepTei : Configs → LinkId → List Move → Interface → Type 0
-KeepTei c id [] i = Unit {0}
-KeepTei c id (move ∷ moves) i = IsMoveKeepingTei c id move.side move.deed i
-    × KeepTei c id moves (happens c move i)
+abbrev pub GiveTeiOnce : Configs → LinkId → List Move → Interface → Type 0
+GiveTeiOnce c id [] i = Unit {0}
+GiveTeiOnce c id (move ∷ moves) i = IsMoveGivingTeiOnce c id move.side move.deed i
+    × GiveTeiOnce c id moves (happens c move i)
 
 -- both
 abbrev pub KeepPremises : Configs → LinkId → List Move → Interface → Type 0
-KeepPremises c id moves i = AreTimely c id moves i × KeepTei c id moves i
+KeepPremises c id moves i = AreTimely c id moves i × GiveTeiOnce c id moves i

@@ -13,10 +13,13 @@ use Rattle.lapd_pair_world.specs.Move as world
 use Rattle.lapd_pair_world.specs.Safe.{AreSafe}
 use Rattle.lapd_pair_world.specs.World.{World, view_of, new_world, run}
 use Rattle.lapd_table.specs.declared.link_id.LinkId.{LinkId}
+use Rattle.lapd_sides_links.specs.declared.primitive.Primitive.{Primitive}
 use Rattle.lapd_sides_links.specs.Links.{Links, Linked}
 use Rattle.lapd_sides_interface.specs.Addressed.{those_for, all_spelled}
 use Rattle.lapd_sides_interface.specs.Interface.{Configs, Interface, user_behaviour, network_behaviour, by_user, by_network}
+use Rattle.lapd_sides_interface.specs.Premises.{tells_removal}
 use Rattle.lapd_sides_interface.specs.SideView.{Behaviour, SideView}
+use Rattle.std.specs.List.{list_any}
 use Rattle.lapd_sides_interface.specs.Told.{Known, told_of, given_to, known_of, IsReceived, AreExpectedWhats}
 
 -- T200 and T203 of a link run only where its end says so
@@ -34,23 +37,32 @@ known_by h = record {
   passed = h.passed;
 }
 
--- a link is there, and its end is this one; or it is not there yet, and this is the end that it will have
+-- a link is there, and its end is this one
 pub record HasLink (links : Links) (id : LinkId) (e : End) : Type 0 where
   pub linked : Linked
   pub there : links id ≡ Some linked
   pub end : linked.end ≡ e
   pub timed : IsTimed linked
 
+-- it is not there yet, and this is the end that it will have
 pub record AwaitsLink (fresh : Linked) (links : Links) (id : LinkId) (e : End) : Type 0 where
   pub absent : links id ≡ None
   pub end : e ≡ fresh.end
 
--- The end of the link, there or not there yet, is the world's; the octets for it are the frames on their way, spelled; and what
--- was told of it, and given to it, is what the world wrote down.
+-- it is there no more, since its TEI was taken away
+pub record LacksLink (links : Links) (id : LinkId) (told : List Primitive) : Type 0 where
+  pub absent : links id ≡ None
+  pub removed : list_any (tells_removal id.tei) told ≡ true
+
+abbrev pub ShowsEnd : Linked → Links → LinkId → List Primitive → End → Type 0
+ShowsEnd fresh links id told e =
+    HasLink links id e ⊎ (AwaitsLink fresh links id e ⊎ LacksLink links id told)
+
+-- The end of the link is the world's, unless it is there no more; the octets for it are the frames on their way, spelled; and
+-- what was told of it, and given to it, is what the world wrote down.
 pub record Projects {S : Type 0} (w : Behaviour S) (side : Side) (id : LinkId) (v : SideView S)
     (view : world.View) : Type 0 where
-  pub link : HasLink (w.served v.now).links id view.station.end
-      ⊎ AwaitsLink (w.fresh id) (w.served v.now).links id view.station.end
+  pub link : ShowsEnd (w.fresh id) (w.served v.now).links id v.told view.station.end
   pub incoming : those_for (other_side side) id v.incoming
       ≡ all_spelled (other_side side) id view.incoming
   pub outgoing : those_for side id v.outgoing ≡ all_spelled side id view.outgoing

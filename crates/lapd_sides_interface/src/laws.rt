@@ -24,7 +24,7 @@ ghost use Rattle.lapd_sides.specs.User.{User, new_user, got_for, user_takes, use
 ghost use Rattle.lapd_sides_interface.specs.Addressed.{those_for};
 ghost use Rattle.lapd_sides_interface.specs.Calls.{NetworkDoes, UserDoes, take_of};
 ghost use Rattle.lapd_sides_interface.specs.Interface.{Configs, Move, Interface, new_interface, from_here, run};
-ghost use Rattle.lapd_sides_interface.specs.Premises.{AreTimely, KeepTei, KeepPremises};
+ghost use Rattle.lapd_sides_interface.specs.Premises.{AreTimely, GiveTeiOnce, KeepPremises};
 ghost use Rattle.lapd_sides_interface.specs.Projects.{IsRight, IsSafeAt};
 ghost use Rattle.lapd_sides_interface.specs.Schedule.{configs, call, packet, at_first, unassigned, IsMessage, both_links, assigned, hasty, regained, with_old_frames, answered_before};
 ghost use Rattle.lapd_sides_interface.specs.SideView.{SideView, Expire, Ask};
@@ -142,7 +142,7 @@ pub fn schedule_is_computed()
 /// ends with a message that counts as acknowledged and never came. In the first of these the premises of another link are kept.
 pub fn each_premise_is_needed()
     ensures t200 { (first second : Vec ℕ Global) → IsMessage 1 first → IsMessage 2 second
-        → KeepTei configs call (hasty first second) at_first
+        → GiveTeiOnce configs call (hasty first second) at_first
         × (IsRight call (run configs (hasty first second) at_first) → ⊥) }
     ensures of_that_link { (first second : Vec ℕ Global) → IsMessage 1 first → IsMessage 2 second
         → KeepPremises configs packet (hasty first second) at_first
