@@ -23,7 +23,7 @@ use Rattle.lapd_sides.specs.User.{link_of_user, terminal_acts, user_takes, user_
 use Rattle.lapd_sides_interface.specs.Interface.{run}
 use Rattle.lapd_sides_interface.specs.Premises.{AreTimely, GiveTeiOnce, KeepPremises}
 use Rattle.lapd_sides_interface.specs.Projects.{IsRight}
-use Rattle.lapd_sides_interface.specs.Schedule.{configs, call, packet, at_first, unassigned, IsMessage, both_links, assigned, hasty, regained, with_old_frames, answered_before}
+use Rattle.lapd_sides_interface.specs.Schedule.{configs, call, packet, at_first, unassigned, IsMessage, both_links, assigned, removed, hasty, regained, with_old_frames, answered_before}
 use Rattle.lapd_sides_interface.specs.SideView.{does}
 use Rattle.lapd_sides_interface.specs.Told.{told_of, given_to, known_of, IsReceived}
 
@@ -83,6 +83,22 @@ assigned_holds v x = record {
 
 pub assigned_so : (message : Vec ℕ Global) → IsMessage 1 message → Assigned message
 assigned_so = with_octets Assigned (1 ∷ []) assigned_holds
+
+-- ---- A TEI that is taken away.
+
+pub record Removed (first : Vec ℕ Global) : Type 0 where
+  pub premises : KeepPremises configs call (removed first) at_first
+  pub to_user : told_of call (run configs (removed first) at_first).told_to_user ≡ what.Confirmed ∷ what.Released ∷ []
+
+removed_holds : (v : Vec ℕ Global) (x : Fits v (1 ∷ [])) → Removed (holding v (1 ∷ []) x)
+unfolding link_acts link_expires in_links with_tei without_tei told_of_tei manages assigner_acts link_of_network network_takes network_expires network_requested begin put state_to rc_to increment_rc layer3_initiated_to release_pending_to start stop expired clear_exception_conditions zero_state_variables set_peer_busy set_own_busy enquiry_response transmit_enquiry queue_up discard_i_queue acknowledge invoke_retransmission i_frame_ns discard_unacknowledged transmit_i_frame ensure_t200 transmit_rr establish_data_link reestablish_data_link end_establishment tei_assigned confirm_or_indicate ua_final awaiting_establishment_t200 awaiting_establishment confirm_release awaiting_release_t200 awaiting_release acknowledge_with_timers nr_error_recovery i_frame_nr i_frame_nr_in_recovery poll_or_final poll rr_nr rej_nr rnr_nr rr_nr_in_recovery rnr_nr_in_recovery timer_recovery_t200 busy_on busy_off in_7_and_8 established_t200 multiple_frame_established timer_recovery by_state report_fault row send_all acknowledge_pending end_step step initial_variables without_exceptions with_zero_counters status_frame acknowledgement without_ack_pending poll_response is_accepted is_rejected after_i_frame i_frame_response is_valid_nr with_va acknowledged_count acknowledges_all with_vs may_send next_i_frame after_sending with_own_busy with_peer_busy after steps lies_within link_of_user terminal_acts user_takes user_expires user_requested links_below does
+removed_holds v x = record {
+  premises = ((tt, (tt, (tt, (tt, (tt, (tt, (tt, (λ t o. (refl, refl), (tt, (tt, (tt, (λ t o. (refl, refl), (tt, (tt, tt)))))))))))))), (λ there. refl, (λ there. refl, (λ there. refl, (λ there. refl, (λ there. refl, (λ there. refl, (λ there. refl, (λ there. refl, (λ there. refl, (λ there. refl, (λ there. refl, (λ there. refl, (λ there. refl, (λ there. refl, tt)))))))))))))));
+  to_user = refl;
+}
+
+pub removed_so : (first : Vec ℕ Global) → IsMessage 1 first → Removed first
+removed_so = with_octets Removed (1 ∷ []) removed_holds
 
 -- ---- A place that counts as acknowledged and was not received.
 

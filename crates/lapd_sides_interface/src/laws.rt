@@ -26,18 +26,18 @@ ghost use Rattle.lapd_sides_interface.specs.Calls.{NetworkDoes, UserDoes, take_o
 ghost use Rattle.lapd_sides_interface.specs.Interface.{Configs, Move, Interface, new_interface, from_here, run};
 ghost use Rattle.lapd_sides_interface.specs.Premises.{AreTimely, GiveTeiOnce, KeepPremises};
 ghost use Rattle.lapd_sides_interface.specs.Projects.{IsRight, IsSafeAt};
-ghost use Rattle.lapd_sides_interface.specs.Schedule.{configs, call, packet, at_first, unassigned, IsMessage, both_links, assigned, hasty, regained, with_old_frames, answered_before};
+ghost use Rattle.lapd_sides_interface.specs.Schedule.{configs, call, packet, at_first, unassigned, IsMessage, both_links, assigned, removed, hasty, regained, with_old_frames, answered_before};
 ghost use Rattle.lapd_sides_interface.specs.SideView.{SideView, Expire, Ask};
 ghost use Rattle.lapd_sides_interface.specs.Told.{told_of};
 
-/// After every run of two sides and the octets between them, a link whose T200 was timely and whose TEI stayed, once it was
-/// there, is safe, in both directions: what layer 3 at one end was told to have come on this link is, in order and once each, among what the other's
+/// After every run of two sides and the octets between them, a link whose T200 was timely and whose TEI was given once is safe,
+/// in both directions: what layer 3 at one end was told to have come on this link is, in order and once each, among what the other's
 /// layer 3 gave to it; within one establishment nothing is skipped; what counts as acknowledged was received; and no error but
 /// F, G, H and I was reported of it. So it is whatever the other links and TEI management do meanwhile.
 ///
 /// `as_made`: of each link of two sides as they are made, the user with a fixed TEI or with none, the network with any that it
-/// knows. The link may be there at first on one side, on both or on none, and come when its TEI is assigned, with the
-/// establishment that was kept for it. `safe`: of a link that was there as new from the start, on both sides. `from_here`: of a
+/// knows. The link may be there at first on one side, on both or on none; it may come when its TEI is assigned, with the
+/// establishment that was kept for it, and go when its TEI is taken away. `safe`: of a link that was there as new from the start, on both sides. `from_here`: of a
 /// link that is new on both sides at some moment of an interface, when no octets for it are on their way; what is told and given
 /// counts from then on.
 pub fn each_link_is_safe()
@@ -105,7 +105,7 @@ pub fn calls_are_deeds()
 
 /// The premises of two links are met by a worked run, with a message on each, in both directions, and a loss on each: a SABME
 /// is lost and a message, T200 expires for each, and both messages are received and acknowledged. They are met too where the
-/// user has no TEI when its layer 3 asks for the link, and gets one.
+/// user has no TEI when its layer 3 asks for the link, and gets one; and where a TEI is checked in vain and removed.
 pub fn schedule_is_computed()
     ensures call_premises { (message answer : Vec ℕ Global) → IsMessage 1 message
         → IsMessage 2 answer → KeepPremises configs call (both_links message answer) at_first }
@@ -127,6 +127,11 @@ pub fn schedule_is_computed()
         → IsMessage 2 answer
         → told_of packet (run configs (both_links message answer) at_first).told_to_network
         ≡ what.Established ∷ what.Acknowledged 1 ∷ [] }
+    ensures removed_premises { (first : Vec ℕ Global) → IsMessage 1 first
+        → KeepPremises configs call (removed first) at_first }
+    ensures removed_to_user { (first : Vec ℕ Global) → IsMessage 1 first
+        → told_of call (run configs (removed first) at_first).told_to_user
+        ≡ what.Confirmed ∷ what.Released ∷ [] }
     ensures assigned_premises { (message : Vec ℕ Global) → IsMessage 1 message
         → KeepPremises configs call (assigned message) unassigned }
     ensures assigned_to_user { (message : Vec ℕ Global) → IsMessage 1 message

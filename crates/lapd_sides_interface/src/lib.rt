@@ -14,9 +14,10 @@
 //!   keeps order, and repeats and alters nothing; nobody else sends on it. All else is left open: which octets are lost, when
 //!   timers expire, what is asked for and when.
 //! - `Premises`, for one link: its T200 does not expire while a command with P=1 of that side, or a response with F=1 to it, is
-//!   on the line; and its TEI is not taken away, nor given where the link is there already. Other links may do what they want.
-//! - `Projects`: what both sides show of the link, which may not be there yet, is a world of two ends, which some moves lead to
-//!   (`ProjectsTo`); that world is safe, and what came of the link is right (`IsSafeAt`).
+//!   on the line; and its TEI is given once, neither where the link is there nor after it was taken away. Other links may do what
+//!   they want.
+//! - `Projects`: what both sides show of the link, which may not be there yet or be there no more, is a world of two ends, which
+//!   some moves lead to (`ProjectsTo`); that world is safe, and what came of the link is right (`IsSafeAt`).
 //! - `Calls`: what a call of a side in code is as a deed; `Schedule`: worked runs.
 //!
 //! [`each_link_is_safe`] says that after every run that keeps the premises of a link, that link is safe. [`calls_are_deeds`]
