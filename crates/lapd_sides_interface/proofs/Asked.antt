@@ -6,12 +6,12 @@ use Rattle.lapd_mod128.specs.Counting.{Tagged}
 use Rattle.lapd_link_rows.specs.Counts.{messages_of}
 use Rattle.lapd_link_rows.specs.Input as input
 use Rattle.lapd_link_rows.specs.Input.{Input, Expiry}
+use Rattle.lapd_pair_world.specs.Move as world
+use Rattle.lapd_pair_world.specs.Move.{View, takes, acts}
 use Rattle.lapd_table.specs.declared.link_id.LinkId.{LinkId}
 use Rattle.lapd_table.specs.LinkId.{id_eq}
 use Rattle.lapd_table.proofs.Ids.{same_id_eq}
 use Rattle.lapd_sides_links.specs.Links.{Links, Linked, Reaction, in_links, link_acts}
-use Rattle.lapd_pair_world.specs.Move as world
-use Rattle.lapd_pair_world.specs.Move.{View, takes, acts}
 use Rattle.lapd_sides_interface.specs.Told.{given_to}
 use Rattle.lapd_sides_interface.proofs.Deeds.{IsRequest, IsNoRequest}
 use Rattle.lapd_sides_interface.proofs.LinkParts.{other_acts, own_granted, absent_refuses}

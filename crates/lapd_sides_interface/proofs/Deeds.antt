@@ -19,6 +19,12 @@ use Rattle.lapd_link_rows.specs.Input as input
 use Rattle.lapd_link_rows.specs.Input.{Input, Heard, Expiry}
 use Rattle.lapd_link_rows.specs.Table.{row, step}
 use Rattle.lapd_link_rows.proofs.InputsThatCount.{given_after}
+use Rattle.lapd_pair_world.specs.Histories.{Occasion, Story, with_beginning}
+use Rattle.lapd_pair_world.specs.Kept.{IsKept, AreProper}
+use Rattle.lapd_pair_world.specs.Line.{Flight, first_poll, first_final}
+use Rattle.lapd_pair_world.specs.Move as world
+use Rattle.lapd_pair_world.specs.Move.{View, Turn, story_after, view_after, stepped, quietly, hears, takes, delivers, loses, unless_under_way, expires_200, expires_203, acts}
+use Rattle.lapd_pair_world.proofs.Keeping.{IsKeptView, outputs_in_order}
 use Rattle.lapd_table.specs.declared.link_id.LinkId.{LinkId}
 use Rattle.lapd_table.specs.LinkId.{id_eq}
 use Rattle.lapd_table.proofs.Ids.{same_id_eq}
@@ -28,12 +34,6 @@ use Rattle.lapd_sides_links.specs.Effects.{Effects, what_of, stopped, timed}
 use Rattle.lapd_sides_links.specs.Links.{Links, Linked, Reaction, with_link}
 use Rattle.lapd_sides.specs.declared.request.Request.{Request}
 use Rattle.lapd_sides.specs.declared.request.Request.TheVariants as request
-use Rattle.lapd_pair_world.specs.Histories.{Occasion, Story, with_beginning}
-use Rattle.lapd_pair_world.specs.Kept.{IsKept, AreProper}
-use Rattle.lapd_pair_world.specs.Line.{Flight, first_poll, first_final}
-use Rattle.lapd_pair_world.specs.Move as world
-use Rattle.lapd_pair_world.specs.Move.{View, Turn, story_after, view_after, stepped, quietly, hears, takes, delivers, loses, unless_under_way, expires_200, expires_203, acts}
-use Rattle.lapd_pair_world.proofs.Keeping.{IsKeptView, outputs_in_order}
 use Rattle.lapd_sides_interface.specs.Addressed.{is_for, those_for, spelled, all_spelled}
 use Rattle.lapd_sides_interface.specs.Told.{nothing_known, learns_all, what_for, told_of, message_for, given_to, known_of, AreExpectedWhats}
 use Rattle.lapd_sides_interface.specs.Premises.{tells_removal, IsTimely, IsGivenOnce, GivesTeiOnce}

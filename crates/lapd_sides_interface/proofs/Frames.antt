@@ -10,14 +10,14 @@ use Rattle.lapd_link_rows.specs.declared.out.Out.{Out}
 use Rattle.lapd_link_rows.specs.declared.out.Out.TheVariants.{Send, SendMessage, SendUnit, Up, UnitUp, Established, Confirmed, Released, ReleaseConfirm, Acknowledged, Dropped, Start, Stop, Report}
 use Rattle.lapd_link_rows.specs.End.{End}
 use Rattle.lapd_link_rows.specs.Reports.{AreExpected}
-use Rattle.lapd_table.specs.declared.link_id.LinkId.{LinkId}
-use Rattle.lapd_table.specs.LinkId.{setup_for}
-use Rattle.lapd_sides_links.specs.declared.primitive.What.TheVariants as what
-use Rattle.lapd_sides_links.specs.Effects.{sent_by, what_of}
 use Rattle.lapd_pair_world.specs.Histories.{Occasion, Story, Receipt, tell, told, message_frame, unit_frame}
 use Rattle.lapd_pair_world.specs.Kept.{AreInOrder}
 use Rattle.lapd_pair_world.specs.Line.{Flight, without_info, sent_behind}
 use Rattle.lapd_pair_world.proofs.Telling.{in_order_then}
+use Rattle.lapd_table.specs.declared.link_id.LinkId.{LinkId}
+use Rattle.lapd_table.specs.LinkId.{setup_for}
+use Rattle.lapd_sides_links.specs.declared.primitive.What.TheVariants as what
+use Rattle.lapd_sides_links.specs.Effects.{sent_by, what_of}
 use Rattle.lapd_sides_interface.specs.Addressed.{spelled, all_spelled}
 use Rattle.lapd_sides_interface.specs.Told.{Known, learns, learns_all, AreExpectedWhats}
 use Rattle.lapd_sides_interface.specs.Projects.{known_by}

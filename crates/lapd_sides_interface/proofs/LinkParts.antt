@@ -17,7 +17,6 @@ use Rattle.lapd_frame.specs.Frame.{Fields, spelling, content_fault, frame_of}
 use Rattle.lapd_frame.specs.Reading.{fault_for_link}
 use Rattle.lapd_frame.specs.declared.Address.{Address}
 use Rattle.lapd_frame.proofs.FrameAt.{parts_again}
-use Rattle.lapd_link.specs.SentFrame.{link_parts}
 use Rattle.lapd_mod128.specs.Counting.{Tagged}
 use Rattle.lapd_link_rows.specs.declared.event.LinkFault.{LinkFault}
 use Rattle.lapd_link_rows.specs.declared.out.Out.{Out}
@@ -25,6 +24,7 @@ use Rattle.lapd_link_rows.specs.declared.out.Out.TheVariants.{Send, SendMessage,
 use Rattle.lapd_link_rows.specs.End.{End, StepState}
 use Rattle.lapd_link_rows.specs.Input.{Input, Expiry, Establish}
 use Rattle.lapd_link_rows.specs.Table.{step}
+use Rattle.lapd_link.specs.SentFrame.{link_parts}
 use Rattle.lapd_table.specs.declared.link_id.LinkId.{LinkId}
 use Rattle.lapd_table.specs.LinkId.{id_eq, id_of_address, setup_for}
 use Rattle.lapd_table.specs.Octets.{heard_by}

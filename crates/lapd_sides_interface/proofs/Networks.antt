@@ -24,6 +24,7 @@ use Rattle.lapd_tei.specs.declared.assigner.AssignerEvent.{AssignerEvent}
 use Rattle.lapd_tei.specs.declared.assigner.AssignerEvent.TheVariants as event
 use Rattle.lapd_tei.specs.Assigner.{assigner_step}
 use Rattle.lapd_tei.specs.Message.{message_at, group_tei}
+use Rattle.lapd_pair_world.specs.Line.{Flight}
 use Rattle.lapd_table.specs.declared.link_id.LinkId.{LinkId}
 use Rattle.lapd_table.specs.LinkId.{id_eq, id_of_address}
 use Rattle.lapd_table.specs.Octets.{heard_by, fault_for}
@@ -36,7 +37,6 @@ use Rattle.lapd_sides.specs.Management.{carries_message, is_management, is_ui}
 use Rattle.lapd_sides.specs.Network.{Network, unmoved, assigner_acts, message_heard, with_links, among_links, link_of_network, or_discarded, or_unmoved, fault_heard, heard, network_takes, network_expires, group_frame, unit_to_group, network_requested}
 use Rattle.lapd_sides.specs.declared.request.Request.{Request}
 use Rattle.lapd_sides.specs.declared.request.Request.TheVariants as request
-use Rattle.lapd_pair_world.specs.Line.{Flight}
 use Rattle.lapd_sides_interface.specs.Addressed.{is_named, is_for, parts_of, spelled}
 use Rattle.lapd_sides_interface.specs.Told.{given_to}
 use Rattle.lapd_sides_interface.specs.Premises.{IsGivenOnce}

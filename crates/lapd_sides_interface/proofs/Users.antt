@@ -3,6 +3,7 @@ use Rattle.std.proofs.Common.{◌≡◌, ◌⊎◌, inl, ℕ, ◌<◌, ◌==◌,
 use Rattle.std.specs.List.{list_any, filter_map}
 use Rattle.std.proofs.lemmas.Bool.Decides.{nat_tests}
 use Rattle.std.proofs.lemmas.List.Elements.{filter_map-append}
+use Rattle.std.specs.Prelude.{is_some, ◌||◌}
 use Rattle.lapd_timers.specs.declared.timer.Timer.{Timer}
 use Rattle.lapd_timers.specs.Due.{Timers}
 use Rattle.lapd_frame.specs.declared.Side.TheVariants as side
@@ -31,9 +32,11 @@ use Rattle.lapd_tei.specs.declared.terminal.TerminalEvent.{TerminalEvent}
 use Rattle.lapd_tei.specs.declared.terminal.TerminalEvent.TheVariants as event
 use Rattle.lapd_tei.specs.Terminal.{TerminalStep, terminal_step}
 use Rattle.lapd_tei.specs.Message.{message_at, group_tei}
+use Rattle.lapd_pair_world.specs.Line.{Flight}
 use Rattle.lapd_table.specs.declared.link_id.LinkId.{LinkId}
 use Rattle.lapd_table.specs.LinkId.{id_eq}
 use Rattle.lapd_table.specs.Octets.{heard_by, fault_for}
+use Rattle.lapd_table.proofs.Ids.{same_id_eq, id_eq_self}
 use Rattle.lapd_sides_links.specs.declared.config.Config.{Config}
 use Rattle.lapd_sides_links.specs.declared.primitive.Primitive.TheVariants.{Of}
 use Rattle.lapd_sides_links.specs.declared.primitive.What.{What}
@@ -42,13 +45,10 @@ use Rattle.lapd_sides_links.specs.declared.side_fault.SideKind.{SideKind}
 use Rattle.lapd_sides_links.specs.declared.side_fault.SideKind.TheVariants.{NoLink, Link}
 use Rattle.lapd_sides_links.specs.Effects.{no_effects, stopped, outcome_of}
 use Rattle.lapd_sides_links.specs.Links.{Links, Linked, Reaction, of_sapi, is_served, in_links, link_acts, link_expires, parameters_for, with_link}
-use Rattle.lapd_table.proofs.Ids.{same_id_eq, id_eq_self}
-use Rattle.std.specs.Prelude.{is_some, ◌||◌}
 use Rattle.lapd_sides.specs.declared.request.Request.{Request}
 use Rattle.lapd_sides.specs.declared.request.Request.TheVariants as request
 use Rattle.lapd_sides.specs.Management.{carries_message, is_unit_to_group, is_management, is_ui, manages}
 use Rattle.lapd_sides.specs.User.{User, nothing_kept, unmoved, next_reference, drawn, with_links, among_links, link_of_user, or_discarded, or_unmoved, establishes, establishes_kept, told_of_sapi, gives_up_kept, kept_after, assigned, terminal_acts, message_heard, unit_from_group, for_layer_3, data_heard, fault_heard, heard, user_takes, user_expires, with_tei_or, is_kept, keeps, wants, forgets, user_requested}
-use Rattle.lapd_pair_world.specs.Line.{Flight}
 use Rattle.lapd_sides_interface.specs.Addressed.{is_named, is_for, parts_of, spelled}
 use Rattle.lapd_sides_interface.specs.Interface.{fresh_link, user_behaviour, own_link}
 use Rattle.lapd_sides_interface.specs.SideView.{if_granted, accepted_by}

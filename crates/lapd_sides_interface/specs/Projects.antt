@@ -1,5 +1,6 @@
 -- How what a side sees shows, for one link, what a side of the world of two ends sees; and that the link is safe.
 use Rattle.std.specs.Prelude.{◌≡◌, ◌⊎◌, true, List, map, Some, None, is_some}
+use Rattle.std.specs.List.{list_any}
 use Rattle.lapd_timers.specs.declared.timer.Timer.TheVariants.{T200, T203}
 use Rattle.lapd_timers.specs.Due.{deadline_of}
 use Rattle.lapd_frame.specs.declared.Side.{Side}
@@ -19,7 +20,6 @@ use Rattle.lapd_sides_interface.specs.Addressed.{those_for, all_spelled}
 use Rattle.lapd_sides_interface.specs.Interface.{Configs, Interface, user_behaviour, network_behaviour, by_user, by_network}
 use Rattle.lapd_sides_interface.specs.Premises.{tells_removal}
 use Rattle.lapd_sides_interface.specs.SideView.{Behaviour, SideView}
-use Rattle.std.specs.List.{list_any}
 use Rattle.lapd_sides_interface.specs.Told.{Known, told_of, given_to, known_of, IsReceived, AreExpectedWhats}
 
 -- T200 and T203 of a link run only where its end says so

@@ -30,16 +30,17 @@ ghost use Rattle.lapd_sides_interface.specs.Schedule.{configs, call, packet, at_
 ghost use Rattle.lapd_sides_interface.specs.SideView.{SideView, Expire, Ask};
 ghost use Rattle.lapd_sides_interface.specs.Told.{told_of};
 
-/// After every run of two sides and the octets between them, a link whose T200 was timely and whose TEI was given once is safe,
-/// in both directions: what layer 3 at one end was told to have come on this link is, in order and once each, among what the other's
-/// layer 3 gave to it; within one establishment nothing is skipped; what counts as acknowledged was received; and no error but
-/// F, G, H and I was reported of it. So it is whatever the other links and TEI management do meanwhile.
+/// After every run of two sides and the octets between them, a link whose T200 was timely and whose TEI was given once is
+/// safe, in both directions: what layer 3 at one end was told to have come on this link is, in order and once each, among
+/// what the other's layer 3 gave to it; within one establishment nothing is skipped; what counts as acknowledged was
+/// received; and no error but F, G, H and I was reported of it. So it is whatever the other links and TEI management do
+/// meanwhile.
 ///
-/// `as_made`: of each link of two sides as they are made, the user with a fixed TEI or with none, the network with any that it
-/// knows. The link may be there at first on one side, on both or on none; it may come when its TEI is assigned, with the
-/// establishment that was kept for it, and go when its TEI is taken away. `safe`: of a link that was there as new from the start, on both sides. `from_here`: of a
-/// link that is new on both sides at some moment of an interface, when no octets for it are on their way; what is told and given
-/// counts from then on.
+/// `as_made`: of each link of two sides as they are made, the user with a fixed TEI or with none, the network with any that
+/// it knows. The link may be there at first on one side, on both or on none; it may come when its TEI is assigned, with the
+/// establishment that was kept for it, and go when its TEI is taken away. `safe`: of a link that was there as new from the
+/// start, on both sides. `from_here`: of a link that is new on both sides at some moment of an interface, when no octets for
+/// it are on their way; what is told and given counts from then on.
 pub fn each_link_is_safe()
     ensures safe { (c : Configs) (id : LinkId) (user : User) (network : Network)
         (p q : Parameters) (m n : Lengths) → id.tei < 127 → p.k ≤ 127 → q.k ≤ 127
@@ -65,9 +66,9 @@ pub fn each_link_is_safe()
 {}
 
 /// The calls of a side in code are deeds, by their contracts: of whatever side was shown before, the side in code shows what
-/// the deed leaves, and the frames and primitives that it put are those that the deed sends and tells. A `take` that finds no
-/// memory is a loss of these octets, where they are not taken again. A `tick` that does something is the expiry of the timer
-/// that is due. A `request` is one that is asked, be it granted or refused.
+/// the deed leaves, and the frames and primitives that it put are those that the deed sends and tells. A `take` that finds
+/// no memory is a loss of these octets, where they are not taken again. A `tick` that does something is the expiry of the
+/// timer that is due. A `request` is one that is asked, be it granted or refused.
 pub fn calls_are_deeds()
     ensures network_takes { (old new : NetSide) (acts : Effects) (result : Result ⊤ SideFault)
         (octets : List ℕ) (rest : List (List ℕ)) (now : ℕ)
@@ -103,9 +104,10 @@ pub fn calls_are_deeds()
         → UserDoes new config acts (Ask request now) v }
 {}
 
-/// The premises of two links are met by a worked run, with a message on each, in both directions, and a loss on each: a SABME
-/// is lost and a message, T200 expires for each, and both messages are received and acknowledged. They are met too where the
-/// user has no TEI when its layer 3 asks for the link, and gets one; and where a TEI is checked in vain and removed.
+/// The premises of two links are met by a worked run, with a message on each, in both directions, and a loss on each: a
+/// SABME is lost and a message, T200 expires for each, and both messages are received and acknowledged. They are met too
+/// where the user has no TEI when its layer 3 asks for the link, and gets one; and where a TEI is checked in vain and
+/// removed.
 pub fn schedule_is_computed()
     ensures call_premises { (message answer : Vec ℕ Global) → IsMessage 1 message
         → IsMessage 2 answer → KeepPremises configs call (both_links message answer) at_first }
@@ -142,9 +144,10 @@ pub fn schedule_is_computed()
         ≡ what.Established ∷ what.Up (1 ∷ []) ∷ [] }
 {}
 
-/// Each premise is needed, and of that link: where T200 of the link expires although the answer that it waits for is on its way,
-/// where its TEI is taken away and given again, or where frames from before are on the line, a run of some ten to twenty moves
-/// ends with a message that counts as acknowledged and never came. In the first of these the premises of another link are kept.
+/// Each premise is needed, and of that link: where T200 of the link expires although the answer that it waits for is on its
+/// way, where its TEI is taken away and given again, or where frames from before are on the line, a run of some ten to
+/// twenty moves ends with a message that counts as acknowledged and never came. In the first of these the premises of
+/// another link are kept.
 pub fn each_premise_is_needed()
     ensures t200 { (first second : Vec ℕ Global) → IsMessage 1 first → IsMessage 2 second
         → GiveTeiOnce configs call (hasty first second) at_first
