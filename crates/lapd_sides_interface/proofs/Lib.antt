@@ -11,3 +11,7 @@ pub mod Whole
 pub mod Called
 pub mod Known
 pub mod Computed
+pub mod LinkOps
+pub mod HeldTeis
+pub mod OwnTeis
+pub mod NetworkOwn

@@ -77,11 +77,11 @@ given_is_other tei (outcome.Send message ∷ outs) h t is = given_is_other tei o
 given_is_other tei (outcome.Start timer ∷ outs) h t is = given_is_other tei outs h t is
 given_is_other tei (outcome.Stop timer ∷ outs) h t is = given_is_other tei outs h t is
 
-abbrev freed_here : ℕ → Option ℕ → Bool
+abbrev pub freed_here : ℕ → Option ℕ → Bool
 freed_here tei None = false
 freed_here tei (Some t) = t == tei
 
-freed_is_other : (tei : ℕ) (freed : Option ℕ) → freed_here tei freed ≡ false → (t : ℕ) → freed ≡ Some t → (t == tei) ≡ false
+pub freed_is_other : (tei : ℕ) (freed : Option ℕ) → freed_here tei freed ≡ false → (t : ℕ) → freed ≡ Some t → (t == tei) ≡ false
 freed_is_other tei None h t is = cc
 freed_is_other tei (Some u) h t is = subst (λ (x : ℕ). (x == tei) ≡ false) (some_same u t is) h
 
@@ -125,7 +125,7 @@ unfolding with_tei
 with_given config id None links none = inl none
 with_given config id (Some t) links none = given_by (is_link_of config t id) (fresh_link config id) (links id) none
 
-without_other : (id : LinkId) (freed : Option ℕ) (links : Links) → ((t : ℕ) → freed ≡ Some t → (t == id.tei) ≡ false) → links_without freed links id ≡ links id
+pub without_other : (id : LinkId) (freed : Option ℕ) (links : Links) → ((t : ℕ) → freed ≡ Some t → (t == id.tei) ≡ false) → links_without freed links id ≡ links id
 unfolding without_tei
 without_other id None links other = refl
 without_other id (Some t) links other = let apart : (id.tei == t) ≡ false = (let h = other t refl in grind (arith, nat_tests)) in ap (λ (b : Bool). if b then None else links id) apart
@@ -220,7 +220,7 @@ quiet_without id (Some t) links =
     (silent_both (told_of id (told_at_removal (of_sapi Call t) (links (of_sapi Call t)))) (told_of id (told_at_removal (of_sapi Packet t) (links (of_sapi Packet t))))
     (quiet_at id (of_sapi Call t) (links (of_sapi Call t))) (quiet_at id (of_sapi Packet t) (links (of_sapi Packet t))))
 
-without_this : (id : LinkId) (freed : Option ℕ) (links : Links) → freed_here id.tei freed ≡ true → links_without freed links id ≡ None
+pub without_this : (id : LinkId) (freed : Option ℕ) (links : Links) → freed_here id.tei freed ≡ true → links_without freed links id ≡ None
 unfolding without_tei
 without_this id None links here = cc
 without_this id (Some t) links here = let same : (id.tei == t) ≡ true = grind (arith, nat_tests, here) in ap (λ (b : Bool). if b then None else links id) same

@@ -37,7 +37,7 @@ at_front [] (suc n) b rest q = absurd cc
 at_front (x ∷ held) zero b rest q = (omega arith, cc, cc)
 at_front (x ∷ held) (suc n) b rest q = let k : (n < length held) × (get_or held n false ≡ b) × (drop (suc n) held ≡ rest) = at_front held n b rest q in (omega (arith, k.0), k.1, k.2)
 
-free_from : (held : List Bool) (n : ℕ) (rest : List Bool) (tei : ℕ) → drop n held ≡ rest → first_free n rest ≡ Some tei → (tei < length held) × (is_held held tei ≡ false)
+pub free_from : (held : List Bool) (n : ℕ) (rest : List Bool) (tei : ℕ) → drop n held ≡ rest → first_free n rest ≡ Some tei → (tei < length held) × (is_held held tei ≡ false)
 free_from held n [] tei q found = absurd cc
 free_from held n (true ∷ rest) tei q found = free_from held (n + 1) rest tei (subst (λ m. drop m held ≡ rest) (sym (add-one n)) (at_front held n true rest q).2) found
 free_from held n (false ∷ rest) tei q found = let k : (n < length held) × (get_or held n false ≡ false) × (drop (suc n) held ≡ rest) = at_front held n false rest q in
