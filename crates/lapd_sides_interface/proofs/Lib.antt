@@ -15,3 +15,5 @@ pub mod LinkOps
 pub mod HeldTeis
 pub mod OwnTeis
 pub mod NetworkOwn
+pub mod TerminalOwn
+pub mod UserOwn
