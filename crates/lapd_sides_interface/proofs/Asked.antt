@@ -1,4 +1,5 @@
 -- What a request that is granted to a link is to one of the links.
+use Rattle.std.specs.List.{cons_option}
 use Rattle.std.proofs.Common.{◌≡◌, ◌⊎◌, inl, inr, ℕ, List, [], ◌∷◌, length, Bool, true, false, if◌then◌else◌, Some, None, Ok, refl, sym, subst, Option}
 use Rattle.lapd_timers.specs.declared.timer.Timer.{Timer}
 use Rattle.lapd_frame.specs.declared.Side.{Side}
@@ -84,6 +85,6 @@ none_given false xs h = refl
 pub one_given : (id other : LinkId) (message : List ℕ) → given_to id ((other, message) ∷ []) ≡ (if id_eq id other then message ∷ [] else [])
 one_given id other message = one (id_eq id other) message
   where
-    one : (test : Bool) (message : List ℕ) → Rattle.std.specs.List.cons_option (if test then Some message else None) [] ≡ (if test then message ∷ [] else [])
+    one : (test : Bool) (message : List ℕ) → cons_option (if test then Some message else None) [] ≡ (if test then message ∷ [] else [])
     one true message = refl
     one false message = refl

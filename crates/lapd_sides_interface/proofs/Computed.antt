@@ -26,6 +26,7 @@ use Rattle.lapd_sides_interface.specs.Projects.{IsRight}
 use Rattle.lapd_sides_interface.specs.Schedule.{configs, call, packet, at_first, unassigned, IsMessage, both_links, assigned, removed, hasty, regained, with_old_frames, answered_before}
 use Rattle.lapd_sides_interface.specs.SideView.{does}
 use Rattle.lapd_sides_interface.specs.Told.{told_of, given_to, known_of, IsReceived}
+use Rattle.lapd_sides_interface.proofs.Whole.{received_as}
 
 -- ---- A message of given octets.
 
@@ -126,10 +127,6 @@ same_octet a b same = ap first_octet same
 differ : Octet 1 ≡ Octet 2 → ⊥
 differ same = omega (arith, same_octet 1 2 same)
 
-received_as : (given given_now : List (List ℕ)) (acked acked_now : List ℕ) (received received_now : List (List ℕ)) → given_now ≡ given → acked_now ≡ acked → received_now ≡ received → IsReceived given_now acked_now received_now → IsReceived given acked received
-received_as given given_now acked acked_now received received_now g a r h =
-    subst (λ x. IsReceived x acked received) g (subst (λ x. IsReceived given_now x received) a (subst (λ x. IsReceived given_now acked_now x) r h))
-
 -- ---- T200, and of that link.
 
 pub record Hasty (first second : Vec ℕ Global) : Type 0 where
@@ -155,7 +152,7 @@ hasty_so = with_both Hasty (1 ∷ []) (2 ∷ []) hasty_holds
 pub hasty_is_not_right : (first second : Vec ℕ Global) → IsMessage 1 first → IsMessage 2 second → IsRight call (run configs (hasty first second) at_first) → ⊥
 hasty_is_not_right first second one two right =
     let h = hasty_so first second one two in
-    let plain : IsReceived two_messages (1 ∷ []) one_message = received_as two_messages _ (1 ∷ []) _ one_message _ h.given h.acked h.received right.to_user in
+    let plain : IsReceived two_messages (1 ∷ []) one_message = received_as _ two_messages _ (1 ∷ []) _ one_message (sym h.given) (sym h.acked) (sym h.received) right.to_user in
     differ (sym (one_of (λ place. slice_get two_messages place) (Some (1 ∷ [])) plain.places 1 plain.same (plain.acknowledged 1 (inl refl))))
 
 -- ---- The TEI.
@@ -181,7 +178,7 @@ regained_so = with_both Regained (1 ∷ []) (2 ∷ []) regained_holds
 pub regained_is_not_right : (first second : Vec ℕ Global) → IsMessage 1 first → IsMessage 2 second → IsRight call (run configs (regained first second) at_first) → ⊥
 regained_is_not_right first second one two right =
     let h = regained_so first second one two in
-    let plain : IsReceived two_messages (0 ∷ []) ((2 ∷ []) ∷ []) = received_as two_messages _ (0 ∷ []) _ ((2 ∷ []) ∷ []) _ h.given h.acked h.received right.to_network in
+    let plain : IsReceived two_messages (0 ∷ []) ((2 ∷ []) ∷ []) = received_as _ two_messages _ (0 ∷ []) _ ((2 ∷ []) ∷ []) (sym h.given) (sym h.acked) (sym h.received) right.to_network in
     differ (one_of (λ place. slice_get two_messages place) (Some (2 ∷ [])) plain.places 0 plain.same (plain.acknowledged 0 (inl refl)))
 
 -- ---- The line.
@@ -207,5 +204,5 @@ answered_before_so = with_octets AnsweredBefore (1 ∷ []) answered_before_holds
 pub answered_before_is_not_right : (message : Vec ℕ Global) → IsMessage 1 message → IsRight call (run configs (answered_before message) with_old_frames) → ⊥
 answered_before_is_not_right message one right =
     let h = answered_before_so message one in
-    let plain : IsReceived one_message (0 ∷ []) [] = received_as one_message _ (0 ∷ []) _ [] _ h.given h.acked h.received right.to_network in
+    let plain : IsReceived one_message (0 ∷ []) [] = received_as _ one_message _ (0 ∷ []) _ [] (sym h.given) (sym h.acked) (sym h.received) right.to_network in
     none_of (λ place. slice_get one_message place) plain.places 0 plain.same (plain.acknowledged 0 (inl refl))

@@ -1,16 +1,15 @@
 -- A network side gives no TEI whose links are there: those are of TEIs that are held.
-use Rattle.std.proofs.Common.{◌≡◌, ◌⊎◌, inl, inr, ℕ, ◌<◌, ◌==◌, ◌&&◌, List, [], ◌∷◌, ◌++◌, set, drop, length, Bool, true, false, if◌then◌else◌, Option, Some, None, Result, Ok, Err, refl, sym, ap, subst, ◌∙◌, arith}
-use Rattle.std.specs.Prelude.{is_some, nat_lt}
+use Rattle.std.proofs.Common.{◌≡◌, ◌⊎◌, inl, inr, ℕ, ◌<◌, ◌==◌, List, [], ◌∷◌, set, drop, length, Bool, true, false, if◌then◌else◌, Option, Some, None, refl, sym, subst, ◌∙◌, arith}
+use Rattle.std.specs.Prelude.{nat_lt, ◌||◌}
 use Rattle.std.specs.List.{list_any, filter_map}
 use Rattle.std.proofs.lemmas.Bool.Decides.{nat_tests}
 use Rattle.std.proofs.lemmas.List.{get_or-set_same, get_or-set_other}
+use Rattle.lapd_timers.specs.declared.timer.Timer.TheVariants.{T201}
 use Rattle.lapd_tei.specs.declared.kind.TeiKind.{TeiKind}
 use Rattle.lapd_tei.specs.declared.kind.TeiKind.TheVariants as kind
 use Rattle.lapd_tei.specs.declared.message.TeiMessage.{TeiMessage}
 use Rattle.lapd_tei.specs.declared.out.TeiOut.{TeiOut}
 use Rattle.lapd_tei.specs.declared.out.TeiOut.TheVariants as out
-use Rattle.lapd_timers.specs.declared.timer.Timer.{Timer}
-use Rattle.lapd_timers.specs.declared.timer.Timer.TheVariants.{T201}
 use Rattle.lapd_tei.specs.declared.check.Check.{Check}
 use Rattle.lapd_tei.specs.declared.check.Round.{Round}
 use Rattle.lapd_tei.specs.declared.check.Round.TheVariants as round
@@ -18,13 +17,13 @@ use Rattle.lapd_tei.specs.declared.check.Responses.{Responses}
 use Rattle.lapd_tei.specs.declared.check.Responses.TheVariants as responses
 use Rattle.lapd_tei.specs.declared.assigner.AssignerEvent.{AssignerEvent}
 use Rattle.lapd_tei.specs.declared.assigner.AssignerEvent.TheVariants as event
-use Rattle.lapd_tei.specs.Assigner.{AssignerState, AssignerStep, is_held, least_free, stays, serves, begins_check, counts_response, round_ends, timer_ends, assigner_hears, assigner_step}
+use Rattle.lapd_tei.specs.Assigner.{AssignerState, AssignerStep, is_held, least_free, stays, serves, begins_check, counts_response, round_ends, timer_ends, assigner_hears, assigner_step, one_more}
 use Rattle.lapd_tei.specs.Message.{group_tei}
 use Rattle.lapd_tei.specs.Out.{tei_given, tei_freed}
 use Rattle.lapd_tei.proofs.AssignerKeeps.{free_from}
 use Rattle.lapd_sides_links.specs.Effects.{outcome_of}
 use Rattle.lapd_sides_interface.specs.Premises.{tells_assignment}
-use Rattle.lapd_sides_interface.proofs.Managed.{freed_here}
+use Rattle.lapd_sides_interface.proofs.Managed.{freed_here, some_same}
 
 -- what a step of the assigner is to the TEIs that are held
 pub record GivesFree (held : List Bool) (done : AssignerStep) : Type 0 where
@@ -32,13 +31,10 @@ pub record GivesFree (held : List Bool) (done : AssignerStep) : Type 0 where
   pub stays_held : (n : ℕ) → is_held held n ≡ true → (freed_here n (tei_freed done.outs) ≡ true) ⊎ (is_held done.now.held n ≡ true)
   pub free : (n : ℕ) → list_any (tells_assignment n) (filter_map outcome_of done.outs) ≡ true → is_held held n ≡ false
 
-same_number : (a b : ℕ) → Some a ≡ Some b → a ≡ b
-same_number a b h = cc
-
-first_is : (t n : ℕ) → (Rattle.std.specs.Prelude.◌||◌ (t == n) false) ≡ true → t ≡ n
+first_is : (t n : ℕ) → ((t == n) || false) ≡ true → t ≡ n
 first_is t n h = by_test (t == n) refl h
   where
-    by_test : (b : Bool) → (t == n) ≡ b → Rattle.std.specs.Prelude.◌||◌ b false ≡ true → t ≡ n
+    by_test : (b : Bool) → (t == n) ≡ b → (b || false) ≡ true → t ≡ n
     by_test true is h = grind (arith, nat_tests, is)
     by_test false is h = cc
 
@@ -61,7 +57,7 @@ serving a ri None is = record { given = λ t given. cc; stays_held = λ n h. inr
 serving a ri (Some tei) is =
     let found : (tei < length a.held) × (is_held a.held tei ≡ false) = free_from a.held 64 (drop 64 a.held) tei refl is in
     record {
-      given = λ t given. subst (λ (m : ℕ). is_held (set a.held tei true) m ≡ true) (same_number tei t given) (get_or-set_same a.held tei true false found.0);
+      given = λ t given. subst (λ (m : ℕ). is_held (set a.held tei true) m ≡ true) (some_same tei t given) (get_or-set_same a.held tei true false found.0);
       stays_held = λ n h. inr (held_too a.held tei n (tei == n) found.0 refl h);
       free = λ n told. subst (λ (m : ℕ). is_held a.held m ≡ false) (first_is tei n told) found.1;
     }
@@ -75,7 +71,7 @@ counting : (a : AssignerState) (tei : ℕ) (check : Option Check) → GivesFree 
 counting a tei None = none_changes a a.check
 counting a tei (Some check) = by_test (tei == check.tei)
   where
-    by_test : (test : Bool) → GivesFree a.held (if test then record { now = record { held = a.held; check = Some (record { tei = check.tei; round = check.round; responses = Rattle.lapd_tei.specs.Assigner.one_more check.responses }) }; outs = [] } else stays a)
+    by_test : (test : Bool) → GivesFree a.held (if test then record { now = record { held = a.held; check = Some (record { tei = check.tei; round = check.round; responses = one_more check.responses }) }; outs = [] } else stays a)
     by_test true = none_changes a _
     by_test false = none_changes a a.check
 

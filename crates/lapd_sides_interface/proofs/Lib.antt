@@ -9,7 +9,6 @@ pub mod Deeds
 pub mod Asked
 pub mod Whole
 pub mod Called
-pub mod Known
 pub mod Computed
 pub mod LinkOps
 pub mod HeldTeis
@@ -17,3 +16,4 @@ pub mod OwnTeis
 pub mod NetworkOwn
 pub mod TerminalOwn
 pub mod UserOwn
+pub mod AsMade

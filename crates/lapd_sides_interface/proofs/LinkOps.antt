@@ -1,6 +1,6 @@
 -- A step of any link makes none come, and tells of no TEI.
 use Rattle.std.proofs.Common.{◌≡◌, ℕ, List, [], ◌∷◌, ◌++◌, map, Bool, true, false, if◌then◌else◌, Option, Some, None, Result, Ok, Err, refl, ap, subst, ◌∙◌}
-use Rattle.std.specs.Prelude.{is_some}
+use Rattle.std.specs.Prelude.{is_some, ◌||◌}
 use Rattle.std.specs.List.{list_any, filter_map}
 use Rattle.lapd_timers.specs.declared.timer.Timer.{Timer}
 use Rattle.lapd_timers.specs.Due.{Timers}
@@ -13,7 +13,6 @@ use Rattle.lapd_link_rows.specs.Table.{step}
 use Rattle.lapd_table.specs.declared.link_id.LinkId.{LinkId}
 use Rattle.lapd_table.specs.LinkId.{id_eq}
 use Rattle.lapd_table.proofs.Ids.{same_id_eq}
-use Rattle.lapd_sides_links.specs.declared.primitive.Primitive.{Primitive}
 use Rattle.lapd_sides_links.specs.declared.primitive.Primitive.TheVariants.{Of}
 use Rattle.lapd_sides_links.specs.declared.primitive.What.{What}
 use Rattle.lapd_sides_links.specs.declared.side_fault.SideKind.{SideKind}
@@ -33,7 +32,7 @@ pub none_of_both : {X : Type 0} (test : X → Bool) (xs ys : List X) → list_an
 none_of_both test [] ys hx hy = hy
 none_of_both test (x ∷ xs) ys hx hy = by_first (test x) (list_any test xs) (list_any test (xs ++ ys)) hx (λ rest. none_of_both test xs ys rest hy)
   where
-    by_first : (a b c : Bool) → Rattle.std.specs.Prelude.◌||◌ a b ≡ false → (b ≡ false → c ≡ false) → Rattle.std.specs.Prelude.◌||◌ a c ≡ false
+    by_first : (a b c : Bool) → (a || b) ≡ false → (b ≡ false → c ≡ false) → (a || c) ≡ false
     by_first true b c h f = cc
     by_first false b c h f = f h
 

@@ -1,7 +1,7 @@
 -- TEI management is nothing to a link whose TEI it neither gives nor takes away.
 use Rattle.std.proofs.Common.{◌≡◌, ℕ, ◌<◌, ◌==◌, ◌&&◌, List, [], ◌∷◌, ◌++◌, Bool, true, false, if◌then◌else◌, Option, Some, None, refl, ap, subst, ◌∙◌, arith, ◌⊎◌, sym, inl, inr}
 use Rattle.std.specs.Prelude.{◌||◌, IfSome, is_some}
-use Rattle.std.specs.List.{list_any, filter_map}
+use Rattle.std.specs.List.{list_any, filter_map, cons_option}
 use Rattle.std.proofs.lemmas.Bool.Decides.{nat_tests}
 use Rattle.std.proofs.lemmas.List.Elements.{filter_map-append}
 use Rattle.lapd_frame.specs.declared.Side.{Side}
@@ -61,7 +61,7 @@ not_of_group sapi id low = and_not _ (id.tei == 127) (grind (arith, nat_tests))
 
 -- ---- The TEI that is given or freed is another.
 
-some_same : (x y : ℕ) → Some x ≡ Some y → x ≡ y
+pub some_same : (x y : ℕ) → Some x ≡ Some y → x ≡ y
 some_same x y h = cc
 
 given_is_other : (tei : ℕ) (outs : List TeiOut) → list_any (tells_assignment tei) (filter_map outcome_of outs) ≡ false → (t : ℕ) → tei_given outs ≡ Some t → (t == tei) ≡ false
@@ -89,10 +89,6 @@ freed_is_other tei (Some u) h t is = subst (λ (x : ℕ). (x == tei) ≡ false) 
 or_so : (a b : Bool) → a ≡ true → (a || b) ≡ true
 or_so true b h = refl
 or_so false b h = cc
-
-or_else : (a b : Bool) → b ≡ true → (a || b) ≡ true
-or_else true b h = refl
-or_else false b h = h
 
 freed_is_told : (tei : ℕ) (outs : List TeiOut) → freed_here tei (tei_freed outs) ≡ true → list_any (tells_removal tei) (filter_map outcome_of outs) ≡ true
 freed_is_told tei [] h = cc
@@ -192,7 +188,7 @@ nothing_silent : AreSilent []
 nothing_silent = record { teaches = λ k. refl; expected = tt }
 
 -- one thing told, of this link or of another
-quiet_by : (w : What) (test : Bool) → IsQuietWhat w → AreSilent (Rattle.std.specs.List.cons_option (if test then Some w else None) [])
+quiet_by : (w : What) (test : Bool) → IsQuietWhat w → AreSilent (cons_option (if test then Some w else None) [])
 quiet_by what.Released true h = record { teaches = λ k. refl; expected = (tt, tt) }
 quiet_by what.ReleaseConfirm true h = record { teaches = λ k. refl; expected = (tt, tt) }
 quiet_by (what.Up octets) true h = absurd h

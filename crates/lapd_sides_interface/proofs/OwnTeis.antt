@@ -1,5 +1,5 @@
 -- TEI management gives no TEI whose links are there, where these are of TEIs that it holds or has.
-use Rattle.std.proofs.Common.{◌≡◌, ◌⊎◌, inl, inr, ℕ, ◌==◌, ◌&&◌, List, [], ◌∷◌, ◌++◌, Bool, true, false, if◌then◌else◌, Option, Some, None, refl, sym, ap, subst, ◌∙◌, arith}
+use Rattle.std.proofs.Common.{◌≡◌, ◌⊎◌, inl, inr, ℕ, ◌==◌, ◌&&◌, List, Bool, true, false, if◌then◌else◌, Option, Some, None, refl, sym, ap, subst, ◌∙◌, arith}
 use Rattle.std.specs.Prelude.{is_some}
 use Rattle.std.specs.List.{list_any, filter_map}
 use Rattle.std.proofs.lemmas.Bool.Decides.{nat_tests}
@@ -11,11 +11,11 @@ use Rattle.lapd_table.specs.declared.link_id.LinkId.{LinkId}
 use Rattle.lapd_sides_links.specs.declared.config.Config.{Config}
 use Rattle.lapd_sides_links.specs.declared.primitive.What.{What}
 use Rattle.lapd_sides_links.specs.Effects.{Effects, outcome_of}
-use Rattle.lapd_sides_links.specs.Links.{Links, Linked, Served, Reaction, of_sapi, is_served, is_link_of, with_tei, primitives_of, told_at_removal, release_at_removal, told_of_tei}
+use Rattle.lapd_sides_links.specs.Links.{Links, Linked, Served, of_sapi, is_served, is_link_of, with_tei, primitives_of, told_at_removal, release_at_removal, told_of_tei}
 use Rattle.lapd_sides.specs.Management.{links_with, links_without, told_without, manages}
 use Rattle.lapd_sides_interface.specs.Interface.{fresh_link}
 use Rattle.lapd_sides_interface.specs.Premises.{tells_assignment}
-use Rattle.lapd_sides_interface.proofs.LinkOps.{whats_are_quiet, none_of_both}
+use Rattle.lapd_sides_interface.proofs.LinkOps.{none_of_both}
 use Rattle.lapd_sides_interface.proofs.Managed.{freed_here, freed_is_other, without_this, without_other}
 
 -- each link that is there is of such a TEI
@@ -26,7 +26,7 @@ AreOf P links = (k : LinkId) → is_some (links k) ≡ true → P k.tei
 abbrev pub IsQuietFor : Links → Effects → Type 0
 IsQuietFor links effects = (k : LinkId) → is_some (links k) ≡ true → list_any (tells_assignment k.tei) effects.primitives ≡ false
 
-both_of : (a b : Bool) → (a && b) ≡ true → (a ≡ true) × (b ≡ true)
+pub both_of : (a b : Bool) → (a && b) ≡ true → (a ≡ true) × (b ≡ true)
 both_of true true h = (refl, refl)
 both_of true false h = cc
 both_of false b h = cc
@@ -74,7 +74,7 @@ module _ (side : Side) (config : Config) (now : ℕ) (outs : List TeiOut) (s : S
   by_freed : (k : LinkId) (freed : Bool) → freed_here k.tei (tei_freed outs) ≡ freed → is_some (links_without (tei_freed outs) (links_with config (tei_given outs) s.links) k) ≡ true → Q k.tei
   by_freed k true is there =
       let none : is_some (links_without (tei_freed outs) (links_with config (tei_given outs) s.links) k) ≡ false =
-          ap (λ (o : Option Linked). is_some o) (without_this k (tei_freed outs) (links_with config (tei_given outs) s.links) is) in
+      ap (λ (o : Option Linked). is_some o) (without_this k (tei_freed outs) (links_with config (tei_given outs) s.links) is) in
       let no : true ≡ false = sym there ∙ none in
       cc
   by_freed k false is there =

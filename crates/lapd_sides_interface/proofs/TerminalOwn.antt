@@ -1,10 +1,9 @@
 -- What a step of the terminal is to its own TEI.
-use Rattle.std.proofs.Common.{◌≡◌, ◌⊎◌, inl, inr, ℕ, ◌+◌, ◌==◌, ◌&&◌, ◌||◌, not, nat_lt, List, [], ◌∷◌, Bool, true, false, if◌then◌else◌, Option, Some, None, refl, ap, ◌∙◌, arith}
+use Rattle.std.proofs.Common.{◌≡◌, inl, inr, ℕ, ◌+◌, ◌==◌, ◌&&◌, not, nat_lt, [], ◌∷◌, Bool, true, false, if◌then◌else◌, Option, Some, refl, arith}
 use Rattle.std.proofs.lemmas.Bool.Decides.{nat_tests}
 use Rattle.lapd_timers.specs.declared.timer.Timer.TheVariants.{T202}
 use Rattle.lapd_tei.specs.declared.kind.TeiKind.{TeiKind}
 use Rattle.lapd_tei.specs.declared.kind.TeiKind.TheVariants as kind
-use Rattle.lapd_tei.specs.declared.out.TeiOut.{TeiOut}
 use Rattle.lapd_tei.specs.declared.out.TeiOut.TheVariants.{Send, Start, Stop, Got, Gone, Failed}
 use Rattle.lapd_tei.specs.declared.phase.Phase.{Phase}
 use Rattle.lapd_tei.specs.declared.phase.Phase.TheVariants.{Unassigned, Awaiting, Assigned}
@@ -13,7 +12,8 @@ use Rattle.lapd_tei.specs.declared.phase.Purpose.TheVariants.{Assignment, Establ
 use Rattle.lapd_tei.specs.declared.terminal.TerminalEvent.{TerminalEvent}
 use Rattle.lapd_tei.specs.declared.terminal.TerminalEvent.TheVariants as event
 use Rattle.lapd_tei.specs.Terminal.{TerminalStep, n202, is_automatic, names, is_got_by, goes_to, asks, asks_again, awaiting_hears, assigned_hears, terminal_step}
-use Rattle.lapd_tei.specs.Out.{request, tei_given, tei_freed}
+use Rattle.lapd_tei.specs.Out.{request, tei_given}
+use Rattle.lapd_sides_interface.proofs.Managed.{some_same}
 use Rattle.lapd_sides_interface.proofs.OwnTeis.{LeavesOwn}
 
 abbrev pub Owns : Phase → ℕ → Type 0
@@ -23,9 +23,6 @@ Owns (Awaiting purpose count ri) n = ⊥
 
 abbrev Leaves : Phase → TerminalStep → Type 0
 Leaves phase done = LeavesOwn (Owns phase) (Owns done.now) done.outs
-
-same_number : (a b : ℕ) → Some a ≡ Some b → a ≡ b
-same_number a b h = cc
 
 -- without a TEI, and none is got
 without : (done : TerminalStep) → ((t : ℕ) → tei_given done.outs ≡ Some t → Owns done.now t) → LeavesOwn (λ n. ⊥) (Owns done.now) done.outs
@@ -46,7 +43,7 @@ again purpose count ri new = either (Awaiting purpose count ri) (nat_lt count n2
     (without (goes_to (Awaiting purpose (count + 1) new) (Send (request new) ∷ Start T202 ∷ [])) (λ t is. cc)) (without (goes_to Unassigned (Failed ∷ [])) (λ t is. cc))
 
 awaiting : (purpose : Purpose) (count ri : ℕ) (k : TeiKind) (its ai : ℕ) → Leaves (Awaiting purpose count ri) (awaiting_hears purpose count ri k its ai)
-awaiting purpose count ri kind.Assigned its ai = either (Awaiting purpose count ri) ((its == ri) && is_automatic ai) _ _ (without (goes_to (Assigned (Some ri) ai) (Stop T202 ∷ Got ai ∷ [])) (λ t is. same_number ai t is)) (still (Awaiting purpose count ri))
+awaiting purpose count ri kind.Assigned its ai = either (Awaiting purpose count ri) ((its == ri) && is_automatic ai) _ _ (without (goes_to (Assigned (Some ri) ai) (Stop T202 ∷ Got ai ∷ [])) (λ t is. some_same ai t is)) (still (Awaiting purpose count ri))
 awaiting purpose count ri kind.Request its ai = still (Awaiting purpose count ri)
 awaiting purpose count ri kind.Denied its ai = still (Awaiting purpose count ri)
 awaiting purpose count ri kind.CheckRequest its ai = still (Awaiting purpose count ri)

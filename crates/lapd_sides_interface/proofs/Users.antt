@@ -1,6 +1,6 @@
 -- What a deed of a user side is to one of its links.
 use Rattle.std.proofs.Common.{◌≡◌, ◌⊎◌, inl, ℕ, ◌<◌, ◌==◌, List, [], ◌∷◌, length, Bool, true, false, if◌then◌else◌, Option, Some, None, Result, Ok, Err, refl, sym, ap, subst, ◌∙◌, arith, inr}
-use Rattle.std.specs.List.{list_any, filter_map}
+use Rattle.std.specs.List.{list_any, filter_map, cons_option}
 use Rattle.std.proofs.lemmas.Bool.Decides.{nat_tests}
 use Rattle.std.proofs.lemmas.List.Elements.{filter_map-append}
 use Rattle.std.specs.Prelude.{is_some, ◌||◌}
@@ -101,7 +101,7 @@ module _ (config : Config) (id : LinkId) (low : id.tei < 127) (removed : Bool) w
   -- what is told of the group is told of no link
   group_told : (on : Bool) (at : Sapi) (w : What) → told_of id (told_of_sapi on at w) ≡ []
   group_told false at w = refl
-  group_told true at w = ap (λ (b : Bool). Rattle.std.specs.List.cons_option (if b then Some w else None) []) (not_of_group at id low)
+  group_told true at w = ap (λ (b : Bool). cons_option (if b then Some w else None) []) (not_of_group at id low)
 
   establishing : (on : Bool) (now : ℕ) (other : LinkId) (s : User) → id_eq id other ≡ false → Passes s (establishes on now other s)
   establishing true now other s apart = link_wanted now other Establish [] s apart

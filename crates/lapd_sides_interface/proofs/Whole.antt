@@ -75,7 +75,7 @@ some_octets (message ∷ received) = ap (λ l. Some message.octets ∷ l) (some_
 safe_is_received : (given : List (List ℕ)) (sent_in : ℕ → Option ℕ) (acked : List ℕ) (received : List Receipt) → IsSafe given sent_in acked received → IsReceived given acked (map (λ (message : Receipt). message.octets) received)
 safe_is_received given sent_in acked received h = record { places = h.places; rising = h.rising; same = h.same ∙ some_octets received; acknowledged = h.acknowledged }
 
-received_as : (given given_now : List (List ℕ)) (acked acked_now : List ℕ) (received received_now : List (List ℕ)) → given_now ≡ given → acked_now ≡ acked → received_now ≡ received → IsReceived given acked received → IsReceived given_now acked_now received_now
+pub received_as : (given given_now : List (List ℕ)) (acked acked_now : List ℕ) (received received_now : List (List ℕ)) → given_now ≡ given → acked_now ≡ acked → received_now ≡ received → IsReceived given acked received → IsReceived given_now acked_now received_now
 received_as given given_now acked acked_now received received_now g a r h =
     subst (λ x. IsReceived x acked_now received_now) (sym g) (subst (λ x. IsReceived given x received_now) (sym a) (subst (λ x. IsReceived given acked x) (sym r) h))
 

@@ -46,6 +46,16 @@ abbrev pub GivesTeiOnce : {S : Type 0} → Behaviour S → LinkId → Deed → S
 GivesTeiOnce w id deed v = IsGivenOnce id (w.served v.now).links
     (list_any (tells_removal id.tei) v.told) (reaction w deed v).effects
 
+-- It is not given where it was taken away before. Of sides as they are made that is the same: they give no TEI whose links are
+-- there.
+abbrev pub IsNotGivenAgain : LinkId → Bool → Effects → Type 0
+IsNotGivenAgain id removed effects = removed ≡ true
+    → list_any (tells_assignment id.tei) effects.primitives ≡ false
+
+abbrev pub LeavesTeiTaken : {S : Type 0} → Behaviour S → LinkId → Deed → SideView S → Type 0
+LeavesTeiTaken w id deed v =
+    IsNotGivenAgain id (list_any (tells_removal id.tei) v.told) (reaction w deed v).effects
+
 -- ---- Of all moves of a run.
 
 abbrev pub IsTimelyMove : LinkId → Side → Deed → Interface → Type 0
@@ -57,6 +67,12 @@ IsMoveGivingTeiOnce c id side.User deed i = GivesTeiOnce (user_behaviour c.user)
 IsMoveGivingTeiOnce c id side.Network deed i =
     GivesTeiOnce (network_behaviour c.network) id deed (by_network i)
 
+abbrev pub IsMoveLeavingTeiTaken : Configs → LinkId → Side → Deed → Interface → Type 0
+IsMoveLeavingTeiTaken c id side.User deed i =
+    LeavesTeiTaken (user_behaviour c.user) id deed (by_user i)
+IsMoveLeavingTeiTaken c id side.Network deed i =
+    LeavesTeiTaken (network_behaviour c.network) id deed (by_network i)
+
 abbrev pub AreTimely : Configs → LinkId → List Move → Interface → Type 0
 AreTimely c id [] i = Unit {0}
 AreTimely c id (move ∷ moves) i = IsTimelyMove id move.side move.deed i
@@ -67,6 +83,14 @@ GiveTeiOnce c id [] i = Unit {0}
 GiveTeiOnce c id (move ∷ moves) i = IsMoveGivingTeiOnce c id move.side move.deed i
     × GiveTeiOnce c id moves (happens c move i)
 
--- both
+abbrev pub LeaveTeiTaken : Configs → LinkId → List Move → Interface → Type 0
+LeaveTeiTaken c id [] i = Unit {0}
+LeaveTeiTaken c id (move ∷ moves) i = IsMoveLeavingTeiTaken c id move.side move.deed i
+    × LeaveTeiTaken c id moves (happens c move i)
+
+-- both premises, and both of sides as they are made
 abbrev pub KeepPremises : Configs → LinkId → List Move → Interface → Type 0
 KeepPremises c id moves i = AreTimely c id moves i × GiveTeiOnce c id moves i
+
+abbrev pub KeepPremisesAsMade : Configs → LinkId → List Move → Interface → Type 0
+KeepPremisesAsMade c id moves i = AreTimely c id moves i × LeaveTeiTaken c id moves i

@@ -24,7 +24,7 @@ ghost use Rattle.lapd_sides.specs.User.{User, new_user, got_for, user_takes, use
 ghost use Rattle.lapd_sides_interface.specs.Addressed.{those_for};
 ghost use Rattle.lapd_sides_interface.specs.Calls.{NetworkDoes, UserDoes, take_of};
 ghost use Rattle.lapd_sides_interface.specs.Interface.{Configs, Move, Interface, new_interface, from_here, run};
-ghost use Rattle.lapd_sides_interface.specs.Premises.{AreTimely, GiveTeiOnce, KeepPremises};
+ghost use Rattle.lapd_sides_interface.specs.Premises.{AreTimely, GiveTeiOnce, KeepPremises, KeepPremisesAsMade};
 ghost use Rattle.lapd_sides_interface.specs.Projects.{IsRight, IsSafeAt};
 ghost use Rattle.lapd_sides_interface.specs.Schedule.{configs, call, packet, at_first, unassigned, IsMessage, both_links, assigned, removed, hasty, regained, with_old_frames, answered_before};
 ghost use Rattle.lapd_sides_interface.specs.SideView.{SideView, Expire, Ask};
@@ -38,9 +38,10 @@ ghost use Rattle.lapd_sides_interface.specs.Told.{told_of};
 ///
 /// `as_made`: of each link of two sides as they are made, the user with a fixed TEI or with none, the network with any that
 /// it knows. The link may be there at first on one side, on both or on none; it may come when its TEI is assigned, with the
-/// establishment that was kept for it, and go when its TEI is taken away. `safe`: of a link that was there as new from the
-/// start, on both sides. `from_here`: of a link that is new on both sides at some moment of an interface, when no octets for
-/// it are on their way; what is told and given counts from then on.
+/// establishment that was kept for it, and go when its TEI is taken away. Of its TEI only this is asked there, that it is
+/// not given again after it was taken away. `safe`: of a link that was there as new from the start, on both sides.
+/// `from_here`: of a link that is new on both sides at some moment of an interface, when no octets for it are on their way;
+/// what is told and given counts from then on.
 pub fn each_link_is_safe()
     ensures safe { (c : Configs) (id : LinkId) (user : User) (network : Network)
         (p q : Parameters) (m n : Lengths) → id.tei < 127 → p.k ≤ 127 → q.k ≤ 127
@@ -52,7 +53,7 @@ pub fn each_link_is_safe()
         (random : Lcg) → id.tei < 127
         → (parameters_for c.user id.sapi).k ≤ 127 → (parameters_for c.network id.sapi).k ≤ 127
         → (moves : List Move)
-        → KeepPremises c id moves
+        → KeepPremisesAsMade c id moves
         (new_interface (new_user c.user fixed random) (new_network c.network known))
         → IsSafeAt c id (run c moves
         (new_interface (new_user c.user fixed random) (new_network c.network known))) }

@@ -14,8 +14,9 @@
 //!   keeps order, and repeats and alters nothing; nobody else sends on it. All else is left open: which octets are lost, when
 //!   timers expire, what is asked for and when.
 //! - `Premises`, for one link: its T200 does not expire while a command with P=1 of that side, or a response with F=1 to it, is
-//!   on the line; and its TEI is given once, neither where the link is there nor after it was taken away. Other links may do what
-//!   they want.
+//!   on the line; and its TEI is given once, neither where the link is there nor after it was taken away. Of sides as they are
+//!   made it is enough that it is not given again, since they give no TEI whose links are there. Other links may do what they
+//!   want.
 //! - `Projects`: what both sides show of the link, which may not be there yet or be there no more, is a world of two ends, which
 //!   some moves lead to (`ProjectsTo`); that world is safe, and what came of the link is right (`IsSafeAt`).
 //! - `Calls`: what a call of a side in code is as a deed; `Schedule`: worked runs.

@@ -1,4 +1,4 @@
-use Rattle.lapd_sides_interface.proofs.Known.{made_link_safe}
+use Rattle.lapd_sides_interface.proofs.AsMade.{made_link_safe}
 use Rattle.lapd_sides_interface.proofs.Whole.{link_safe, link_safe_from}
 use Rattle.lapd_sides_interface.proofs.laws.each_link_is_safe.Goals as goal
 
