@@ -1,5 +1,5 @@
 -- What the assigner does keeps what the bus keeps.
-use Rattle.std.proofs.Common.{◌≡◌, ◌≢◌, ℕ, ◌+◌, ◌<◌, zero, suc, Bool, true, false, List, [], ◌∷◌, ◌++◌, map, set, drop, length, get_or, slice_get, Option, Some, None, inl, inr, refl, sym, ap, subst, ◌∙◌, arith}
+use Rattle.std.proofs.Common.{◌≡◌, ◌≢◌, ℕ, ◌+◌, ◌<◌, ◌≤◌, zero, suc, Bool, true, false, List, [], ◌∷◌, map, set, drop, length, get_or, slice_get, Option, Some, None, inl, inr, ◌⊎◌, refl, sym, ap, subst, ◌∙◌, arith}
 use Rattle.std.proofs.Math.Numerals.{add-one}
 use Rattle.std.proofs.lemmas.Bool.{cases_eq, cond_both}
 use Rattle.std.proofs.lemmas.List.{get_or-set_same, get_or-set_other}
@@ -12,22 +12,21 @@ use Rattle.lapd_tei.specs.declared.kind.TeiKind.{TeiKind}
 use Rattle.lapd_tei.specs.declared.kind.TeiKind.TheVariants as kind
 use Rattle.lapd_tei.specs.declared.phase.Phase.{Phase}
 use Rattle.lapd_tei.specs.declared.phase.Phase.TheVariants.{Unassigned, Awaiting, Assigned}
-use Rattle.lapd_timers.specs.declared.timer.Timer.TheVariants.{T201}
-use Rattle.lapd_tei.specs.declared.out.TeiOut.{TeiOut}
-use Rattle.lapd_tei.specs.declared.out.TeiOut.TheVariants.{Send, Start}
 use Rattle.lapd_tei.specs.declared.check.Check.{Check}
 use Rattle.lapd_tei.specs.declared.check.Round.{Round}
 use Rattle.lapd_tei.specs.declared.check.Round.TheVariants as round
 use Rattle.lapd_tei.specs.declared.check.Responses.{Responses}
 use Rattle.lapd_tei.specs.declared.check.Responses.TheVariants as responses
+use Rattle.lapd_tei.specs.declared.assigner.AssignerEvent.{AssignerEvent}
 use Rattle.lapd_tei.specs.declared.assigner.AssignerEvent.TheVariants as event
 use Rattle.lapd_tei.specs.Message.{group_tei}
 use Rattle.lapd_tei.specs.Out.{sent, assigned, denied, check_request, remove}
 use Rattle.lapd_tei.specs.Terminal.{tei_of}
-use Rattle.lapd_tei.specs.Assigner.{AssignerStep, assigner_step, assigner_hears, serves, begins_check, counts_response, timer_ends, round_ends, first_free, least_free, is_held, stays, checking}
-use Rattle.lapd_tei.specs.Bus.{BusState, BusStep, broadcast, assigner_did}
-use Rattle.lapd_tei.specs.Single.{references, freed, assigned_by, IsNobodys, Differ}
-use Rattle.lapd_tei.proofs.KeptByBus.{Sits, FitsKind, Fits, Keeps, KeptByBus, pick_yes, pick_no}
+use Rattle.lapd_tei.specs.Assigner.{AssignerState, AssignerStep, assigner_step, assigner_hears, serves, begins_check, counts_response, timer_ends, round_ends, first_free, least_free, is_held, stays}
+use Rattle.lapd_tei.specs.Bus.{BusState, broadcast, assigner_did}
+use Rattle.lapd_tei.specs.Single.{freed, assigned_by, IsNobodys}
+use Rattle.lapd_tei.specs.Service.{IsKnown, KnowsInUse}
+use Rattle.lapd_tei.proofs.KeptByBus.{Owner, Reference, Sits, FitsKind, Fits, Owned, all_each, pick_yes, pick_no}
 
 -- ---- The least free TEI is not held.
 
@@ -37,22 +36,154 @@ at_front [] (suc n) b rest q = absurd cc
 at_front (x ∷ held) zero b rest q = (omega arith, cc, cc)
 at_front (x ∷ held) (suc n) b rest q = let k : (n < length held) × (get_or held n false ≡ b) × (drop (suc n) held ≡ rest) = at_front held n b rest q in (omega (arith, k.0), k.1, k.2)
 
-pub free_from : (held : List Bool) (n : ℕ) (rest : List Bool) (tei : ℕ) → drop n held ≡ rest → first_free n rest ≡ Some tei → (tei < length held) × (is_held held tei ≡ false)
+-- this TEI is not held, and is not below the other number
+pub record IsFree (held : List Bool) (least tei : ℕ) : Type 0 where
+  pub within : tei < length held
+  pub free : is_held held tei ≡ false
+  pub from : least ≤ tei
+
+pub free_from : (held : List Bool) (n : ℕ) (rest : List Bool) (tei : ℕ) → drop n held ≡ rest → first_free n rest ≡ Some tei → IsFree held n tei
 free_from held n [] tei q found = absurd cc
-free_from held n (true ∷ rest) tei q found = free_from held (n + 1) rest tei (subst (λ m. drop m held ≡ rest) (sym (add-one n)) (at_front held n true rest q).2) found
+free_from held n (true ∷ rest) tei q found =
+    let later : IsFree held (n + 1) tei = free_from held (n + 1) rest tei (subst (λ m. drop m held ≡ rest) (sym (add-one n)) (at_front held n true rest q).2) found in
+    record { within = later.within; free = later.free; from = omega (arith, later.from) }
 free_from held n (false ∷ rest) tei q found = let k : (n < length held) × (get_or held n false ≡ false) × (drop (suc n) held ≡ rest) = at_front held n false rest q in
-    let e : n ≡ tei = cc in subst (λ m. (m < length held) × (is_held held m ≡ false)) e (k.0, k.1)
+    let e : n ≡ tei = cc in record { within = subst (λ m. m < length held) e k.0; free = subst (λ m. is_held held m ≡ false) e k.1; from = omega (arith, e) }
+
+-- ---- The rows of the assigner.
+
+abbrev pub AssignsNothing : TeiMessage → Type 0
+AssignsNothing m = assigned_by m.kind m.ai ≡ None
+
+-- A step that assigns no TEI: of those that were held it gives up only what it frees.
+pub record AssignsNone (a : AssignerState) (done : AssignerStep) : Type 0 where
+  pub stays : (n : ℕ) → is_held a.held n ≡ true → AllByRecursion (λ k. n ≢ k) (freed done.outs) → is_held done.now.held n ≡ true
+  pub none : All AssignsNothing (sent done.outs)
+
+-- a step that assigns one, which was not held
+pub record AssignsOne (a : AssignerState) (done : AssignerStep) : Type 0 where
+  pub ri : ℕ
+  pub tei : ℕ
+  pub free : IsFree a.held 64 tei
+  pub is : done ≡ serves ri (Some tei) a
+
+abbrev pub Assigns : AssignerState → AssignerStep → Type 0
+Assigns a done = AssignsNone a done ⊎ AssignsOne a done
+
+nothing_sent : All AssignsNothing []
+nothing_sent = All-nil AssignsNothing
+
+one_sent : (m : TeiMessage) → AssignsNothing m → All AssignsNothing (m ∷ [])
+one_sent m none = All-cons AssignsNothing m [] none nothing_sent
+
+held_but_one : (held : List Bool) (tei n : ℕ) → is_held held n ≡ true → n ≢ tei → is_held (set held tei false) n ≡ true
+held_but_one held tei n is other = get_or-set_other held tei n false false other ∙ is
+
+held_and_one : (held : List Bool) (tei n : ℕ) → tei < length held → is_held held n ≡ true → is_held (set held tei true) n ≡ true
+held_and_one held tei n within is = elim (cases_eq n tei) [
+  | inl same ↦ ap (is_held (set held tei true)) same ∙ get_or-set_same held tei true false within
+  | inr other ↦ get_or-set_other held tei n true false other ∙ is
+]
+
+stayed : (a : AssignerState) → AssignsNone a (stays a)
+stayed a = record { stays = λ n is unfreed. is; none = nothing_sent }
+
+begun : (a : AssignerState) (tei : ℕ) (check : Option Check) → AssignsNone a (begins_check tei check a)
+begun a tei None = cond_both (nat_lt tei group_tei) _ _ (AssignsNone a)
+    (λ test. record { stays = λ n is unfreed. is; none = one_sent (check_request tei) refl })
+    (λ test. stayed a)
+begun a tei (Some check) = stayed a
+
+responded : (a : AssignerState) (tei : ℕ) (check : Option Check) → AssignsNone a (counts_response tei check a)
+responded a tei None = stayed a
+responded a tei (Some check) = cond_both (tei == check.tei) _ _ (AssignsNone a)
+    (λ test. record { stays = λ n is unfreed. is; none = nothing_sent })
+    (λ test. stayed a)
+
+ended : (a : AssignerState) (tei : ℕ) (nth : Round) (count : Responses) → AssignsNone a (round_ends tei nth count a)
+ended a tei round.First responses.Nobody = record { stays = λ n is unfreed. is; none = one_sent (check_request tei) refl }
+ended a tei round.Second responses.Nobody = record { stays = λ n is unfreed. held_but_one a.held tei n is unfreed.0; none = nothing_sent }
+ended a tei round.First responses.One = record { stays = λ n is unfreed. is; none = nothing_sent }
+ended a tei round.Second responses.One = record { stays = λ n is unfreed. is; none = nothing_sent }
+ended a tei round.First responses.Several = record { stays = λ n is unfreed. held_but_one a.held tei n is unfreed.0; none = All-cons AssignsNothing (remove tei) (remove tei ∷ []) refl (one_sent (remove tei) refl) }
+ended a tei round.Second responses.Several = record { stays = λ n is unfreed. held_but_one a.held tei n is unfreed.0; none = All-cons AssignsNothing (remove tei) (remove tei ∷ []) refl (one_sent (remove tei) refl) }
+
+timed : (a : AssignerState) (check : Option Check) → AssignsNone a (timer_ends check a)
+timed a None = stayed a
+timed a (Some check) = ended a check.tei check.round check.responses
+
+requested : (a : AssignerState) (ri : ℕ) (free : Option ℕ) → least_free a.held ≡ free → Assigns a (serves ri free a)
+requested a ri None q = inl (record { stays = λ n is unfreed. is; none = one_sent (denied ri) refl })
+requested a ri (Some tei) q = inr (record { ri = ri; tei = tei; free = free_from a.held 64 (drop 64 a.held) tei refl q; is = refl })
+
+heard : (a : AssignerState) (k : TeiKind) (ri ai : ℕ) → Assigns a (assigner_hears k ri ai a)
+heard a kind.Request ri ai = requested a ri (least_free a.held) refl
+heard a kind.CheckResponse ri ai = inl (responded a ai a.check)
+heard a kind.Verify ri ai = inl (begun a ai a.check)
+heard a kind.Assigned ri ai = inl (stayed a)
+heard a kind.Denied ri ai = inl (stayed a)
+heard a kind.CheckRequest ri ai = inl (stayed a)
+heard a kind.Remove ri ai = inl (stayed a)
+
+pub assigner_assigns : (a : AssignerState) (e : AssignerEvent) → Assigns a (assigner_step a e)
+assigner_assigns a (event.Heard m) = heard a m.kind m.ri m.ai
+assigner_assigns a (event.Check tei) = inl (begun a tei a.check)
+assigner_assigns a event.T201 = inl (timed a a.check)
+
+-- ---- What is held stays held, until it is freed.
+
+abbrev StaysHeld : AssignerState → AssignerStep → Type 0
+StaysHeld a done = (n : ℕ) → is_held a.held n ≡ true → AllByRecursion (λ k. n ≢ k) (freed done.outs) → is_held done.now.held n ≡ true
+
+pub stays_held : (a : AssignerState) (done : AssignerStep) → Assigns a done → StaysHeld a done
+stays_held a done either = elim either [
+  | inl h ↦ h.stays
+  | inr h ↦ subst (StaysHeld a) (sym h.is) (λ n is unfreed. held_and_one a.held h.tei n h.free.within is)
+]
+
+-- what stands in a list where all are so
+pub all_at : {X : Type 0} (P : X → Type 0) (xs : List X) (i : ℕ) (x : X) → All P xs → slice_get xs i ≡ Some x → P x
+all_at P xs i x all there = subst P (get_or_from_slice_get xs i x x there) (All-get_or P xs i x (slice_get_within xs i x there) all)
+
+still_known : (held later : List Bool) (o : Option ℕ) → IsKnown held o → ((n : ℕ) → o ≡ Some n → is_held held n ≡ true → is_held later n ≡ true) → IsKnown later o
+still_known held later None h f = tt
+still_known held later (Some n) h f = λ from. f n refl (h from)
+
+-- an assignment that is sent is known, if there is one
+sends_known : (a : AssignerState) (done : AssignerStep) → Assigns a done → All (λ m. IsKnown done.now.held (assigned_by m.kind m.ai)) (sent done.outs)
+sends_known a done either = elim either [
+  | inl h ↦ All-weaker AssignsNothing (λ m. IsKnown done.now.held (assigned_by m.kind m.ai))
+      (λ m none. subst (IsKnown done.now.held) (sym none) tt) (sent done.outs) h.none
+  | inr h ↦ subst (λ d. All (λ m. IsKnown d.now.held (assigned_by m.kind m.ai)) (sent d.outs)) (sym h.is)
+      (All-cons (λ m. IsKnown (set a.held h.tei true) (assigned_by m.kind m.ai)) (assigned h.ri h.tei) []
+      (λ from. get_or-set_same a.held h.tei true false h.free.within)
+      (All-nil (λ m. IsKnown (set a.held h.tei true) (assigned_by m.kind m.ai))))
+]
+
+pub assigner_known : (b : BusState) (done : AssignerStep) → Assigns b.assigner done → AllByRecursion (IsNobodys b) (freed done.outs) → KnowsInUse b.assigner.held b
+    → KnowsInUse done.now.held (assigner_did b done).now
+assigner_known b done assigns nobodys h = record {
+  terminals = λ k d within. still_known b.assigner.held done.now.held (tei_of (get_or b.terminals k d)) (h.terminals k d within)
+      (λ n q is. stays_held b.assigner done assigns n is
+      (all_each (IsNobodys b) (λ m. n ≢ m) (λ m free e. free.unheld k d within (q ∙ ap Some e)) (freed done.outs) nobodys));
+  assignments = All-append (λ f. IsKnown done.now.held (assigned_by f.message.kind f.message.ai)) b.down (map (broadcast (length b.terminals)) (sent done.outs))
+      (λ k d within. still_known b.assigner.held done.now.held (assigned_by (get_or b.down k d).message.kind (get_or b.down k d).message.ai) (h.assignments k d within)
+      (λ n q is. stays_held b.assigner done assigns n is
+      (all_each (IsNobodys b) (λ m. n ≢ m) (λ m free e. free.unassigned k d within (q ∙ ap Some e)) (freed done.outs) nobodys)))
+      (All-map (λ f. IsKnown done.now.held (assigned_by f.message.kind f.message.ai)) (broadcast (length b.terminals)) (sent done.outs)
+      (sends_known b.assigner done assigns));
+}
 
 -- ---- A change of owners.
 
 -- the same bus with other owners
-reseated : (owner later place_of : ℕ → Option ℕ) (i : ℕ) (t : Phase) → ((n : ℕ) → tei_of t ≡ Some n → later n ≡ owner n) → Sits owner place_of i t → Sits later place_of i t
+pub reseated : (owner later : ℕ → Option Owner) (place_of : ℕ → Option ℕ) (i : ℕ) (t : Phase) → ((n : ℕ) → tei_of t ≡ Some n → later n ≡ owner n) → Sits owner place_of i t → Sits later place_of i t
 reseated owner later place_of i Unassigned same h = h
 reseated owner later place_of i (Awaiting purpose count r) same h = h
-reseated owner later place_of i (Assigned None n) same h = h
+reseated owner later place_of i (Assigned None n) same h = same n refl ∙ h
 reseated owner later place_of i (Assigned (Some r) n) same h = (same n refl ∙ h.0, h.1)
 
-refits : (owner later : ℕ → Option ℕ) (k : TeiKind) (ri ai : ℕ) → ((n : ℕ) → assigned_by k ai ≡ Some n → later n ≡ owner n) → FitsKind owner k ri ai → FitsKind later k ri ai
+pub refits : (owner later : ℕ → Option Owner) (k : TeiKind) (ri ai : ℕ) → ((n : ℕ) → assigned_by k ai ≡ Some n → later n ≡ owner n) → FitsKind owner k ri ai → FitsKind later k ri ai
 refits owner later kind.Assigned ri ai same h = same ai refl ∙ h
 refits owner later kind.Request ri ai same h = h
 refits owner later kind.Denied ri ai same h = h
@@ -61,183 +192,57 @@ refits owner later kind.CheckResponse ri ai same h = h
 refits owner later kind.Remove ri ai same h = h
 refits owner later kind.Verify ri ai same h = h
 
--- the bus after a step of the assigner, where its terminals, its messages, those sent and the TEIs held are right
-did : (owner place_of : ℕ → Option ℕ) (b : BusState) (done : AssignerStep)
-    → ((i : ℕ) (t : Phase) → slice_get b.terminals i ≡ Some t → Sits owner place_of i t)
-    → All (λ f. Fits owner f.message) b.down
-    → All (Fits owner) (sent done.outs)
-    → ((n : ℕ) → is_held done.now.held n ≡ false → owner n ≡ None)
-    → Keeps owner place_of (assigner_did b done).now
-did owner place_of b done seated flying fresh vacant = record {
-  seated = seated;
-  flying = All-append (λ f. Fits owner f.message) b.down (map (broadcast (length b.terminals)) (sent done.outs)) flying
-      (All-map (λ f. Fits owner f.message) (broadcast (length b.terminals)) (sent done.outs) fresh);
-  vacant = vacant;
-}
+none_fits : (owner : ℕ → Option Owner) (k : TeiKind) (ri ai : ℕ) → assigned_by k ai ≡ None → FitsKind owner k ri ai
+none_fits owner kind.Assigned ri ai none = absurd cc
+none_fits owner kind.Request ri ai none = tt
+none_fits owner kind.Denied ri ai none = tt
+none_fits owner kind.CheckRequest ri ai none = tt
+none_fits owner kind.CheckResponse ri ai none = tt
+none_fits owner kind.Remove ri ai none = tt
+none_fits owner kind.Verify ri ai none = tt
 
--- ---- What a move keeps.
+-- a TEI has this owner now
+abbrev pub owned_by : (ℕ → Option Owner) → ℕ → Owner → ℕ → Option Owner
+owned_by owner tei o n = if n == tei then Some o else owner n
 
--- a move of this bus with this outcome keeps what is kept, under both premises
-abbrev pub Goes : BusState → List ℕ → BusStep → Type 0
-Goes b rest d = KeptByBus b (references (sent d.outs) ++ rest) → Differ (references (sent d.outs) ++ rest) → AllByRecursion (IsNobodys b) (freed d.outs) → KeptByBus d.now rest
+in_use_is_held : (held : List Bool) (o : Option ℕ) (n tei : ℕ) → IsKnown held o → o ≡ Some n → 64 ≤ tei → is_held held tei ≡ false → n ≢ tei
+in_use_is_held held None n tei known q from free e = absurd cc
+in_use_is_held held (Some m) n tei known q from free e =
+    let same : m ≡ tei = cc in
+    let bad : true ≡ false = sym (subst (λ k. 64 ≤ k → is_held held k ≡ true) same known from) ∙ free in absurd cc
 
--- the TEIs held stay, and nothing is assigned
-holds_on : (b : BusState) (rest : List ℕ) (check : Option Check) (outs : List TeiOut) → ((owner : ℕ → Option ℕ) → All (Fits owner) (sent outs))
-    → KeptByBus b rest → KeptByBus (assigner_did b (record { now = record { held = b.assigner.held; check = check }; outs = outs })).now rest
-holds_on b rest check outs fresh h = record {
+-- a TEI that was nobody's is assigned
+one_owned : (b : BusState) (ri tei : ℕ) → IsFree b.assigner.held 64 tei → KnowsInUse b.assigner.held b → Owned b → Owned (assigner_did b (serves ri (Some tei) b.assigner)).now
+one_owned b ri tei free known h =
+    let later : ℕ → Option Owner = owned_by h.owner tei (Reference ri) in
+    record {
+      owner = later;
+      place_of = h.place_of;
+      seated = λ i t there. reseated h.owner later h.place_of i t
+          (λ n q. pick_no n tei (Some (Reference ri)) (h.owner n)
+          (in_use_is_held b.assigner.held (tei_of t) n tei (all_at (λ u. IsKnown b.assigner.held (tei_of u)) b.terminals i t known.terminals there) q free.from free.free))
+          (h.seated i t there);
+      flying = All-append (λ f. Fits later f.message) b.down (map (broadcast (length b.terminals)) (assigned ri tei ∷ []))
+          (λ k d within. refits h.owner later (get_or b.down k d).message.kind (get_or b.down k d).message.ri (get_or b.down k d).message.ai
+          (λ n q. pick_no n tei (Some (Reference ri)) (h.owner n)
+          (in_use_is_held b.assigner.held (assigned_by (get_or b.down k d).message.kind (get_or b.down k d).message.ai) n tei (known.assignments k d within) q free.from free.free))
+          (h.flying k d within))
+          (All-map (λ f. Fits later f.message) (broadcast (length b.terminals)) (assigned ri tei ∷ [])
+          (All-cons (Fits later) (assigned ri tei) [] (pick_yes tei tei (Some (Reference ri)) (h.owner tei) refl) (All-nil (Fits later))));
+    }
+
+none_owned : (b : BusState) (done : AssignerStep) → All AssignsNothing (sent done.outs) → Owned b → Owned (assigner_did b done).now
+none_owned b done none h = record {
   owner = h.owner;
   place_of = h.place_of;
-  keeps = did h.owner h.place_of b (record { now = record { held = b.assigner.held; check = check }; outs = outs }) h.keeps.seated h.keeps.flying (fresh h.owner) h.keeps.vacant;
-  unused = h.unused;
+  seated = h.seated;
+  flying = All-append (λ f. Fits h.owner f.message) b.down (map (broadcast (length b.terminals)) (sent done.outs)) h.flying
+      (All-map (λ f. Fits h.owner f.message) (broadcast (length b.terminals)) (sent done.outs)
+      (All-weaker AssignsNothing (Fits h.owner) (λ m is. none_fits h.owner m.kind m.ri m.ai is) (sent done.outs) none));
 }
 
-nothing_sent : (owner : ℕ → Option ℕ) → All (Fits owner) []
-nothing_sent owner = All-nil (Fits owner)
-
-one_sent : (m : TeiMessage) → ((owner : ℕ → Option ℕ) → Fits owner m) → (owner : ℕ → Option ℕ) → All (Fits owner) (m ∷ [])
-one_sent m fits owner = All-cons (Fits owner) m [] (fits owner) (nothing_sent owner)
-
-two_sent : (m n : TeiMessage) → ((owner : ℕ → Option ℕ) → Fits owner m) → ((owner : ℕ → Option ℕ) → Fits owner n) → (owner : ℕ → Option ℕ) → All (Fits owner) (m ∷ n ∷ [])
-two_sent m n first second owner = All-cons (Fits owner) m (n ∷ []) (first owner) (one_sent n second owner)
-
--- a TEI that was nobody's is owned by a reference now
-owned_by : (ℕ → Option ℕ) → ℕ → ℕ → ℕ → Option ℕ
-owned_by owner tei ri n = if n == tei then Some ri else owner n
-
-kept_owner : (owner : ℕ → Option ℕ) (tei ri n r : ℕ) → owner tei ≡ None → owner n ≡ Some r → owned_by owner tei ri n ≡ owner n
-unfolding owned_by
-kept_owner owner tei ri n r none some = pick_no n tei (Some ri) (owner n) (λ e. let q : owner n ≡ owner tei = ap owner e in let bad : None ≡ Some r = sym none ∙ (sym q ∙ some) in absurd cc)
-
--- what is seated or on its way with a TEI has an owner
-seat_owner : (owner place_of : ℕ → Option ℕ) (i n : ℕ) (t : Phase) → Sits owner place_of i t → tei_of t ≡ Some n → (r : ℕ) × (owner n ≡ Some r)
-seat_owner owner place_of i n Unassigned h q = absurd cc
-seat_owner owner place_of i n (Awaiting purpose count r) h q = absurd cc
-seat_owner owner place_of i n (Assigned None tei) h q = absurd h
-seat_owner owner place_of i n (Assigned (Some r) tei) h q = let e : tei ≡ n = cc in (r, subst (λ k. owner k ≡ Some r) e h.0)
-
-flight_owner : (owner : ℕ → Option ℕ) (k : TeiKind) (ri ai n : ℕ) → FitsKind owner k ri ai → assigned_by k ai ≡ Some n → (r : ℕ) × (owner n ≡ Some r)
-flight_owner owner kind.Assigned ri ai n h q = let e : ai ≡ n = cc in (ri, subst (λ k. owner k ≡ Some ri) e h)
-flight_owner owner kind.Request ri ai n h q = absurd cc
-flight_owner owner kind.Denied ri ai n h q = absurd cc
-flight_owner owner kind.CheckRequest ri ai n h q = absurd cc
-flight_owner owner kind.CheckResponse ri ai n h q = absurd cc
-flight_owner owner kind.Remove ri ai n h q = absurd cc
-flight_owner owner kind.Verify ri ai n h q = absurd cc
-
-held_now : (held : List Bool) (tei n : ℕ) → tei < length held → is_held (set held tei true) n ≡ false → n ≢ tei
-held_now held tei n within free e = let q : is_held (set held tei true) tei ≡ true = get_or-set_same held tei true false within in
-    let k : is_held (set held tei true) n ≡ is_held (set held tei true) tei = ap (is_held (set held tei true)) e in
-    let bad : true ≡ false = sym q ∙ (sym k ∙ free) in absurd cc
-
-assigns : (b : BusState) (rest : List ℕ) (ri tei : ℕ) → tei < length b.assigner.held → is_held b.assigner.held tei ≡ false → KeptByBus b rest
-    → KeptByBus (assigner_did b (serves ri (Some tei) b.assigner)).now rest
-unfolding owned_by
-assigns b rest ri tei within free h =
-    let later : ℕ → Option ℕ = owned_by h.owner tei ri in
-    let none : h.owner tei ≡ None = h.keeps.vacant tei free in
-    record {
-      owner = later;
-      place_of = h.place_of;
-      keeps = did later h.place_of b (serves ri (Some tei) b.assigner)
-          (λ i t there. reseated h.owner later h.place_of i t
-          (λ n q. let o : (r : ℕ) × (h.owner n ≡ Some r) = seat_owner h.owner h.place_of i n t (h.keeps.seated i t there) q in kept_owner h.owner tei ri n o.0 none o.1)
-          (h.keeps.seated i t there))
-          (All-weaker (λ f. Fits h.owner f.message) (λ f. Fits later f.message)
-          (λ f fits. refits h.owner later f.message.kind f.message.ri f.message.ai
-          (λ n q. let o : (r : ℕ) × (h.owner n ≡ Some r) = flight_owner h.owner f.message.kind f.message.ri f.message.ai n fits q in kept_owner h.owner tei ri n o.0 none o.1)
-          fits)
-          b.down h.keeps.flying)
-          (All-cons (Fits later) (assigned ri tei) [] (pick_yes tei tei (Some ri) (h.owner tei) refl) (nothing_sent later))
-          (λ n q. let other : n ≢ tei = held_now b.assigner.held tei n within q in
-          pick_no n tei (Some ri) (h.owner n) other ∙ h.keeps.vacant n (sym (get_or-set_other b.assigner.held tei n true false other) ∙ q));
-      unused = h.unused;
-    }
-
--- a TEI that is nobody's has no owner any more
-disowned : (ℕ → Option ℕ) → ℕ → ℕ → Option ℕ
-disowned owner tei n = if n == tei then None else owner n
-
-not_its : (t : Phase) (n tei : ℕ) → tei_of t ≡ Some n → tei_of t ≢ Some tei → n ≢ tei
-not_its t n tei q other e = other (q ∙ ap Some e)
-
--- what stands in a list where all are so
-pub all_at : {X : Type 0} (P : X → Type 0) (xs : List X) (i : ℕ) (x : X) → All P xs → slice_get xs i ≡ Some x → P x
-all_at P xs i x all there = subst P (get_or_from_slice_get xs i x x there) (All-get_or P xs i x (slice_get_within xs i x there) all)
-
-held_by_none : (b : BusState) (i : ℕ) (t : Phase) → slice_get b.terminals i ≡ Some t → (tei : ℕ) → IsNobodys b tei → tei_of t ≢ Some tei
-held_by_none b i t there tei nobodys = all_at (λ u. tei_of u ≢ Some tei) b.terminals i t nobodys.unheld there
-
-assigned_to_none : (b : BusState) (tei : ℕ) (owner : ℕ → Option ℕ) → All (λ f. assigned_by f.message.kind f.message.ai ≢ Some tei) b.down
-    → All (λ f. Fits owner f.message) b.down → All (λ f. Fits (disowned owner tei) f.message) b.down
-unfolding disowned
-assigned_to_none b tei owner none flying = λ k d within. refits owner (disowned owner tei) (get_or b.down k d).message.kind (get_or b.down k d).message.ri (get_or b.down k d).message.ai
-    (λ n q. pick_no n tei None (owner n) (λ e. none k d within (q ∙ ap Some e)))
-    (flying k d within)
-
-freed_kept : (b : BusState) (rest : List ℕ) (tei : ℕ) (outs : List TeiOut) → ((owner : ℕ → Option ℕ) → All (Fits owner) (sent outs)) → IsNobodys b tei → KeptByBus b rest
-    → KeptByBus (assigner_did b (record { now = record { held = set b.assigner.held tei false; check = None }; outs = outs })).now rest
-unfolding disowned
-freed_kept b rest tei outs fresh nobodys h =
-    let later : ℕ → Option ℕ = disowned h.owner tei in
-    record {
-      owner = later;
-      place_of = h.place_of;
-      keeps = did later h.place_of b (record { now = record { held = set b.assigner.held tei false; check = None }; outs = outs })
-          (λ i t there. reseated h.owner later h.place_of i t
-          (λ n q. pick_no n tei None (h.owner n) (not_its t n tei q (held_by_none b i t there tei nobodys)))
-          (h.keeps.seated i t there))
-          (assigned_to_none b tei h.owner nobodys.unassigned h.keeps.flying)
-          (fresh later)
-          (λ n q. elim (cases_eq n tei) [
-            | inl same ↦ pick_yes n tei None (h.owner n) same
-            | inr other ↦ pick_no n tei None (h.owner n) other ∙ h.keeps.vacant n (sym (get_or-set_other b.assigner.held tei n false false other) ∙ q)
-          ]);
-      unused = h.unused;
-    }
-
--- ---- The rows of the assigner.
-
-served : (b : BusState) (rest : List ℕ) (ri : ℕ) (free : Option ℕ) → least_free b.assigner.held ≡ free → Goes b rest (assigner_did b (serves ri free b.assigner))
-served b rest ri None q = λ h differ nobodys. holds_on b rest b.assigner.check ((serves ri None b.assigner).outs) (one_sent (denied ri) (λ owner. tt)) h
-served b rest ri (Some tei) q = λ h differ nobodys.
-    let free : (tei < length b.assigner.held) × (is_held b.assigner.held tei ≡ false) = free_from b.assigner.held 64 (drop 64 b.assigner.held) tei refl q in
-    assigns b rest ri tei free.0 free.1 h
-
-stayed : (b : BusState) (rest : List ℕ) → Goes b rest (assigner_did b (stays b.assigner))
-stayed b rest = λ h differ nobodys. holds_on b rest b.assigner.check [] nothing_sent h
-
-begun : (b : BusState) (rest : List ℕ) (tei : ℕ) (check : Option Check) → Goes b rest (assigner_did b (begins_check tei check b.assigner))
-begun b rest tei None = cond_both (nat_lt tei group_tei) _ _ (λ done. Goes b rest (assigner_did b done))
-    (λ test. λ h differ nobodys. holds_on b rest (Some (checking tei round.First responses.Nobody)) (Send (check_request tei) ∷ Start T201 ∷ []) (one_sent (check_request tei) (λ owner. tt)) h)
-    (λ test. stayed b rest)
-begun b rest tei (Some check) = stayed b rest
-
-responded : (b : BusState) (rest : List ℕ) (tei : ℕ) (check : Option Check) → Goes b rest (assigner_did b (counts_response tei check b.assigner))
-responded b rest tei None = stayed b rest
-responded b rest tei (Some check) = cond_both (tei == check.tei) _ _ (λ done. Goes b rest (assigner_did b done))
-    (λ test. λ h differ nobodys. holds_on b rest _ [] nothing_sent h)
-    (λ test. stayed b rest)
-
-ended : (b : BusState) (rest : List ℕ) (tei : ℕ) (nth : Round) (count : Responses) → Goes b rest (assigner_did b (round_ends tei nth count b.assigner))
-ended b rest tei round.First responses.Nobody = λ h differ nobodys. holds_on b rest (round_ends tei round.First responses.Nobody b.assigner).now.check ((round_ends tei round.First responses.Nobody b.assigner).outs) (one_sent (check_request tei) (λ owner. tt)) h
-ended b rest tei round.Second responses.Nobody = λ h differ nobodys. freed_kept b rest tei ((round_ends tei round.Second responses.Nobody b.assigner).outs) nothing_sent nobodys.0 h
-ended b rest tei round.First responses.One = λ h differ nobodys. holds_on b rest None ((round_ends tei round.First responses.One b.assigner).outs) nothing_sent h
-ended b rest tei round.Second responses.One = λ h differ nobodys. holds_on b rest None ((round_ends tei round.Second responses.One b.assigner).outs) nothing_sent h
-ended b rest tei round.First responses.Several = λ h differ nobodys. freed_kept b rest tei ((round_ends tei round.First responses.Several b.assigner).outs) (two_sent (remove tei) (remove tei) (λ owner. tt) (λ owner. tt)) nobodys.0 h
-ended b rest tei round.Second responses.Several = λ h differ nobodys. freed_kept b rest tei ((round_ends tei round.Second responses.Several b.assigner).outs) (two_sent (remove tei) (remove tei) (λ owner. tt) (λ owner. tt)) nobodys.0 h
-
-pub timer_goes : (b : BusState) (rest : List ℕ) (check : Option Check) → Goes b rest (assigner_did b (timer_ends check b.assigner))
-timer_goes b rest None = stayed b rest
-timer_goes b rest (Some check) = ended b rest check.tei check.round check.responses
-
-pub check_goes : (b : BusState) (rest : List ℕ) (tei : ℕ) → Goes b rest (assigner_did b (assigner_step b.assigner (event.Check tei)))
-check_goes b rest tei = begun b rest tei b.assigner.check
-
-pub hears_goes : (b : BusState) (rest : List ℕ) (k : TeiKind) (ri ai : ℕ) → Goes b rest (assigner_did b (assigner_hears k ri ai b.assigner))
-hears_goes b rest kind.Request ri ai = served b rest ri (least_free b.assigner.held) refl
-hears_goes b rest kind.CheckResponse ri ai = responded b rest ai b.assigner.check
-hears_goes b rest kind.Verify ri ai = begun b rest ai b.assigner.check
-hears_goes b rest kind.Assigned ri ai = stayed b rest
-hears_goes b rest kind.Denied ri ai = stayed b rest
-hears_goes b rest kind.CheckRequest ri ai = stayed b rest
-hears_goes b rest kind.Remove ri ai = stayed b rest
+pub assigner_owned : (b : BusState) (done : AssignerStep) → Assigns b.assigner done → KnowsInUse b.assigner.held b → Owned b → Owned (assigner_did b done).now
+assigner_owned b done either known h = elim either [
+  | inl none ↦ none_owned b done none.none h
+  | inr one ↦ subst (λ d. Owned (assigner_did b d).now) (sym one.is) (one_owned b one.ri one.tei one.free known h)
+]

@@ -3,5 +3,7 @@ pub mod KeptByBus
 pub mod Named
 pub mod TerminalKeeps
 pub mod AssignerKeeps
+pub mod EachMove
+pub mod EventsKeep
 pub mod RunKeeps
 pub mod Witnesses

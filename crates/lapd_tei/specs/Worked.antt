@@ -1,5 +1,5 @@
 -- Worked moves of a bus, by which the definitions are tried.
-use Rattle.std.specs.Prelude.{ℕ, zero, suc, List, [], ◌∷◌, Result, Ok, Err}
+use Rattle.std.specs.Prelude.{ℕ, zero, suc, List, [], ◌∷◌, Some, Result, Ok, Err}
 use Rattle.lapd_tei.specs.declared.out.TeiOut.{TeiOut}
 use Rattle.lapd_tei.specs.declared.bus_move.BusMove.{BusMove}
 use Rattle.lapd_tei.specs.declared.bus_move.BusMove.TheVariants.{Ask, T202, Hear, Drop, HearUp, Check, T201, Leave}
@@ -9,6 +9,7 @@ use Rattle.lapd_tei.specs.declared.assigner.AssignerEvent.TheVariants as event
 use Rattle.lapd_tei.specs.Out.{check_response}
 use Rattle.lapd_tei.specs.Assigner.{AssignerState, assigner_step}
 use Rattle.lapd_tei.specs.Bus.{BusState, BusStep, bus_step, moved}
+use Rattle.lapd_tei.specs.Service.{BusEvent, Move, Want, Join, Restart}
 
 -- what each of the moves gives, or why it is refused
 abbrev pub given_by : Result BusStep BusFault → Result (List TeiOut) BusFault
@@ -69,3 +70,46 @@ freed_while_held = Ask 0 1 ∷ HearUp 0 ∷ Hear 0 0 2 ∷ Check 64 ∷ T201 ∷
 abbrev pub freed_on_its_way : List BusMove
 freed_on_its_way = Ask 0 1 ∷ HearUp 0 ∷ Check 64 ∷ T201 ∷ T201 ∷ Ask 1 2 ∷ HearUp 0 ∷ Hear 0 0 3
     ∷ Hear 3 1 4 ∷ []
+
+-- ---- Runs of a bus in service, from the moment on at which two terminals are there.
+
+-- A terminal with a fixed TEI that the network side knows comes to the second place. The first wants a link, and gets a TEI;
+-- the network side begins anew, knowing both. The first leaves, and a check frees its TEI; the second gives up its own, and
+-- asks by the reference that the first had.
+abbrev pub reference_again : List BusEvent
+reference_again = Join 1 (Some 64) ∷ Want 0 7 ∷ Move (HearUp 0) ∷ Move (Hear 0 0 1)
+    ∷ Restart (64 ∷ 65 ∷ []) ∷ Move (Leave 0) ∷ Move (Drop 0) ∷ Move (Check 65) ∷ Move T201
+    ∷ Move T201 ∷ Move (Leave 1) ∷ Move (Ask 1 7) ∷ Move (HearUp 0) ∷ Move (Hear 2 1 2) ∷ []
+
+-- the first terminal gets TEI 64 by the reference 1
+abbrev pub first_gets : List BusEvent → List BusEvent
+first_gets events = Move (Ask 0 1) ∷ Move (HearUp 0) ∷ Move (Hear 0 0 2) ∷ events
+
+-- the second asks by the reference 3, and hears the assignment that is sent for it
+abbrev pub second_gets : ℕ → List BusEvent → List BusEvent
+second_gets i events = Move (Ask 1 3) ∷ Move (HearUp 0) ∷ Move (Hear i 1 4) ∷ events
+
+-- the second asks by the reference by which the first has got its TEI
+abbrev pub reference_got_by : List BusEvent
+reference_got_by = first_gets (Move (Ask 1 1) ∷ Move (Hear 0 1 3) ∷ [])
+
+-- the network side begins anew, and does not know a TEI that a terminal holds
+abbrev pub restarted_while_held : List BusEvent
+restarted_while_held = first_gets (Restart [] ∷ second_gets 1 [])
+
+-- it does not know one whose assignment is on its way
+abbrev pub restarted_on_its_way : List BusEvent
+restarted_on_its_way = Move (Ask 0 1) ∷ Move (HearUp 0) ∷ Restart []
+    ∷ second_gets 1 (Move (Hear 0 0 2) ∷ [])
+
+-- a terminal comes with a fixed TEI that another holds
+abbrev pub joined_while_held : List BusEvent
+joined_while_held = first_gets (Join 1 (Some 64) ∷ [])
+
+-- it comes with one whose assignment is on its way
+abbrev pub joined_on_its_way : List BusEvent
+joined_on_its_way = Move (Ask 0 1) ∷ Move (HearUp 0) ∷ Join 1 (Some 64) ∷ Move (Hear 0 0 2) ∷ []
+
+-- it comes with one that the network side does not know
+abbrev pub joined_unknown : List BusEvent
+joined_unknown = Join 1 (Some 64) ∷ first_gets []

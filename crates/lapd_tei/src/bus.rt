@@ -3,6 +3,7 @@ ghost use Rattle.std.specs.List.{All};
 ghost use Rattle.lapd_tei.specs.Out.{sent, IsInRange};
 ghost use Rattle.lapd_tei.specs.Bus.{new_bus, broadcast, bus_step, to_terminal, expire_t202, hear, drop_down, drop_up, hear_up, expire_t201, to_assigner, run, refusals};
 ghost use Rattle.lapd_tei.specs.Single.{Single, MeetsPremises};
+ghost use Rattle.lapd_tei.specs.Service.{BusEvent, Move, in_service, after_events, IsInOrder, MeetsInService};
 ghost use Rattle.lapd_tei.specs.declared.bus_move.BusMove.{BusMove};
 ghost use Rattle.lapd_tei.specs.declared.bus_move.BusFault.TheVariants as fault;
 
@@ -102,7 +103,9 @@ impl Bus {
     /// Makes the moves in turn. Those that are refused by U1 and U2 are passed over, and counted.
     ///
     /// No two terminals hold the same TEI then, where the bus came from a new one by moves, these among them, in which each
-    /// reference was used once and a TEI was freed only while no terminal held it and no assignment of it was on its way.
+    /// reference was used once and a TEI was freed only while no terminal held it and no assignment of it was on its way. In
+    /// place of the first it is enough that no terminal asked by the last reference of another; then the assigner holds each
+    /// TEI of 64 to 126 that a terminal holds, also where the bus came from one in service.
     ///
     /// # Errors
     ///
@@ -119,6 +122,10 @@ impl Bus {
         ensures single { (terminals : ℕ) (before : List BusMove)
             → self.old ≡ run (new_bus terminals) before
             → MeetsPremises terminals (before ++ moves.now) → Single self.new }
+        ensures in_order { (terminals : ℕ) (known : List ℕ) (before : List BusEvent)
+            → self.old ≡ after_events (in_service terminals known) before
+            → MeetsInService (in_service terminals known) (before ++ map Move moves.now)
+            → IsInOrder self.new }
     {
         let mut refused: u64 = 0;
         for (place, m) in moves.iter().enumerate() {

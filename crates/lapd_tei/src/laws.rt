@@ -1,6 +1,7 @@
 //! Laws by which the definitions are tried. They do nothing when they are called.
 
-ghost use Rattle.std.specs.Prelude.{ℕ, List, ◌≡◌, ◌++◌, [], ◌∷◌, Ok, Err, Some};
+ghost use Rattle.std.specs.Prelude.{ℕ, List, ◌≡◌, ◌≢◌, ◌++◌, [], ◌∷◌, true, map, Ok, Err, Some};
+ghost use Rattle.std.specs.List.{AllByRecursion};
 ghost use Rattle.lapd_timers.specs.declared.timer.Timer.TheVariants as timer;
 ghost use Rattle.lapd_frame.specs.declared.Side.TheVariants as side;
 ghost use Rattle.lapd_frame.specs.Frame.{spelling};
@@ -9,12 +10,13 @@ ghost use Rattle.lapd_tei.specs.declared.phase.Phase.TheVariants.{Unassigned, As
 ghost use Rattle.lapd_tei.specs.declared.bus_move.BusFault.TheVariants.{NothingThere, HeardBefore};
 ghost use Rattle.lapd_tei.specs.Message.{frame_of_message};
 ghost use Rattle.lapd_tei.specs.Out.{request, assigned, denied, check_request, check_response, remove};
-ghost use Rattle.lapd_tei.specs.Bus.{new_bus, run, refusals};
-ghost use Rattle.lapd_tei.specs.Assigner.{nothing_held, known_held};
+ghost use Rattle.lapd_tei.specs.Bus.{BusState, new_bus, moved, run, refusals};
+ghost use Rattle.lapd_tei.specs.Assigner.{nothing_held, known_held, is_held};
 ghost use Rattle.lapd_tei.specs.declared.assigner.AssignerEvent.TheVariants as event;
 ghost use Rattle.lapd_tei.specs.declared.bus_move.BusMove.TheVariants.{Ask, HearUp};
-ghost use Rattle.lapd_tei.specs.Worked.{answers, check_with, results, two_ask, vain_check, three_times, served, got_by_another, one_reference, freed_while_held, freed_on_its_way};
-ghost use Rattle.lapd_tei.specs.Single.{Single, MeetsPremises};
+ghost use Rattle.lapd_tei.specs.Worked.{answers, check_with, results, two_ask, vain_check, three_times, served, got_by_another, one_reference, freed_while_held, freed_on_its_way, reference_again, reference_got_by, restarted_while_held, restarted_on_its_way, joined_while_held, joined_on_its_way, joined_unknown};
+ghost use Rattle.lapd_tei.specs.Single.{Single, MeetsPremises, freed};
+ghost use Rattle.lapd_tei.specs.Service.{BusEvent, Move, in_service, after_events, HoldsInUse, IsInOrder, LosesNone, Throughout, MeetsInService};
 ghost use Rattle.lapd_tei.specs.declared.bus_move.BusMove.{BusMove};
 
 /// Two terminals ask for a TEI; each hears the assignment that is for it, and the other does not take it. A check that no
@@ -96,4 +98,52 @@ pub fn premises_are_needed()
     ensures references { Single (run (new_bus 2) one_reference) → ⊥ }
     ensures holders { Single (run (new_bus 2) freed_while_held) → ⊥ }
     ensures assignments { Single (run (new_bus 2) freed_on_its_way) → ⊥ }
+{}
+
+/// The law of the TEIs on a bus in service, over the definitions: at every moment no two terminals hold the same TEI, and the
+/// network side holds each TEI of 64 to 126 that a terminal holds or an assignment on its way brings. It holds of every list
+/// of events in which a terminal asks by a reference that is not another terminal's last one, and no TEI in use is lost
+/// (`held`: the second alone is enough for the TEIs to be held). What the network side holds it gives up by a check alone, or
+/// where it begins anew (`until`).
+pub fn service_is_in_order()
+    ensures in_order { (terminals : ℕ) (known : List ℕ) (events : List BusEvent)
+        → MeetsInService (in_service terminals known) events
+        → IsInOrder (after_events (in_service terminals known) events) }
+    ensures held { (terminals : ℕ) (known : List ℕ) (events : List BusEvent)
+        → Throughout LosesNone (in_service terminals known) events
+        → HoldsInUse (after_events (in_service terminals known) events) }
+    ensures until { (b : BusState) (m : BusMove) (tei : ℕ) → is_held b.assigner.held tei ≡ true
+        → AllByRecursion (λ n. tei ≢ n) (freed (moved b m).outs)
+        → is_held (moved b m).now.assigner.held tei ≡ true }
+{}
+
+/// A bus is one in service, and its moves are events of it. Where references differ in the whole run, none is another
+/// terminal's last one: so the law of a bus in service says more than that of a new bus.
+pub fn moves_are_events()
+    ensures first { (terminals : ℕ) → in_service terminals [] ≡ new_bus terminals }
+    ensures moves { (b : BusState) (moves : List BusMove) → after_events b (map Move moves)
+        ≡ run b moves }
+    ensures premises { (terminals : ℕ) (moves : List BusMove) → MeetsPremises terminals moves
+        → MeetsInService (in_service terminals []) (map Move moves) }
+{}
+
+/// The premises of a bus in service are met by a run with a known TEI, a fixed one, a terminal that wants a link, a network
+/// side that begins anew, a TEI that is freed, and a reference by which a second terminal asks.
+pub fn service_premises_can_be_met()
+    ensures met { MeetsInService (in_service 2 (64 ∷ [])) reference_again }
+    ensures got { (after_events (in_service 2 (64 ∷ [])) reference_again).terminals
+        ≡ Unassigned ∷ Assigned (Some 7) 65 ∷ [] }
+{}
+
+/// None of them can go. Two terminals come to hold the same TEI where one asks by the reference by which the other has got its
+/// TEI; where the network side begins anew and does not know a TEI that is held, or assigned on its way; and where a terminal
+/// comes with a fixed TEI that is held, or assigned on its way, or not known. `premises_are_needed` says it of a reference that
+/// is outstanding, and of checks.
+pub fn service_premises_are_needed()
+    ensures got_by { Single (after_events (in_service 2 []) reference_got_by) → ⊥ }
+    ensures restart_held { Single (after_events (in_service 2 []) restarted_while_held) → ⊥ }
+    ensures restart_assigned { Single (after_events (in_service 2 []) restarted_on_its_way) → ⊥ }
+    ensures join_held { Single (after_events (in_service 2 []) joined_while_held) → ⊥ }
+    ensures join_assigned { Single (after_events (in_service 2 []) joined_on_its_way) → ⊥ }
+    ensures join_unknown { Single (after_events (in_service 2 []) joined_unknown) → ⊥ }
 {}

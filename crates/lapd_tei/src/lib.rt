@@ -4,7 +4,8 @@
 //! [`TeiMessage`] is read from the information of a UI frame of management, and makes the whole frame. [`Terminal`] and
 //! [`Assigner`] take events and give outputs, [`TeiOut`], in order, with no clock and no line inside: begin there. [`Bus`]
 //! puts several terminals and one assigner together. Over every run of it no two terminals hold the same TEI, as long as
-//! each reference is used once and a TEI is freed only while it is nobody's.
+//! none asks by the last reference of another and a TEI is freed only while it is nobody's; and so it is on a bus in service,
+//! where terminals with fixed TEIs come and the network side begins anew ([`service_is_in_order`]).
 #![tactic(auto)]
 
 mod assigner;
@@ -28,8 +29,9 @@ pub use kind::TeiKind;
 pub use lapd_frame::{Side, Tei};
 pub use lapd_timers::Timer;
 pub use laws::{
-    assigner_is_computed, moves_are_computed, premises_are_needed, premises_can_be_met,
-    terminals_are_single,
+    assigner_is_computed, moves_are_computed, moves_are_events, premises_are_needed,
+    premises_can_be_met, service_is_in_order, service_premises_are_needed,
+    service_premises_can_be_met, terminals_are_single,
 };
 pub use message::TeiMessage;
 pub use out::{TeiOut, TeiOuts};

@@ -1,6 +1,6 @@
 use Rattle.std.proofs.Common.{◌≡◌, ◌<◌, length, sym, ◌∙◌, arith}
 use Rattle.lapd_tei.specs.declared.bus_move.BusFault.TheVariants.{NothingThere, HeardBefore, Memory}
-use Rattle.lapd_tei.proofs.RunKeeps.{more_done, more_refused, single_at}
+use Rattle.lapd_tei.proofs.RunKeeps.{more_done, more_refused, single_at, in_order_at}
 use Rattle.lapd_tei.proofs.bus.Bus.run.Goals as goal
 use Rattle.lapd_tei.proofs.bus.Bus.run.Goals.{in-Ok, in-Err-NothingThere, in-Err-HeardBefore}
 
@@ -23,3 +23,11 @@ returns-in-Err-Memory-clause-single c = λ terminals before was met.
 pub returns-clause-single : goal.returns-clause-single
 returns-clause-single c = λ terminals before was met.
     single_at terminals before c.args.moves.now c.loop-place.place c.args.self.now c.loop-place.self was c.loop-place.invariant.so_far met
+
+pub returns-in-Err-Memory-clause-in_order : goal.returns-in-Err-Memory-clause-in_order
+returns-in-Err-Memory-clause-in_order c = λ terminals known before was met.
+    in_order_at terminals known before c.args.moves.now c.loop-place.place c.args.self.now c.apply.new.self was (c.in-Err-Memory.ensures.unchanged ∙ c.loop-place.invariant.so_far) met
+
+pub returns-clause-in_order : goal.returns-clause-in_order
+returns-clause-in_order c = λ terminals known before was met.
+    in_order_at terminals known before c.args.moves.now c.loop-place.place c.args.self.now c.loop-place.self was c.loop-place.invariant.so_far met
