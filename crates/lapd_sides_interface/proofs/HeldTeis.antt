@@ -20,7 +20,7 @@ use Rattle.lapd_tei.specs.declared.assigner.AssignerEvent.TheVariants as event
 use Rattle.lapd_tei.specs.Assigner.{AssignerState, AssignerStep, is_held, least_free, stays, serves, begins_check, counts_response, round_ends, timer_ends, assigner_hears, assigner_step, one_more}
 use Rattle.lapd_tei.specs.Message.{group_tei}
 use Rattle.lapd_tei.specs.Out.{tei_given, tei_freed}
-use Rattle.lapd_tei.proofs.AssignerKeeps.{free_from}
+use Rattle.lapd_tei.proofs.AssignerKeeps.{IsFree, free_from}
 use Rattle.lapd_sides_links.specs.Effects.{outcome_of}
 use Rattle.lapd_sides_interface.specs.Premises.{tells_assignment}
 use Rattle.lapd_sides_interface.proofs.Managed.{freed_here, some_same}
@@ -55,11 +55,11 @@ asks a c m = record { given = λ t is. cc; stays_held = λ n h. inr h; free = λ
 serving : (a : AssignerState) (ri : ℕ) (free : Option ℕ) → least_free a.held ≡ free → GivesFree a.held (serves ri free a)
 serving a ri None is = record { given = λ t given. cc; stays_held = λ n h. inr h; free = λ n told. cc }
 serving a ri (Some tei) is =
-    let found : (tei < length a.held) × (is_held a.held tei ≡ false) = free_from a.held 64 (drop 64 a.held) tei refl is in
+    let found : IsFree a.held 64 tei = free_from a.held 64 (drop 64 a.held) tei refl is in
     record {
-      given = λ t given. subst (λ (m : ℕ). is_held (set a.held tei true) m ≡ true) (some_same tei t given) (get_or-set_same a.held tei true false found.0);
-      stays_held = λ n h. inr (held_too a.held tei n (tei == n) found.0 refl h);
-      free = λ n told. subst (λ (m : ℕ). is_held a.held m ≡ false) (first_is tei n told) found.1;
+      given = λ t given. subst (λ (m : ℕ). is_held (set a.held tei true) m ≡ true) (some_same tei t given) (get_or-set_same a.held tei true false found.within);
+      stays_held = λ n h. inr (held_too a.held tei n (tei == n) found.within refl h);
+      free = λ n told. subst (λ (m : ℕ). is_held a.held m ≡ false) (first_is tei n told) found.free;
     }
 
 checks : (a : AssignerState) (tei : ℕ) (check : Option Check) (low : Bool) → nat_lt tei group_tei ≡ low → check ≡ a.check → GivesFree a.held (begins_check tei check a)

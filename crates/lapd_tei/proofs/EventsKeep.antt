@@ -13,7 +13,7 @@ use Rattle.lapd_tei.specs.Terminal.{terminal_step, tei_of, reference_of, new_ter
 use Rattle.lapd_tei.specs.Assigner.{AssignerStep, assigner_step, is_held, known_held}
 use Rattle.lapd_tei.specs.Bus.{BusState, BusStep, Broadcast, new_bus, assigner_did, terminal_did, with_mark, heard_by, without_up, moved, run}
 use Rattle.lapd_tei.specs.Single.{references, asked, Differ, freed, assigned_by, IsNobodys, FreesNobodys, MeetsPremises}
-use Rattle.lapd_tei.specs.Service.{BusEvent, Move, Want, Join, Restart, in_service, joined_by, event_step, after_events, IsKnown, KnowsInUse, HoldsInUse, IsInOrder, IsNoOthers, place_of_event, AsksByItsOwn, LosesNone, Throughout, MeetsInService}
+use Rattle.lapd_tei.specs.Service.{BusEvent, Move, Want, Join, Restart, in_service, joined_by, event_step, after_events, IsKnown, KnowsInUse, HoldsInUse, IsInOrder, IsNoOthers, place_of_event, AsksByItsOwn, FreesNobodysTei, RestartsKnowing, JoinsByItsOwn, LosesNone, Throughout, MeetsInService}
 use Rattle.lapd_tei.proofs.KeptByBus.{Owner, Place, Sits, Fits, Owned, single_from_owned, get_after_set, all_back, all_front, all_each, differ_rest, pick_yes, pick_no}
 use Rattle.lapd_tei.proofs.TerminalKeeps.{HearsFitting, HearsKnown, terminal_owned, terminal_known, IsNew, terminal_new}
 use Rattle.lapd_tei.proofs.AssignerKeeps.{assigner_assigns, stays_held, all_at, assigner_known, assigner_owned, reseated, refits, owned_by}
@@ -78,12 +78,12 @@ joined_known b t fixed known h = record {
   assignments = h.assignments;
 }
 
-event_known : (b : BusState) (e : BusEvent) → LosesNone b e → HoldsInUse b → HoldsInUse (event_step b e).now
-event_known b (Move m) loses h = each_move b (KnowsAfter b) (each_way_known b h) m loses.freeing
-event_known b (Want t ri) loses h = terminal_way b (KnowsAfter b) (each_way_known b h) t (slice_get b.terminals t) (event.Want ri) refl tt loses.freeing
-event_known b (Join t None) loses h = joined_known b t None tt h
-event_known b (Join t (Some tei)) loses h = joined_known b t (Some tei) loses.joining.1 h
-event_known b (Restart known) loses h = record { terminals = loses.restarting.terminals; assignments = loses.restarting.assignments }
+event_known : (b : BusState) (e : BusEvent) → FreesNobodysTei b e → RestartsKnowing b e → JoinsByItsOwn b e → HoldsInUse b → HoldsInUse (event_step b e).now
+event_known b (Move m) frees knows joins h = each_move b (KnowsAfter b) (each_way_known b h) m frees
+event_known b (Want t ri) frees knows joins h = terminal_way b (KnowsAfter b) (each_way_known b h) t (slice_get b.terminals t) (event.Want ri) refl tt frees
+event_known b (Join t None) frees knows joins h = joined_known b t None tt h
+event_known b (Join t (Some tei)) frees knows joins h = joined_known b t (Some tei) joins.1 h
+event_known b (Restart known) frees knows joins h = record { terminals = knows.terminals; assignments = knows.assignments }
 
 -- ---- Claims have one owner.
 
@@ -165,22 +165,29 @@ joined_fixed b t tei free h =
           (h.flying k d within);
     }
 
-event_owned : (b : BusState) (e : BusEvent) → AsksByItsOwn b e → LosesNone b e → HoldsInUse b → Owned b → Owned (event_step b e).now
-event_owned b (Move m) own loses known h = each_move b (OwnedAfter b) (each_way_owned b known h) m own
-event_owned b (Want t ri) own loses known h = terminal_way b (OwnedAfter b) (each_way_owned b known h) t (slice_get b.terminals t) (event.Want ri) refl tt own
-event_owned b (Join t None) own loses known h = joined_none b t h
-event_owned b (Join t (Some tei)) own loses known h = joined_fixed b t tei loses.joining.0 h
-event_owned b (Restart teis) own loses known h = record { owner = h.owner; place_of = h.place_of; seated = h.seated; flying = h.flying }
+event_owned : (b : BusState) (e : BusEvent) → AsksByItsOwn b e → JoinsByItsOwn b e → HoldsInUse b → Owned b → Owned (event_step b e).now
+event_owned b (Move m) own joins known h = each_move b (OwnedAfter b) (each_way_owned b known h) m own
+event_owned b (Want t ri) own joins known h = terminal_way b (OwnedAfter b) (each_way_owned b known h) t (slice_get b.terminals t) (event.Want ri) refl tt own
+event_owned b (Join t None) own joins known h = joined_none b t h
+event_owned b (Join t (Some tei)) own joins known h = joined_fixed b t tei joins.0 h
+event_owned b (Restart teis) own joins known h = record { owner = h.owner; place_of = h.place_of; seated = h.seated; flying = h.flying }
 
 -- ---- The law.
 
-events_known : (b : BusState) (es : List BusEvent) → Throughout LosesNone b es → HoldsInUse b → HoldsInUse (after_events b es)
-events_known b [] loses h = h
-events_known b (e ∷ es) loses h = events_known (event_step b e).now es loses.1 (event_known b e loses.0 h)
+first_event_known : (b : BusState) (e : BusEvent) (es : List BusEvent) → LosesNone b (e ∷ es) → HoldsInUse b → HoldsInUse (event_step b e).now
+first_event_known b e es keeps h = event_known b e keeps.freeing.0 keeps.restarting.0 keeps.joining.0 h
 
-events_owned : (b : BusState) (es : List BusEvent) → Throughout AsksByItsOwn b es → Throughout LosesNone b es → HoldsInUse b → Owned b → Owned (after_events b es)
-events_owned b [] own loses known h = h
-events_owned b (e ∷ es) own loses known h = events_owned (event_step b e).now es own.1 loses.1 (event_known b e loses.0 known) (event_owned b e own.0 loses.0 known h)
+the_rest : (b : BusState) (e : BusEvent) (es : List BusEvent) → LosesNone b (e ∷ es) → LosesNone (event_step b e).now es
+the_rest b e es keeps = record { freeing = keeps.freeing.1; restarting = keeps.restarting.1; joining = keeps.joining.1 }
+
+events_known : (b : BusState) (es : List BusEvent) → LosesNone b es → HoldsInUse b → HoldsInUse (after_events b es)
+events_known b [] keeps h = h
+events_known b (e ∷ es) keeps h = events_known (event_step b e).now es (the_rest b e es keeps) (first_event_known b e es keeps h)
+
+events_owned : (b : BusState) (es : List BusEvent) → Throughout AsksByItsOwn b es → LosesNone b es → HoldsInUse b → Owned b → Owned (after_events b es)
+events_owned b [] own keeps known h = h
+events_owned b (e ∷ es) own keeps known h =
+    events_owned (event_step b e).now es own.1 (the_rest b e es keeps) (first_event_known b e es keeps known) (event_owned b e own.0 keeps.joining.0 known h)
 
 first_known : (terminals : ℕ) (known : List ℕ) → HoldsInUse (in_service terminals known)
 first_known terminals known = record {
@@ -201,7 +208,7 @@ first_owned terminals known = record {
   flying = All-nil (λ f. Fits (λ n. None) f.message);
 }
 
-pub teis_are_held : (terminals : ℕ) (known : List ℕ) (es : List BusEvent) → Throughout LosesNone (in_service terminals known) es
+pub teis_are_held : (terminals : ℕ) (known : List ℕ) (es : List BusEvent) → LosesNone (in_service terminals known) es
     → HoldsInUse (after_events (in_service terminals known) es)
 teis_are_held terminals known es loses = events_known (in_service terminals known) es loses (first_known terminals known)
 
@@ -264,9 +271,17 @@ moves_ask b (m ∷ ms) new differ = (
       (differ_rest (references (sent (moved b m).outs)) (asked (moved b m).now ms) differ),
 )
 
-moves_lose_none : (b : BusState) (ms : List BusMove) → FreesNobodys b ms → Throughout LosesNone b (map Move ms)
-moves_lose_none b [] nobodys = tt
-moves_lose_none b (m ∷ ms) nobodys = (record { freeing = nobodys.0; restarting = tt; joining = tt }, moves_lose_none (moved b m).now ms nobodys.1)
+moves_free : (b : BusState) (ms : List BusMove) → FreesNobodys b ms → Throughout FreesNobodysTei b (map Move ms)
+moves_free b [] nobodys = tt
+moves_free b (m ∷ ms) nobodys = (nobodys.0, moves_free (moved b m).now ms nobodys.1)
+
+moves_restart : (b : BusState) (ms : List BusMove) → Throughout RestartsKnowing b (map Move ms)
+moves_restart b [] = tt
+moves_restart b (m ∷ ms) = (tt, moves_restart (moved b m).now ms)
+
+moves_join : (b : BusState) (ms : List BusMove) → Throughout JoinsByItsOwn b (map Move ms)
+moves_join b [] = tt
+moves_join b (m ∷ ms) = (tt, moves_join (moved b m).now ms)
 
 all_new : (terminals : ℕ) (rs : List ℕ) → AllByRecursion (IsNew (new_bus terminals)) rs
 all_new terminals [] = tt
@@ -278,5 +293,9 @@ all_new terminals (r ∷ rs) = (
 pub premises_are_local : (terminals : ℕ) (ms : List BusMove) → MeetsPremises terminals ms → MeetsInService (in_service terminals []) (map Move ms)
 premises_are_local terminals ms met = record {
   asking = moves_ask (new_bus terminals) ms (all_new terminals (asked (new_bus terminals) ms)) met.references;
-  keeping = moves_lose_none (new_bus terminals) ms met.freeing;
+  keeping = record {
+    freeing = moves_free (new_bus terminals) ms met.freeing;
+    restarting = moves_restart (new_bus terminals) ms;
+    joining = moves_join (new_bus terminals) ms;
+  };
 }

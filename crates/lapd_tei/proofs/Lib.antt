@@ -6,4 +6,5 @@ pub mod AssignerKeeps
 pub mod EachMove
 pub mod EventsKeep
 pub mod RunKeeps
+pub mod Computed
 pub mod Witnesses

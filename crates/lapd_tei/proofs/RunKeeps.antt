@@ -88,9 +88,11 @@ in_order_at terminals known before ms n old now was is met =
     ap (λ l. before ++ l) parts ∙ sym (append_assoc before (map Move (take n ms)) (map Move (drop n ms))) in
     let here : after_events start (before ++ map Move (take n ms)) ≡ now =
     events_append start before (map Move (take n ms)) ∙ (ap (λ b. after_events b (map Move (take n ms))) (sym was) ∙ (moves_are_events old (take n ms) ∙ sym is)) in
+    let front : (P : BusState → BusEvent → Type 0) → Throughout P start (before ++ map Move ms) → Throughout P start (before ++ map Move (take n ms)) =
+    λ P h. throughout_front P start (before ++ map Move (take n ms)) (map Move (drop n ms)) (subst (Throughout P start) whole h) in
     subst IsInOrder here (in_order terminals known (before ++ map Move (take n ms)) (record {
-      asking = throughout_front _ start (before ++ map Move (take n ms)) (map Move (drop n ms)) (subst (Throughout _ start) whole met.asking);
-      keeping = throughout_front _ start (before ++ map Move (take n ms)) (map Move (drop n ms)) (subst (Throughout _ start) whole met.keeping);
+      asking = front _ met.asking;
+      keeping = record { freeing = front _ met.keeping.freeing; restarting = front _ met.keeping.restarting; joining = front _ met.keeping.joining };
     }))
 
 -- the law of the TEIs, where the references of the whole run differ

@@ -112,28 +112,40 @@ abbrev pub AsksByItsOwn : BusState → BusEvent → Type 0
 AsksByItsOwn b e = AllByRecursion (IsNoOthers b (place_of_event e))
     (references (sent (event_step b e).outs))
 
+-- a check frees a TEI only while no terminal holds it and no assignment of it is on its way
+abbrev pub FreesNobodysTei : BusState → BusEvent → Type 0
+FreesNobodysTei b e = AllByRecursion (IsNobodys b) (freed (event_step b e).outs)
+
 -- a network side that begins anew knows the TEIs in use
 abbrev pub RestartsKnowing : BusState → BusEvent → Type 0
 RestartsKnowing b (Restart known) = KnowsInUse (known_held known).held b
 RestartsKnowing b other = Unit {0}
 
--- a terminal that comes with a fixed TEI has one that no other holds and that no assignment on its way brings; and the network
+-- a terminal that comes with a fixed TEI has one that no terminal holds and no assignment on its way brings; and the network
 -- side knows it
 abbrev pub JoinsByItsOwn : BusState → BusEvent → Type 0
 JoinsByItsOwn b (Join t (Some tei)) = IsNobodys b tei × IsKnown b.assigner.held (Some tei)
 JoinsByItsOwn b other = Unit {0}
 
--- no TEI in use is lost: a check frees only what is nobody's, and what begins knows and is known
-pub record LosesNone (b : BusState) (e : BusEvent) : Type 0 where
-  pub freeing : AllByRecursion (IsNobodys b) (freed (event_step b e).outs)
-  pub restarting : RestartsKnowing b e
-  pub joining : JoinsByItsOwn b e
-
--- so it is of each of these events
+-- such a premise holds of each of these events, in the bus that the event comes to
 abbrev pub Throughout : (BusState → BusEvent → Type 0) → BusState → List BusEvent → Type 0
 Throughout P b [] = Unit {0}
 Throughout P b (e ∷ es) = P b e × Throughout P (event_step b e).now es
 
+-- no TEI in use is lost in a run
+pub record LosesNone (b : BusState) (events : List BusEvent) : Type 0 where
+  pub freeing : Throughout FreesNobodysTei b events
+  pub restarting : Throughout RestartsKnowing b events
+  pub joining : Throughout JoinsByItsOwn b events
+
+-- all that is asked of a run
 pub record MeetsInService (b : BusState) (events : List BusEvent) : Type 0 where
   pub asking : Throughout AsksByItsOwn b events
-  pub keeping : Throughout LosesNone b events
+  pub keeping : LosesNone b events
+
+-- Three premises are not enough: a run of two terminals meets them, and both hold the same TEI after it.
+pub record AreNotEnough (P Q R : BusState → BusEvent → Type 0) (events : List BusEvent) : Type 0 where
+  pub first : Throughout P (in_service 2 []) events
+  pub second : Throughout Q (in_service 2 []) events
+  pub third : Throughout R (in_service 2 []) events
+  pub doubled : Single (after_events (in_service 2 []) events) → ⊥

@@ -71,7 +71,7 @@ abbrev pub freed_on_its_way : List BusMove
 freed_on_its_way = Ask 0 1 ∷ HearUp 0 ∷ Check 64 ∷ T201 ∷ T201 ∷ Ask 1 2 ∷ HearUp 0 ∷ Hear 0 0 3
     ∷ Hear 3 1 4 ∷ []
 
--- ---- Runs of a bus in service, from the moment on at which two terminals are there.
+-- ---- Runs of a bus in service, of two terminals.
 
 -- A terminal with a fixed TEI that the network side knows comes to the second place. The first wants a link, and gets a TEI;
 -- the network side begins anew, knowing both. The first leaves, and a check frees its TEI; the second gives up its own, and
@@ -81,28 +81,43 @@ reference_again = Join 1 (Some 64) ∷ Want 0 7 ∷ Move (HearUp 0) ∷ Move (He
     ∷ Restart (64 ∷ 65 ∷ []) ∷ Move (Leave 0) ∷ Move (Drop 0) ∷ Move (Check 65) ∷ Move T201
     ∷ Move T201 ∷ Move (Leave 1) ∷ Move (Ask 1 7) ∷ Move (HearUp 0) ∷ Move (Hear 2 1 2) ∷ []
 
--- the first terminal gets TEI 64 by the reference 1
+-- the first terminal gets TEI 64 by the reference 1, and its assignment goes
 abbrev pub first_gets : List BusEvent → List BusEvent
-first_gets events = Move (Ask 0 1) ∷ Move (HearUp 0) ∷ Move (Hear 0 0 2) ∷ events
+first_gets events = Move (Ask 0 1) ∷ Move (HearUp 0) ∷ Move (Hear 0 0 2) ∷ Move (Drop 0) ∷ events
 
 -- the second asks by the reference 3, and hears the assignment that is sent for it
 abbrev pub second_gets : ℕ → List BusEvent → List BusEvent
 second_gets i events = Move (Ask 1 3) ∷ Move (HearUp 0) ∷ Move (Hear i 1 4) ∷ events
 
--- the second asks by the reference by which the first has got its TEI
-abbrev pub reference_got_by : List BusEvent
-reference_got_by = first_gets (Move (Ask 1 1) ∷ Move (Hear 0 1 3) ∷ [])
+-- the second asks by the reference that is outstanding of the first
+abbrev pub reference_outstanding : List BusEvent
+reference_outstanding = Move (Ask 0 1) ∷ Move (Ask 1 1) ∷ Move (HearUp 0) ∷ Move (Hear 0 0 2)
+    ∷ Move (Hear 0 1 3) ∷ []
 
--- the network side begins anew, and does not know a TEI that a terminal holds
+-- it asks by the reference by which the first has got its TEI
+abbrev pub reference_got_by : List BusEvent
+reference_got_by = Move (Ask 0 1) ∷ Move (HearUp 0) ∷ Move (Hear 0 0 2) ∷ Move (Ask 1 1)
+    ∷ Move (Hear 0 1 3) ∷ []
+
+-- a check frees the TEI that the first holds, as it does not hear it
+abbrev pub checked_while_held : List BusEvent
+checked_while_held = first_gets (Move (Check 64) ∷ Move T201 ∷ Move T201 ∷ second_gets 2 [])
+
+-- it frees one whose assignment is on its way
+abbrev pub checked_on_its_way : List BusEvent
+checked_on_its_way = Move (Ask 0 1) ∷ Move (HearUp 0) ∷ Move (Check 64) ∷ Move T201 ∷ Move T201
+    ∷ second_gets 3 (Move (Hear 0 0 2) ∷ [])
+
+-- the network side begins anew, and does not know the TEI that the first holds
 abbrev pub restarted_while_held : List BusEvent
-restarted_while_held = first_gets (Restart [] ∷ second_gets 1 [])
+restarted_while_held = first_gets (Restart [] ∷ second_gets 0 [])
 
 -- it does not know one whose assignment is on its way
 abbrev pub restarted_on_its_way : List BusEvent
 restarted_on_its_way = Move (Ask 0 1) ∷ Move (HearUp 0) ∷ Restart []
     ∷ second_gets 1 (Move (Hear 0 0 2) ∷ [])
 
--- a terminal comes with a fixed TEI that another holds
+-- a terminal comes with a fixed TEI that the first holds
 abbrev pub joined_while_held : List BusEvent
 joined_while_held = first_gets (Join 1 (Some 64) ∷ [])
 

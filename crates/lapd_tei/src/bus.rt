@@ -102,10 +102,10 @@ impl Bus {
 
     /// Makes the moves in turn. Those that are refused by U1 and U2 are passed over, and counted.
     ///
-    /// No two terminals hold the same TEI then, where the bus came from a new one by moves, these among them, in which each
-    /// reference was used once and a TEI was freed only while no terminal held it and no assignment of it was on its way. In
-    /// place of the first it is enough that no terminal asked by the last reference of another; then the assigner holds each
-    /// TEI of 64 to 126 that a terminal holds, also where the bus came from one in service.
+    /// No two terminals hold the same TEI then, and the assigner holds those of 64 to 126 that a terminal holds, where the bus
+    /// came from one in service by events, these moves among them, in which no terminal asked by another's last reference and
+    /// no TEI in use was lost. No two hold the same where it came from a new bus by moves, these among them, in which each
+    /// reference was used once and a TEI was freed only while no terminal held it and no assignment of it was on its way.
     ///
     /// # Errors
     ///

@@ -14,9 +14,9 @@ ghost use Rattle.lapd_tei.specs.Bus.{BusState, new_bus, moved, run, refusals};
 ghost use Rattle.lapd_tei.specs.Assigner.{nothing_held, known_held, is_held};
 ghost use Rattle.lapd_tei.specs.declared.assigner.AssignerEvent.TheVariants as event;
 ghost use Rattle.lapd_tei.specs.declared.bus_move.BusMove.TheVariants.{Ask, HearUp};
-ghost use Rattle.lapd_tei.specs.Worked.{answers, check_with, results, two_ask, vain_check, three_times, served, got_by_another, one_reference, freed_while_held, freed_on_its_way, reference_again, reference_got_by, restarted_while_held, restarted_on_its_way, joined_while_held, joined_on_its_way, joined_unknown};
+ghost use Rattle.lapd_tei.specs.Worked.{answers, check_with, results, two_ask, vain_check, three_times, served, got_by_another, one_reference, freed_while_held, freed_on_its_way, reference_again, reference_outstanding, reference_got_by, checked_while_held, checked_on_its_way, restarted_while_held, restarted_on_its_way, joined_while_held, joined_on_its_way, joined_unknown};
 ghost use Rattle.lapd_tei.specs.Single.{Single, MeetsPremises, freed};
-ghost use Rattle.lapd_tei.specs.Service.{BusEvent, Move, in_service, after_events, HoldsInUse, IsInOrder, LosesNone, Throughout, MeetsInService};
+ghost use Rattle.lapd_tei.specs.Service.{BusEvent, Move, in_service, after_events, HoldsInUse, IsInOrder, AsksByItsOwn, FreesNobodysTei, RestartsKnowing, JoinsByItsOwn, LosesNone, MeetsInService, AreNotEnough};
 ghost use Rattle.lapd_tei.specs.declared.bus_move.BusMove.{BusMove};
 
 /// Two terminals ask for a TEI; each hears the assignment that is for it, and the other does not take it. A check that no
@@ -110,7 +110,7 @@ pub fn service_is_in_order()
         → MeetsInService (in_service terminals known) events
         → IsInOrder (after_events (in_service terminals known) events) }
     ensures held { (terminals : ℕ) (known : List ℕ) (events : List BusEvent)
-        → Throughout LosesNone (in_service terminals known) events
+        → LosesNone (in_service terminals known) events
         → HoldsInUse (after_events (in_service terminals known) events) }
     ensures until { (b : BusState) (m : BusMove) (tei : ℕ) → is_held b.assigner.held tei ≡ true
         → AllByRecursion (λ n. tei ≢ n) (freed (moved b m).outs)
@@ -135,15 +135,26 @@ pub fn service_premises_can_be_met()
         ≡ Unassigned ∷ Assigned (Some 7) 65 ∷ [] }
 {}
 
-/// None of them can go. Two terminals come to hold the same TEI where one asks by the reference by which the other has got its
-/// TEI; where the network side begins anew and does not know a TEI that is held, or assigned on its way; and where a terminal
-/// comes with a fixed TEI that is held, or assigned on its way, or not known. `premises_are_needed` says it of a reference that
-/// is outstanding, and of checks.
+/// None of them can go: where the three others hold, two terminals come to hold the same TEI if one asks by the reference of the
+/// other, outstanding or by which it has got its TEI; if a check frees a TEI that is held, or assigned on its way; if the
+/// network side begins anew and does not know one; and if a terminal comes with a fixed TEI that is held, or assigned on its
+/// way, or not known.
 pub fn service_premises_are_needed()
-    ensures got_by { Single (after_events (in_service 2 []) reference_got_by) → ⊥ }
-    ensures restart_held { Single (after_events (in_service 2 []) restarted_while_held) → ⊥ }
-    ensures restart_assigned { Single (after_events (in_service 2 []) restarted_on_its_way) → ⊥ }
-    ensures join_held { Single (after_events (in_service 2 []) joined_while_held) → ⊥ }
-    ensures join_assigned { Single (after_events (in_service 2 []) joined_on_its_way) → ⊥ }
-    ensures join_unknown { Single (after_events (in_service 2 []) joined_unknown) → ⊥ }
+    ensures outstanding { AreNotEnough FreesNobodysTei RestartsKnowing JoinsByItsOwn
+        reference_outstanding }
+    ensures got_by { AreNotEnough FreesNobodysTei RestartsKnowing JoinsByItsOwn reference_got_by }
+    ensures checked_held { AreNotEnough AsksByItsOwn RestartsKnowing JoinsByItsOwn
+        checked_while_held }
+    ensures checked_assigned { AreNotEnough AsksByItsOwn RestartsKnowing JoinsByItsOwn
+        checked_on_its_way }
+    ensures restarted_held { AreNotEnough AsksByItsOwn FreesNobodysTei JoinsByItsOwn
+        restarted_while_held }
+    ensures restarted_assigned { AreNotEnough AsksByItsOwn FreesNobodysTei JoinsByItsOwn
+        restarted_on_its_way }
+    ensures joined_held { AreNotEnough AsksByItsOwn FreesNobodysTei RestartsKnowing
+        joined_while_held }
+    ensures joined_assigned { AreNotEnough AsksByItsOwn FreesNobodysTei RestartsKnowing
+        joined_on_its_way }
+    ensures joined_unknown { AreNotEnough AsksByItsOwn FreesNobodysTei RestartsKnowing
+        joined_unknown }
 {}

@@ -1,12 +1,15 @@
-use Rattle.lapd_tei.proofs.Witnesses.{reference_got_by_is_anothers, restart_while_held, restart_on_its_way, join_while_held, join_on_its_way, join_unknown}
+use Rattle.lapd_tei.proofs.Witnesses.{outstanding_is_needed, got_by_is_needed, checked_held_is_needed, checked_assigned_is_needed, restarted_held_is_needed, restarted_assigned_is_needed, joined_held_is_needed, joined_assigned_is_needed, joined_known_is_needed}
 use Rattle.lapd_tei.proofs.laws.service_premises_are_needed.Goals as goal
 
 pub returns : goal.returns
 returns c = record {
-  got_by = reference_got_by_is_anothers;
-  restart_held = restart_while_held;
-  restart_assigned = restart_on_its_way;
-  join_held = join_while_held;
-  join_assigned = join_on_its_way;
-  join_unknown = join_unknown;
+  outstanding = outstanding_is_needed;
+  got_by = got_by_is_needed;
+  checked_held = checked_held_is_needed;
+  checked_assigned = checked_assigned_is_needed;
+  restarted_held = restarted_held_is_needed;
+  restarted_assigned = restarted_assigned_is_needed;
+  joined_held = joined_held_is_needed;
+  joined_assigned = joined_assigned_is_needed;
+  joined_unknown = joined_known_is_needed;
 }
