@@ -1,13 +1,13 @@
 -- The premises of the law can be met, and none can go.
-use Rattle.std.proofs.Common.{◌≡◌, ◌≢◌, ℕ, ◌<◌, List, [], ◌∷◌, Some, None, refl, arith}
+use Rattle.std.proofs.Common.{◌≡◌, ◌≢◌, ℕ, ◌<◌, true, List, [], ◌∷◌, Some, None, refl, arith}
 use Rattle.lapd_tei.specs.declared.phase.Phase.{Phase}
 use Rattle.lapd_tei.specs.declared.phase.Phase.TheVariants.{Assigned}
 use Rattle.lapd_tei.specs.Terminal.{tei_of}
 use Rattle.lapd_tei.specs.Bus.{BusState, new_bus, run}
 use Rattle.lapd_tei.specs.Single.{Single, asked, Differ, FreesNobodys}
 use Rattle.lapd_tei.specs.Service.{BusEvent, in_service, after_events, AsksByItsOwn, FreesNobodysTei, RestartsKnowing, JoinsByItsOwn, MeetsInService, AreNotEnough}
-use Rattle.lapd_tei.specs.Worked.{got_by_another, one_reference, freed_while_held, freed_on_its_way, reference_again, reference_outstanding, reference_got_by, checked_while_held, checked_on_its_way, restarted_while_held, restarted_on_its_way, joined_while_held, joined_on_its_way, joined_unknown}
-use Rattle.lapd_tei.proofs.Computed.{run_asks, run_frees, run_restarts, run_joins, moves_free_nobodys}
+use Rattle.lapd_tei.specs.Worked.{got_by_another, one_reference, freed_while_held, freed_on_its_way, reference_again, reference_on_its_way, reference_outstanding, reference_got_by, checked_while_held, checked_on_its_way, restarted_while_held, restarted_on_its_way, joined_while_held, joined_on_its_way, joined_unknown}
+use Rattle.lapd_tei.proofs.Computed.{throughout, asks, frees, restarts, joins, run_asks, run_frees, run_restarts, run_joins, moves_free_nobodys}
 
 numbers_differ : (a b : ℕ) → a < b → b ≢ a
 numbers_differ a b less e = omega arith
@@ -33,15 +33,22 @@ assignments_are_needed = two_hold (run (new_bus 2) freed_on_its_way) (Assigned (
 
 -- ---- Of a bus in service.
 
-pub met_in_service : MeetsInService (in_service 2 (64 ∷ [])) reference_again
-met_in_service = record {
-  asking = run_asks (in_service 2 (64 ∷ [])) reference_again refl;
+met_by : (known : List ℕ) (events : List BusEvent) → throughout asks (in_service 2 known) events ≡ true → throughout frees (in_service 2 known) events ≡ true
+    → throughout restarts (in_service 2 known) events ≡ true → throughout joins (in_service 2 known) events ≡ true → MeetsInService (in_service 2 known) events
+met_by known events asking freeing restarting joining = record {
+  asking = run_asks (in_service 2 known) events asking;
   keeping = record {
-    freeing = run_frees (in_service 2 (64 ∷ [])) reference_again refl;
-    restarting = run_restarts (in_service 2 (64 ∷ [])) reference_again refl;
-    joining = run_joins (in_service 2 (64 ∷ [])) reference_again refl;
+    freeing = run_frees (in_service 2 known) events freeing;
+    restarting = run_restarts (in_service 2 known) events restarting;
+    joining = run_joins (in_service 2 known) events joining;
   };
 }
+
+pub met_in_service : MeetsInService (in_service 2 (64 ∷ [])) reference_again
+met_in_service = met_by (64 ∷ []) reference_again refl refl refl refl
+
+pub met_on_its_way : MeetsInService (in_service 2 []) reference_on_its_way
+met_on_its_way = met_by [] reference_on_its_way refl refl refl refl
 
 both_hold : (events : List BusEvent) (t u : Phase) (n : ℕ) → (after_events (in_service 2 []) events).terminals ≡ t ∷ u ∷ [] → tei_of t ≡ Some n → tei_of u ≡ Some n
     → Single (after_events (in_service 2 []) events) → ⊥

@@ -81,6 +81,14 @@ reference_again = Join 1 (Some 64) ∷ Want 0 7 ∷ Move (HearUp 0) ∷ Move (He
     ∷ Restart (64 ∷ 65 ∷ []) ∷ Move (Leave 0) ∷ Move (Drop 0) ∷ Move (Check 65) ∷ Move T201
     ∷ Move T201 ∷ Move (Leave 1) ∷ Move (Ask 1 7) ∷ Move (HearUp 0) ∷ Move (Hear 2 1 2) ∷ []
 
+-- A reference is used again while a request by it is on its way, and then while assignments by it are: the first terminal asks
+-- by 7, then by 8, the second by 7, and both get a TEI. Both give it up; the first asks by 7, and takes what was sent for the
+-- second.
+abbrev pub reference_on_its_way : List BusEvent
+reference_on_its_way = Move (Ask 0 7) ∷ Move (T202 0 8) ∷ Want 1 7 ∷ Move (HearUp 0) ∷ Move (HearUp 0)
+    ∷ Move (HearUp 0) ∷ Move (Hear 1 0 1) ∷ Move (Hear 0 1 2) ∷ Move (Leave 0) ∷ Move (Leave 1)
+    ∷ Move (Ask 0 7) ∷ Move (Hear 2 0 3) ∷ []
+
 -- the first terminal gets TEI 64 by the reference 1, and its assignment goes
 abbrev pub first_gets : List BusEvent → List BusEvent
 first_gets events = Move (Ask 0 1) ∷ Move (HearUp 0) ∷ Move (Hear 0 0 2) ∷ Move (Drop 0) ∷ events

@@ -14,7 +14,7 @@ ghost use Rattle.lapd_tei.specs.Bus.{BusState, new_bus, moved, run, refusals};
 ghost use Rattle.lapd_tei.specs.Assigner.{nothing_held, known_held, is_held};
 ghost use Rattle.lapd_tei.specs.declared.assigner.AssignerEvent.TheVariants as event;
 ghost use Rattle.lapd_tei.specs.declared.bus_move.BusMove.TheVariants.{Ask, HearUp};
-ghost use Rattle.lapd_tei.specs.Worked.{answers, check_with, results, two_ask, vain_check, three_times, served, got_by_another, one_reference, freed_while_held, freed_on_its_way, reference_again, reference_outstanding, reference_got_by, checked_while_held, checked_on_its_way, restarted_while_held, restarted_on_its_way, joined_while_held, joined_on_its_way, joined_unknown};
+ghost use Rattle.lapd_tei.specs.Worked.{answers, check_with, results, two_ask, vain_check, three_times, served, got_by_another, one_reference, freed_while_held, freed_on_its_way, reference_again, reference_on_its_way, reference_outstanding, reference_got_by, checked_while_held, checked_on_its_way, restarted_while_held, restarted_on_its_way, joined_while_held, joined_on_its_way, joined_unknown};
 ghost use Rattle.lapd_tei.specs.Single.{Single, MeetsPremises, freed};
 ghost use Rattle.lapd_tei.specs.Service.{BusEvent, Move, in_service, after_events, HoldsInUse, IsInOrder, AsksByItsOwn, FreesNobodysTei, RestartsKnowing, JoinsByItsOwn, LosesNone, MeetsInService, AreNotEnough};
 ghost use Rattle.lapd_tei.specs.declared.bus_move.BusMove.{BusMove};
@@ -128,11 +128,15 @@ pub fn moves_are_events()
 {}
 
 /// The premises of a bus in service are met by a run with a known TEI, a fixed one, a terminal that wants a link, a network
-/// side that begins anew, a TEI that is freed, and a reference by which a second terminal asks.
+/// side that begins anew, a TEI that is freed, and a reference by which a second terminal asks; and by one in which requests
+/// and assignments by a reference are on their way when it is used again.
 pub fn service_premises_can_be_met()
     ensures met { MeetsInService (in_service 2 (64 ∷ [])) reference_again }
     ensures got { (after_events (in_service 2 (64 ∷ [])) reference_again).terminals
         ≡ Unassigned ∷ Assigned (Some 7) 65 ∷ [] }
+    ensures met_on_its_way { MeetsInService (in_service 2 []) reference_on_its_way }
+    ensures got_on_its_way { (after_events (in_service 2 []) reference_on_its_way).terminals
+        ≡ Assigned (Some 7) 66 ∷ Unassigned ∷ [] }
 {}
 
 /// None of them can go: where the three others hold, two terminals come to hold the same TEI if one asks by the reference of the
