@@ -13,7 +13,7 @@ use Rattle.lapd_tei.specs.Terminal.{terminal_step, tei_of, reference_of, new_ter
 use Rattle.lapd_tei.specs.Assigner.{AssignerStep, assigner_step, is_held, known_held}
 use Rattle.lapd_tei.specs.Bus.{BusState, BusStep, Broadcast, new_bus, assigner_did, terminal_did, with_mark, heard_by, without_up, moved, run}
 use Rattle.lapd_tei.specs.Single.{references, asked, Differ, freed, assigned_by, IsNobodys, FreesNobodys, MeetsPremises}
-use Rattle.lapd_tei.specs.Service.{BusEvent, Move, Want, Join, Restart, in_service, joined_by, event_step, after_events, IsKnown, KnowsInUse, HoldsInUse, IsInOrder, IsNoOthers, place_of_event, AsksByItsOwn, FreesNobodysTei, RestartsKnowing, JoinsByItsOwn, LosesNone, Throughout, MeetsInService}
+use Rattle.lapd_tei.specs.Service.{BusEvent, Move, Want, Join, Restart, in_service, joined_by, event_step, after_events, IsKnown, KnowsInUse, HoldsInUse, IsInOrder, KnowsAnew, IsNoOthers, place_of_event, AsksByItsOwn, FreesNobodysTei, RestartsKnowing, JoinsByItsOwn, LosesNone, Throughout, MeetsInService}
 use Rattle.lapd_tei.proofs.KeptByBus.{Owner, Place, Sits, Fits, Owned, single_from_owned, get_after_set, all_back, all_front, all_each, differ_rest, pick_yes, pick_no}
 use Rattle.lapd_tei.proofs.TerminalKeeps.{HearsFitting, HearsKnown, terminal_owned, terminal_known, IsNew, terminal_new}
 use Rattle.lapd_tei.proofs.AssignerKeeps.{assigner_assigns, stays_held, all_at, assigner_known, assigner_owned, reseated, refits, owned_by}
@@ -235,8 +235,12 @@ each_way_held b = record {
   network_hears = λ i m. stays_held b.assigner (assigner_step b.assigner (assigner.Heard m)) (assigner_assigns b.assigner (assigner.Heard m));
 }
 
-pub held_until_freed : (b : BusState) (m : BusMove) (tei : ℕ) → is_held b.assigner.held tei ≡ true → AllByRecursion (λ n. tei ≢ n) (freed (moved b m).outs) → is_held (moved b m).now.assigner.held tei ≡ true
-held_until_freed b m = each_move b (HeldAfter b) (each_way_held b) m
+pub held_until_freed : (b : BusState) (e : BusEvent) (tei : ℕ) → is_held b.assigner.held tei ≡ true → KnowsAnew e tei → AllByRecursion (λ n. tei ≢ n) (freed (event_step b e).outs)
+    → is_held (event_step b e).now.assigner.held tei ≡ true
+held_until_freed b (Move m) tei is knows unfreed = each_move b (HeldAfter b) (each_way_held b) m tei is unfreed
+held_until_freed b (Want t ri) tei is knows unfreed = terminal_way b (HeldAfter b) (each_way_held b) t (slice_get b.terminals t) (event.Want ri) refl tt tei is unfreed
+held_until_freed b (Join t fixed) tei is knows unfreed = is
+held_until_freed b (Restart known) tei is knows unfreed = knows
 
 -- ---- The moves of a bus are events, and references that differ in the whole run are nobody else's.
 

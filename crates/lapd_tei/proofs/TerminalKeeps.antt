@@ -1,5 +1,5 @@
 -- What a terminal does keeps what the bus keeps.
-use Rattle.std.proofs.Common.{◌≡◌, ◌≢◌, ℕ, Bool, List, [], ◌∷◌, ◌++◌, set, slice_get, Option, Some, None, inl, inr, refl, sym, ap, subst, ◌∙◌}
+use Rattle.std.proofs.Common.{◌≡◌, ◌≢◌, ℕ, Bool, true, List, [], ◌∷◌, ◌++◌, set, slice_get, Option, Some, None, inl, inr, refl, sym, ap, subst, ◌∙◌}
 use Rattle.std.proofs.lemmas.Bool.{cases_eq, eqb-true, cond_both, and_parts}
 use Rattle.std.specs.Prelude.{◌==◌, ◌&&◌, not, nat_lt, if◌then◌else◌}
 use Rattle.std.specs.List.{AllByRecursion}
@@ -33,10 +33,15 @@ HearsFitting owner other = Unit {0}
 abbrev pub SitsAfter : (ℕ → Option Owner) → (ℕ → Option ℕ) → ℕ → TerminalStep → Type 0
 SitsAfter owner place_of i done = Sits owner (noting place_of i (references (sent done.outs))) i done.now
 
+-- the assignment that a terminal takes has the reference that is its own
+takes_own : (owner : ℕ → Option Owner) (place_of : ℕ → Option ℕ) (i ri its ai : ℕ) → ((its == ri) && is_automatic ai) ≡ true
+    → place_of ri ≡ Some i → owner ai ≡ Some (Reference its) → Sits owner place_of i (Assigned (Some ri) ai)
+takes_own owner place_of i ri its ai test h fits = (subst (λ r. owner ai ≡ Some (Reference r)) (eqb-true its ri (and_parts (its == ri) (is_automatic ai) test).0) fits, h)
+
 awaiting_own : (owner : ℕ → Option Owner) (place_of : ℕ → Option ℕ) (i : ℕ) (purpose : Purpose) (count ri : ℕ) (k : TeiKind) (its ai : ℕ)
     → place_of ri ≡ Some i → FitsKind owner k its ai → SitsAfter owner place_of i (awaiting_hears purpose count ri k its ai)
-awaiting_own owner place_of i purpose count ri kind.Assigned its ai h fits = cond_both ((its == ri) && is_automatic ai) _ _ (SitsAfter owner place_of i)
-    (λ test. (subst (λ r. owner ai ≡ Some (Reference r)) (eqb-true its ri (and_parts (its == ri) (is_automatic ai) test).0) fits, h))
+awaiting_own owner place_of i purpose count ri kind.Assigned its ai h fits = cond_both _ _ _ (SitsAfter owner place_of i)
+    (λ test. takes_own owner place_of i ri its ai test h fits)
     (λ test. h)
 awaiting_own owner place_of i purpose count ri kind.Request its ai h fits = h
 awaiting_own owner place_of i purpose count ri kind.Denied its ai h fits = h

@@ -81,6 +81,11 @@ pub record IsInOrder (b : BusState) : Type 0 where
   pub single : Single b
   pub held : HoldsInUse b
 
+-- where the network side begins anew by this event, it knows this TEI
+abbrev pub KnowsAnew : BusEvent → ℕ → Type 0
+KnowsAnew (Restart known) tei = is_held (known_held known).held tei ≡ true
+KnowsAnew other tei = Unit {0}
+
 -- ---- What is asked of an event, in the bus that it comes to.
 
 -- the last reference of the terminal at this place, outstanding or the one that it got its TEI by, is this one

@@ -10,13 +10,13 @@ ghost use Rattle.lapd_tei.specs.declared.phase.Phase.TheVariants.{Unassigned, As
 ghost use Rattle.lapd_tei.specs.declared.bus_move.BusFault.TheVariants.{NothingThere, HeardBefore};
 ghost use Rattle.lapd_tei.specs.Message.{frame_of_message};
 ghost use Rattle.lapd_tei.specs.Out.{request, assigned, denied, check_request, check_response, remove};
-ghost use Rattle.lapd_tei.specs.Bus.{BusState, new_bus, moved, run, refusals};
+ghost use Rattle.lapd_tei.specs.Bus.{BusState, new_bus, run, refusals};
 ghost use Rattle.lapd_tei.specs.Assigner.{nothing_held, known_held, is_held};
 ghost use Rattle.lapd_tei.specs.declared.assigner.AssignerEvent.TheVariants as event;
 ghost use Rattle.lapd_tei.specs.declared.bus_move.BusMove.TheVariants.{Ask, HearUp};
 ghost use Rattle.lapd_tei.specs.Worked.{answers, check_with, results, two_ask, vain_check, three_times, served, got_by_another, one_reference, freed_while_held, freed_on_its_way, reference_again, reference_on_its_way, reference_outstanding, reference_got_by, checked_while_held, checked_on_its_way, restarted_while_held, restarted_on_its_way, joined_while_held, joined_on_its_way, joined_unknown};
 ghost use Rattle.lapd_tei.specs.Single.{Single, MeetsPremises, freed};
-ghost use Rattle.lapd_tei.specs.Service.{BusEvent, Move, in_service, after_events, HoldsInUse, IsInOrder, AsksByItsOwn, FreesNobodysTei, RestartsKnowing, JoinsByItsOwn, LosesNone, MeetsInService, AreNotEnough};
+ghost use Rattle.lapd_tei.specs.Service.{BusEvent, Move, in_service, event_step, after_events, HoldsInUse, IsInOrder, KnowsAnew, AsksByItsOwn, FreesNobodysTei, RestartsKnowing, JoinsByItsOwn, LosesNone, MeetsInService, AreNotEnough};
 ghost use Rattle.lapd_tei.specs.declared.bus_move.BusMove.{BusMove};
 
 /// Two terminals ask for a TEI; each hears the assignment that is for it, and the other does not take it. A check that no
@@ -103,8 +103,8 @@ pub fn premises_are_needed()
 /// The law of the TEIs on a bus in service, over the definitions: at every moment no two terminals hold the same TEI, and the
 /// network side holds each TEI of 64 to 126 that a terminal holds or an assignment on its way brings. It holds of every list
 /// of events in which a terminal asks by a reference that is not another terminal's last one, and no TEI in use is lost
-/// (`held`: the second alone is enough for the TEIs to be held). What the network side holds it gives up by a check alone, or
-/// where it begins anew (`until`).
+/// (`held`: the second alone is enough for the TEIs to be held). What the network side holds it gives up only by a check
+/// that frees it, or where it begins anew without it (`until`).
 pub fn service_is_in_order()
     ensures in_order { (terminals : ℕ) (known : List ℕ) (events : List BusEvent)
         → MeetsInService (in_service terminals known) events
@@ -112,9 +112,10 @@ pub fn service_is_in_order()
     ensures held { (terminals : ℕ) (known : List ℕ) (events : List BusEvent)
         → LosesNone (in_service terminals known) events
         → HoldsInUse (after_events (in_service terminals known) events) }
-    ensures until { (b : BusState) (m : BusMove) (tei : ℕ) → is_held b.assigner.held tei ≡ true
-        → AllByRecursion (λ n. tei ≢ n) (freed (moved b m).outs)
-        → is_held (moved b m).now.assigner.held tei ≡ true }
+    ensures until { (b : BusState) (event : BusEvent) (tei : ℕ)
+        → is_held b.assigner.held tei ≡ true → KnowsAnew event tei
+        → AllByRecursion (λ n. tei ≢ n) (freed (event_step b event).outs)
+        → is_held (event_step b event).now.assigner.held tei ≡ true }
 {}
 
 /// A bus is one in service, and its moves are events of it. Where references differ in the whole run, none is another
