@@ -1,0 +1,176 @@
+/* A data link that calls back, as libpri and its kin do, over one that is asked: some 100 lines to copy, and a program that
+ * uses them. Each call hands something to the side and fetches all that it gives into a queue; then what is in the queue is
+ * called back, one after another. A call that is made from within a call-back only adds to the queue, so that no call-back is
+ * called while another runs, and they come in order. */
+#include "lapd.h"
+
+#include <stdbool.h>
+#include <stdio.h>
+#include <stdlib.h>
+#include <string.h>
+
+/* ---- The wrapper. */
+
+struct dl_callbacks {
+	void (*write)(void *user, const uint8_t *frame, size_t length);
+	void (*tell)(void *user, const lapd_primitive *primitive, const uint8_t *octets);
+};
+
+struct dl_entry {
+	struct dl_entry *next;
+	lapd_primitive primitive; /* its kind is LAPD_NOTHING where the octets are a frame */
+	size_t length;
+	uint8_t octets[LAPD_MOST_FRAME];
+};
+
+struct dl {
+	lapd_side side;
+	struct dl_callbacks callbacks;
+	void *user;
+	struct dl_entry *first, **last;
+	bool calls_back;
+};
+
+static void dl_init(struct dl *dl, const struct dl_callbacks *callbacks, void *user)
+{
+	memset(dl, 0, sizeof *dl);
+	dl->callbacks = *callbacks;
+	dl->user = user;
+	dl->last = &dl->first;
+}
+
+/* The next of what the side gave, or NULL. Where there is no memory, the program ends: what would be told would be lost. */
+static struct dl_entry *dl_fetch(struct dl *dl)
+{
+	struct dl_entry *entry = calloc(1, sizeof *entry);
+
+	if (entry == NULL)
+		exit(3);
+	if (lapd_side_frame(&dl->side, entry->octets, sizeof entry->octets, &entry->length) == LAPD_DONE && entry->length > 0)
+		return entry;
+	if (lapd_side_primitive(&dl->side, &entry->primitive, entry->octets, sizeof entry->octets) == LAPD_DONE
+	    && entry->primitive.kind != LAPD_NOTHING)
+		return entry;
+	free(entry);
+	return NULL;
+}
+
+/* Fetches all that a call gave, and calls back, unless that is being done. The call's code is handed on. */
+static uint32_t dl_done(struct dl *dl, uint32_t code)
+{
+	struct dl_entry *entry;
+
+	while ((entry = dl_fetch(dl)) != NULL) {
+		*dl->last = entry;
+		dl->last = &entry->next;
+	}
+	if (dl->calls_back)
+		return code;
+	dl->calls_back = true;
+	while ((entry = dl->first) != NULL) {
+		dl->first = entry->next;
+		if (dl->first == NULL)
+			dl->last = &dl->first;
+		if (entry->primitive.kind == LAPD_NOTHING)
+			dl->callbacks.write(dl->user, entry->octets, entry->length);
+		else
+			dl->callbacks.tell(dl->user, &entry->primitive, entry->octets);
+		free(entry);
+	}
+	dl->calls_back = false;
+	return code;
+}
+
+static uint32_t dl_receive(struct dl *dl, const uint8_t *frame, size_t length, uint64_t now)
+{
+	return dl_done(dl, lapd_side_take(&dl->side, frame, length, now));
+}
+
+static uint32_t dl_establish(struct dl *dl, uint8_t sapi, uint8_t tei, uint64_t now)
+{
+	return dl_done(dl, lapd_side_establish(&dl->side, sapi, tei, now));
+}
+
+static uint32_t dl_send(struct dl *dl, uint8_t sapi, uint8_t tei, const uint8_t *message, size_t length, uint64_t now)
+{
+	return dl_done(dl, lapd_side_give(&dl->side, sapi, tei, message, length, now));
+}
+
+/* When dl_schedule_run is to be called next, LAPD_NEVER where not at all. */
+static uint64_t dl_schedule_next(struct dl *dl)
+{
+	uint64_t moment;
+
+	lapd_side_deadline(&dl->side, &moment);
+	return moment;
+}
+
+static void dl_schedule_run(struct dl *dl, uint64_t now)
+{
+	uint8_t expired;
+
+	do
+		dl_done(dl, lapd_side_tick(&dl->side, now, &expired));
+	while (expired);
+}
+
+/* ---- The program: a user side answers within a call-back, over a line that is a call of the other's dl_receive. */
+
+struct end {
+	struct dl dl;
+	const char *name;
+	struct end *peer;
+	bool is_lost;
+};
+
+static void on_write(void *user, const uint8_t *frame, size_t length)
+{
+	struct end *end = user;
+	size_t at;
+
+	printf("%s ->", end->name);
+	for (at = 0; at < length; at++)
+		printf(" %02x", frame[at]);
+	printf("%s\n", end->is_lost ? " (lost)" : "");
+	if (!end->is_lost)
+		dl_receive(&end->peer->dl, frame, length, 0);
+}
+
+static void on_tell(void *user, const lapd_primitive *told, const uint8_t *octets)
+{
+	struct end *end = user;
+	static const uint8_t setup[] = { 0x08, 0x01 };
+
+	(void)octets;
+	printf("%s: kind %u, TEI %u\n", end->name, told->kind, told->tei);
+	if (told->kind == LAPD_ESTABLISH_CONF)
+		dl_send(&end->dl, 0, told->tei, setup, sizeof setup, 0);
+	if (told->kind == LAPD_DATA_IND)
+		end->peer->is_lost = true;
+}
+
+int main(void)
+{
+	static const struct dl_callbacks callbacks = { on_write, on_tell };
+	static struct end network, user;
+	lapd_settings settings = LAPD_BASIC;
+	const uint8_t tei = 64;
+	uint64_t next;
+
+	dl_init(&network.dl, &callbacks, &network);
+	dl_init(&user.dl, &callbacks, &user);
+	network.name = "network";
+	network.peer = &user;
+	user.name = "user";
+	user.peer = &network;
+	if (lapd_side_network(&network.dl.side, &settings, &tei, 1) != LAPD_DONE
+	    || lapd_side_user(&user.dl.side, &settings, tei) != LAPD_DONE)
+		return 1;
+	if (dl_establish(&user.dl, 0, tei, 0) != LAPD_DONE)
+		return 1;
+	while ((next = dl_schedule_next(&user.dl)) != LAPD_NEVER)
+		dl_schedule_run(&user.dl, next);
+	lapd_side_free(&user.dl.side);
+	lapd_side_free(&network.dl.side);
+	return 0;
+}

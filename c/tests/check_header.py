@@ -1,0 +1,137 @@
+#!/usr/bin/env python3
+"""check_header.py CRATE LAPD.h ARCHIVE: that the header says what the crate exports.
+
+Each export stands in the header with the C types and the names of what its Rattle types cross as, in order; each struct has the
+fields of its Rattle struct, in order; each code and kind has its number of the crate's definitions; and the archive defines the
+exports and nothing else for others, and asks for nothing but memcpy and its kin and the heap. Exit status 0 or 1."""
+
+import re
+import subprocess
+import sys
+
+NUMBERS = {
+    "u8": "uint8_t", "u16": "uint16_t", "u32": "uint32_t", "u64": "uint64_t", "usize": "size_t", "bool": "bool",
+}
+STRUCTS = {"Handle": "lapd_side", "Settings": "lapd_settings", "FlatPrimitive": "lapd_primitive", "LinkState": "lapd_link_state"}
+# Where a parameter has another name in C: what is plain there is not plain in the crate.
+NAMES = {"handle": "side", "known": "teis", "fixed": "tei", "told": "primitive"}
+# What the archive may ask of the program that it is linked into.
+ASKED = {"memcpy", "memmove", "memset", "memcmp", "bcmp", "malloc", "realloc", "free"}
+HEAP = {"rattle_alloc", "rattle_realloc", "rattle_dealloc"}
+
+
+def c_type(rattle):
+    return {**NUMBERS, **STRUCTS}[rattle]
+
+
+def crossed(name, rattle):
+    """The parameters of C that a parameter crosses as, each as (type, name or None where any will do)."""
+    if rattle == "Global":
+        return []  # it has no octets
+    name = NAMES.get(name, name)
+    found = re.fullmatch(r"&(mut )?\[(\w+)\]", rattle)
+    if found:
+        return [(("" if found[1] else "const ") + c_type(found[2]) + " *", None), ("size_t", None)]
+    found = re.fullmatch(r"&(mut )?(\w+)", rattle)
+    if found:
+        return [(("" if found[1] else "const ") + c_type(found[2]) + " *", None if found[2] in NUMBERS else name)]
+    return [(c_type(rattle), name)]
+
+
+def exports_of(source):
+    exports = {}
+    for name, parameters, result in re.findall(
+        r'pub extern "C" fn (\w+)\((.*?)\)(?:\s*->\s*(\w+))?\s*\n\s*(?:ensures|requires|where|\{)', source, re.S
+    ):
+        found = re.findall(r"(\w+):\s*(&(?:mut )?\[\w+\]|&?(?:mut )?\w+)", parameters)
+        exports[name] = (c_type(result) if result else "void", [p for n, t in found for p in crossed(n, t)])
+    return exports
+
+
+def prototypes_of(header):
+    prototypes = {}
+    for result, name, parameters in re.findall(r"^(\w+) (lapd_\w+)\(([^)]*)\);", header, re.M):
+        found = []
+        for parameter in parameters.split(","):
+            match = re.fullmatch(r"((?:const )?\w+ \*?)(\w+)", parameter.strip())
+            if match:
+                found.append((match[1].strip(), match[2]))
+            elif parameter.strip() != "void":
+                found.append((parameter.strip(), "?"))
+        prototypes[name] = (result, found)
+    return prototypes
+
+
+def agree(export, prototype):
+    return (
+        export is not None
+        and prototype is not None
+        and export[0] == prototype[0]
+        and len(export[1]) == len(prototype[1])
+        and all(a == c and b in (None, d) for (a, b), (c, d) in zip(export[1], prototype[1]))
+    )
+
+
+def fields_of_rattle(source, name):
+    body = re.search(r"#\[repr\(C\)\][^{]*?struct " + name + r" \{(.*?)\n\}", source, re.S)[1]
+    body = re.sub(r"//[^\n]*", "", body)
+    return [(c_type(t), n) for n, t in re.findall(r"(\w+): (\w+),", body)]
+
+
+def fields_of_c(header, name):
+    body = re.search(r"typedef struct " + name + r" \{(.*?)\} " + name + ";", header, re.S)[1]
+    fields = []
+    for kind, names in re.findall(r"(\w+) ([\w, ]+);", body):
+        fields += [(kind, n.strip()) for n in names.split(",")]
+    return fields
+
+
+def numbers_of_c(header, name):
+    body = re.search(r"enum " + name + r" \{(.*?)\};", header, re.S)[1]
+    return sorted(int(n) for n in re.findall(r"= (\d+)", body))
+
+
+def numbers_of_rattle(source, pattern):
+    return sorted({int(n) for n in re.findall(pattern, source)})
+
+
+def main():
+    crate, header, archive = sys.argv[1:4]
+
+    def read(name):
+        with open(name, encoding="utf-8") as file:
+            return file.read()
+
+    def source(name):
+        return read(f"{crate}/src/{name}.rt")
+
+    text = re.sub(r"/\*.*?\*/", "", read(header), flags=re.S)
+    wrong = []
+    exports, prototypes = exports_of(source("lib")), prototypes_of(text)
+    for name in sorted(set(exports) | set(prototypes)):
+        if not agree(exports.get(name), prototypes.get(name)):
+            wrong.append(f"{name}: the crate has {exports.get(name)}, the header {prototypes.get(name)}")
+    for file, name in (("settings", "Settings"), ("flat_primitive", "FlatPrimitive"), ("link_state", "LinkState")):
+        rattle, c = fields_of_rattle(source(file), name), fields_of_c(text, STRUCTS[name])
+        if rattle != c:
+            wrong.append(f"{name}: the crate has {rattle}, the header {c}")
+    codes = numbers_of_rattle(source("codes"), r"(?:u32 = |=> )(\d+)")
+    if codes != numbers_of_c(text, "lapd_code"):
+        wrong.append(f"codes: the crate has {codes}")
+    kinds = numbers_of_rattle(re.sub(r"127", "0", source("flat_primitive")), r"(?:What|TeiOut)::\w+(?:\(\w+\))? => (\d+)")
+    if kinds != numbers_of_c(text, "lapd_kind"):
+        wrong.append(f"kinds: the crate has {kinds}")
+    symbols = subprocess.run(["nm", archive], capture_output=True, text=True, check=True).stdout
+    defined = set(re.findall(r" [A-Z] (\w+)$", symbols, re.M)) - set(re.findall(r" U (\w+)$", symbols, re.M)) - HEAP
+    asked = set(re.findall(r" U (\w+)$", symbols, re.M)) - HEAP
+    if defined != set(exports):
+        wrong.append(f"the archive defines {sorted(defined ^ set(exports))} beside or without the exports")
+    if asked - ASKED:
+        wrong.append(f"the archive asks for {sorted(asked - ASKED)}")
+    for line in wrong:
+        print(line)
+    print(f"check_header: {len(exports)} exports, {'not as' if wrong else 'as'} the header says")
+    return 1 if wrong else 0
+
+
+sys.exit(main())

@@ -1,0 +1,43 @@
+/* The structs of lapd.h lie as repr(C) lays out those of the crate, on a machine of 64 bits. It is compiled, and not run. */
+#include "lapd.h"
+
+#define SIZE(type, size) typedef char type##_size[sizeof(type) == (size) ? 1 : -1]
+#define AT(type, field, offset, size)                                                                \
+	typedef char type##_##field[offsetof(type, field) == (offset)                                    \
+	    && sizeof(((type *)0)->field) == (size) ? 1 : -1]
+
+SIZE(lapd_side, 8);
+AT(lapd_side, lapd_private, 0, 8);
+
+SIZE(lapd_settings, 32);
+AT(lapd_settings, seed, 0, 8);
+AT(lapd_settings, t200, 8, 4);
+AT(lapd_settings, t201, 12, 4);
+AT(lapd_settings, t202, 16, 4);
+AT(lapd_settings, t203, 20, 4);
+AT(lapd_settings, room, 24, 2);
+AT(lapd_settings, n200, 26, 1);
+AT(lapd_settings, k0, 27, 1);
+AT(lapd_settings, k16, 28, 1);
+AT(lapd_settings, sapi16, 29, 1);
+
+SIZE(lapd_primitive, 16);
+AT(lapd_primitive, kind, 0, 1);
+AT(lapd_primitive, sapi, 1, 1);
+AT(lapd_primitive, tei, 2, 1);
+AT(lapd_primitive, letter, 3, 1);
+AT(lapd_primitive, count, 4, 2);
+AT(lapd_primitive, octets, 8, 8);
+
+SIZE(lapd_link_state, 10);
+AT(lapd_link_state, state, 0, 1);
+AT(lapd_link_state, rc, 1, 1);
+AT(lapd_link_state, vs, 2, 1);
+AT(lapd_link_state, va, 3, 1);
+AT(lapd_link_state, vr, 4, 1);
+AT(lapd_link_state, peer_busy, 5, 1);
+AT(lapd_link_state, own_busy, 6, 1);
+AT(lapd_link_state, rejecting, 7, 1);
+AT(lapd_link_state, waiting, 8, 2);
+
+SIZE(size_t, 8);

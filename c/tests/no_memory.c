@@ -1,0 +1,129 @@
+/* A heap of the test's own, in which one request for memory is refused: the first, then the second, until a run meets none. The
+ * whole dialogue is gone through each time. What is refused has to be LAPD_NO_MEMORY, the same call has to do it at the next
+ * try, every message has to arrive, and nothing may be left when the sides are freed. */
+#include "test.h"
+
+#define MESSAGES 20
+
+struct lapd_block {
+	bool found;
+	void *at;
+};
+
+struct lapd_block rattle_alloc(size_t size, size_t align);
+struct lapd_block rattle_realloc(void *at, size_t kept, size_t size, size_t align);
+void rattle_dealloc(void *at);
+
+static long asked, refused_at, refused, live;
+
+static bool refuses(void)
+{
+	return ++asked == refused_at;
+}
+
+struct lapd_block rattle_alloc(size_t size, size_t align)
+{
+	struct lapd_block block = { false, NULL };
+
+	if (!refuses()) {
+		block.at = malloc(size ? size : align);
+		block.found = block.at != NULL;
+		live++;
+	}
+	return block;
+}
+
+struct lapd_block rattle_realloc(void *at, size_t kept, size_t size, size_t align)
+{
+	struct lapd_block block = { false, NULL };
+
+	(void)kept;
+	if (!refuses()) {
+		block.at = realloc(at, size ? size : align);
+		block.found = block.at != NULL;
+	}
+	return block;
+}
+
+void rattle_dealloc(void *at)
+{
+	live--;
+	free(at);
+}
+
+/* Makes a call, and once more where it finds no memory. */
+#define TWICE(call)                                                                                  \
+	do {                                                                                             \
+		uint32_t first_ = (call);                                                                    \
+		if (first_ == LAPD_NO_MEMORY) {                                                              \
+			refused++;                                                                               \
+			first_ = (call);                                                                         \
+		}                                                                                            \
+		WANT(first_ == LAPD_DONE);                                                                   \
+	} while (0)
+
+static int arrived;
+
+/* The frame that a side gave goes to the other, and what that gives back goes on, until there is none. */
+static void carry(lapd_side *from, lapd_side *to)
+{
+	uint8_t frame[LAPD_MOST_FRAME], octets[LAPD_MOST_FRAME];
+	lapd_primitive told;
+	lapd_side *turn;
+	size_t length, more;
+
+	for (;;) {
+		DONE(lapd_side_frame(from, frame, sizeof frame, &length));
+		do {
+			DONE(lapd_side_primitive(from, &told, octets, sizeof octets));
+			arrived += told.kind == LAPD_DATA_IND;
+		} while (told.kind != LAPD_NOTHING);
+		if (length == 0)
+			return;
+		DONE(lapd_side_frame(from, octets, sizeof octets, &more));
+		WANT(more == 0);
+		TWICE(lapd_side_take(to, frame, length, 0));
+		turn = from;
+		from = to;
+		to = turn;
+	}
+}
+
+static void converse(void)
+{
+	static const uint8_t message[] = "a message of some length";
+	lapd_side network = LAPD_SIDE_INIT, user = LAPD_SIDE_INIT;
+	lapd_settings settings = LAPD_BASIC;
+	const uint8_t tei = 3;
+	int at;
+
+	settings.sapi16 = 1;
+	TWICE(lapd_side_network(&network, &settings, &tei, 1));
+	TWICE(lapd_side_user(&user, &settings, LAPD_NO_TEI));
+	DONE(lapd_side_establish(&user, 0, 0, 0));
+	carry(&user, &network);
+	for (at = 0; at < MESSAGES; at++) {
+		TWICE(lapd_side_give(&user, 0, 0, message, sizeof message, 0));
+		carry(&user, &network);
+	}
+	TWICE(lapd_side_unit(&network, 0, LAPD_GROUP_TEI, message, sizeof message, 0));
+	carry(&network, &user);
+	TWICE(lapd_side_network(&network, &settings, &tei, 1));
+	lapd_side_free(&network);
+	lapd_side_free(&user);
+}
+
+int main(void)
+{
+	for (refused_at = 1;; refused_at++) {
+		asked = refused = arrived = 0;
+		converse();
+		WANT(arrived == MESSAGES);
+		WANT(live == 0);
+		if (refused == 0)
+			break;
+		WANT(refused == 1);
+	}
+	printf("no_memory: each of %ld requests was refused in turn\n", refused_at - 1);
+	return 0;
+}

@@ -1,0 +1,32 @@
+/* What the tests share. */
+#ifndef TEST_H
+#define TEST_H
+
+#include "lapd.h"
+
+#include <stdbool.h>
+#include <stdio.h>
+#include <stdlib.h>
+
+/* Ends the test where a fact does not hold. */
+#define WANT(fact)                                                                                   \
+	do {                                                                                             \
+		if (!(fact)) {                                                                               \
+			fprintf(stderr, "%s:%d: not so: %s\n", __FILE__, __LINE__, #fact);                       \
+			exit(1);                                                                                 \
+		}                                                                                            \
+	} while (0)
+
+/* Ends the test where a call returns another code. */
+#define WANT_CODE(call, code)                                                                        \
+	do {                                                                                             \
+		uint32_t code_ = (call);                                                                     \
+		if (code_ != (uint32_t)(code)) {                                                             \
+			fprintf(stderr, "%s:%d: code %u: %s\n", __FILE__, __LINE__, (unsigned)code_, #call);     \
+			exit(1);                                                                                 \
+		}                                                                                            \
+	} while (0)
+
+#define DONE(call) WANT_CODE(call, LAPD_DONE)
+
+#endif

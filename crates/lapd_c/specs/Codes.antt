@@ -1,0 +1,46 @@
+-- The numbers that C is answered with: one for each thing that a call comes to.
+use Rattle.std.specs.Prelude.{ℕ, Result, Ok, Err, ⊤}
+use Rattle.lapd_link_rows.specs.declared.event.LinkFault.{LinkFault}
+use Rattle.lapd_link_rows.specs.declared.event.LinkFault.TheVariants as link
+use Rattle.lapd_sides_links.specs.declared.side_fault.SideFault.{SideFault}
+use Rattle.lapd_sides_links.specs.declared.side_fault.SideKind.{SideKind}
+use Rattle.lapd_sides_links.specs.declared.side_fault.SideKind.TheVariants as side
+
+-- it was done
+abbrev pub done : ℕ
+done = 0
+
+-- the handle owns no side
+abbrev pub no_side : ℕ
+no_side = 1
+
+-- what the last call gave is not all fetched
+abbrev pub pending : ℕ
+pending = 2
+
+-- a number is out of its range, or a buffer is too small
+abbrev pub out_of_range : ℕ
+out_of_range = 3
+
+-- B3: memory was refused
+abbrev pub memory : ℕ
+memory = 13
+
+-- L1 to L5
+abbrev pub code_of_link_fault : LinkFault → ℕ
+code_of_link_fault link.NotEstablished = 21
+code_of_link_fault link.QueueFull = 22
+code_of_link_fault link.TooLong = 23
+code_of_link_fault link.Releasing = 24
+code_of_link_fault link.LayerThreeEstablishing = 25
+
+-- B1, B3, and those of the link
+abbrev pub code_of_kind : SideKind → ℕ
+code_of_kind side.NoLink = 11
+code_of_kind side.Memory = memory
+code_of_kind (side.Link fault) = code_of_link_fault fault
+
+-- what a call of a side returns
+abbrev pub code_of : Result ⊤ SideFault → ℕ
+code_of (Ok _) = done
+code_of (Err fault) = code_of_kind fault.kind

@@ -1,0 +1,7 @@
+pub mod Border
+pub mod Calls
+pub mod Codes
+pub mod FlatPrimitives
+pub mod LinkStates
+pub mod Owned
+pub mod Settings

@@ -1,0 +1,70 @@
+-- What a side is made with, as C says it.
+use Rattle.std.specs.Prelude.{◌≡◌, ℕ, List, Bool, Option, Some, None, not, ◌==◌, ◌||◌, nat_lt, if◌then◌else◌}
+use Rattle.std.specs.List.{list_all}
+use Rattle.lapd_timers.specs.Durations.{Lengths, lengths_of}
+use Rattle.lapd_link_rows.specs.Parameters.{Parameters, parameters_of}
+use Rattle.lapd_sides_links.specs.declared.config.Config.{Config}
+use Rattle.lapd_sides_links.specs.Effects.{no_effects}
+use Rattle.lapd_sides.specs.Network.{new_network}
+use Rattle.lapd_sides.specs.User.{new_user, seeded}
+use Rattle.lapd_sides.specs.ShowsNetwork.{ShowNetwork}
+use Rattle.lapd_sides.specs.ShowsUser.{ShowUser}
+use Rattle.lapd_sides.specs.declared.either_side.EitherSide.{EitherSide}
+use Rattle.lapd_sides.specs.declared.either_side.EitherSide.TheVariants as either
+use Rattle.lapd_c.specs.declared.settings.Settings.{Settings}
+use Rattle.lapd_c.specs.declared.held_side.HeldSide.{HeldSide}
+
+-- ---- The numbers of it, each in its range.
+
+abbrev pub config_with : Settings → Option Parameters → Option Parameters → Option Lengths
+    → Option Config
+config_with s (Some params0) (Some params16) (Some durations) = Some (record {
+  sapi16 = not (s.sapi16 == 0);
+  params0 = params0;
+  params16 = params16;
+  durations = durations;
+  seed = s.seed;
+})
+config_with s None params16 durations = None
+config_with s (Some params0) None durations = None
+config_with s (Some params0) (Some params16) None = None
+
+abbrev pub config_of : Settings → Option Config
+config_of s = config_with s (parameters_of s.k0 s.n200 s.room) (parameters_of s.k16 s.n200 s.room)
+    (lengths_of s.t200 s.t201 s.t202 s.t203)
+
+-- the TEI of one terminal, 0 to 126
+abbrev pub is_own_tei : ℕ → Bool
+is_own_tei tei = nat_lt tei 127
+
+abbrev pub network_config : Settings → List ℕ → Option Config
+network_config settings known = if list_all is_own_tei known then config_of settings else None
+
+-- 255 says that a user side has no fixed TEI
+abbrev pub fixed_tei : ℕ → Option ℕ
+fixed_tei tei = if tei == 255 then None else Some tei
+
+abbrev pub is_fixed_tei : ℕ → Bool
+is_fixed_tei tei = (tei == 255) || is_own_tei tei
+
+abbrev pub user_config : Settings → ℕ → Option Config
+user_config settings tei = if is_fixed_tei tei then config_of settings else None
+
+-- ---- The side that is made.
+
+abbrev pub IsNewNetwork : List ℕ → Config → EitherSide → Type 0
+IsNewNetwork known config (either.Network side) = ShowNetwork side config (new_network config known)
+IsNewNetwork known config (either.User side) = ⊥
+
+abbrev pub IsNewUser : ℕ → Config → EitherSide → Type 0
+IsNewUser tei config (either.Network side) = ⊥
+IsNewUser tei config (either.User side) =
+    ShowUser side config (new_user config (fixed_tei tei) (seeded config.seed))
+
+-- it has given nothing yet
+pub record IsNew (config : Config) (IsMade : Config → EitherSide → Type 0) (held : HeldSide) :
+    Type 0 where
+  pub side : IsMade config held.side
+  pub acts : held.acts ≡ no_effects
+  pub frames : held.frames_fetched ≡ 0
+  pub primitives : held.primitives_fetched ≡ 0

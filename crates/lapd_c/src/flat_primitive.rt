@@ -1,0 +1,192 @@
+//! A primitive as C reads it.
+
+ghost use Rattle.std.specs.Prelude.{◌≡◌};
+ghost use Rattle.lapd_c.specs.FlatPrimitives.{flat, nothing, octets_of, octets_up, kind_of_link, count_of, letter_of, kind_of_outcome, tei_of_outcome, link_of};
+ghost use Rattle.lapd_link_rows.specs.Out.{letter_code};
+
+use lapd_sides::{Letter, LinkId, Primitive, Sapi, Tei, TeiOut, What};
+
+/// What the layers above are told, in numbers. Its octets are handed out beside it.
+#[repr(C)]
+#[derive(Clone, Copy)]
+pub struct FlatPrimitive {
+    /// What it is; 0 where nothing is left.
+    pub kind: u8,
+    /// The link's SAPI; 63 of TEI management.
+    pub sapi: u8,
+    /// The link's TEI; 127 of the group, and where it is of none.
+    pub tei: u8,
+    /// Of an error report, its letter, `A` to `O`; else 0.
+    pub letter: u8,
+    /// How many messages were acknowledged or dropped; else 0.
+    pub count: u16,
+    /// How many octets go up.
+    pub octets: usize,
+}
+
+impl FlatPrimitive {
+    /// Where nothing is left to be fetched.
+    pub(crate) fn nothing() -> FlatPrimitive
+        ensures { result ≡ nothing }
+    {
+        FlatPrimitive {
+            kind: 0,
+            sapi: 0,
+            tei: 0,
+            letter: 0,
+            count: 0,
+            octets: 0,
+        }
+    }
+
+    /// A primitive in numbers.
+    pub(crate) fn of(primitive: &Primitive) -> FlatPrimitive
+        ensures { result ≡ flat primitive.now }
+    {
+        match primitive {
+            Primitive::Of(id, what) => FlatPrimitive {
+                kind: kind_of_link(what),
+                sapi: id.sapi.value(),
+                tei: id.tei.value(),
+                letter: letter_of(what),
+                count: count_of(what),
+                octets: octets_up(what).len(),
+            },
+            Primitive::Management(outcome) => FlatPrimitive {
+                kind: kind_of_outcome(outcome),
+                sapi: 63,
+                tei: tei_of_outcome(outcome),
+                letter: 0,
+                count: 0,
+                octets: 0,
+            },
+        }
+    }
+}
+
+/// The octets that a primitive takes up to layer 3.
+pub(crate) fn octets_of(primitive: &Primitive) -> &[u8]
+    ensures { result.now ≡ octets_of primitive.now }
+{
+    match primitive {
+        Primitive::Of(_, what) => octets_up(what),
+        Primitive::Management(_) => &[],
+    }
+}
+
+/// The octets that go up.
+fn octets_up(what: &What) -> &[u8]
+    ensures { result.now ≡ octets_up what.now }
+{
+    match what {
+        What::Up(octets) => octets.as_slice(),
+        What::UnitUp(octets) => octets.as_slice(),
+        _ => &[],
+    }
+}
+
+/// The number of what is told of a link.
+fn kind_of_link(what: &What) -> u8
+    ensures { result ≡ kind_of_link what.now }
+{
+    match what {
+        What::Up(_) => 1,
+        What::UnitUp(_) => 2,
+        What::Established => 3,
+        What::Confirmed => 4,
+        What::Released => 5,
+        What::ReleaseConfirm => 6,
+        What::Acknowledged(_) => 7,
+        What::Dropped(_) => 8,
+        What::Report(_) => 9,
+    }
+}
+
+/// How many messages were acknowledged or dropped.
+fn count_of(what: &What) -> u16
+    ensures { result ≡ count_of what.now }
+{
+    match what {
+        What::Acknowledged(count) => *count,
+        What::Dropped(count) => *count,
+        _ => 0,
+    }
+}
+
+/// The letter of an error report, as a character.
+fn letter_of(what: &What) -> u8
+    ensures { result ≡ letter_of what.now }
+{
+    match what {
+        What::Report(letter) => letter_code(*letter),
+        _ => 0,
+    }
+}
+
+/// A letter as ASCII has it.
+fn letter_code(letter: Letter) -> u8
+    ensures { result ≡ letter_code letter }
+{
+    match letter {
+        Letter::A => b'A',
+        Letter::B => b'B',
+        Letter::C => b'C',
+        Letter::D => b'D',
+        Letter::E => b'E',
+        Letter::F => b'F',
+        Letter::G => b'G',
+        Letter::H => b'H',
+        Letter::I => b'I',
+        Letter::J => b'J',
+        Letter::K => b'K',
+        Letter::L => b'L',
+        Letter::M => b'M',
+        Letter::N => b'N',
+        Letter::O => b'O',
+    }
+}
+
+/// The number of an outcome of TEI management.
+fn kind_of_outcome(outcome: &TeiOut) -> u8
+    ensures { result ≡ kind_of_outcome outcome.now }
+{
+    match outcome {
+        TeiOut::Got(_) => 16,
+        TeiOut::Gone(_) => 17,
+        TeiOut::Failed => 18,
+        TeiOut::Given(_) => 19,
+        TeiOut::Free(_) => 20,
+        TeiOut::InUse(_) => 21,
+        TeiOut::Doubled(_) => 22,
+        TeiOut::Send(_) => 0,
+        TeiOut::Start(_) => 0,
+        TeiOut::Stop(_) => 0,
+    }
+}
+
+/// The TEI of an outcome of TEI management, 127 where it is of none.
+fn tei_of_outcome(outcome: &TeiOut) -> u8
+    ensures { result ≡ tei_of_outcome outcome.now }
+{
+    match outcome {
+        TeiOut::Got(own) => own.value(),
+        TeiOut::Gone(own) => own.value(),
+        TeiOut::Given(own) => own.value(),
+        TeiOut::Free(own) => own.value(),
+        TeiOut::InUse(own) => own.value(),
+        TeiOut::Doubled(own) => own.value(),
+        TeiOut::Failed => 127,
+        TeiOut::Send(_) => 127,
+        TeiOut::Start(_) => 127,
+        TeiOut::Stop(_) => 127,
+    }
+}
+
+/// A link as C names it; `None` where the SAPI is not 0, 16 or 63, or the TEI above 127.
+pub(crate) fn link_of(sapi: u8, tei: u8) -> Option<LinkId>
+    ensures { result ≡ link_of sapi tei }
+{
+    let sapi = Sapi::new(sapi)?;
+    let tei = Tei::new(tei)?;
+    Some(LinkId { tei, sapi })
+}

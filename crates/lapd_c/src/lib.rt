@@ -1,0 +1,407 @@
+//! The data link for C: a side of an ISDN D channel interface (ITU-T Q.921) behind one opaque word.
+//!
+//! Each export calls that of a [`lapd_sides::EitherSide`] which it is named after, and states its clause again. A handle that
+//! owns no side, as a fresh or a freed one, is answered by code 1; the numbers are those of `codes`. What a call gives is
+//! fetched by [`lapd_side_frame`] and [`lapd_side_primitive`]; until it is, a call that could give more is answered by code
+//! 2, and changes nothing. `c/lapd.h` is the header, and docs/C.md says what a program keeps.
+#![tactic(auto)]
+
+ghost use Rattle.std.specs.Prelude.{◌≡◌, ◌==◌, Some, None, not};
+ghost use Rattle.lapd_sides.specs.Either.{Takes, Answers};
+ghost use Rattle.lapd_frame.specs.Address.{number_at};
+ghost use Rattle.lapd_c.specs.Border.{AsksSide, AsksTei, AsksLink, AsksLinkWith, Makes, TellsStateOf, Through};
+ghost use Rattle.lapd_c.specs.Calls.{Ticks, TellsDeadline, TellsDiscarded, FetchesFrame, FetchesPrimitive, TellsTextOrNothing};
+ghost use Rattle.lapd_trace.specs.Trace.{trace_line};
+ghost use Rattle.lapd_c.specs.FlatPrimitives.{link_of, nothing, sender};
+ghost use Rattle.lapd_c.specs.Settings.{IsNewNetwork, IsNewUser, network_config, user_config};
+
+mod box_parts;
+mod codes;
+mod flat_primitive;
+mod handle;
+mod held_side;
+mod link_state;
+mod making;
+mod settings;
+#[cfg(test)]
+mod tests;
+
+use codes::{DONE, MEMORY, NO_SIDE, OUT_OF_RANGE};
+use flat_primitive::{FlatPrimitive, link_of};
+use handle::{Handle, opened, shut};
+use held_side::{HeldSide, overwrite};
+use lapd_sides::{Request, Side, Tei};
+use lapd_trace::line;
+use link_state::LinkState;
+use making::{make_network, make_user};
+use settings::Settings;
+use std::alloc::Global;
+
+/// The version of the library: a thousand for each greater number, one for each smaller.
+#[unsafe(no_mangle)]
+pub extern "C" fn lapd_version() -> u32
+    ensures { result ≡ 1 }
+{
+    1
+}
+
+/// Makes a network side that holds the TEIs that are known, 0 to 126 each, and frees the side that the handle owned. Where
+/// it is refused, the handle owns what it owned.
+#[unsafe(no_mangle)]
+pub extern "C" fn lapd_side_network(
+    handle: &mut Handle,
+    settings: &Settings,
+    known: &[u8],
+    alloc: Global,
+) -> u32
+    ensures { Makes (IsNewNetwork known.now) result handle.old.held handle.new.held
+        (network_config settings.now known.now) }
+{
+    let Some(config) = settings.network_config(known) else {
+        return OUT_OF_RANGE;
+    };
+    match make_network(alloc, config, known) {
+        Ok(side) => put(handle, side, alloc),
+        Err(_) => MEMORY,
+    }
+}
+
+/// Makes a user side with a fixed TEI, 0 to 126, or with none for 255, and frees the side that the handle owned. Where it is
+/// refused, the handle owns what it owned.
+#[unsafe(no_mangle)]
+pub extern "C" fn lapd_side_user(
+    handle: &mut Handle,
+    settings: &Settings,
+    fixed: u8,
+    alloc: Global,
+) -> u32
+    ensures { Makes (IsNewUser fixed) result handle.old.held handle.new.held
+        (user_config settings.now fixed) }
+{
+    let Some(config) = settings.user_config(fixed) else {
+        return OUT_OF_RANGE;
+    };
+    match make_user(alloc, config, fixed) {
+        Ok(side) => put(handle, side, alloc),
+        Err(_) => MEMORY,
+    }
+}
+
+/// Frees what a handle owns, and puts a side into it.
+fn put(handle: &mut Handle, side: Box<HeldSide>, alloc: Global) -> u32
+    ensures owned { handle.new.held ≡ Some side.value }
+    ensures done { result ≡ 0 }
+{
+    drop(opened(handle, alloc));
+    shut(handle, side);
+    DONE
+}
+
+/// Frees the side that the handle owns, where it owns one.
+#[unsafe(no_mangle)]
+pub extern "C" fn lapd_side_free(handle: &mut Handle, alloc: Global)
+    ensures { handle.new.held ≡ None }
+{
+    let _side = opened(handle, alloc);
+}
+
+/// The octets of a frame come from the line, without flags and check sequence, at the moment `now`.
+#[unsafe(no_mangle)]
+pub extern "C" fn lapd_side_take(handle: &mut Handle, octets: &[u8], now: u64, alloc: Global) -> u32
+    ensures { AsksSide (Takes octets.now now) result handle.old.held handle.new.held }
+{
+    let Some(mut side) = opened(handle, alloc) else {
+        return NO_SIDE;
+    };
+    let code = side.take(octets, now);
+    shut(handle, side);
+    code
+}
+
+/// Something is asked for.
+fn ask(handle: &mut Handle, request: Request, now: u64, alloc: Global) -> u32
+    ensures { AsksSide (Answers request now) result handle.old.held handle.new.held }
+{
+    let Some(mut side) = opened(handle, alloc) else {
+        return NO_SIDE;
+    };
+    let code = side.request(request, now);
+    shut(handle, side);
+    code
+}
+
+/// A link is to be established (DL-ESTABLISH request).
+#[unsafe(no_mangle)]
+pub extern "C" fn lapd_side_establish(
+    handle: &mut Handle,
+    sapi: u8,
+    tei: u8,
+    now: u64,
+    alloc: Global,
+) -> u32
+    ensures { AsksLink (λ id. Answers (Request.Establish id) now) result
+        handle.old.held handle.new.held (link_of sapi tei) }
+{
+    match link_of(sapi, tei) {
+        Some(id) => ask(handle, Request::Establish(id), now, alloc),
+        None => OUT_OF_RANGE,
+    }
+}
+
+/// A link is to be released (DL-RELEASE request).
+#[unsafe(no_mangle)]
+pub extern "C" fn lapd_side_release(
+    handle: &mut Handle,
+    sapi: u8,
+    tei: u8,
+    now: u64,
+    alloc: Global,
+) -> u32
+    ensures { AsksLink (λ id. Answers (Request.Release id) now) result
+        handle.old.held handle.new.held (link_of sapi tei) }
+{
+    match link_of(sapi, tei) {
+        Some(id) => ask(handle, Request::Release(id), now, alloc),
+        None => OUT_OF_RANGE,
+    }
+}
+
+/// This end can take no more messages of a link where `on` is not 0, or can again (own receiver busy, Q.921 5.6.6).
+#[unsafe(no_mangle)]
+pub extern "C" fn lapd_side_busy(
+    handle: &mut Handle,
+    sapi: u8,
+    tei: u8,
+    on: u8,
+    now: u64,
+    alloc: Global,
+) -> u32
+    ensures { AsksLink (λ id. Answers (Request.Busy id (not (on == 0))) now) result
+        handle.old.held handle.new.held (link_of sapi tei) }
+{
+    match link_of(sapi, tei) {
+        Some(id) => ask(handle, Request::Busy(id, on != 0), now, alloc),
+        None => OUT_OF_RANGE,
+    }
+}
+
+/// A message is to be sent (DL-DATA request).
+#[unsafe(no_mangle)]
+pub extern "C" fn lapd_side_give(
+    handle: &mut Handle,
+    sapi: u8,
+    tei: u8,
+    octets: &[u8],
+    now: u64,
+    alloc: Global,
+) -> u32
+    ensures { AsksLinkWith (λ id message. Answers (Request.Give id message) now) octets.now result
+        handle.old.held handle.new.held (link_of sapi tei) }
+{
+    let Some(id) = link_of(sapi, tei) else {
+        return OUT_OF_RANGE;
+    };
+    match Vec::from_slice(alloc, octets) {
+        Ok(message) => ask(handle, Request::Give(id, message), now, alloc),
+        Err(_) => MEMORY,
+    }
+}
+
+/// Unit data is to be sent (DL-UNIT DATA request); on a network side to all terminals, where the TEI is 127.
+#[unsafe(no_mangle)]
+pub extern "C" fn lapd_side_unit(
+    handle: &mut Handle,
+    sapi: u8,
+    tei: u8,
+    octets: &[u8],
+    now: u64,
+    alloc: Global,
+) -> u32
+    ensures { AsksLinkWith (λ id message. Answers (Request.Unit id message) now) octets.now result
+        handle.old.held handle.new.held (link_of sapi tei) }
+{
+    let Some(id) = link_of(sapi, tei) else {
+        return OUT_OF_RANGE;
+    };
+    match Vec::from_slice(alloc, octets) {
+        Ok(message) => ask(handle, Request::Unit(id, message), now, alloc),
+        Err(_) => MEMORY,
+    }
+}
+
+/// A TEI is to be asked for. A network side does nothing.
+#[unsafe(no_mangle)]
+pub extern "C" fn lapd_side_ask_tei(handle: &mut Handle, now: u64, alloc: Global) -> u32
+    ensures { AsksSide (Answers Request.AskTei now) result handle.old.held handle.new.held }
+{
+    ask(handle, Request::AskTei, now, alloc)
+}
+
+/// A TEI is to be checked. A user side does nothing.
+#[unsafe(no_mangle)]
+pub extern "C" fn lapd_side_check_tei(handle: &mut Handle, tei: u8, now: u64, alloc: Global) -> u32
+    ensures { AsksTei (λ tei. Answers (Request.Check tei) now) result
+        handle.old.held handle.new.held (number_at tei) }
+{
+    match Tei::new(tei) {
+        Some(tei) => ask(handle, Request::Check(tei), now, alloc),
+        None => OUT_OF_RANGE,
+    }
+}
+
+/// What is due at the moment `now`, the first alone: its timer has expired. `expired` is 1 where one had,
+/// and else 0.
+#[unsafe(no_mangle)]
+pub extern "C" fn lapd_side_tick(
+    handle: &mut Handle,
+    now: u64,
+    expired: &mut u8,
+    alloc: Global,
+) -> u32
+    ensures { Through (λ old new. Ticks now expired.new old new result)
+        ((result ≡ 1) × (expired.new ≡ 0)) handle.old.held handle.new.held }
+{
+    let Some(mut side) = opened(handle, alloc) else {
+        *expired = 0;
+        return NO_SIDE;
+    };
+    let code = side.tick(now, expired);
+    shut(handle, side);
+    code
+}
+
+/// The next moment at which something is due; before it [`lapd_side_tick`] has nothing to do. It is the last moment that
+/// there is where no timer runs, and where the handle owns no side.
+#[unsafe(no_mangle)]
+pub extern "C" fn lapd_side_deadline(handle: &mut Handle, moment: &mut u64, alloc: Global) -> u32
+    ensures { Through (λ old new. TellsDeadline moment.new old new result)
+        ((result ≡ 1) × (moment.new ≡ 18446744073709551615)) handle.old.held handle.new.held }
+{
+    let Some(side) = opened(handle, alloc) else {
+        *moment = u64::MAX;
+        return NO_SIDE;
+    };
+    let code = side.next_deadline(moment);
+    shut(handle, side);
+    code
+}
+
+/// How many frames the side has discarded since it was made; it stays at the greatest number once it is there.
+#[unsafe(no_mangle)]
+pub extern "C" fn lapd_side_discarded(handle: &mut Handle, count: &mut u64, alloc: Global) -> u32
+    ensures { Through (λ old new. TellsDiscarded count.new old new result)
+        ((result ≡ 1) × (count.new ≡ 0)) handle.old.held handle.new.held }
+{
+    let Some(side) = opened(handle, alloc) else {
+        *count = 0;
+        return NO_SIDE;
+    };
+    let code = side.discarded(count);
+    shut(handle, side);
+    code
+}
+
+/// The state of a link, of all 0 where it is not there.
+#[unsafe(no_mangle)]
+pub extern "C" fn lapd_side_state(
+    handle: &mut Handle,
+    sapi: u8,
+    tei: u8,
+    state: &mut LinkState,
+    alloc: Global,
+) -> u32
+    ensures { TellsStateOf state.new result handle.old.held handle.new.held (link_of sapi tei) }
+{
+    *state = LinkState::nothing();
+    let Some(id) = link_of(sapi, tei) else {
+        return OUT_OF_RANGE;
+    };
+    let Some(side) = opened(handle, alloc) else {
+        return NO_SIDE;
+    };
+    let code = side.state(id, state);
+    shut(handle, side);
+    code
+}
+
+/// The line of text for the octets of a frame, which a network side sent where `network` is not 0, and else a user side. It
+/// goes to the front of the buffer, with no 0 behind it; `count` is how many octets it has, also where the buffer is too small.
+#[unsafe(no_mangle)]
+pub extern "C" fn lapd_frame_text(
+    octets: &[u8],
+    network: u8,
+    buffer: &mut [u8],
+    count: &mut usize,
+    alloc: Global,
+) -> u32
+    ensures { TellsTextOrNothing (trace_line (sender network) octets.now) result count.new
+        (record { before = buffer.old; after = buffer.new }) }
+{
+    let Ok(text) = line(alloc, sender(network), octets) else {
+        *count = 0;
+        return MEMORY;
+    };
+    *count = text.len();
+    if buffer.len() < text.len() {
+        return OUT_OF_RANGE;
+    }
+    overwrite(buffer, text.as_bytes());
+    DONE
+}
+
+/// The side that sends: the network side where it is not 0.
+fn sender(network: u8) -> Side
+    ensures { result ≡ sender network }
+{
+    if network == 0 {
+        Side::User
+    } else {
+        Side::Network
+    }
+}
+
+/// The next frame that is to be sent goes to the front of the buffer. `count` is how many octets it has, 0 where none is
+/// left. Where the buffer is too small, nothing is written, and the frame waits.
+#[unsafe(no_mangle)]
+pub extern "C" fn lapd_side_frame(
+    handle: &mut Handle,
+    buffer: &mut [u8],
+    count: &mut usize,
+    alloc: Global,
+) -> u32
+    ensures { Through (λ old new. FetchesFrame old new result count.new
+        (record { before = buffer.old; after = buffer.new }))
+        ((result ≡ 1) × (count.new ≡ 0) × (buffer.new ≡ buffer.old))
+        handle.old.held handle.new.held }
+{
+    let Some(mut side) = opened(handle, alloc) else {
+        *count = 0;
+        return NO_SIDE;
+    };
+    let code = side.next_frame(buffer, count);
+    shut(handle, side);
+    code
+}
+
+/// The next primitive, with its octets at the front of the buffer; its kind is 0 where none is left. Where the buffer is too
+/// small, nothing is written to it, and the primitive waits.
+#[unsafe(no_mangle)]
+pub extern "C" fn lapd_side_primitive(
+    handle: &mut Handle,
+    told: &mut FlatPrimitive,
+    buffer: &mut [u8],
+    alloc: Global,
+) -> u32
+    ensures { Through (λ old new. FetchesPrimitive old new result told.new
+        (record { before = buffer.old; after = buffer.new }))
+        ((result ≡ 1) × (told.new ≡ nothing) × (buffer.new ≡ buffer.old))
+        handle.old.held handle.new.held }
+{
+    let Some(mut side) = opened(handle, alloc) else {
+        *told = FlatPrimitive::nothing();
+        return NO_SIDE;
+    };
+    let code = side.next_primitive(told, buffer);
+    shut(handle, side);
+    code
+}

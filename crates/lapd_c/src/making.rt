@@ -1,0 +1,61 @@
+//! How sides are made.
+
+ghost use Rattle.std.specs.Prelude.{◌≡◌, ◌<◌, true, IfOk, IfSome};
+ghost use Rattle.std.specs.List.{list_all};
+ghost use Rattle.lapd_sides_links.specs.Effects.{no_effects};
+ghost use Rattle.lapd_c.specs.Settings.{IsNew, IsNewNetwork, IsNewUser, is_own_tei, is_fixed_tei};
+
+use crate::held_side::HeldSide;
+use crate::settings::{fixed_tei, known_teis};
+use lapd_sides::{Config, EitherSide, NetSide, UserSide};
+use std::alloc::{AllocError, Global};
+
+/// A network side that holds the TEIs that are known.
+///
+/// # Errors
+///
+/// `AllocError` where memory was refused.
+pub(crate) fn make_network(
+    alloc: Global,
+    config: Config,
+    known: &[u8],
+) -> Result<Box<HeldSide>, AllocError>
+    requires { list_all is_own_tei known.now ≡ true }
+    ensures { IfOk result (λ held. IsNew config (IsNewNetwork known.now) held.value) }
+{
+    let known = known_teis(alloc, known)?;
+    let side = NetSide::new(alloc, config, &known)?;
+    boxed(alloc, EitherSide::Network(side))
+}
+
+/// A user side with a fixed TEI, or with none for 255.
+///
+/// # Errors
+///
+/// `AllocError` where memory was refused.
+pub(crate) fn make_user(
+    alloc: Global,
+    config: Config,
+    fixed: u8,
+) -> Result<Box<HeldSide>, AllocError>
+    requires { is_fixed_tei fixed ≡ true }
+    ensures { IfOk result (λ held. IsNew config (IsNewUser fixed) held.value) }
+{
+    let side = UserSide::new(alloc, config, fixed_tei(fixed))?;
+    boxed(alloc, EitherSide::User(side))
+}
+
+/// A side on the heap, which has given nothing yet.
+fn boxed(alloc: Global, side: EitherSide) -> Result<Box<HeldSide>, AllocError>
+    ensures { IfOk result (λ held. held.value ≡ record {
+      side = side;
+      acts = no_effects;
+      frames_fetched = 0;
+      primitives_fetched = 0;
+    }) }
+{
+    match Box::new(alloc, HeldSide::new(alloc, side)?) {
+        Ok(held) => Ok(held),
+        Err(_) => Err(AllocError),
+    }
+}

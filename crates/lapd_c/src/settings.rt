@@ -1,0 +1,120 @@
+//! What a side is made with, as C says it.
+
+ghost use Rattle.std.specs.Prelude.{◌≡◌, ◌<◌, IfOk, IfSome, MatchOption, true, false};
+ghost use Rattle.std.specs.List.{All, list_all};
+ghost use Rattle.lapd_c.specs.Settings.{config_of, network_config, user_config, is_own_tei, fixed_tei, is_fixed_tei};
+
+use lapd_sides::{Config, Durations, Params, Tei};
+use std::alloc::{AllocError, Global};
+
+/// What a side is made with.
+#[repr(C)]
+#[derive(Clone, Copy)]
+pub struct Settings {
+    /// Where a user side's references begin. Two sides of one bus are to have two seeds.
+    pub seed: u64,
+    /// T200 in milliseconds, 1 to 3,600,000 as the three after it.
+    pub t200: u32,
+    /// T201.
+    pub t201: u32,
+    /// T202.
+    pub t202: u32,
+    /// T203.
+    pub t203: u32,
+    /// Room for so many messages in a link's queue, 1 to 1,024.
+    pub room: u16,
+    /// N200, 1 to 100.
+    pub n200: u8,
+    /// The window of SAPI 0, 1 to 127.
+    pub k0: u8,
+    /// The window of SAPI 16, 1 to 127.
+    pub k16: u8,
+    /// Whether SAPI 16 is served: not where it is 0.
+    pub sapi16: u8,
+}
+
+impl Settings {
+    /// They as a network side takes them, with the TEIs that it holds; `None` where a number is out of its range.
+    pub(crate) fn network_config(&self, known: &[u8]) -> Option<Config>
+        ensures { result ≡ network_config self.now known.now }
+    {
+        if are_own_teis(known) {
+            self.config()
+        } else {
+            None
+        }
+    }
+
+    /// They as a user side takes them, with its fixed TEI, or 255; `None` where a number is out of its range.
+    pub(crate) fn user_config(&self, fixed: u8) -> Option<Config>
+        ensures { result ≡ user_config self.now fixed }
+    {
+        if is_fixed_tei(fixed) {
+            self.config()
+        } else {
+            None
+        }
+    }
+
+    /// They as the sides take them.
+    fn config(&self) -> Option<Config>
+        ensures { result ≡ config_of self.now }
+    {
+        let params0 = Params::new(self.k0, self.n200, self.room)?;
+        let params16 = Params::new(self.k16, self.n200, self.room)?;
+        let durations = Durations::new(self.t200, self.t201, self.t202, self.t203)?;
+        Some(Config {
+            sapi16: self.sapi16 != 0,
+            params0,
+            params16,
+            durations,
+            seed: self.seed,
+        })
+    }
+}
+
+/// Whether each is the TEI of one terminal, 0 to 126.
+fn are_own_teis(values: &[u8]) -> bool
+    ensures { result ≡ list_all is_own_tei values.now }
+{
+    values.iter().all(|value| *value < 127)
+}
+
+/// Whether it is a fixed TEI, 0 to 126, or 255 for none.
+fn is_fixed_tei(value: u8) -> bool
+    ensures { result ≡ is_fixed_tei value }
+{
+    value == 255 || value < 127
+}
+
+/// TEIs of one terminal each.
+pub(crate) fn known_teis(alloc: Global, values: &[u8]) -> Result<Vec<Tei>, AllocError>
+    requires { list_all is_own_tei values.now ≡ true }
+    ensures { IfOk result (λ known. (known.items ≡ values.now)
+        × All (λ tei. tei < 127) known.items) }
+{
+    let mut known = Vec::with_capacity(alloc, values.len())?;
+    for value in values {
+        let Some(tei) = own_tei(*value) else {
+            unreachable!()
+        };
+        known.push(tei)?;
+    }
+    Ok(known)
+}
+
+/// The TEI of one terminal.
+fn own_tei(value: u8) -> Option<Tei>
+    ensures { MatchOption result (is_own_tei value ≡ false) (λ tei. (tei ≡ value) × (tei < 127)) }
+{
+    if value < 127 { Tei::new(value) } else { None }
+}
+
+/// A fixed TEI, or none for 255.
+pub(crate) fn fixed_tei(value: u8) -> Option<Tei>
+    requires { is_fixed_tei value ≡ true }
+    ensures fixed { result ≡ fixed_tei value }
+    ensures own { IfSome result (λ tei. tei < 127) }
+{
+    if value == 255 { None } else { Tei::new(value) }
+}
