@@ -19,8 +19,6 @@
 struct terminal {
 	lapd_side side;
 	int line;
-	uint8_t input[2 + LAPD_MOST_FRAME];
-	size_t filled;
 	bool finished;
 };
 
@@ -85,26 +83,18 @@ static void hand_on(struct terminal *t)
 	}
 }
 
-/* Takes what has come, a whole frame at a time; false where the other side has hung up. */
+/* Takes a frame, of which the first octet has come; false where the other side has hung up. */
 static bool receive(struct terminal *t)
 {
-	size_t wanted = 2, length;
-	ssize_t count;
+	uint8_t octets[2 + LAPD_MOST_FRAME];
+	size_t length;
 
-	if (t->filled >= 2) {
-		length = (size_t)t->input[0] << 8 | t->input[1];
-		if (length > LAPD_MOST_FRAME)
-			return false;
-		wanted = 2 + length;
-	}
-	count = recv(t->line, t->input + t->filled, wanted - t->filled, 0);
-	if (count <= 0)
+	if (recv(t->line, octets, 2, MSG_WAITALL) != 2)
 		return false;
-	t->filled += (size_t)count;
-	if (t->filled < wanted || wanted == 2)
-		return true;
-	t->filled = 0;
-	check(lapd_side_take(&t->side, t->input + 2, wanted - 2, now()), "take");
+	length = (size_t)octets[0] << 8 | octets[1];
+	if (length > LAPD_MOST_FRAME || recv(t->line, octets, length, MSG_WAITALL) != (ssize_t)length)
+		return false;
+	check(lapd_side_take(&t->side, octets, length, now()), "take");
 	hand_on(t);
 	return true;
 }
@@ -140,33 +130,30 @@ static void run(struct terminal *t)
 	}
 }
 
+/* A connection on this machine, waited for or made. */
 static int connected(bool network, const char *port)
 {
-	struct sockaddr_in address;
-	int line = socket(AF_INET, SOCK_STREAM, 0), on = 1, accepted;
+	struct sockaddr_in address = { 0 };
+	const struct sockaddr *where = (const struct sockaddr *)&address;
+	int line = socket(AF_INET, SOCK_STREAM, 0), on = 1;
 
-	memset(&address, 0, sizeof address);
 	address.sin_family = AF_INET;
 	address.sin_port = htons((uint16_t)atoi(port));
 	address.sin_addr.s_addr = htonl(INADDR_LOOPBACK);
 	if (!network) {
-		if (connect(line, (struct sockaddr *)&address, sizeof address) != 0)
+		if (connect(line, where, sizeof address) != 0)
 			fail("connect");
 		return line;
 	}
 	setsockopt(line, SOL_SOCKET, SO_REUSEADDR, &on, sizeof on);
-	if (bind(line, (struct sockaddr *)&address, sizeof address) != 0 || listen(line, 1) != 0)
+	if (bind(line, where, sizeof address) != 0 || listen(line, 1) != 0 || (line = accept(line, NULL, NULL)) < 0)
 		fail("listen");
-	accepted = accept(line, NULL, NULL);
-	close(line);
-	if (accepted < 0)
-		fail("accept");
-	return accepted;
+	return line;
 }
 
 int main(int count, char **words)
 {
-	struct terminal t = { LAPD_SIDE_INIT, 0, { 0 }, 0, false };
+	struct terminal t = { LAPD_SIDE_INIT, 0, false };
 	lapd_settings settings = LAPD_PRIMARY;
 	const uint8_t tei = 0;
 	bool network = count == 3 && strcmp(words[1], "net") == 0;
