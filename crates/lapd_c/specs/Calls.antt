@@ -11,7 +11,7 @@ use Rattle.lapd_sides_links.specs.declared.primitive.Primitive.{Primitive}
 use Rattle.lapd_sides_links.specs.declared.side_fault.SideFault.{SideFault}
 use Rattle.lapd_sides_links.specs.Effects.{Effects, no_effects}
 use Rattle.lapd_sides.specs.declared.either_side.EitherSide.{EitherSide}
-use Rattle.lapd_sides.specs.Either.{Expires, Rests, HasNextDeadline, HasDiscarded, HasTable}
+use Rattle.lapd_sides.specs.Either.{Expires, Rests, HasNextDeadline, HasQuietUntil, HasDiscarded, HasTable}
 use Rattle.lapd_c.specs.declared.flat_primitive.FlatPrimitive.{FlatPrimitive}
 use Rattle.lapd_c.specs.declared.held_side.HeldSide.{HeldSide}
 use Rattle.lapd_c.specs.declared.link_state.LinkState.{LinkState}
@@ -69,6 +69,11 @@ pub record TellsDeadline (moment : ℕ) (old new : HeldSide) (code : ℕ) : Type
   pub deadline : Option ℕ
   pub next : HasNextDeadline old.side deadline
   pub is : moment ≡ moment_or_last deadline
+
+pub record TellsQuiet (moment : ℕ) (old new : HeldSide) (code : ℕ) : Type 0 where
+  pub done : code ≡ done
+  pub same : new ≡ old
+  pub quiet : HasQuietUntil old.side moment
 
 pub record TellsDiscarded (count : ℕ) (old new : HeldSide) (code : ℕ) : Type 0 where
   pub done : code ≡ done

@@ -3,7 +3,7 @@
 ghost use Rattle.std.specs.Prelude.{◌≡◌, ◌≤◌, length, IfOk};
 ghost use Rattle.lapd_sides_links.specs.Effects.{no_effects};
 ghost use Rattle.lapd_sides.specs.Either.{Takes, Answers};
-ghost use Rattle.lapd_c.specs.Calls.{is_pending, Asks, Ticks, TellsDeadline, TellsDiscarded, TellsState, FetchesFrame, FetchesPrimitive, moment_or_last, overwritten};
+ghost use Rattle.lapd_c.specs.Calls.{is_pending, Asks, Ticks, TellsDeadline, TellsQuiet, TellsDiscarded, TellsState, FetchesFrame, FetchesPrimitive, moment_or_last, overwritten};
 
 use crate::codes::{DONE, NO_LINK, OUT_OF_RANGE, PENDING, code_of};
 use crate::flat_primitive::{FlatPrimitive, octets_of};
@@ -91,6 +91,14 @@ impl HeldSide {
         ensures { TellsDeadline moment.new self.now self.now result }
     {
         *moment = moment_or_last(self.side.next_deadline());
+        DONE
+    }
+
+    /// A moment before which nothing is due, in milliseconds. It may come before the next deadline.
+    pub(crate) fn quiet_until(&self, moment: &mut u64) -> u32
+        ensures { TellsQuiet moment.new self.now self.now result }
+    {
+        *moment = self.side.quiet_until();
         DONE
     }
 

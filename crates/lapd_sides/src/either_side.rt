@@ -19,7 +19,7 @@ pub enum EitherSide {
 }
 
 impl EitherSide {
-    ghost use Rattle.lapd_sides.specs.Either.{side_of, Takes, Answers, Expires, Rests, HasNextDeadline, HasTable, HasTimers, HasDiscarded};
+    ghost use Rattle.lapd_sides.specs.Either.{side_of, Takes, Answers, Expires, Rests, HasNextDeadline, HasQuietUntil, HasTable, HasTimers, HasDiscarded};
 
     /// Which of the two it is.
     pub fn side(&self) -> Side
@@ -85,6 +85,17 @@ impl EitherSide {
         match self {
             EitherSide::Network(side) => side.next_deadline(),
             EitherSide::User(side) => side.next_deadline(),
+        }
+    }
+
+    /// A moment before which [`EitherSide::tick`] has nothing to do, in milliseconds. It is found without a look at each link,
+    /// and so may come before [`EitherSide::next_deadline`].
+    pub fn quiet_until(&self) -> u64
+        ensures { HasQuietUntil self.now result }
+    {
+        match self {
+            EitherSide::Network(side) => side.quiet_until(),
+            EitherSide::User(side) => side.quiet_until(),
         }
     }
 

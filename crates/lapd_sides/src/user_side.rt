@@ -12,7 +12,7 @@ ghost use Rattle.lapd_frame.specs.Fault.{is_for_link};
 ghost use Rattle.lapd_sides_links.specs.declared.side_fault.SideKind.TheVariants.{NoLink, Link};
 ghost use Rattle.lapd_sides_links.specs.declared.acts.TheConstants.{MOST_FRAMES, MOST_OUTPUTS, MOST_PRIMITIVES};
 ghost use Rattle.lapd_sides_links.specs.Effects.{no_effects};
-ghost use Rattle.lapd_sides_links.specs.Expiries.{IsNextDeadline, of_served};
+ghost use Rattle.lapd_sides_links.specs.Expiries.{IsNextDeadline, IsQuietUntil, of_served};
 ghost use Rattle.lapd_sides_links.specs.Links.{IsOfLink, of_sapi};
 ghost use Rattle.lapd_sides.specs.Requests.{message_of, without_message};
 ghost use Rattle.lapd_sides.specs.Shows.{ShowEnds};
@@ -26,7 +26,7 @@ use crate::served::{
 use crate::{Acts, Config, Octets, Primitive, Request, RunningTimer, SideFault, SideKind, What};
 use lapd_frame::{FaultKind, Frame, FrameFault, N201, Sapi, Side, Tei, read};
 use lapd_link::{Event, LinkFault};
-use lapd_sides_links::{due, next_deadline, refused};
+use lapd_sides_links::{due, next_deadline, quiet_until, refused};
 use lapd_table::{LinkId, LinkTable};
 use lapd_tei::{TeiMessage, TeiOut, Terminal, TerminalEvent};
 use lapd_timers::{Timer, TimerSet};
@@ -227,6 +227,15 @@ impl UserSide {
         ensures { EachShown self.now (λ s. IsNextDeadline s.served result) }
     {
         next_deadline(&self.served.timers, &self.served.links)
+    }
+
+    /// A moment before which [`UserSide::tick`] has nothing to do, in milliseconds. It is found without a look at each link, and so may
+    /// come before [`UserSide::next_deadline`]: then `tick` answers `false` at it, and the next one is later. `u64::MAX` where no
+    /// timer runs and none has run since.
+    pub fn quiet_until(&self) -> u64
+        ensures { EachShown self.now (λ s. IsQuietUntil s.served result) }
+    {
+        quiet_until(&self.served.timers, &self.served.links)
     }
 
     /// This timer of the link with this name has expired.

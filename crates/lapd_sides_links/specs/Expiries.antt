@@ -67,9 +67,13 @@ IsFirst Among (Some e) = Among e × ((other : RunningTimer) → Among other → 
 abbrev pub IsDue : ℕ → Served → Option RunningTimer → Type 0
 IsDue now s = IsFirst (IsPast now (of_served s))
 
+-- before this moment nothing is due on a side
+abbrev pub IsQuietUntil : Served → ℕ → Type 0
+IsQuietUntil s moment = (now : ℕ) → now < moment → IsDue now s None
+
 -- before this moment nothing is due on a side, and at it something is
 pub record IsNextMoment (s : Served) (moment : ℕ) : Type 0 where
-  pub before : (now : ℕ) → now < moment → IsDue now s None
+  pub before : IsQuietUntil s moment
   pub expiry : RunningTimer
   pub due : IsDue moment s (Some expiry)
 

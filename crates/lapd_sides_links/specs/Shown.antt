@@ -9,7 +9,6 @@ use Rattle.lapd_link.specs.declared.link.Link.{Link}
 use Rattle.lapd_link_rows.specs.declared.out.Out.{Out}
 use Rattle.lapd_link_rows.specs.End.{End}
 use Rattle.lapd_table.specs.declared.link_id.LinkId.{LinkId}
-use Rattle.lapd_table.specs.declared.link_table.LinkTable.{LinkTable}
 use Rattle.lapd_table.specs.LinkTable.{side_of, link_at}
 use Rattle.lapd_sides_links.specs.declared.links.LinkSet.{LinkSet}
 use Rattle.lapd_sides_links.specs.declared.link_timers.LinkTimers.{LinkTimers}

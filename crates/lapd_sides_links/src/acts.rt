@@ -1,4 +1,4 @@
-ghost use Rattle.std.specs.Prelude.{◌≡◌, ◌≤◌, ◌<◌, ◌+◌, ◌++◌, ◌∷◌, [], length, map, IfOk};
+ghost use Rattle.std.specs.Prelude.{◌≡◌, ◌≤◌, ◌<◌, ◌+◌, ◌++◌, ◌∷◌, [], length, drop, map, IfOk, OnOk, OnErr};
 ghost use Rattle.std.specs.List.{All};
 ghost use Rattle.lapd_frame.specs.Frame.{spelling};
 ghost use Rattle.lapd_sides_links.specs.Effects.{HasLeastOctets, no_effects};
@@ -80,6 +80,49 @@ impl Acts {
     {
         self.frames.clear();
         self.primitives.clear();
+    }
+
+    /// Lets the first frame go.
+    pub fn remove_frame(&mut self)
+        requires { 0 < length self.old.frames }
+        ensures { self.new ≡ record self.old { frames = drop 1 self.old.frames } }
+    {
+        drop(self.frames.remove(0));
+    }
+
+    /// Lets the first primitive go.
+    pub fn remove_primitive(&mut self)
+        requires { 0 < length self.old.primitives }
+        ensures { self.new ≡ record self.old { primitives = drop 1 self.old.primitives } }
+    {
+        drop(self.primitives.remove(0));
+    }
+
+    /// Moves all behind these frames and these primitives.
+    ///
+    /// # Errors
+    ///
+    /// `AllocError` where memory was refused. Nothing is moved.
+    pub(crate) fn move_behind(
+        &mut self,
+        frames: &mut Vec<ArrayVec<u8, MOST_OCTETS>>,
+        primitives: &mut Vec<Primitive>,
+    ) -> Result<(), AllocError>
+        ensures left { OnOk result (self.new ≡ no_effects) }
+        ensures frames { OnOk result (map (λ f. f.items) frames.new.items
+            ≡ map (λ f. f.items) frames.old.items ++ self.old.frames) }
+        ensures primitives { OnOk result (primitives.new.items
+            ≡ primitives.old.items ++ self.old.primitives) }
+        ensures unmoved { OnErr result (self.new ≡ self.old) }
+        ensures same_frames { OnErr result (frames.new.items ≡ frames.old.items) }
+        ensures same_primitives { OnErr result (primitives.new.items ≡ primitives.old.items) }
+    {
+        frames.reserve(self.frames.len())?;
+        primitives.append(&mut self.primitives)?;
+        let Ok(()) = frames.append(&mut self.frames) else {
+            unreachable!()
+        };
+        Ok(())
     }
 
     /// Puts the octets of a frame behind the others, as this side sends it.

@@ -1,14 +1,15 @@
 //! Which timer of a side is due, and when the next one is.
 
-ghost use Rattle.std.specs.Prelude.{◌≡◌, Some, IfSome, option_map};
+ghost use Rattle.std.specs.Prelude.{◌≡◌, ℕ, ◌<◌, Some, None, IfSome, option_map};
 ghost use Rattle.lapd_timers.specs.Due.{deadline_of};
 ghost use Rattle.lapd_frame.specs.declared.Side.{Side};
-ghost use Rattle.lapd_sides_links.specs.Expiries.{IsDue, IsFirst, IsNextDeadline, IsPast, IsTimerOf, Runs, of_management};
+ghost use Rattle.lapd_sides_links.specs.Expiries.{IsDue, IsFirst, IsNextDeadline, IsPast, IsQuietUntil, IsTimerOf, Runs, of_management};
 ghost use Rattle.lapd_sides_links.specs.Links.{Links};
 ghost use Rattle.lapd_sides_links.specs.Places.{own_expiry_at};
 ghost use Rattle.lapd_sides_links.specs.Shown.{ShowLinks};
 
 use crate::RunningTimer;
+use crate::link_timers::expiry_or_last;
 use crate::links::LinkSet;
 use crate::running_timer::sooner;
 use lapd_timers::{Timer, TimerSet};
@@ -36,6 +37,24 @@ pub fn next_deadline(management: &TimerSet, links: &LinkSet) -> Option<u64>
     let own = first_of_management(management);
     let of_link = links.first();
     deadline_of(sooner(own, of_link))
+}
+
+/// A moment before which no timer of a side is due, in milliseconds: of TEI management, whose timers are handed in, or of a
+/// link. It is found without a look at each link, and so may come before [`next_deadline`].
+pub fn quiet_until(management: &TimerSet, links: &LinkSet) -> u64
+    ensures { (side : Side) (shown : Links) → ShowLinks side links.now shown
+        → IsQuietUntil (record { links = shown; timers = management.now }) result }
+{
+    let own = own_quiet_until(management);
+    let of_links = links.quiet_until();
+    if own < of_links { own } else { of_links }
+}
+
+/// The moment before which none of TEI management is due.
+fn own_quiet_until(timers: &TimerSet) -> u64
+    ensures { (now : ℕ) → now < result → IsFirst (IsPast now (of_management timers.now)) None }
+{
+    expiry_or_last(first_of_management(timers)).deadline
 }
 
 /// The deadline of a timer that may run.

@@ -5,6 +5,7 @@
 #![tactic(auto)]
 
 mod acts;
+mod backlog;
 mod config;
 mod deadlines;
 mod firsts;
@@ -18,8 +19,9 @@ mod telling;
 mod timer_places;
 
 pub use acts::Acts;
+pub use backlog::Backlog;
 pub use config::Config;
-pub use deadlines::{due, next_deadline};
+pub use deadlines::{due, next_deadline, quiet_until};
 pub use lapd_link::{Letter, LinkFault, Params, Sapi, Side, Tei};
 pub use lapd_table::{LinkId, LinkTable};
 pub use lapd_tei::{TeiMessage, TeiOut};

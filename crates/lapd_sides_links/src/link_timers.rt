@@ -1,6 +1,6 @@
 //! The timers of the links of a side.
 
-ghost use Rattle.std.specs.Prelude.{◌≡◌, ◌≢◌, ◌<◌, Some, option_map, option_copied, IfOk, IfSome};
+ghost use Rattle.std.specs.Prelude.{◌≡◌, ◌≢◌, ℕ, ◌<◌, Some, None, option_map, option_copied, IfOk, IfSome};
 ghost use Rattle.lapd_timers.specs.Due.{at_rest, deadline_of};
 ghost use Rattle.lapd_table.specs.declared.link_id.LinkId.{LinkId};
 ghost use Rattle.lapd_sides_links.specs.Effects.{timed, stopped};
@@ -96,6 +96,13 @@ impl LinkTimers {
         self.places.first()
     }
 
+    /// A moment before which none of the timers of links is due, in milliseconds. None need be due at it.
+    pub fn quiet_until(&self) -> u64
+        ensures { (now : ℕ) → now < result → IsFirst (IsPast now (of_places self.now.places)) None }
+    {
+        self.bound.deadline
+    }
+
     /// The first of the timers of links that are due at the moment `now`. Where `now` comes before the bound that is kept,
     /// there is none. Else the first that runs is looked for from the bound on, and kept as the bound: so of timers that are
     /// due with the same deadline each is found from the place of the one before.
@@ -144,7 +151,7 @@ fn lower_to(bound: &mut RunningTimer, id: &LinkId, timer: Timer, timers: &TimerS
 }
 
 /// The first timer that runs; where none runs, one at the last moment that can be told.
-fn expiry_or_last(first: Option<RunningTimer>) -> RunningTimer
+pub(crate) fn expiry_or_last(first: Option<RunningTimer>) -> RunningTimer
     ensures { result ≡ expiry_or_last first }
 {
     match first {

@@ -1,6 +1,6 @@
 //! The links of a side with their timers.
 
-ghost use Rattle.std.specs.Prelude.{◌≡◌, ◌≢◌, ◌≤◌, ◌<◌, ◌+◌, ◌++◌, length, map, option_map, [], Some, None, IfSome, option_copied, IfOk, IfErr, OnOk, OnErr};
+ghost use Rattle.std.specs.Prelude.{◌≡◌, ◌≢◌, ℕ, ◌≤◌, ◌<◌, ◌+◌, ◌++◌, length, map, option_map, [], Some, None, IfSome, option_copied, IfOk, IfErr, OnOk, OnErr};
 ghost use Rattle.std.specs.List.{filter_map};
 ghost use Rattle.lapd_frame.specs.declared.Side.{Side};
 ghost use Rattle.lapd_link.specs.Link.{LinkStandsFor};
@@ -182,6 +182,14 @@ impl LinkSet {
             → IsFirst (Runs (of_links links)) result }
     {
         self.link_timers.first()
+    }
+
+    /// A moment before which none of the timers of links is due, in milliseconds. None need be due at it.
+    pub fn quiet_until(&self) -> u64
+        ensures { (side : Side) (links : Links) → ShowLinks side self.now links
+            → (now : ℕ) → now < result → IsFirst (IsPast now (of_links links)) None }
+    {
+        self.link_timers.quiet_until()
     }
 
     /// The first of the timers of links that are due at the moment `now`. The links stay as they are.

@@ -1,6 +1,5 @@
 -- act
 use Rattle.std.proofs.Common.{OnOk, IfErr, sym, subst}
-use Rattle.lapd_frame.specs.declared.Side.{Side}
 use Rattle.lapd_link_rows.specs.Input.{input_of}
 use Rattle.lapd_table.specs.declared.link_id.LinkId.{LinkId}
 use Rattle.lapd_table.specs.LinkTable.{IsFor}

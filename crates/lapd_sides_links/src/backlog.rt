@@ -1,0 +1,84 @@
+ghost use Rattle.std.specs.Prelude.{◌≡◌, ◌<◌, length, drop, map, OnOk, OnErr};
+ghost use Rattle.lapd_sides_links.specs.Effects.{and_then, no_effects};
+
+use crate::{Acts, Primitive};
+use arrayvec::ArrayVec;
+use lapd_frame::MOST_OCTETS;
+use std::alloc::{AllocError, Global};
+use std::marker::Model;
+
+/// What several calls of a side gave, for a program that goes on before it has fetched all: the frames that are to be sent and
+/// what the layers above are told, each in order.
+#[derive(Drop)]
+pub struct Backlog {
+    frames: Vec<ArrayVec<u8, MOST_OCTETS>>,
+    primitives: Vec<Primitive>,
+}
+
+impl Model for Backlog {
+    ghost use Rattle.std.specs.Prelude.{map};
+    ghost use Rattle.lapd_sides_links.specs.Effects.{Effects};
+
+    ghost Value = { Effects };
+
+    ghost view = { λ b. record {
+      frames = map (λ f. f.items) b.frames.items;
+      primitives = b.primitives.items;
+    } };
+}
+
+impl Backlog {
+    /// No frames and no primitives. It takes no memory.
+    pub fn new(alloc: Global) -> Backlog
+        ensures { result ≡ no_effects }
+    {
+        Backlog {
+            frames: Vec::new(alloc),
+            primitives: Vec::new(alloc),
+        }
+    }
+
+    /// Moves what a call gave behind the others.
+    ///
+    /// # Errors
+    ///
+    /// `AllocError` where memory was refused. Nothing is moved.
+    pub fn append(&mut self, acts: &mut Acts) -> Result<(), AllocError>
+        ensures moved { OnOk result (self.new ≡ and_then self.old acts.old) }
+        ensures left { OnOk result (acts.new ≡ no_effects) }
+        ensures unmoved { OnErr result (self.new ≡ self.old) }
+        ensures unchanged { OnErr result (acts.new ≡ acts.old) }
+    {
+        acts.move_behind(&mut self.frames, &mut self.primitives)
+    }
+
+    /// The frames, as octets, in order.
+    pub fn frames(&self) -> &[ArrayVec<u8, MOST_OCTETS>]
+        ensures { map (λ f. f.items) result.now ≡ self.now.frames }
+    {
+        self.frames.as_slice()
+    }
+
+    /// What the layers above are told, in order.
+    pub fn primitives(&self) -> &[Primitive]
+        ensures { result.now ≡ self.now.primitives }
+    {
+        self.primitives.as_slice()
+    }
+
+    /// Lets the first frame go.
+    pub fn remove_frame(&mut self)
+        requires { 0 < length self.old.frames }
+        ensures { self.new ≡ record self.old { frames = drop 1 self.old.frames } }
+    {
+        drop(self.frames.remove(0));
+    }
+
+    /// Lets the first primitive go.
+    pub fn remove_primitive(&mut self)
+        requires { 0 < length self.old.primitives }
+        ensures { self.new ≡ record self.old { primitives = drop 1 self.old.primitives } }
+    {
+        drop(self.primitives.remove(0));
+    }
+}
