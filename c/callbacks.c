@@ -1,12 +1,10 @@
-/* A data link that calls back, as libpri and its kin do, over one that is asked: some 100 lines to copy, and a program that
- * uses them. Each call hands something to the side and fetches all that it gives into a queue; then what is in the queue is
- * called back, one after another. A call that is made from within a call-back only adds to the queue, so that no call-back is
- * called while another runs, and they come in order. */
+/* A data link that calls back, as libpri and its kin do, over one that is asked: some 60 lines to copy, and a program that uses
+ * them. Each call hands something to the side, and then calls back with all that waits. A call from within a call-back only hands
+ * in: what it gives waits behind the rest, so that no call-back is called while another runs, and they come in order. */
 #include "lapd.h"
 
 #include <stdbool.h>
 #include <stdio.h>
-#include <stdlib.h>
 #include <string.h>
 
 /* ---- The wrapper. */
@@ -16,18 +14,10 @@ struct dl_callbacks {
 	void (*tell)(void *user, const lapd_primitive *primitive, const uint8_t *octets);
 };
 
-struct dl_entry {
-	struct dl_entry *next;
-	lapd_primitive primitive; /* its kind is LAPD_NOTHING where the octets are a frame */
-	size_t length;
-	uint8_t octets[LAPD_MOST_FRAME];
-};
-
 struct dl {
 	lapd_side side;
 	struct dl_callbacks callbacks;
 	void *user;
-	struct dl_entry *first, **last;
 	bool calls_back;
 };
 
@@ -36,47 +26,34 @@ static void dl_init(struct dl *dl, const struct dl_callbacks *callbacks, void *u
 	memset(dl, 0, sizeof *dl);
 	dl->callbacks = *callbacks;
 	dl->user = user;
-	dl->last = &dl->first;
 }
 
-/* The next of what the side gave, or NULL. Where there is no memory, the program ends: what would be told would be lost. */
-static struct dl_entry *dl_fetch(struct dl *dl)
+/* Calls back with the next frame, or else with the next primitive; false where nothing waits. */
+static bool dl_call_back(struct dl *dl)
 {
-	struct dl_entry *entry = calloc(1, sizeof *entry);
+	uint8_t octets[LAPD_MOST_FRAME];
+	lapd_primitive primitive;
+	size_t length;
 
-	if (entry == NULL)
-		exit(3);
-	if (lapd_side_frame(&dl->side, entry->octets, sizeof entry->octets, &entry->length) == LAPD_DONE && entry->length > 0)
-		return entry;
-	if (lapd_side_primitive(&dl->side, &entry->primitive, entry->octets, sizeof entry->octets) == LAPD_DONE
-	    && entry->primitive.kind != LAPD_NOTHING)
-		return entry;
-	free(entry);
-	return NULL;
+	if (lapd_side_frame(&dl->side, octets, sizeof octets, &length) == LAPD_DONE && length > 0) {
+		dl->callbacks.write(dl->user, octets, length);
+		return true;
+	}
+	if (lapd_side_primitive(&dl->side, &primitive, octets, sizeof octets) == LAPD_DONE && primitive.kind != LAPD_NOTHING) {
+		dl->callbacks.tell(dl->user, &primitive, octets);
+		return true;
+	}
+	return false;
 }
 
-/* Fetches all that a call gave, and calls back, unless that is being done. The call's code is handed on. */
+/* Calls back with all that waits, unless that is being done. The call's code is handed on. */
 static uint32_t dl_done(struct dl *dl, uint32_t code)
 {
-	struct dl_entry *entry;
-
-	while ((entry = dl_fetch(dl)) != NULL) {
-		*dl->last = entry;
-		dl->last = &entry->next;
-	}
 	if (dl->calls_back)
 		return code;
 	dl->calls_back = true;
-	while ((entry = dl->first) != NULL) {
-		dl->first = entry->next;
-		if (dl->first == NULL)
-			dl->last = &dl->first;
-		if (entry->primitive.kind == LAPD_NOTHING)
-			dl->callbacks.write(dl->user, entry->octets, entry->length);
-		else
-			dl->callbacks.tell(dl->user, &entry->primitive, entry->octets);
-		free(entry);
-	}
+	while (dl_call_back(dl))
+		;
 	dl->calls_back = false;
 	return code;
 }

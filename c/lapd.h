@@ -5,9 +5,9 @@
  *
  *   hands in  a frame from the line (lapd_side_take), what layer 3 asks for (lapd_side_establish, lapd_side_give and the other
  *             requests), and the time (lapd_side_tick);
- *   fetches   what the call gave: frames to be sent (lapd_side_frame) and what layer 3 is told (lapd_side_primitive), each in
- *             order, until there are none. Until all is fetched, the next call that hands something in is refused by
- *             LAPD_PENDING, and changes nothing;
+ *   fetches   what calls gave: frames to be sent (lapd_side_frame) and what layer 3 is told (lapd_side_primitive), each in
+ *             order, until there are none. It may go on with other calls before it has fetched all, as with a request that
+ *             answers what layer 3 is told; what they give waits behind the rest;
  *   sleeps    until lapd_side_deadline, or until something comes.
  *
  * A frame is its address, control and information field: 3 to 264 octets, with no flag, no zero that was inserted and no frame
@@ -45,14 +45,15 @@ typedef struct lapd_side {
 /* A handle that owns none, as in `lapd_side side = LAPD_SIDE_INIT;`. All octets 0 are the same. */
 #define LAPD_SIDE_INIT { NULL }
 
-/* What a call returns. Where it is not LAPD_DONE, the side is as it was, and has given nothing. */
+/* What a call returns. Where it is not LAPD_DONE, the side is as it was, and has given nothing. LAPD_NO_SIDE and LAPD_PENDING
+ * may come of each call that hands something in, and LAPD_NO_MEMORY where something waits; a call says which others may come. */
 enum lapd_code {
 	LAPD_DONE = 0,
 	LAPD_NO_SIDE = 1,              /* the handle owns no side */
-	LAPD_PENDING = 2,              /* frames or primitives are still to be fetched */
+	LAPD_PENDING = 2,              /* 1024 frames or 1024 primitives, or more, wait to be fetched */
 	LAPD_OUT_OF_RANGE = 3,         /* a number is out of its range, or the buffer is too small */
 	LAPD_NO_LINK = 11,             /* B1: there is no link of this SAPI and TEI */
-	LAPD_NO_MEMORY = 13,           /* B3: memory was refused; the call may be made again */
+	LAPD_NO_MEMORY = 13,           /* B3: memory was refused; the call may be made again, or after all is fetched */
 	LAPD_NOT_ESTABLISHED = 21,     /* L1: a message for a link that is not established */
 	LAPD_QUEUE_FULL = 22,          /* L2: as many messages wait as the queue has room for */
 	LAPD_TOO_LONG = 23,            /* L3: more than 260 octets */
@@ -167,11 +168,11 @@ uint32_t lapd_side_ask_tei(lapd_side *side, uint64_t now);
 /* Whether terminals have the TEI is to be asked; 127 is all of them. A user side does nothing. */
 uint32_t lapd_side_check_tei(lapd_side *side, uint8_t tei, uint64_t now);
 
-/* The first timer that is due at `now` expires; *expired is 1 where one was due, else 0. Fetch, and call again until it is 0. */
+/* The first timer that is due at `now` expires; *expired is 1 where one was due, else 0. Call it until it is 0. */
 uint32_t lapd_side_tick(lapd_side *side, uint64_t now, uint8_t *expired);
 
 /* The next moment at which lapd_side_tick has something to do; before it, it has not. LAPD_NEVER where no timer runs, and where
- * the handle owns no side. It changes with the calls that hand something in. It is answered while something is pending, too. */
+ * the handle owns no side. It changes with the calls that hand something in. */
 uint32_t lapd_side_deadline(lapd_side *side, uint64_t *moment);
 
 /* A moment before which lapd_side_tick has nothing to do, which costs little to find: lapd_side_deadline looks at all places for a
@@ -183,7 +184,7 @@ uint32_t lapd_side_quiet_until(lapd_side *side, uint64_t *moment);
 uint32_t lapd_side_discarded(lapd_side *side, uint64_t *count);
 
 /* The state of the link of a SAPI, 0, 16 or 63, and a TEI, 0 to 127, its own on a user side too. LAPD_OUT_OF_RANGE, LAPD_NO_SIDE,
- * LAPD_NO_LINK: all of *state is 0. It is answered while something is pending, too. */
+ * LAPD_NO_LINK: all of *state is 0. */
 uint32_t lapd_side_state(lapd_side *side, uint8_t sapi, uint8_t tei, lapd_link_state *state);
 
 /* The next frame to be sent, into the front of the buffer. *length is how many octets it has, 0 where none is left.

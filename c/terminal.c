@@ -60,26 +60,22 @@ static void send_frames(struct terminal *t)
 	}
 }
 
-/* Sends and tells what the last call gave. Layer 3 of this program wants one thing: a message, once there is a link. */
+/* Sends and tells what calls gave. Layer 3 of this program wants one thing: a message, once there is a link. */
 static void hand_on(struct terminal *t)
 {
 	static const uint8_t setup[] = { 0x08, 0x01 };
 	lapd_primitive told;
 	uint8_t octets[LAPD_MOST_MESSAGE];
-	bool confirmed = false;
 
-	send_frames(t);
 	for (;;) {
+		send_frames(t);
 		check(lapd_side_primitive(&t->side, &told, octets, sizeof octets), "primitive");
 		if (told.kind == LAPD_NOTHING)
-			break;
+			return;
 		printf("kind %u, SAPI %u, TEI %u, %u octets\n", told.kind, told.sapi, told.tei, (unsigned)told.octets);
-		confirmed = confirmed || told.kind == LAPD_ESTABLISH_CONF;
+		if (told.kind == LAPD_ESTABLISH_CONF)
+			check(lapd_side_give(&t->side, 0, 0, setup, sizeof setup, now()), "give");
 		t->finished = t->finished || told.kind == LAPD_ACKNOWLEDGED;
-	}
-	if (confirmed) {
-		check(lapd_side_give(&t->side, 0, 0, setup, sizeof setup, now()), "give");
-		hand_on(t);
 	}
 }
 

@@ -100,7 +100,6 @@ static void a_frame(lapd_side *side, const char *wanted, size_t wants, unsigned 
 
 	DONE(lapd_side_state(side, 0, 64, &link));
 	WANT(link.state == state && link.vs == vs && link.va == va && link.vr == vr && link.waiting == waiting);
-	all_return(side, LAPD_PENDING);
 	memset(buffer, 0xa5, sizeof buffer);
 	WANT_CODE(lapd_side_frame(side, buffer, wants - 1, &length), LAPD_OUT_OF_RANGE);
 	WANT(length == wants && buffer[0] == 0xa5);
@@ -119,7 +118,6 @@ static void a_primitive(lapd_side *side, unsigned kind, const uint8_t *wanted, s
 	if (wants > 0) {
 		WANT_CODE(lapd_side_primitive(side, &told, buffer, wants - 1), LAPD_OUT_OF_RANGE);
 		WANT(told.kind == kind && told.octets == wants && buffer[0] == 0xa5);
-		all_return(side, LAPD_PENDING);
 	}
 	DONE(lapd_side_primitive(side, &told, buffer, wants));
 	WANT(told.kind == kind && told.sapi == 0 && told.tei == 64 && told.octets == wants);
@@ -133,6 +131,7 @@ static void a_link(lapd_side *side)
 	const lapd_settings basic = LAPD_BASIC;
 	const uint8_t tei = 64;
 	lapd_link_state link;
+	size_t length;
 
 	DONE(lapd_side_network(side, &basic, &tei, 1));
 	ranges(side);
@@ -145,8 +144,11 @@ static void a_link(lapd_side *side)
 	a_frame(side, "\x00\x81\x73", 3, 7, 0, 0, 0, 0);
 	a_primitive(side, LAPD_ESTABLISH_IND, message, 0);
 	DONE(lapd_side_give(side, 0, 64, message, sizeof message, 0));
-	DONE(lapd_side_frame(side, buffer, sizeof buffer, &(size_t){ 0 }));
 	DONE(lapd_side_give(side, 0, 64, message, sizeof message, 0));
+	DONE(lapd_side_frame(side, buffer, sizeof buffer, &length));
+	WANT(length == 6);
+	DONE(lapd_side_frame(side, buffer, sizeof buffer, &length));
+	WANT(length == 0);
 	DONE(lapd_side_state(side, 0, 64, &link));
 	WANT(link.state == 7 && link.vs == 1 && link.va == 0 && link.waiting == 2);
 	DONE(lapd_side_take(side, (const uint8_t *)"\x00\x81\x00\x01\x08\x01", 6, 0));
@@ -155,6 +157,46 @@ static void a_link(lapd_side *side)
 	DONE(lapd_side_busy(side, 0, 64, 2, 0));
 	DONE(lapd_side_state(side, 0, 64, &link));
 	WANT(link.own_busy == 1 && link.peer_busy == 0 && link.rejecting == 0);
+}
+
+/* Unit data for all terminals, with a number for its octets: one frame. */
+static void a_unit(lapd_side *side, unsigned number)
+{
+	uint8_t octets[2];
+
+	octets[0] = (uint8_t)(number >> 8);
+	octets[1] = (uint8_t)number;
+	DONE(lapd_side_unit(side, 0, LAPD_GROUP_TEI, octets, sizeof octets, 0));
+}
+
+static void wants_unit(lapd_side *side, unsigned number)
+{
+	size_t length = 0;
+
+	DONE(lapd_side_frame(side, buffer, sizeof buffer, &length));
+	WANT(length == 5 && buffer[3] == number >> 8 && buffer[4] == (number & 255));
+}
+
+/* What several calls give waits in order, and as much as there is room for. */
+static void a_pile(lapd_side *side)
+{
+	const lapd_settings basic = LAPD_BASIC;
+	unsigned given, fetched = 0;
+	size_t length = 1;
+
+	DONE(lapd_side_network(side, &basic, message, 0));
+	for (given = 0; given < 1024; given++)
+		a_unit(side, given);
+	all_return(side, LAPD_PENDING);
+	for (; fetched < 100; fetched++)
+		wants_unit(side, fetched);
+	for (; given < 1124; given++)
+		a_unit(side, given);
+	all_return(side, LAPD_PENDING);
+	for (; fetched < given; fetched++)
+		wants_unit(side, fetched);
+	DONE(lapd_side_frame(side, buffer, 0, &length));
+	WANT(length == 0);
 }
 
 /* Lines of text, with buffers that just fit and that do not. */
@@ -179,6 +221,7 @@ int main(void)
 	ranges(&side);
 	no_side(&side);
 	a_link(&side);
+	a_pile(&side);
 	lapd_side_free(&side);
 	lapd_side_free(&side);
 	no_side(&side);

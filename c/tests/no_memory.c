@@ -89,6 +89,22 @@ static void carry(lapd_side *from, lapd_side *to)
 	}
 }
 
+/* Calls without a fetch between them: what they give waits, and each comes once and in order. */
+static void pile(lapd_side *side)
+{
+	uint8_t frame[LAPD_MOST_FRAME], octet;
+	size_t length;
+
+	for (octet = 0; octet < 50; octet++)
+		TWICE(lapd_side_unit(side, 0, LAPD_GROUP_TEI, &octet, 1, 0));
+	for (octet = 0; octet < 50; octet++) {
+		DONE(lapd_side_frame(side, frame, sizeof frame, &length));
+		WANT(length == 4 && frame[3] == octet);
+	}
+	DONE(lapd_side_frame(side, frame, sizeof frame, &length));
+	WANT(length == 0);
+}
+
 static void converse(void)
 {
 	static const uint8_t message[] = "a message of some length";
@@ -108,6 +124,7 @@ static void converse(void)
 	}
 	TWICE(lapd_side_unit(&network, 0, LAPD_GROUP_TEI, message, sizeof message, 0));
 	carry(&network, &user);
+	pile(&network);
 	TWICE(lapd_side_network(&network, &settings, &tei, 1));
 	lapd_side_free(&network);
 	lapd_side_free(&user);

@@ -1,5 +1,5 @@
 -- What a call does with a side that is held: what the side's own call does, and what is fetched.
-use Rattle.std.specs.Prelude.{◌≡◌, ◌≤◌, ◌⊎◌, ℕ, ◌+◌, ◌++◌, ◌||◌, nat_lt, Bool, true, false, List, length, drop, slice_get, Option, Some, None, Result, ⊤}
+use Rattle.std.specs.Prelude.{◌≡◌, ◌≤◌, ◌⊎◌, ℕ, ◌+◌, ◌++◌, ◌||◌, nat_lt, nat_le, Bool, true, false, List, length, drop, slice_get, Option, Some, None, Result, ⊤}
 use Rattle.lapd_link.specs.Link.{LinkStandsFor}
 use Rattle.lapd_link.specs.declared.link.Link.{Link}
 use Rattle.lapd_link_rows.specs.End.{End}
@@ -9,7 +9,7 @@ use Rattle.lapd_table.specs.LinkTable.{link_at}
 use Rattle.lapd_sides_links.specs.declared.side_fault.SideKind.TheVariants.{NoLink}
 use Rattle.lapd_sides_links.specs.declared.primitive.Primitive.{Primitive}
 use Rattle.lapd_sides_links.specs.declared.side_fault.SideFault.{SideFault}
-use Rattle.lapd_sides_links.specs.Effects.{Effects, no_effects}
+use Rattle.lapd_sides_links.specs.Effects.{Effects, and_then, no_effects}
 use Rattle.lapd_sides.specs.declared.either_side.EitherSide.{EitherSide}
 use Rattle.lapd_sides.specs.Either.{Expires, Rests, HasNextDeadline, HasQuietUntil, HasDiscarded, HasTable}
 use Rattle.lapd_c.specs.declared.flat_primitive.FlatPrimitive.{FlatPrimitive}
@@ -19,42 +19,63 @@ use Rattle.lapd_c.specs.Codes.{done, pending, out_of_range, memory, code_of, cod
 use Rattle.lapd_c.specs.FlatPrimitives.{flat, nothing, octets_of}
 use Rattle.lapd_c.specs.LinkStates.{state_of, no_state}
 
+-- ---- What waits to be fetched.
+
+-- what calls gave, the earlier before the later, and C has not fetched
+abbrev pub waiting : HeldSide → Effects
+waiting held = and_then held.backlog held.acts
+
+-- so many frames or primitives wait that no call may give more
+abbrev pub most_waiting : ℕ
+most_waiting = 1024
+
+abbrev pub is_full : HeldSide → Bool
+is_full held = nat_le most_waiting (length (waiting held).frames)
+    || nat_le most_waiting (length (waiting held).primitives)
+
 -- ---- Calls that may give more.
 
--- something that the last call gave is not fetched yet
-abbrev pub is_pending : HeldSide → Bool
-is_pending held = nat_lt held.frames_fetched (length held.acts.frames)
-    || nat_lt held.primitives_fetched (length held.acts.primitives)
-
--- a call of a side, as the side states it: its result, the side before and after it, and what it gives
+-- a call of a side, as the side states it: its result, the side before and after, and what it gives
 abbrev pub Call : Type 1
 Call = Result ⊤ SideFault → EitherSide → EitherSide → Effects → Type 0
 
--- it is done, all that it gives is to be fetched, and C is answered by the number of its result
+-- it is done, what it gives waits behind the rest, and C is answered by the number of its result
 pub record HasCalled (call : Call) (old new : HeldSide) (code : ℕ) : Type 0 where
   pub result : Result ⊤ SideFault
   pub coded : code ≡ code_of result
-  pub called : call result old.side new.side new.acts
-  pub frames : new.frames_fetched ≡ 0
-  pub primitives : new.primitives_fetched ≡ 0
+  pub given : Effects
+  pub called : call result old.side new.side given
+  pub waits : waiting new ≡ and_then (waiting old) given
 
--- It is done where all is fetched, and refused else; then nothing changes.
+-- it finds no memory for what waits
+pub record HasNoMemory (old new : HeldSide) (code : ℕ) : Type 0 where
+  pub refused : code ≡ memory
+  pub same : new ≡ old
+
+-- It is done, or there is no memory; where too much waits, it is refused. Then nothing changes.
 pub record Asks (call : Call) (old new : HeldSide) (code : ℕ) : Type 0 where
-  pub refused : is_pending old ≡ true → (code ≡ pending) × (new ≡ old)
-  pub called : is_pending old ≡ false → HasCalled call old new code
+  pub refused : is_full old ≡ true → (code ≡ pending) × (new ≡ old)
+  pub called : is_full old ≡ false → HasNoMemory old new code ⊎ HasCalled call old new code
 
 -- the first timer that is due has expired, or none is due and nothing is given
 pub record HasTicked (now expired : ℕ) (old new : HeldSide) (code : ℕ) : Type 0 where
   pub done : code ≡ done
   pub flag : expired ≤ 1
-  pub due : expired ≡ 1 → Expires now old.side new.side new.acts
-  pub none : expired ≡ 0 → Rests now old.side new.side × (new.acts ≡ no_effects)
-  pub frames : new.frames_fetched ≡ 0
-  pub primitives : new.primitives_fetched ≡ 0
+  pub given : Effects
+  pub due : expired ≡ 1 → Expires now old.side new.side given
+  pub none : expired ≡ 0 → Rests now old.side new.side × (given ≡ no_effects)
+  pub waits : waiting new ≡ and_then (waiting old) given
+
+-- none has, and nothing changes
+pub record HasNotTicked (reason expired : ℕ) (old new : HeldSide) (code : ℕ) : Type 0 where
+  pub refused : code ≡ reason
+  pub none : expired ≡ 0
+  pub same : new ≡ old
 
 pub record Ticks (now expired : ℕ) (old new : HeldSide) (code : ℕ) : Type 0 where
-  pub refused : is_pending old ≡ true → (code ≡ pending) × (expired ≡ 0) × (new ≡ old)
-  pub ticked : is_pending old ≡ false → HasTicked now expired old new code
+  pub refused : is_full old ≡ true → HasNotTicked pending expired old new code
+  pub ticked : is_full old ≡ false
+      → HasNotTicked memory expired old new code ⊎ HasTicked now expired old new code
 
 -- ---- Calls that read.
 
@@ -103,52 +124,59 @@ pub record Buffer : Type 0 where
   pub before : List ℕ
   pub after : List ℕ
 
--- The next frame, where there is one: it is fetched where the buffer has room, and else waits.
-pub record HasFetchedFrame (old new : HeldSide) (code : ℕ) (frame : List ℕ) (buffer : Buffer) :
-    Type 0 where
-  pub done : code ≡ done
-  pub octets : buffer.after ≡ overwritten frame buffer.before
-  pub fetched : new ≡ record old { frames_fetched = old.frames_fetched + 1 }
-
-pub record Waits (old new : HeldSide) (code : ℕ) (buffer : Buffer) : Type 0 where
+-- it stays, since the buffer is too small
+pub record Stays (old new : HeldSide) (code : ℕ) (buffer : Buffer) : Type 0 where
   pub refused : code ≡ out_of_range
   pub octets : buffer.after ≡ buffer.before
   pub same : new ≡ old
 
+-- there is none
 pub record HasNone (old new : HeldSide) (code : ℕ) (buffer : Buffer) : Type 0 where
   pub done : code ≡ done
   pub octets : buffer.after ≡ buffer.before
   pub same : new ≡ old
 
+-- it is handed out, and what waits then is this
+pub record HasFetched (octets : List ℕ) (left : Effects) (old new : HeldSide) (code : ℕ)
+    (buffer : Buffer) : Type 0 where
+  pub done : code ≡ done
+  pub written : buffer.after ≡ overwritten octets buffer.before
+  pub waits : waiting new ≡ left
+  pub side : new.side ≡ old.side
+
+-- these octets are handed out where the buffer has room, and stay else
+pub record Fetches (octets : List ℕ) (left : Effects) (old new : HeldSide) (code : ℕ)
+    (buffer : Buffer) : Type 0 where
+  pub fetched : nat_lt (length buffer.before) (length octets) ≡ false
+      → HasFetched octets left old new code buffer
+  pub stays : nat_lt (length buffer.before) (length octets) ≡ true → Stays old new code buffer
+
+-- the first frame that waits, and how many octets it has
+abbrev pub without_first_frame : Effects → Effects
+without_first_frame e = record e { frames = drop 1 e.frames }
+
 abbrev pub FetchesFrameOr : Option (List ℕ) → HeldSide → HeldSide → ℕ → ℕ → Buffer → Type 0
 FetchesFrameOr None old new code count buffer = (count ≡ 0) × HasNone old new code buffer
 FetchesFrameOr (Some frame) old new code count buffer = (count ≡ length frame)
-    × (nat_lt (length buffer.before) (length frame) ≡ false → HasFetchedFrame old new code frame buffer)
-    × (nat_lt (length buffer.before) (length frame) ≡ true → Waits old new code buffer)
+    × Fetches frame (without_first_frame (waiting old)) old new code buffer
 
 abbrev pub FetchesFrame : HeldSide → HeldSide → ℕ → ℕ → Buffer → Type 0
 FetchesFrame old new code count buffer =
-    FetchesFrameOr (slice_get old.acts.frames old.frames_fetched) old new code count buffer
+    FetchesFrameOr (slice_get (waiting old).frames 0) old new code count buffer
 
--- The next primitive, in the same way.
-pub record HasFetchedPrimitive (old new : HeldSide) (code : ℕ) (primitive : Primitive)
-    (buffer : Buffer) : Type 0 where
-  pub done : code ≡ done
-  pub octets : buffer.after ≡ overwritten (octets_of primitive) buffer.before
-  pub fetched : new ≡ record old { primitives_fetched = old.primitives_fetched + 1 }
+-- the first primitive that waits, and its octets
+abbrev pub without_first_primitive : Effects → Effects
+without_first_primitive e = record e { primitives = drop 1 e.primitives }
 
 abbrev pub FetchesPrimitiveOr : Option Primitive → HeldSide → HeldSide → ℕ → FlatPrimitive
     → Buffer → Type 0
 FetchesPrimitiveOr None old new code told buffer = (told ≡ nothing) × HasNone old new code buffer
 FetchesPrimitiveOr (Some primitive) old new code told buffer = (told ≡ flat primitive)
-    × (nat_lt (length buffer.before) (length (octets_of primitive)) ≡ false
-    → HasFetchedPrimitive old new code primitive buffer)
-    × (nat_lt (length buffer.before) (length (octets_of primitive)) ≡ true
-    → Waits old new code buffer)
+    × Fetches (octets_of primitive) (without_first_primitive (waiting old)) old new code buffer
 
 abbrev pub FetchesPrimitive : HeldSide → HeldSide → ℕ → FlatPrimitive → Buffer → Type 0
 FetchesPrimitive old new code told buffer =
-    FetchesPrimitiveOr (slice_get old.acts.primitives old.primitives_fetched) old new code told buffer
+    FetchesPrimitiveOr (slice_get (waiting old).primitives 0) old new code told buffer
 
 -- ---- Text.
 

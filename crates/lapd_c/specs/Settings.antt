@@ -13,6 +13,7 @@ use Rattle.lapd_sides.specs.declared.either_side.EitherSide.{EitherSide}
 use Rattle.lapd_sides.specs.declared.either_side.EitherSide.TheVariants as either
 use Rattle.lapd_c.specs.declared.settings.Settings.{Settings}
 use Rattle.lapd_c.specs.declared.held_side.HeldSide.{HeldSide}
+use Rattle.lapd_c.specs.Calls.{waiting}
 
 -- ---- The numbers of it, each in its range.
 
@@ -65,6 +66,4 @@ IsNewUser tei config (either.User side) =
 pub record IsNew (config : Config) (IsMade : Config → EitherSide → Type 0) (held : HeldSide) :
     Type 0 where
   pub side : IsMade config held.side
-  pub acts : held.acts ≡ no_effects
-  pub frames : held.frames_fetched ≡ 0
-  pub primitives : held.primitives_fetched ≡ 0
+  pub waits : waiting held ≡ no_effects

@@ -1,23 +1,26 @@
-//! A side with what it gave last.
+//! A side with what it gave.
 
-ghost use Rattle.std.specs.Prelude.{◌≡◌, ◌≤◌, length, IfOk};
+ghost use Rattle.std.specs.Prelude.{◌≡◌, ◌<◌, ◌≤◌, length, slice_get, option_copied, IfOk};
 ghost use Rattle.lapd_sides_links.specs.Effects.{no_effects};
 ghost use Rattle.lapd_sides.specs.Either.{Takes, Answers};
-ghost use Rattle.lapd_c.specs.Calls.{is_pending, Asks, Ticks, TellsDeadline, TellsQuiet, TellsDiscarded, TellsState, FetchesFrame, FetchesPrimitive, moment_or_last, overwritten};
+ghost use Rattle.lapd_c.specs.Calls.{waiting, is_full, without_first_frame, without_first_primitive, Asks, Ticks, TellsDeadline, TellsQuiet, TellsDiscarded, TellsState, FetchesFrame, FetchesPrimitive, moment_or_last, overwritten};
 
-use crate::codes::{DONE, NO_LINK, OUT_OF_RANGE, PENDING, code_of};
+use crate::codes::{DONE, MEMORY, NO_LINK, OUT_OF_RANGE, PENDING, code_of};
 use crate::flat_primitive::{FlatPrimitive, octets_of};
 use crate::link_state::LinkState;
-use lapd_sides::{Acts, EitherSide, LinkId, Request};
+use lapd_sides::{Acts, EitherSide, LinkId, Primitive, Request};
+use lapd_sides_links::Backlog;
 use std::alloc::{AllocError, Global};
 
-/// A side, what its last call gave, and how much of that C has fetched.
+/// How many frames, or how many primitives, may wait until a call that could give more is refused.
+const MOST_WAITING: usize = 1_024;
+
+/// A side, and what its calls gave that C has not fetched: the last in `acts`, and those before it in `backlog`.
 #[derive(Drop)]
 pub struct HeldSide {
     side: EitherSide,
     acts: Acts,
-    frames_fetched: usize,
-    primitives_fetched: usize,
+    backlog: Backlog,
 }
 
 impl HeldSide {
@@ -26,48 +29,48 @@ impl HeldSide {
         ensures { IfOk result (λ held. held ≡ record {
           side = side;
           acts = no_effects;
-          frames_fetched = 0;
-          primitives_fetched = 0;
+          backlog = no_effects;
         }) }
     {
         Ok(HeldSide {
             side,
             acts: Acts::new(alloc)?,
-            frames_fetched: 0,
-            primitives_fetched: 0,
+            backlog: Backlog::new(alloc),
         })
     }
 
-    /// Whether something that the last call gave is still to be fetched.
-    fn is_pending(&self) -> bool
-        ensures { result ≡ is_pending self.now }
+    /// Whether so much waits that no call may give more.
+    fn is_full(&self) -> bool
+        ensures { result ≡ is_full self.now }
     {
-        self.frames_fetched < self.acts.frames().len()
-            || self.primitives_fetched < self.acts.primitives().len()
+        MOST_WAITING <= self.backlog.frames().len() + self.acts.frames().len()
+            || MOST_WAITING <= self.backlog.primitives().len() + self.acts.primitives().len()
     }
 
     /// Octets come from the line at the moment `now`.
     pub(crate) fn take(&mut self, octets: &[u8], now: u64) -> u32
         ensures { Asks (Takes octets.now now) self.old self.new result }
     {
-        if self.is_pending() {
+        if self.is_full() {
             return PENDING;
         }
-        self.frames_fetched = 0;
-        self.primitives_fetched = 0;
-        code_of(self.side.take(octets, now, &mut self.acts))
+        match self.backlog.append(&mut self.acts) {
+            Ok(()) => code_of(self.side.take(octets, now, &mut self.acts)),
+            Err(_) => MEMORY,
+        }
     }
 
     /// Something is asked for at the moment `now`.
     pub(crate) fn request(&mut self, request: Request, now: u64) -> u32
         ensures { Asks (Answers request now) self.old self.new result }
     {
-        if self.is_pending() {
+        if self.is_full() {
             return PENDING;
         }
-        self.frames_fetched = 0;
-        self.primitives_fetched = 0;
-        code_of(self.side.request(request, now, &mut self.acts))
+        match self.backlog.append(&mut self.acts) {
+            Ok(()) => code_of(self.side.request(request, now, &mut self.acts)),
+            Err(_) => MEMORY,
+        }
     }
 
     /// What is due at the moment `now`, the first alone: 1 where a timer had expired, and else 0.
@@ -75,15 +78,18 @@ impl HeldSide {
         ensures { Ticks now expired.new self.old self.new result }
     {
         *expired = 0;
-        if self.is_pending() {
+        if self.is_full() {
             return PENDING;
         }
-        self.frames_fetched = 0;
-        self.primitives_fetched = 0;
-        if self.side.tick(now, &mut self.acts) {
-            *expired = 1;
+        match self.backlog.append(&mut self.acts) {
+            Ok(()) => {
+                if self.side.tick(now, &mut self.acts) {
+                    *expired = 1;
+                }
+                DONE
+            }
+            Err(_) => MEMORY,
         }
-        DONE
     }
 
     /// The next moment at which something is due, in milliseconds; the last moment that there is where nothing ever is.
@@ -126,13 +132,62 @@ impl HeldSide {
         }
     }
 
-    /// The next frame that is to be sent goes to the front of the buffer. `count` is how many octets it has, also where
-    /// the buffer is too small for it and it waits; 0 where no frame is left.
+    /// The first frame that waits.
+    fn first_frame(&self) -> Option<&[u8]>
+        ensures { option_copied result ≡ slice_get (waiting self.now).frames 0 }
+    {
+        match self.backlog.frames().first() {
+            Some(frame) => Some(frame.as_slice()),
+            None => match self.acts.frames().first() {
+                Some(frame) => Some(frame.as_slice()),
+                None => None,
+            },
+        }
+    }
+
+    /// The first primitive that waits.
+    fn first_primitive(&self) -> Option<&Primitive>
+        ensures { option_copied result ≡ slice_get (waiting self.now).primitives 0 }
+    {
+        match self.backlog.primitives().first() {
+            Some(primitive) => Some(primitive),
+            None => self.acts.primitives().first(),
+        }
+    }
+
+    /// Lets the first frame that waits go.
+    fn remove_frame(&mut self)
+        requires { 0 < length (waiting self.old).frames }
+        ensures waits { waiting self.new ≡ without_first_frame (waiting self.old) }
+        ensures side { self.new.side ≡ self.old.side }
+    {
+        if self.backlog.frames().is_empty() {
+            self.acts.remove_frame();
+        } else {
+            self.backlog.remove_frame();
+        }
+    }
+
+    /// Lets the first primitive that waits go.
+    fn remove_primitive(&mut self)
+        requires { 0 < length (waiting self.old).primitives }
+        ensures waits { waiting self.new ≡ without_first_primitive (waiting self.old) }
+        ensures side { self.new.side ≡ self.old.side }
+    {
+        if self.backlog.primitives().is_empty() {
+            self.acts.remove_primitive();
+        } else {
+            self.backlog.remove_primitive();
+        }
+    }
+
+    /// The first frame that waits goes to the front of the buffer. `count` is how many octets it has, also where the buffer
+    /// is too small for it and it stays; 0 where no frame is left.
     pub(crate) fn next_frame(&mut self, buffer: &mut [u8], count: &mut usize) -> u32
         ensures { FetchesFrame self.old self.new result count.new
             (record { before = buffer.old; after = buffer.new }) }
     {
-        let Some(frame) = self.acts.frames().get(self.frames_fetched) else {
+        let Some(frame) = self.first_frame() else {
             *count = 0;
             return DONE;
         };
@@ -140,17 +195,18 @@ impl HeldSide {
         if buffer.len() < frame.len() {
             return OUT_OF_RANGE;
         }
-        overwrite(buffer, frame.as_slice());
-        self.frames_fetched += 1;
+        overwrite(buffer, frame);
+        self.remove_frame();
         DONE
     }
 
-    /// The next primitive, with its octets at the front of the buffer; where the buffer is too small for them, it waits.
+    /// The first primitive that waits, with its octets at the front of the buffer; where the buffer is too small for them, it
+    /// stays.
     pub(crate) fn next_primitive(&mut self, told: &mut FlatPrimitive, buffer: &mut [u8]) -> u32
         ensures { FetchesPrimitive self.old self.new result told.new
             (record { before = buffer.old; after = buffer.new }) }
     {
-        let Some(primitive) = self.acts.primitives().get(self.primitives_fetched) else {
+        let Some(primitive) = self.first_primitive() else {
             *told = FlatPrimitive::nothing();
             return DONE;
         };
@@ -160,7 +216,7 @@ impl HeldSide {
             return OUT_OF_RANGE;
         }
         overwrite(buffer, octets);
-        self.primitives_fetched += 1;
+        self.remove_primitive();
         DONE
     }
 }

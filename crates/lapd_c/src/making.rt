@@ -50,8 +50,7 @@ fn boxed(alloc: Global, side: EitherSide) -> Result<Box<HeldSide>, AllocError>
     ensures { IfOk result (λ held. held.value ≡ record {
       side = side;
       acts = no_effects;
-      frames_fetched = 0;
-      primitives_fetched = 0;
+      backlog = no_effects;
     }) }
 {
     match Box::new(alloc, HeldSide::new(alloc, side)?) {
