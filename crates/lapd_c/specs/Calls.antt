@@ -1,5 +1,5 @@
 -- What a call does with a side that is held: what the side's own call does, and what is fetched.
-use Rattle.std.specs.Prelude.{◌≡◌, ◌≤◌, ◌⊎◌, ℕ, ◌+◌, ◌++◌, ◌||◌, nat_lt, nat_le, Bool, true, false, List, length, drop, slice_get, Option, Some, None, Result, ⊤}
+use Rattle.std.specs.Prelude.{◌≡◌, ◌≤◌, ◌⊎◌, ℕ, ◌++◌, ◌||◌, ◌&&◌, nat_eq, nat_lt, nat_le, Bool, true, false, List, length, drop, slice_get, Option, Some, None, Result, ⊤}
 use Rattle.lapd_link.specs.Link.{LinkStandsFor}
 use Rattle.lapd_link.specs.declared.link.Link.{Link}
 use Rattle.lapd_link_rows.specs.End.{End}
@@ -25,6 +25,10 @@ use Rattle.lapd_c.specs.LinkStates.{state_of, no_state}
 abbrev pub waiting : HeldSide → Effects
 waiting held = and_then held.backlog held.acts
 
+-- neither a frame nor a primitive
+abbrev pub gives_nothing : Effects → Bool
+gives_nothing e = nat_eq (length e.frames) 0 && nat_eq (length e.primitives) 0
+
 -- so many frames or primitives wait that no call may give more
 abbrev pub most_waiting : ℕ
 most_waiting = 1024
@@ -47,10 +51,11 @@ pub record HasCalled (call : Call) (old new : HeldSide) (code : ℕ) : Type 0 wh
   pub called : call result old.side new.side given
   pub waits : waiting new ≡ and_then (waiting old) given
 
--- it finds no memory for what waits
+-- it finds no memory for what the last call gave and waits still
 pub record HasNoMemory (old new : HeldSide) (code : ℕ) : Type 0 where
   pub refused : code ≡ memory
   pub same : new ≡ old
+  pub gave : gives_nothing old.acts ≡ false
 
 -- It is done, or there is no memory; where too much waits, it is refused. Then nothing changes.
 pub record Asks (call : Call) (old new : HeldSide) (code : ℕ) : Type 0 where
@@ -67,15 +72,14 @@ pub record HasTicked (now expired : ℕ) (old new : HeldSide) (code : ℕ) : Typ
   pub waits : waiting new ≡ and_then (waiting old) given
 
 -- none has, and nothing changes
-pub record HasNotTicked (reason expired : ℕ) (old new : HeldSide) (code : ℕ) : Type 0 where
-  pub refused : code ≡ reason
+pub record HasNotTicked (expired : ℕ) (old new : HeldSide) : Type 0 where
   pub none : expired ≡ 0
   pub same : new ≡ old
 
 pub record Ticks (now expired : ℕ) (old new : HeldSide) (code : ℕ) : Type 0 where
-  pub refused : is_full old ≡ true → HasNotTicked pending expired old new code
-  pub ticked : is_full old ≡ false
-      → HasNotTicked memory expired old new code ⊎ HasTicked now expired old new code
+  pub refused : is_full old ≡ true → (code ≡ pending) × HasNotTicked expired old new
+  pub ticked : is_full old ≡ false → ((expired ≡ 0) × HasNoMemory old new code)
+      ⊎ HasTicked now expired old new code
 
 -- ---- Calls that read.
 

@@ -1,9 +1,9 @@
 //! A side with what it gave.
 
-ghost use Rattle.std.specs.Prelude.{◌≡◌, ◌<◌, ◌≤◌, length, slice_get, option_copied, IfOk};
+ghost use Rattle.std.specs.Prelude.{◌≡◌, ◌<◌, ◌≤◌, length, slice_get, option_copied, IfOk, OnOk, OnErr, false};
 ghost use Rattle.lapd_sides_links.specs.Effects.{no_effects};
 ghost use Rattle.lapd_sides.specs.Either.{Takes, Answers};
-ghost use Rattle.lapd_c.specs.Calls.{waiting, is_full, without_first_frame, without_first_primitive, Asks, Ticks, TellsDeadline, TellsQuiet, TellsDiscarded, TellsState, FetchesFrame, FetchesPrimitive, moment_or_last, overwritten};
+ghost use Rattle.lapd_c.specs.Calls.{waiting, gives_nothing, is_full, without_first_frame, without_first_primitive, Asks, Ticks, TellsDeadline, TellsQuiet, TellsDiscarded, TellsState, FetchesFrame, FetchesPrimitive, moment_or_last, overwritten};
 
 use crate::codes::{DONE, MEMORY, NO_LINK, OUT_OF_RANGE, PENDING, code_of};
 use crate::flat_primitive::{FlatPrimitive, octets_of};
@@ -47,6 +47,25 @@ impl HeldSide {
             || MOST_WAITING <= self.backlog.primitives().len() + self.acts.primitives().len()
     }
 
+    /// Puts what the last call gave behind what waits.
+    ///
+    /// # Errors
+    ///
+    /// `AllocError` where memory was refused. Nothing is changed.
+    fn set_aside(&mut self) -> Result<(), AllocError>
+        ensures ok { OnOk result (self.new ≡ record self.old {
+          backlog = waiting self.old;
+          acts = no_effects;
+        }) }
+        ensures err { OnErr result (self.new ≡ self.old) }
+        ensures gave { OnErr result (gives_nothing self.old.acts ≡ false) }
+    {
+        if self.acts.frames().is_empty() && self.acts.primitives().is_empty() {
+            return Ok(());
+        }
+        self.backlog.append(&mut self.acts)
+    }
+
     /// Octets come from the line at the moment `now`.
     pub(crate) fn take(&mut self, octets: &[u8], now: u64) -> u32
         ensures { Asks (Takes octets.now now) self.old self.new result }
@@ -54,7 +73,7 @@ impl HeldSide {
         if self.is_full() {
             return PENDING;
         }
-        match self.backlog.append(&mut self.acts) {
+        match self.set_aside() {
             Ok(()) => code_of(self.side.take(octets, now, &mut self.acts)),
             Err(_) => MEMORY,
         }
@@ -67,7 +86,7 @@ impl HeldSide {
         if self.is_full() {
             return PENDING;
         }
-        match self.backlog.append(&mut self.acts) {
+        match self.set_aside() {
             Ok(()) => code_of(self.side.request(request, now, &mut self.acts)),
             Err(_) => MEMORY,
         }
@@ -81,7 +100,7 @@ impl HeldSide {
         if self.is_full() {
             return PENDING;
         }
-        match self.backlog.append(&mut self.acts) {
+        match self.set_aside() {
             Ok(()) => {
                 if self.side.tick(now, &mut self.acts) {
                     *expired = 1;

@@ -83,8 +83,8 @@ fn a_message_crosses_over_the_exports(rt: HostRuntime) -> Result<(), Fail> {
     answers(code, 21, "a message without establishment")?;
     let code = lapd_side_establish(&mut user, 0, 0, 0, alloc);
     answers(code, 0, "no establishment")?;
-    let code = lapd_side_establish(&mut user, 0, 0, 0, alloc);
-    answers(code, 2, "nothing is to be fetched")?;
+    let code = lapd_side_give(&mut user, 0, 0, b"SETUP", 0, alloc);
+    answers(code, 25, "a message before the answer")?;
     cross(&mut user, &mut net, alloc)?;
     cross(&mut net, &mut user, alloc)?;
     tells(&mut net, &[3], alloc)?;
