@@ -17,3 +17,7 @@ pub mod NetworkOwn
 pub mod TerminalOwn
 pub mod UserOwn
 pub mod AsMade
+pub mod ExactLinks
+pub mod ExactNetwork
+pub mod ExactUser
+pub mod ExactSides

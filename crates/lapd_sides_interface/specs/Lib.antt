@@ -4,5 +4,6 @@ pub mod SideView
 pub mod Interface
 pub mod Premises
 pub mod Projects
+pub mod ExactTimers
 pub mod Calls
 pub mod Schedule

@@ -1,6 +1,7 @@
 //! Laws of an interface. They do nothing when they are called.
 
 ghost use Rattle.std.specs.Prelude.{◌≡◌, ◌<◌, ◌≤◌, [], ◌∷◌, ℕ, List, Some, Option, Result, Vec, ⊤};
+ghost use Rattle.std.specs.List.{All};
 ghost use Rattle.std.specs.declared.alloc.Global.{Global};
 ghost use Rattle.rand_pcg.specs.Lcg.{Lcg};
 ghost use Rattle.lapd_frame.specs.declared.Side.TheVariants as side;
@@ -23,11 +24,12 @@ ghost use Rattle.lapd_sides.specs.ShowsUser as usr;
 ghost use Rattle.lapd_sides.specs.User.{User, new_user, got_for, user_takes, user_requested};
 ghost use Rattle.lapd_sides_interface.specs.Addressed.{those_for};
 ghost use Rattle.lapd_sides_interface.specs.Calls.{NetworkDoes, UserDoes, take_of};
-ghost use Rattle.lapd_sides_interface.specs.Interface.{Configs, Move, Interface, new_interface, from_here, run};
+ghost use Rattle.lapd_sides_interface.specs.ExactTimers.{HaveExactTimers, AreOctets, BringsOctets, Turn, turned_by_all, new_view};
+ghost use Rattle.lapd_sides_interface.specs.Interface.{user_behaviour, network_behaviour, Configs, Move, Interface, new_interface, from_here, run};
 ghost use Rattle.lapd_sides_interface.specs.Premises.{AreTimely, GiveTeiOnce, KeepPremises, KeepPremisesAsMade};
 ghost use Rattle.lapd_sides_interface.specs.Projects.{IsRight, IsSafeAt};
 ghost use Rattle.lapd_sides_interface.specs.Schedule.{configs, call, packet, at_first, unassigned, IsMessage, both_links, assigned, removed, hasty, regained, with_old_frames, answered_before};
-ghost use Rattle.lapd_sides_interface.specs.SideView.{SideView, Expire, Ask};
+ghost use Rattle.lapd_sides_interface.specs.SideView.{SideView, Deed, Expire, Ask, does};
 ghost use Rattle.lapd_sides_interface.specs.Told.{told_of};
 
 /// After every run of two sides and the octets between them, a link whose T200 was timely and whose TEI was given once is
@@ -162,4 +164,38 @@ pub fn each_premise_is_needed()
     ensures line { (message : Vec ℕ Global) → IsMessage 1 message
         → KeepPremises configs call (answered_before message) with_old_frames
         × (IsRight call (run configs (answered_before message) with_old_frames) → ⊥) }
+{}
+
+/// At every link that a side comes to, each timer runs exactly where the link's end says so: T200 and T203 have a deadline where
+/// its state has them run and nowhere else, and T201 and T202 none. So no link waits for an answer with no timer that ends the
+/// wait, and none is idle unsupervised. It holds of all links at once, with no premise on any: links come and go with their TEI,
+/// which may be taken away and given again, and frames of other links, of earlier ones or of nobody may come (Q.921 5.9.1, 5.9.8,
+/// 5.10.3).
+///
+/// `network_deed`, `user_deed`: each deed keeps it, from any side whose links have it, where what comes is octets. `new_network`,
+/// `new_user`: sides that are made have it. `network_turns`, `user_turns`: so a side has it, whatever octets come to it in
+/// between and whatever it does. `interface`: so both sides have it after every list of moves.
+pub fn timers_run_as_ends_say()
+    ensures network_deed { (config : Config) (deed : Deed) (v : SideView Network)
+        → All AreOctets v.incoming → HaveExactTimers v.now.served.links
+        → HaveExactTimers (does (network_behaviour config) deed v).now.served.links }
+    ensures user_deed { (config : Config) (deed : Deed) (v : SideView User)
+        → All AreOctets v.incoming → HaveExactTimers v.now.served.links
+        → HaveExactTimers (does (user_behaviour config) deed v).now.served.links }
+    ensures new_network { (config : Config) (known : List ℕ)
+        → HaveExactTimers (new_network config known).served.links }
+    ensures new_user { (config : Config) (fixed : Option ℕ) (random : Lcg)
+        → HaveExactTimers (new_user config fixed random).served.links }
+    ensures network_turns { (config : Config) (known : List ℕ) (turns : List Turn)
+        → All BringsOctets turns → HaveExactTimers (turned_by_all (network_behaviour config) turns
+        (new_view (new_network config known))).now.served.links }
+    ensures user_turns { (config : Config) (fixed : Option ℕ) (random : Lcg) (turns : List Turn)
+        → All BringsOctets turns → HaveExactTimers (turned_by_all (user_behaviour config) turns
+        (new_view (new_user config fixed random))).now.served.links }
+    ensures interface { (c : Configs) (fixed : Option ℕ) (random : Lcg) (known : List ℕ)
+        (moves : List Move)
+        → HaveExactTimers (run c moves
+        (new_interface (new_user c.user fixed random) (new_network c.network known))).user.served.links
+        × HaveExactTimers (run c moves
+        (new_interface (new_user c.user fixed random) (new_network c.network known))).network.served.links }
 {}

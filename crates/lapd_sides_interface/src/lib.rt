@@ -31,4 +31,7 @@
 
 mod laws;
 
-pub use laws::{calls_are_deeds, each_link_is_safe, each_premise_is_needed, schedule_is_computed};
+pub use laws::{
+    calls_are_deeds, each_link_is_safe, each_premise_is_needed, schedule_is_computed,
+    timers_run_as_ends_say,
+};
