@@ -1,8 +1,8 @@
 -- Each timer of a link runs exactly where its end says so: over a step of the link, and among the links of a side. And of the
 -- frames that a side sends, N(S) and N(R) are tags.
 use Rattle.std.proofs.Common.{◌≡◌, ℕ, ◌+◌, ◌*◌, ◌<◌, ◌≤◌, Bool, true, false, if◌then◌else◌, List, [], ◌∷◌, ◌++◌, length, Option, Some, None, Result, Ok, Err, refl, sym, ap, subst, ◌∙◌, arith}
-use Rattle.std.specs.Prelude.{is_some, IfSome, IfOk, ◌==◌}
-use Rattle.std.specs.List.{All, filter_map, cons_option}
+use Rattle.std.specs.Prelude.{is_some, IfOk, ◌==◌}
+use Rattle.std.specs.List.{All, filter_map}
 use Rattle.std.proofs.lemmas.List.Elements.{All-nil, All-cons, All-head, All-tail}
 use Rattle.lapd_timers.specs.declared.timer.Timer.{Timer}
 use Rattle.lapd_timers.specs.declared.timer.Timer.TheVariants.{T200, T201, T202, T203}
@@ -31,7 +31,7 @@ use Rattle.lapd_link_rows.specs.End.{End, StepState, runs}
 use Rattle.lapd_link_rows.specs.Input.{Input, Expiry}
 use Rattle.lapd_link_rows.specs.Numbers.{HearsNumbers, AreNumbered}
 use Rattle.lapd_link_rows.specs.Parameters.{Parameters}
-use Rattle.lapd_link_rows.specs.RunningTimers.{HasTimersOfState, is_same_timer, runs_after, runs_after_out, runs_before, TimersFollow}
+use Rattle.lapd_link_rows.specs.RunningTimers.{AreTimersOf, HasTimersOfState, is_same_timer, runs_after, runs_after_out, runs_before, TimersFollow}
 use Rattle.lapd_link_rows.specs.Table.{step}
 use Rattle.lapd_link_rows.proofs.NumbersOfStep.{numbers_stay, numbers_are_sent}
 use Rattle.lapd_link_rows.proofs.TimersOfStep.{timers_begin, timers_stay, timers_follow}
@@ -47,7 +47,7 @@ use Rattle.lapd_sides_links.specs.declared.side_fault.SideKind.{SideKind}
 use Rattle.lapd_sides_links.specs.Effects.{Effects, sent_by, timed, timed_by, stopped, message_sent}
 use Rattle.lapd_sides_links.specs.Links.{Links, Linked, Reaction, Served, acted, link_acts, link_expires, in_place, where_there, in_links, with_link, new_linked, parameters_for, is_link_of, with_tei, without_tei}
 use Rattle.lapd_sides.specs.Management.{links_with, links_without, manages}
-use Rattle.lapd_sides_interface.specs.ExactTimers.{HasExactTimers, HaveExactTimers, AreOctets}
+use Rattle.lapd_sides_interface.specs.ExactTimers.{HasExactTimers, HaveExactTimers, RunByState, AreOctets}
 use Rattle.lapd_sides_interface.proofs.Timed.{is_on}
 
 -- ---- A timer has a deadline exactly where it runs by the outputs.
@@ -148,6 +148,12 @@ new_is_exact p lengths = record { exact = new_exact; of_state = timers_begin p; 
     new_exact T202 = refl
     new_exact T203 = refl
 
+-- what its state wants has a deadline
+pub runs_by_state : (l : Linked) → HasExactTimers l → RunByState l
+runs_by_state l h =
+    subst (λ (t200 : Bool). AreTimersOf l.end.state t200 (is_on T203 l.timers) (l.end.window.vs ≡ l.end.window.va)) (sym (h.exact T200))
+    (subst (λ (t203 : Bool). AreTimersOf l.end.state l.end.t200 t203 (l.end.window.vs ≡ l.end.window.va)) (sym (h.exact T203)) h.of_state)
+
 -- ---- Frames whose N(S) and N(R) are tags.
 
 abbrev IsNumberedFrame : Result Fields FrameFault → Type 0
@@ -193,18 +199,12 @@ behind_address from f h =
     let rest = control_octets f.control ++ f.info in
     All-tail Small (f.address.tei * 2 + 1) rest (All-tail Small (sapi_value f.address.sapi * 4 + command_bit from f.address.role * 2) ((f.address.tei * 2 + 1) ∷ rest) h)
 
-if_ok : (r : Result Fields FrameFault) (P : Fields → Type 0) → ((f : Fields) → r ≡ Ok f → P f) → IfOk r P
-if_ok (Ok f) P h = h f refl
-if_ok (Err e) P h = tt
+read_from_octets : (from : Side) (octets : List ℕ) (r : Result Fields FrameFault) → frame_at from octets ≡ r → AreOctets octets → IsNumberedFrame r
+read_from_octets from octets (Ok f) found h = in_octets f.control f.info (behind_address from f (subst AreOctets (spelling_found from octets f found) h))
+read_from_octets from octets (Err fault) found h = tt
 
 pub octets_carry_tags : (from : Side) (octets : List ℕ) → AreOctets octets → CarriesTags from octets
-octets_carry_tags from octets h = if_ok (frame_at from octets) (λ f. IsControl f.control) (λ f found.
-    let all : AreOctets (spelling from f) = subst AreOctets (spelling_found from octets f found) h in
-    in_octets f.control f.info (behind_address from f all))
-
-cons_all : {X : Type 0} (P : X → Type 0) (o : Option X) (xs : List X) → IfSome o P → All P xs → All P (cons_option o xs)
-cons_all P None xs h rest = rest
-cons_all P (Some x) xs h rest = All-cons P x xs h rest
+octets_carry_tags from octets h = read_from_octets from octets (frame_at from octets) refl h
 
 module _ (side : Side) (id : LinkId) (e : End) (octets : List ℕ) where
   abbrev Sent : List Out → List (List ℕ)
@@ -255,12 +255,12 @@ some_is_exact l h m is = subst HasExactTimers (same l m is) h
 pub no_link_is_exact : OfSome None
 no_link_is_exact m is = cc
 
-chosen : (test : Bool) (a b : Option Linked) → OfSome a → OfSome b → OfSome (if test then a else b)
-chosen true a b first second = first
-chosen false a b first second = second
+pub if_either : {X : Type 0} (P : X → Type 0) (test : Bool) (a b : X) → P a → P b → P (if test then a else b)
+if_either P true a b first second = first
+if_either P false a b first second = second
 
 with_exact : (id : LinkId) (l : Linked) (links : Links) → HasExactTimers l → HaveExactTimers links → HaveExactTimers (with_link id (Some l) links)
-with_exact id l links one all other = chosen (id_eq other id) (Some l) (links other) (some_is_exact l one) (all other)
+with_exact id l links one all other = if_either OfSome (id_eq other id) (Some l) (links other) (some_is_exact l one) (all other)
 
 -- ---- One link does something.
 
@@ -303,7 +303,7 @@ module _ (side : Side) (id : LinkId) where
 -- ---- Links come and go.
 
 pub fresh_or : (test : Bool) (config : Config) (id : LinkId) (o : Option Linked) → OfSome o → OfSome (if test then Some (new_linked (parameters_for config id.sapi) config.durations) else o)
-fresh_or test config id o h = chosen test (Some (new_linked (parameters_for config id.sapi) config.durations)) o (some_is_exact _ (new_is_exact (parameters_for config id.sapi) config.durations)) h
+fresh_or test config id o h = if_either OfSome test (Some (new_linked (parameters_for config id.sapi) config.durations)) o (some_is_exact _ (new_is_exact (parameters_for config id.sapi) config.durations)) h
 
 pub with_tei_exact : (config : Config) (tei : ℕ) (links : Links) → HaveExactTimers links → HaveExactTimers (with_tei config tei links)
 unfolding with_tei
@@ -316,7 +316,7 @@ with_given config (Some tei) links all = with_tei_exact config tei links all
 without_freed : (freed : Option ℕ) (links : Links) → HaveExactTimers links → HaveExactTimers (links_without freed links)
 unfolding without_tei
 without_freed None links all = all
-without_freed (Some tei) links all = λ id. chosen (id.tei == tei) None (links id) no_link_is_exact (all id)
+without_freed (Some tei) links all = λ id. if_either OfSome (id.tei == tei) None (links id) no_link_is_exact (all id)
 
 messages_carry_tags : (side : Side) (outs : List TeiOut) → All (CarriesTags side) (filter_map (message_sent side) outs)
 messages_carry_tags side [] = All-nil (CarriesTags side)

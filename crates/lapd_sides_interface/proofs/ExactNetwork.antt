@@ -1,5 +1,5 @@
 -- A network side keeps its links' timers exact, whatever it takes, whichever timer expires, and whatever is asked for.
-use Rattle.std.proofs.Common.{ℕ, ◌==◌, ◌&&◌, Bool, true, false, if◌then◌else◌, nat_lt, List, [], length, Option, Some, None, Result, Ok, Err, refl}
+use Rattle.std.proofs.Common.{ℕ, ◌==◌, ◌&&◌, true, false, nat_lt, List, [], length, Option, Some, None, Result, Ok, Err, refl}
 use Rattle.std.specs.Prelude.{IfOk}
 use Rattle.std.proofs.lemmas.List.Elements.{All-nil, All-cons}
 use Rattle.lapd_timers.specs.declared.timer.Timer.{Timer}
@@ -34,7 +34,7 @@ use Rattle.lapd_sides.specs.declared.request.Request.TheVariants as request
 use Rattle.lapd_sides.specs.Management.{carries_message}
 use Rattle.lapd_sides.specs.Network.{Network, new_network, unmoved, discards, assigner_acts, message_heard, among_links, link_of_network, or_discarded, or_unmoved, fault_heard, heard, network_takes, network_expires, group_frame, unit_to_group, network_requested}
 use Rattle.lapd_sides_interface.specs.ExactTimers.{HaveExactTimers}
-use Rattle.lapd_sides_interface.proofs.ExactLinks.{IsNoExpiry, CarriesTags, spelled_carries_tags, IsExact, IsExactAmong, quietly, acts_exactly, expires_exactly, fresh_or, no_link_is_exact, manages_exactly}
+use Rattle.lapd_sides_interface.proofs.ExactLinks.{if_either, IsNoExpiry, CarriesTags, spelled_carries_tags, IsExact, IsExactAmong, quietly, acts_exactly, expires_exactly, fresh_or, no_link_is_exact, manages_exactly}
 
 abbrev pub AreExact : Network → Type 0
 AreExact s = HaveExactTimers s.served.links
@@ -50,14 +50,6 @@ nothing s all = quietly side.Network s.served.links no_effects refl all
 
 discarding : (s : Network) → AreExact s → Keeps (discards s)
 discarding s all = quietly side.Network s.served.links no_effects refl all
-
-chosen : (test : Bool) (a b : Reaction Network) → Keeps a → Keeps b → Keeps (if test then a else b)
-chosen true a b first second = first
-chosen false a b first second = second
-
-chosen_result : (test : Bool) (a b : Result (Reaction Network) SideKind) → KeepsIfOk a → KeepsIfOk b → KeepsIfOk (if test then a else b)
-chosen_result true a b first second = first
-chosen_result false a b first second = second
 
 -- ---- A link.
 
@@ -100,7 +92,7 @@ module _ (config : Config) (now : ℕ) where
   hearing (Ok frame) s tags all =
       let input = Heard frame.control frame.address.role in
       let does = link_of_network now (id_of_address frame.address) input frame.info s in
-      chosen (carries_message frame) (message_heard config now (message_at frame.info) s) (or_discarded s does) (message (message_at frame.info) s all)
+      if_either Keeps (carries_message frame) (message_heard config now (message_at frame.info) s) (or_discarded s does) (message (message_at frame.info) s all)
       (otherwise_discarded s does all (linked now (id_of_address frame.address) input frame.info s tt tags all))
   hearing (Err fault) s tags all = faulty fault.kind fault.address s all
 
@@ -120,7 +112,7 @@ module _ (config : Config) (now : ℕ) where
   -- ---- Requests.
 
   to_group : (sapi : Sapi) (octets : List ℕ) (s : Network) → AreExact s → KeepsIfOk (unit_to_group sapi octets s)
-  to_group sapi octets s all = chosen_result (nat_lt n201 (length octets)) (Err (Link TooLong)) _ tt (record {
+  to_group sapi octets s all = if_either KeepsIfOk (nat_lt n201 (length octets)) (Err (Link TooLong)) _ tt (record {
     timers = all;
     frames = All-cons (CarriesTags side.Network) _ [] (spelled_carries_tags side.Network (group_frame sapi octets) tt) (All-nil (CarriesTags side.Network));
   })
@@ -130,7 +122,7 @@ module _ (config : Config) (now : ℕ) where
   network_asked (request.Establish id) s all = linked now id input.Establish [] s tt tt all
   network_asked (request.Release id) s all = linked now id input.Release [] s tt tt all
   network_asked (request.Unit id octets) s all =
-      chosen_result (is_served config id.sapi && (id.tei == group_tei)) (unit_to_group id.sapi octets.items s) (link_of_network now id (UnitData (length octets.items)) octets.items s)
+      if_either KeepsIfOk (is_served config id.sapi && (id.tei == group_tei)) (unit_to_group id.sapi octets.items s) (link_of_network now id (UnitData (length octets.items)) octets.items s)
       (to_group id.sapi octets.items s all) (linked now id (UnitData (length octets.items)) octets.items s tt tt all)
   network_asked (request.Give id message) s all = linked now id (input.Give message.items) [] s tt tt all
   network_asked (request.Busy id true) s all = linked now id input.BusyOn [] s tt tt all

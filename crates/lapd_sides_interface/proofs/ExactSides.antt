@@ -1,5 +1,5 @@
 -- Each deed of a side keeps its links' timers exact, and so does each run of one side, and of an interface.
-use Rattle.std.proofs.Common.{ℕ, zero, suc, Bool, true, false, if◌then◌else◌, List, [], ◌∷◌, ◌++◌, Option, Result, Ok, Err, refl}
+use Rattle.std.proofs.Common.{ℕ, zero, suc, List, [], ◌∷◌, ◌++◌, Option, Result, Ok, Err, refl}
 use Rattle.std.specs.Prelude.{IfOk}
 use Rattle.std.specs.List.{All, remove}
 use Rattle.std.proofs.lemmas.List.Elements.{All-nil, All-cons, All-append, All-head, All-tail, All-drop}
@@ -19,7 +19,7 @@ use Rattle.lapd_sides.specs.User.{User, new_user}
 use Rattle.lapd_sides_interface.specs.ExactTimers.{HaveExactTimers, AreOctets, Turn, BringsOctets, turned, turned_by_all, new_view}
 use Rattle.lapd_sides_interface.specs.Interface.{Configs, Interface, Move, user_behaviour, network_behaviour, new_interface, by_user, by_network, side_does, happens, run}
 use Rattle.lapd_sides_interface.specs.SideView.{Behaviour, SideView, Deed, Take, Lose, Expire, Ask, unmoved, takes_first, may_expire, or_unmoved, reaction, left, does}
-use Rattle.lapd_sides_interface.proofs.ExactLinks.{CarriesTags, octets_carry_tags, IsExact, quietly}
+use Rattle.lapd_sides_interface.proofs.ExactLinks.{if_either, CarriesTags, octets_carry_tags, IsExact, quietly}
 use Rattle.lapd_sides_interface.proofs.ExactNetwork.{network_taking, network_expiring, network_asked, new_network_exact}
 use Rattle.lapd_sides_interface.proofs.ExactUser.{user_taking, user_expiring, user_asked, new_user_exact}
 
@@ -68,10 +68,6 @@ module _ (S : Type 0) (w : Behaviour S) (side : Side) where
     first_taken now [] s tags all = nothing s all
     first_taken now (octets ∷ rest) s tags all = ways.takes now octets s (All-head (CarriesTags (other_side side)) octets rest tags) all
 
-    chosen : (test : Bool) (a b : Reaction S) → Keeps a → Keeps b → Keeps (if test then a else b)
-    chosen true a b first second = first
-    chosen false a b first second = second
-
     otherwise_unmoved : (s : S) (r : Result (Reaction S) SideKind) → AreExact s → IfOk r Keeps → Keeps (or_unmoved s r)
     otherwise_unmoved s (Ok a) all h = h
     otherwise_unmoved s (Err kind) all h = nothing s all
@@ -79,7 +75,7 @@ module _ (S : Type 0) (w : Behaviour S) (side : Side) where
     reacts : (deed : Deed) (v : SideView S) → All (CarriesTags (other_side side)) v.incoming → AreExact v.now → Keeps (reaction w deed v)
     reacts (Take now) v tags all = first_taken now v.incoming v.now tags all
     reacts (Lose at) v tags all = nothing v.now all
-    reacts (Expire timer of now) v tags all = chosen (may_expire timer of (w.served v.now)) (w.expires now timer of v.now) (unmoved v.now) (ways.expires now timer of v.now all) (nothing v.now all)
+    reacts (Expire timer of now) v tags all = if_either Keeps (may_expire timer of (w.served v.now)) (w.expires now timer of v.now) (unmoved v.now) (ways.expires now timer of v.now all) (nothing v.now all)
     reacts (Ask request now) v tags all = otherwise_unmoved v.now (w.requested request now v.now) all (ways.requested now request v.now all)
 
     pub deed_keeps : (deed : Deed) (v : SideView S) → IsExactView v → IsExactView (does w deed v)

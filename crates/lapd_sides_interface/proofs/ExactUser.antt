@@ -1,5 +1,5 @@
 -- A user side keeps its links' timers exact, whatever it takes, whichever timer expires, and whatever is asked for.
-use Rattle.std.proofs.Common.{ℕ, Bool, true, false, if◌then◌else◌, List, [], ◌∷◌, length, Option, Some, None, Result, Ok, Err, refl}
+use Rattle.std.proofs.Common.{ℕ, Bool, true, false, List, [], ◌∷◌, length, Option, Some, None, Result, Ok, Err, refl}
 use Rattle.std.specs.Prelude.{IfOk}
 use Rattle.std.proofs.lemmas.List.Elements.{All-append}
 use Rattle.rand_pcg.specs.Lcg.{Lcg}
@@ -39,7 +39,7 @@ use Rattle.lapd_sides.specs.declared.request.Request.TheVariants as request
 use Rattle.lapd_sides.specs.Management.{carries_message, manages}
 use Rattle.lapd_sides.specs.User.{User, new_user, nothing_kept, unmoved, discards, next, next_reference, drawn, among_links, link_of_user, or_discarded, or_unmoved, establishes, establishes_kept, gives_up_kept, kept_after, assigned, terminal_acts, message_heard, unit_from_group, for_layer_3, data_heard, fault_heard, heard, user_takes, user_expires, with_tei_or, is_kept, keeps, wants, forgets, user_requested}
 use Rattle.lapd_sides_interface.specs.ExactTimers.{HaveExactTimers}
-use Rattle.lapd_sides_interface.proofs.ExactLinks.{IsNoExpiry, CarriesTags, IsExact, IsExactAmong, quietly, acts_exactly, expires_exactly, no_link_is_exact, with_tei_exact, manages_exactly}
+use Rattle.lapd_sides_interface.proofs.ExactLinks.{if_either, IsNoExpiry, CarriesTags, IsExact, IsExactAmong, quietly, acts_exactly, expires_exactly, no_link_is_exact, with_tei_exact, manages_exactly}
 
 abbrev pub AreExact : User → Type 0
 AreExact s = HaveExactTimers s.served.links
@@ -55,14 +55,6 @@ nothing s all = quietly side.User s.served.links no_effects refl all
 
 discarding : (s : User) → AreExact s → Keeps (discards s)
 discarding s all = quietly side.User s.served.links no_effects refl all
-
-chosen : (test : Bool) (a b : Reaction User) → Keeps a → Keeps b → Keeps (if test then a else b)
-chosen true a b first second = first
-chosen false a b first second = second
-
-chosen_result : (test : Bool) (a b : Result (Reaction User) SideKind) → KeepsIfOk a → KeepsIfOk b → KeepsIfOk (if test then a else b)
-chosen_result true a b first second = first
-chosen_result false a b first second = second
 
 -- one step after another
 then_keeps : (a : Reaction User) (does : User → Reaction User) → Keeps a → ((s : User) → AreExact s → Keeps (does s)) → Keeps (next a does)
@@ -141,7 +133,7 @@ module _ (config : Config) (now : ℕ) where
       let id = of_sapi frame.address.sapi frame.address.tei in
       let input = Heard frame.control frame.address.role in
       let does = link_of_user now id input frame.info s in
-      chosen (for_layer_3 config frame) (unit_from_group frame.address.sapi frame.info s) (or_discarded s does)
+      if_either Keeps (for_layer_3 config frame) (unit_from_group frame.address.sapi frame.info s) (or_discarded s does)
       (quietly side.User s.served.links (unit_from_group frame.address.sapi frame.info s).effects refl all)
       (otherwise_discarded s does all (linked now id input frame.info s tt tags all))
 
@@ -153,7 +145,7 @@ module _ (config : Config) (now : ℕ) where
 
   hearing : (r : Result Fields FrameFault) (s : User) → IfOk r (λ f. IsControl f.control) → AreExact s → Keeps (heard config now r s)
   hearing (Ok frame) s tags all =
-      chosen (carries_message frame) (message_heard config now (message_at frame.info) s) (data_heard config now frame s) (message (message_at frame.info) s all) (data_hearing frame s tags all)
+      if_either Keeps (carries_message frame) (message_heard config now (message_at frame.info) s) (data_heard config now frame s) (message (message_at frame.info) s all) (data_hearing frame s tags all)
   hearing (Err fault) s tags all = faulty fault.kind fault.address s all
 
   pub user_taking : (octets : List ℕ) (s : User) → CarriesTags side.Network octets → AreExact s → Keeps (user_takes config octets now s)
@@ -178,10 +170,10 @@ module _ (config : Config) (now : ℕ) where
   with_own (Awaiting purpose count ri) at input octets otherwise s plain numbers all h = h
 
   wanting : (at : Sapi) (s : User) → AreExact s → KeepsIfOk (wants config now at s)
-  wanting at s all = chosen_result (is_served config at) (Ok (terminal_acts config now event.Want (record s { kept = keeps at true s.kept }))) (Err NoLink) (acting event.Want (record s { kept = keeps at true s.kept }) all) tt
+  wanting at s all = if_either KeepsIfOk (is_served config at) (Ok (terminal_acts config now event.Want (record s { kept = keeps at true s.kept }))) (Err NoLink) (acting event.Want (record s { kept = keeps at true s.kept }) all) tt
 
   forgetting : (at : Sapi) (s : User) → AreExact s → KeepsIfOk (forgets at s)
-  forgetting at s all = chosen_result (is_kept at s.kept) _ (Err NoLink) (quietly side.User s.served.links _ refl all) tt
+  forgetting at s all = if_either KeepsIfOk (is_kept at s.kept) _ (Err NoLink) (quietly side.User s.served.links _ refl all) tt
 
   pub user_asked : (asked : Request) (s : User) → AreExact s → KeepsIfOk (user_requested config asked now s)
   unfolding user_requested

@@ -3,10 +3,11 @@
 use Rattle.std.specs.Prelude.{◌≡◌, ℕ, ◌<◌, List, [], ◌∷◌, ◌++◌, Some, is_some}
 use Rattle.std.specs.List.{All}
 use Rattle.lapd_timers.specs.declared.timer.Timer.{Timer}
+use Rattle.lapd_timers.specs.declared.timer.Timer.TheVariants.{T200, T203}
 use Rattle.lapd_timers.specs.Due.{deadline_of}
 use Rattle.lapd_supervision.specs.StateVariables.{AreTags}
 use Rattle.lapd_link_rows.specs.End.{runs}
-use Rattle.lapd_link_rows.specs.RunningTimers.{HasTimersOfState}
+use Rattle.lapd_link_rows.specs.RunningTimers.{AreTimersOf, HasTimersOfState}
 use Rattle.lapd_table.specs.declared.link_id.LinkId.{LinkId}
 use Rattle.lapd_sides_links.specs.Links.{Linked, Links}
 use Rattle.lapd_sides_interface.specs.SideView.{Behaviour, SideView, Deed, does}
@@ -17,6 +18,12 @@ pub record HasExactTimers (l : Linked) : Type 0 where
   pub exact : (timer : Timer) → is_some (deadline_of timer l.timers) ≡ runs timer l.end
   pub of_state : HasTimersOfState l.end
   pub numbers : AreTags l.end.window
+
+-- So what runs goes by the state: T200 has a deadline in states 5, 6 and 8, and T203 none; in state 7 one of the two has, T203
+-- only where all is acknowledged; in state 4 neither.
+abbrev pub RunByState : Linked → Type 0
+RunByState l = AreTimersOf l.end.state (is_some (deadline_of T200 l.timers))
+    (is_some (deadline_of T203 l.timers)) (l.end.window.vs ≡ l.end.window.va)
 
 -- of all links that are there
 abbrev pub HaveExactTimers : Links → Type 0

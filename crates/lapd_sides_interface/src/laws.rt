@@ -14,7 +14,7 @@ ghost use Rattle.lapd_sides_links.specs.declared.running_timer.RunningTimer.{Run
 ghost use Rattle.lapd_sides_links.specs.declared.side_fault.SideFault.{SideFault};
 ghost use Rattle.lapd_sides_links.specs.Effects.{Effects};
 ghost use Rattle.lapd_sides_links.specs.Expiries.{IsDue};
-ghost use Rattle.lapd_sides_links.specs.Links.{new_linked, parameters_for};
+ghost use Rattle.lapd_sides_links.specs.Links.{Linked, new_linked, parameters_for};
 ghost use Rattle.lapd_sides.specs.declared.net_side.NetSide.{NetSide};
 ghost use Rattle.lapd_sides.specs.declared.request.Request.{Request};
 ghost use Rattle.lapd_sides.specs.declared.user_side.UserSide.{UserSide};
@@ -24,7 +24,7 @@ ghost use Rattle.lapd_sides.specs.ShowsUser as usr;
 ghost use Rattle.lapd_sides.specs.User.{User, new_user, got_for, user_takes, user_requested};
 ghost use Rattle.lapd_sides_interface.specs.Addressed.{those_for};
 ghost use Rattle.lapd_sides_interface.specs.Calls.{NetworkDoes, UserDoes, take_of};
-ghost use Rattle.lapd_sides_interface.specs.ExactTimers.{HaveExactTimers, AreOctets, BringsOctets, Turn, turned_by_all, new_view};
+ghost use Rattle.lapd_sides_interface.specs.ExactTimers.{HasExactTimers, HaveExactTimers, RunByState, AreOctets, BringsOctets, Turn, turned_by_all, new_view};
 ghost use Rattle.lapd_sides_interface.specs.Interface.{user_behaviour, network_behaviour, Configs, Move, Interface, new_interface, from_here, run};
 ghost use Rattle.lapd_sides_interface.specs.Premises.{AreTimely, GiveTeiOnce, KeepPremises, KeepPremisesAsMade};
 ghost use Rattle.lapd_sides_interface.specs.Projects.{IsRight, IsSafeAt};
@@ -182,6 +182,7 @@ pub fn timers_run_as_ends_say()
     ensures user_deed { (config : Config) (deed : Deed) (v : SideView User)
         → All AreOctets v.incoming → HaveExactTimers v.now.served.links
         → HaveExactTimers (does (user_behaviour config) deed v).now.served.links }
+    ensures by_state { (linked : Linked) → HasExactTimers linked → RunByState linked }
     ensures new_network { (config : Config) (known : List ℕ)
         → HaveExactTimers (new_network config known).served.links }
     ensures new_user { (config : Config) (fixed : Option ℕ) (random : Lcg)
