@@ -1,6 +1,6 @@
 -- Each timer of a link runs exactly where its end says so: over a step of the link, and among the links of a side. And of the
 -- frames that a side sends, N(S) and N(R) are tags.
-use Rattle.std.proofs.Common.{◌≡◌, ℕ, ◌+◌, ◌*◌, ◌<◌, ◌≤◌, Bool, true, false, if◌then◌else◌, List, [], ◌∷◌, ◌++◌, length, Option, Some, None, Result, Ok, Err, refl, sym, ap, subst, ◌∙◌, arith}
+use Rattle.std.proofs.Common.{◌≡◌, ℕ, ◌+◌, ◌*◌, ◌≤◌, Bool, true, false, if◌then◌else◌, List, [], ◌∷◌, ◌++◌, length, Option, Some, None, Result, Ok, Err, refl, sym, ap, subst, ◌∙◌, arith}
 use Rattle.std.specs.Prelude.{is_some, IfOk, ◌==◌}
 use Rattle.std.specs.List.{All, filter_map}
 use Rattle.std.proofs.lemmas.List.Elements.{All-nil, All-cons, All-head, All-tail}
@@ -47,7 +47,7 @@ use Rattle.lapd_sides_links.specs.declared.side_fault.SideKind.{SideKind}
 use Rattle.lapd_sides_links.specs.Effects.{Effects, sent_by, timed, timed_by, stopped, message_sent}
 use Rattle.lapd_sides_links.specs.Links.{Links, Linked, Reaction, Served, acted, link_acts, link_expires, in_place, where_there, in_links, with_link, new_linked, parameters_for, is_link_of, with_tei, without_tei}
 use Rattle.lapd_sides.specs.Management.{links_with, links_without, manages}
-use Rattle.lapd_sides_interface.specs.ExactTimers.{HasExactTimers, HaveExactTimers, RunByState, AreOctets}
+use Rattle.lapd_sides_interface.specs.ExactTimers.{HasExactTimers, HaveExactTimers, RunByState, IsOctet, AreOctets}
 use Rattle.lapd_sides_interface.proofs.Timed.{is_on}
 
 -- ---- A timer has a deadline exactly where it runs by the outputs.
@@ -171,17 +171,14 @@ pub spelled_carries_tags : (from : Side) (f : Fields) → IsControl f.control �
 spelled_carries_tags from f h = subst IsNumberedFrame (sym (parts_again from f)) (of_parts f.address f.control f.info (content_fault f.address.role f.control (length f.info)) h)
 
 -- numbers in octets have seven bits
-abbrev Small : ℕ → Type 0
-Small octet = octet < 256
-
 second_octet : (first nr : ℕ) (pf : Bool) (info : List ℕ) → AreOctets (first ∷ (nr * 2 + bit pf) ∷ info) → nr ≤ 127
 second_octet first nr pf info h =
-    let second : nr * 2 + bit pf < 256 = All-head Small (nr * 2 + bit pf) info (All-tail Small first ((nr * 2 + bit pf) ∷ info) h) in
+    let second : IsOctet (nr * 2 + bit pf) = All-head IsOctet (nr * 2 + bit pf) info (All-tail IsOctet first ((nr * 2 + bit pf) ∷ info) h) in
     omega (arith, second)
 
 in_octets : (control : Control) (info : List ℕ) → AreOctets (control_octets control ++ info) → IsControl control
 in_octets (I ns nr p) info h =
-    let first : ns * 2 < 256 = All-head Small (ns * 2) ((nr * 2 + bit p) ∷ info) h in
+    let first : IsOctet (ns * 2) = All-head IsOctet (ns * 2) ((nr * 2 + bit p) ∷ info) h in
     (omega (arith, first), second_octet (ns * 2) nr p info h)
 in_octets (Rr nr pf) info h = second_octet 0x01 nr pf info h
 in_octets (Rnr nr pf) info h = second_octet 0x05 nr pf info h
@@ -197,7 +194,7 @@ in_octets (Xid pf) info h = tt
 behind_address : (from : Side) (f : Fields) → AreOctets (spelling from f) → AreOctets (control_octets f.control ++ f.info)
 behind_address from f h =
     let rest = control_octets f.control ++ f.info in
-    All-tail Small (f.address.tei * 2 + 1) rest (All-tail Small (sapi_value f.address.sapi * 4 + command_bit from f.address.role * 2) ((f.address.tei * 2 + 1) ∷ rest) h)
+    All-tail IsOctet (f.address.tei * 2 + 1) rest (All-tail IsOctet (sapi_value f.address.sapi * 4 + command_bit from f.address.role * 2) ((f.address.tei * 2 + 1) ∷ rest) h)
 
 read_from_octets : (from : Side) (octets : List ℕ) (r : Result Fields FrameFault) → frame_at from octets ≡ r → AreOctets octets → IsNumberedFrame r
 read_from_octets from octets (Ok f) found h = in_octets f.control f.info (behind_address from f (subst AreOctets (spelling_found from octets f found) h))

@@ -16,7 +16,7 @@ use Rattle.lapd_sides_links.specs.Links.{Reaction}
 use Rattle.lapd_sides.specs.declared.request.Request.{Request}
 use Rattle.lapd_sides.specs.Network.{Network, new_network}
 use Rattle.lapd_sides.specs.User.{User, new_user}
-use Rattle.lapd_sides_interface.specs.ExactTimers.{HaveExactTimers, AreOctets, Turn, BringsOctets, turned, turned_by_all, new_view}
+use Rattle.lapd_sides_interface.specs.ExactTimers.{HaveExactTimers, BothHaveExactTimers, AreOctets, Turn, BringsOctets, turned, turned_by_all, new_view}
 use Rattle.lapd_sides_interface.specs.Interface.{Configs, Interface, Move, user_behaviour, network_behaviour, new_interface, by_user, by_network, side_does, happens, run}
 use Rattle.lapd_sides_interface.specs.SideView.{Behaviour, SideView, Deed, Take, Lose, Expire, Ask, unmoved, takes_first, may_expire, or_unmoved, reaction, left, does}
 use Rattle.lapd_sides_interface.proofs.ExactLinks.{if_either, CarriesTags, octets_carry_tags, IsExact, quietly}
@@ -148,11 +148,8 @@ module _ (c : Configs) where
     network = record { timers = new_network_exact c.network known; incoming = All-nil (CarriesTags side.User); outgoing = All-nil (CarriesTags side.Network) };
   }
 
-  abbrev AfterMoves : Option ℕ → Lcg → List ℕ → List Move → Interface
-  AfterMoves fixed random known moves = run c moves (new_interface (new_user c.user fixed random) (new_network c.network known))
-
   pub run_is_exact : (fixed : Option ℕ) (random : Lcg) (known : List ℕ) (moves : List Move)
-      → HaveExactTimers (AfterMoves fixed random known moves).user.served.links × HaveExactTimers (AfterMoves fixed random known moves).network.served.links
+      → BothHaveExactTimers (run c moves (new_interface (new_user c.user fixed random) (new_network c.network known)))
   run_is_exact fixed random known moves =
       let h = run_keeps moves (new_interface (new_user c.user fixed random) (new_network c.network known)) (made_is_exact fixed random known) in
       (h.user.timers, h.network.timers)

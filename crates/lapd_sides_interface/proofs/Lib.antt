@@ -21,3 +21,4 @@ pub mod ExactLinks
 pub mod ExactNetwork
 pub mod ExactUser
 pub mod ExactSides
+pub mod Woken

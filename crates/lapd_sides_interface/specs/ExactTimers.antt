@@ -1,6 +1,6 @@
 -- At every link of a side each timer runs exactly where the link's end says so. One that was missing would hang the link for
 -- ever.
-use Rattle.std.specs.Prelude.{◌≡◌, ℕ, ◌<◌, List, [], ◌∷◌, ◌++◌, Some, is_some}
+use Rattle.std.specs.Prelude.{◌≡◌, ◌⊎◌, ℕ, ◌<◌, ◌≤◌, List, [], ◌∷◌, ◌++◌, Option, Some, is_some}
 use Rattle.std.specs.List.{All}
 use Rattle.lapd_timers.specs.declared.timer.Timer.{Timer}
 use Rattle.lapd_timers.specs.declared.timer.Timer.TheVariants.{T200, T203}
@@ -10,6 +10,7 @@ use Rattle.lapd_link_rows.specs.End.{runs}
 use Rattle.lapd_link_rows.specs.RunningTimers.{AreTimersOf, HasTimersOfState}
 use Rattle.lapd_table.specs.declared.link_id.LinkId.{LinkId}
 use Rattle.lapd_sides_links.specs.Links.{Linked, Links}
+use Rattle.lapd_sides_interface.specs.Interface.{Interface}
 use Rattle.lapd_sides_interface.specs.SideView.{Behaviour, SideView, Deed, does}
 
 -- A timer has a deadline exactly where it runs at the link's end: T200 and T203 by its state, and T201 and T202 never. And
@@ -19,22 +20,42 @@ pub record HasExactTimers (l : Linked) : Type 0 where
   pub of_state : HasTimersOfState l.end
   pub numbers : AreTags l.end.window
 
--- So what runs goes by the state: T200 has a deadline in states 5, 6 and 8, and T203 none; in state 7 one of the two has, T203
--- only where all is acknowledged; in state 4 neither.
-abbrev pub RunByState : Linked → Type 0
-RunByState l = AreTimersOf l.end.state (is_some (deadline_of T200 l.timers))
-    (is_some (deadline_of T203 l.timers)) (l.end.window.vs ≡ l.end.window.va)
-
 -- of all links that are there
 abbrev pub HaveExactTimers : Links → Type 0
 HaveExactTimers links = (id : LinkId) (linked : Linked) → links id ≡ Some linked
     → HasExactTimers linked
 
+-- of both sides
+abbrev pub BothHaveExactTimers : Interface → Type 0
+BothHaveExactTimers i = HaveExactTimers i.user.served.links
+    × HaveExactTimers i.network.served.links
+
+-- ---- What it comes to.
+
+-- What runs goes by the state: T200 has a deadline in states 5, 6 and 8, and T203 none; in state 7 one of the two has, T203
+-- only where all is acknowledged; in state 4 neither.
+abbrev pub RunByState : Linked → Type 0
+RunByState l = AreTimersOf l.end.state (is_some (deadline_of T200 l.timers))
+    (is_some (deadline_of T203 l.timers)) (l.end.window.vs ≡ l.end.window.va)
+
+-- A link is woken in time: T200 or T203 of it has a deadline, and this is the next moment at which something is due on its side,
+-- no later than that deadline.
+pub record IsWoken (l : Linked) (next : Option ℕ) : Type 0 where
+  pub deadline : ℕ
+  pub its : (deadline_of T200 l.timers ≡ Some deadline)
+      ⊎ (deadline_of T203 l.timers ≡ Some deadline)
+  pub moment : ℕ
+  pub is_next : next ≡ Some moment
+  pub in_time : moment ≤ deadline
+
 -- ---- One side, whatever comes to it.
 
--- what comes has 8 bits, each
+-- eight bits
+abbrev pub IsOctet : ℕ → Type 0
+IsOctet octet = octet < 256
+
 abbrev pub AreOctets : List ℕ → Type 0
-AreOctets octets = All (λ octet. octet < 256) octets
+AreOctets octets = All IsOctet octets
 
 -- octets come, behind those that are on their way to the side, from anyone; and then it does something
 pub record Turn : Type 0 where

@@ -6,6 +6,7 @@ ghost use Rattle.std.specs.declared.alloc.Global.{Global};
 ghost use Rattle.rand_pcg.specs.Lcg.{Lcg};
 ghost use Rattle.lapd_frame.specs.declared.Side.TheVariants as side;
 ghost use Rattle.lapd_timers.specs.Durations.{Lengths};
+ghost use Rattle.lapd_link_rows.specs.declared.state.State.TheVariants.{TeiAssigned};
 ghost use Rattle.lapd_link_rows.specs.Parameters.{Parameters};
 ghost use Rattle.lapd_table.specs.declared.link_id.LinkId.{LinkId};
 ghost use Rattle.lapd_sides_links.specs.declared.config.Config.{Config};
@@ -13,8 +14,8 @@ ghost use Rattle.lapd_sides_links.specs.declared.primitive.What.TheVariants as w
 ghost use Rattle.lapd_sides_links.specs.declared.running_timer.RunningTimer.{RunningTimer};
 ghost use Rattle.lapd_sides_links.specs.declared.side_fault.SideFault.{SideFault};
 ghost use Rattle.lapd_sides_links.specs.Effects.{Effects};
-ghost use Rattle.lapd_sides_links.specs.Expiries.{IsDue};
-ghost use Rattle.lapd_sides_links.specs.Links.{Linked, new_linked, parameters_for};
+ghost use Rattle.lapd_sides_links.specs.Expiries.{IsDue, IsNextDeadline};
+ghost use Rattle.lapd_sides_links.specs.Links.{Linked, Served, new_linked, parameters_for};
 ghost use Rattle.lapd_sides.specs.declared.net_side.NetSide.{NetSide};
 ghost use Rattle.lapd_sides.specs.declared.request.Request.{Request};
 ghost use Rattle.lapd_sides.specs.declared.user_side.UserSide.{UserSide};
@@ -24,7 +25,7 @@ ghost use Rattle.lapd_sides.specs.ShowsUser as usr;
 ghost use Rattle.lapd_sides.specs.User.{User, new_user, got_for, user_takes, user_requested};
 ghost use Rattle.lapd_sides_interface.specs.Addressed.{those_for};
 ghost use Rattle.lapd_sides_interface.specs.Calls.{NetworkDoes, UserDoes, take_of};
-ghost use Rattle.lapd_sides_interface.specs.ExactTimers.{HasExactTimers, HaveExactTimers, RunByState, AreOctets, BringsOctets, Turn, turned_by_all, new_view};
+ghost use Rattle.lapd_sides_interface.specs.ExactTimers.{HasExactTimers, HaveExactTimers, BothHaveExactTimers, RunByState, IsWoken, AreOctets, BringsOctets, Turn, turned_by_all, new_view};
 ghost use Rattle.lapd_sides_interface.specs.Interface.{user_behaviour, network_behaviour, Configs, Move, Interface, new_interface, from_here, run};
 ghost use Rattle.lapd_sides_interface.specs.Premises.{AreTimely, GiveTeiOnce, KeepPremises, KeepPremisesAsMade};
 ghost use Rattle.lapd_sides_interface.specs.Projects.{IsRight, IsSafeAt};
@@ -167,26 +168,26 @@ pub fn each_premise_is_needed()
 {}
 
 /// At every link that a side comes to, each timer runs exactly where the link's end says so: T200 and T203 have a deadline where
-/// its state has them run and nowhere else, and T201 and T202 none. So no link waits for an answer with no timer that ends the
-/// wait, and none is idle unsupervised. It holds of all links at once, with no premise on any: links come and go with their TEI,
-/// which may be taken away and given again, and frames of other links, of earlier ones or of nobody may come (Q.921 5.9.1, 5.9.8,
-/// 5.10.3).
+/// its state has them run and nowhere else, and T201 and T202 have none. It holds of all links at once, with no premise on any:
+/// a TEI may be taken away and given again, and whatever octets may come (Q.921 5.9.1, 5.9.8, 5.10.3).
 ///
-/// `network_deed`, `user_deed`: each deed keeps it, from any side whose links have it, where what comes is octets. `new_network`,
-/// `new_user`: sides that are made have it. `network_turns`, `user_turns`: so a side has it, whatever octets come to it in
-/// between and whatever it does. `interface`: so both sides have it after every list of moves.
+/// `new_network`, `new_user`: sides as they are made have it. `network_deed`, `user_deed`: each deed keeps it, from any side
+/// whose links have it, where what is on its way to it is octets. `network_turns`, `user_turns`: so a side has it, whatever octets
+/// come to it in between and whatever it does. `interface`: so both sides have it after every list of moves.
+///
+/// What it comes to: `by_state`: which of T200 and T203 have a deadline goes by the state. `woken`: while a link is in any state
+/// but 4, its side has a next deadline, no later than the link's own; so nobody who sleeps until it sleeps for ever.
 pub fn timers_run_as_ends_say()
+    ensures new_network { (config : Config) (known : List ℕ)
+        → HaveExactTimers (new_network config known).served.links }
+    ensures new_user { (config : Config) (fixed : Option ℕ) (random : Lcg)
+        → HaveExactTimers (new_user config fixed random).served.links }
     ensures network_deed { (config : Config) (deed : Deed) (v : SideView Network)
         → All AreOctets v.incoming → HaveExactTimers v.now.served.links
         → HaveExactTimers (does (network_behaviour config) deed v).now.served.links }
     ensures user_deed { (config : Config) (deed : Deed) (v : SideView User)
         → All AreOctets v.incoming → HaveExactTimers v.now.served.links
         → HaveExactTimers (does (user_behaviour config) deed v).now.served.links }
-    ensures by_state { (linked : Linked) → HasExactTimers linked → RunByState linked }
-    ensures new_network { (config : Config) (known : List ℕ)
-        → HaveExactTimers (new_network config known).served.links }
-    ensures new_user { (config : Config) (fixed : Option ℕ) (random : Lcg)
-        → HaveExactTimers (new_user config fixed random).served.links }
     ensures network_turns { (config : Config) (known : List ℕ) (turns : List Turn)
         → All BringsOctets turns → HaveExactTimers (turned_by_all (network_behaviour config) turns
         (new_view (new_network config known))).now.served.links }
@@ -195,8 +196,10 @@ pub fn timers_run_as_ends_say()
         (new_view (new_user config fixed random))).now.served.links }
     ensures interface { (c : Configs) (fixed : Option ℕ) (random : Lcg) (known : List ℕ)
         (moves : List Move)
-        → HaveExactTimers (run c moves
-        (new_interface (new_user c.user fixed random) (new_network c.network known))).user.served.links
-        × HaveExactTimers (run c moves
-        (new_interface (new_user c.user fixed random) (new_network c.network known))).network.served.links }
+        → BothHaveExactTimers (run c moves
+        (new_interface (new_user c.user fixed random) (new_network c.network known))) }
+    ensures by_state { (linked : Linked) → HasExactTimers linked → RunByState linked }
+    ensures woken { (s : Served) (id : LinkId) (linked : Linked) (next : Option ℕ)
+        → HaveExactTimers s.links → s.links id ≡ Some linked
+        → (linked.end.state ≡ TeiAssigned → ⊥) → IsNextDeadline s next → IsWoken linked next }
 {}

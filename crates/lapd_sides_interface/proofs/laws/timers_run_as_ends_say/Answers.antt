@@ -6,6 +6,7 @@ use Rattle.lapd_sides_interface.proofs.ExactLinks.{runs_by_state}
 use Rattle.lapd_sides_interface.proofs.ExactNetwork.{new_network_exact}
 use Rattle.lapd_sides_interface.proofs.ExactSides.{deed_exact, of_network, of_user, network_turns_exact, user_turns_exact, run_is_exact}
 use Rattle.lapd_sides_interface.proofs.ExactUser.{new_user_exact}
+use Rattle.lapd_sides_interface.proofs.Woken.{link_is_woken}
 use Rattle.lapd_sides_interface.proofs.laws.timers_run_as_ends_say.Goals as goal
 
 pub returns : goal.returns
@@ -13,6 +14,7 @@ returns c = record {
   network_deed = λ config. deed_exact Network (network_behaviour config) side.Network (of_network config);
   user_deed = λ config. deed_exact User (user_behaviour config) side.User (of_user config);
   by_state = runs_by_state;
+  woken = link_is_woken;
   new_network = new_network_exact;
   new_user = new_user_exact;
   network_turns = network_turns_exact;
