@@ -110,7 +110,7 @@ static int sleep_until(uint64_t deadline)
 static void run(struct terminal *t)
 {
 	struct pollfd line;
-	uint64_t deadline;
+	uint64_t moment;
 	uint8_t expired;
 
 	line.fd = t->line;
@@ -120,8 +120,8 @@ static void run(struct terminal *t)
 			check(lapd_side_tick(&t->side, now(), &expired), "tick");
 			hand_on(t);
 		} while (expired);
-		check(lapd_side_deadline(&t->side, &deadline), "deadline");
-		if (poll(&line, 1, sleep_until(deadline)) > 0 && !receive(t))
+		check(lapd_side_quiet_until(&t->side, &moment), "quiet_until");
+		if (poll(&line, 1, sleep_until(moment)) > 0 && !receive(t))
 			return;
 	}
 }
