@@ -22,3 +22,5 @@ pub mod ExactNetwork
 pub mod ExactUser
 pub mod ExactSides
 pub mod Woken
+pub mod ManagementTimers
+pub mod ManagementSides

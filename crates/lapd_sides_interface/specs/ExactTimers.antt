@@ -38,15 +38,18 @@ abbrev pub RunByState : Linked → Type 0
 RunByState l = AreTimersOf l.end.state (is_some (deadline_of T200 l.timers))
     (is_some (deadline_of T203 l.timers)) (l.end.window.vs ≡ l.end.window.va)
 
--- A link is woken in time: T200 or T203 of it has a deadline, and this is the next moment at which something is due on its side,
--- no later than that deadline.
+-- the next moment at which something is due on a side, and it is no later than this deadline
+pub record ComesBy (deadline : ℕ) (next : Option ℕ) : Type 0 where
+  pub moment : ℕ
+  pub is_next : next ≡ Some moment
+  pub no_later : moment ≤ deadline
+
+-- a link is woken in time: T200 or T203 of it has a deadline, and something is due on its side no later
 pub record IsWoken (l : Linked) (next : Option ℕ) : Type 0 where
   pub deadline : ℕ
   pub its : (deadline_of T200 l.timers ≡ Some deadline)
       ⊎ (deadline_of T203 l.timers ≡ Some deadline)
-  pub moment : ℕ
-  pub is_next : next ≡ Some moment
-  pub in_time : moment ≤ deadline
+  pub in_time : ComesBy deadline next
 
 -- ---- One side, whatever comes to it.
 

@@ -5,5 +5,6 @@ pub mod Interface
 pub mod Premises
 pub mod Projects
 pub mod ExactTimers
+pub mod ManagementTimers
 pub mod Calls
 pub mod Schedule

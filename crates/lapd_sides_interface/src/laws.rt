@@ -1,11 +1,13 @@
 //! Laws of an interface. They do nothing when they are called.
 
-ghost use Rattle.std.specs.Prelude.{◌≡◌, ◌<◌, ◌≤◌, [], ◌∷◌, ℕ, List, Some, Option, Result, Vec, ⊤};
+ghost use Rattle.std.specs.Prelude.{◌≡◌, ◌<◌, ◌≤◌, [], ◌∷◌, ℕ, List, Some, Option, Result, Vec, ⊤, is_some, true};
 ghost use Rattle.std.specs.List.{All};
 ghost use Rattle.std.specs.declared.alloc.Global.{Global};
 ghost use Rattle.rand_pcg.specs.Lcg.{Lcg};
 ghost use Rattle.lapd_frame.specs.declared.Side.TheVariants as side;
+ghost use Rattle.lapd_timers.specs.declared.timer.Timer.TheVariants.{T201, T202};
 ghost use Rattle.lapd_timers.specs.Durations.{Lengths};
+ghost use Rattle.lapd_tei.specs.Terminal.{is_awaiting};
 ghost use Rattle.lapd_link_rows.specs.declared.state.State.TheVariants.{TeiAssigned};
 ghost use Rattle.lapd_link_rows.specs.Parameters.{Parameters};
 ghost use Rattle.lapd_table.specs.declared.link_id.LinkId.{LinkId};
@@ -27,6 +29,7 @@ ghost use Rattle.lapd_sides_interface.specs.Addressed.{those_for};
 ghost use Rattle.lapd_sides_interface.specs.Calls.{NetworkDoes, UserDoes, take_of};
 ghost use Rattle.lapd_sides_interface.specs.ExactTimers.{HasExactTimers, HaveExactTimers, BothHaveExactTimers, RunByState, IsWoken, AreOctets, BringsOctets, Turn, turned_by_all, new_view};
 ghost use Rattle.lapd_sides_interface.specs.Interface.{user_behaviour, network_behaviour, Configs, Move, Interface, new_interface, from_here, run};
+ghost use Rattle.lapd_sides_interface.specs.ManagementTimers.{HasTimerOfTerminal, HasTimerOfAssigner, HaveTimersOfManagement, IsAwaited};
 ghost use Rattle.lapd_sides_interface.specs.Premises.{AreTimely, GiveTeiOnce, KeepPremises, KeepPremisesAsMade};
 ghost use Rattle.lapd_sides_interface.specs.Projects.{IsRight, IsSafeAt};
 ghost use Rattle.lapd_sides_interface.specs.Schedule.{configs, call, packet, at_first, unassigned, IsMessage, both_links, assigned, removed, hasty, regained, with_old_frames, answered_before};
@@ -202,4 +205,34 @@ pub fn timers_run_as_ends_say()
     ensures woken { (s : Served) (id : LinkId) (linked : Linked) (next : Option ℕ)
         → HaveExactTimers s.links → s.links id ≡ Some linked
         → (linked.end.state ≡ TeiAssigned → ⊥) → IsNextDeadline s next → IsWoken linked next }
+{}
+
+/// The timer of TEI management runs exactly where its end waits for an answer: T202 of a user side while its terminal awaits a
+/// TEI, and T201 of a network side while a TEI is under check; no other timer of TEI management ever runs. So an establishment
+/// that is kept for a TEI does not wait for ever, nor does a check go on without end (Q.921 5.3.2, 5.3.3, 5.9.6, 5.9.7).
+///
+/// `new_user`, `new_network`: sides as they are made have it. `user_deed`, `network_deed`: each deed keeps it, whatever is on
+/// its way to the side. `interface`: so both sides have it after every list of moves. `terminal_is_woken`,
+/// `assigner_is_woken`: while one waits, its side has a next deadline, no later than the timer's.
+pub fn management_timers_run_while_it_waits()
+    ensures new_user { (config : Config) (fixed : Option ℕ) (random : Lcg)
+        → HasTimerOfTerminal (new_user config fixed random) }
+    ensures new_network { (config : Config) (known : List ℕ)
+        → HasTimerOfAssigner (new_network config known) }
+    ensures user_deed { (config : Config) (deed : Deed) (v : SideView User)
+        → HasTimerOfTerminal v.now
+        → HasTimerOfTerminal (does (user_behaviour config) deed v).now }
+    ensures network_deed { (config : Config) (deed : Deed) (v : SideView Network)
+        → HasTimerOfAssigner v.now
+        → HasTimerOfAssigner (does (network_behaviour config) deed v).now }
+    ensures interface { (c : Configs) (fixed : Option ℕ) (random : Lcg) (known : List ℕ)
+        (moves : List Move)
+        → HaveTimersOfManagement (run c moves
+        (new_interface (new_user c.user fixed random) (new_network c.network known))) }
+    ensures terminal_is_woken { (s : User) (next : Option ℕ) → HasTimerOfTerminal s
+        → is_awaiting s.terminal ≡ true → IsNextDeadline s.served next
+        → IsAwaited T202 s.served.timers next }
+    ensures assigner_is_woken { (s : Network) (next : Option ℕ) → HasTimerOfAssigner s
+        → is_some s.assigner.check ≡ true → IsNextDeadline s.served next
+        → IsAwaited T201 s.served.timers next }
 {}
