@@ -149,7 +149,8 @@ pub record MeetsInService (b : BusState) (events : List BusEvent) : Type 0 where
   pub keeping : LosesNone b events
 
 -- Three premises are not enough: a run of two terminals meets them, and both hold the same TEI after it.
-pub record AreNotEnough (P Q R : BusState → BusEvent → Type 0) (events : List BusEvent) : Type 0 where
+pub record AreNotEnough (P Q R : BusState → BusEvent → Type 0) (events : List BusEvent)
+    : Type 0 where
   pub first : Throughout P (in_service 2 []) events
   pub second : Throughout Q (in_service 2 []) events
   pub third : Throughout R (in_service 2 []) events

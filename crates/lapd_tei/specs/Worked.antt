@@ -85,9 +85,9 @@ reference_again = Join 1 (Some 64) ∷ Want 0 7 ∷ Move (HearUp 0) ∷ Move (He
 -- by 7, then by 8, the second by 7, and both get a TEI. Both give it up; the first asks by 7, and takes what was sent for the
 -- second.
 abbrev pub reference_on_its_way : List BusEvent
-reference_on_its_way = Move (Ask 0 7) ∷ Move (T202 0 8) ∷ Want 1 7 ∷ Move (HearUp 0) ∷ Move (HearUp 0)
-    ∷ Move (HearUp 0) ∷ Move (Hear 1 0 1) ∷ Move (Hear 0 1 2) ∷ Move (Leave 0) ∷ Move (Leave 1)
-    ∷ Move (Ask 0 7) ∷ Move (Hear 2 0 3) ∷ []
+reference_on_its_way = Move (Ask 0 7) ∷ Move (T202 0 8) ∷ Want 1 7 ∷ Move (HearUp 0)
+    ∷ Move (HearUp 0) ∷ Move (HearUp 0) ∷ Move (Hear 1 0 1) ∷ Move (Hear 0 1 2) ∷ Move (Leave 0)
+    ∷ Move (Leave 1) ∷ Move (Ask 0 7) ∷ Move (Hear 2 0 3) ∷ []
 
 -- the first terminal gets TEI 64 by the reference 1, and its assignment goes
 abbrev pub first_gets : List BusEvent → List BusEvent
