@@ -83,7 +83,7 @@ pub record Ticks (now expired : ℕ) (old new : HeldSide) (code : ℕ) : Type 0 
 
 -- ---- Calls that read.
 
--- the next moment at which something is due, and the last moment that there is where nothing ever is
+-- the next moment at which something is due; the last that there is where nothing ever is
 abbrev pub moment_or_last : Option ℕ → ℕ
 moment_or_last (Some moment) = moment
 moment_or_last None = 18446744073709551615
@@ -111,7 +111,8 @@ TellsLink told code None = (code ≡ code_of_kind NoLink) × (told ≡ no_state)
 TellsLink told code (Some link) =
     (code ≡ done) × ((e : End) → LinkStandsFor link e → told ≡ state_of e)
 
-pub record TellsState (id : LinkId) (told : LinkState) (old new : HeldSide) (code : ℕ) : Type 0 where
+pub record TellsState (id : LinkId) (told : LinkState) (old new : HeldSide) (code : ℕ) :
+    Type 0 where
   pub same : new ≡ old
   pub table : LinkTable
   pub has_table : HasTable old.side table

@@ -14,7 +14,7 @@ done = 0
 abbrev pub no_side : ℕ
 no_side = 1
 
--- what the last call gave is not all fetched
+-- so much waits to be fetched that no call may give more
 abbrev pub pending : ℕ
 pending = 2
 

@@ -19,7 +19,8 @@ abbrev pub owns : Global → Ptr → Held → Fml
 owns alloc null_ptr None = ftrue
 owns alloc null_ptr (Some x) = nothing_there
 owns alloc (block_ptr b o) None = nothing_there
-owns alloc (block_ptr b o) (Some x) = box_owns (ghosts.dealloc_token alloc) the_row (block_ptr b o) x
+owns alloc (block_ptr b o) (Some x) =
+    box_owns (ghosts.dealloc_token alloc) the_row (block_ptr b o) x
 
 abbrev pub held_coded : Coded Held
 held_coded = (option.the_row the_row).coded

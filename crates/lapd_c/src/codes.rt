@@ -11,7 +11,7 @@ pub(crate) const DONE: u32 = 0;
 /// The handle owns no side.
 pub(crate) const NO_SIDE: u32 = 1;
 
-/// What the last call gave is not all fetched.
+/// So much waits to be fetched that no call may give more.
 pub(crate) const PENDING: u32 = 2;
 
 /// A number is out of its range, or a buffer is too small.

@@ -1,9 +1,9 @@
 //! The data link for C: a side of an ISDN D channel interface (ITU-T Q.921) behind one opaque word.
 //!
 //! Each export calls that of a [`lapd_sides::EitherSide`] which it is named after, and states its clause again. A handle that
-//! owns no side, as a fresh or a freed one, is answered by code 1; the numbers are those of `codes`. What a call gives is
-//! fetched by [`lapd_side_frame`] and [`lapd_side_primitive`]; until it is, a call that could give more is answered by code
-//! 2, and changes nothing. `c/lapd.h` is the header, and docs/C.md says what a program keeps.
+//! owns no side, as a fresh or a freed one, is answered by code 1; the numbers are those of `codes`. What calls give waits, in
+//! order, until it is fetched by [`lapd_side_frame`] and [`lapd_side_primitive`]. `c/lapd.h` is the header, and docs/C.md says
+//! what a program keeps.
 #![tactic(auto)]
 
 ghost use Rattle.std.specs.Prelude.{◌≡◌, ◌==◌, Some, None, not};
