@@ -13,8 +13,8 @@ use Rattle.lapd_table.specs.declared.link_id.LinkId.{LinkId}
 use Rattle.lapd_table.specs.LinkId.{id_eq}
 use Rattle.lapd_table.proofs.Ids.{same_id_eq}
 use Rattle.lapd_sides_links.specs.Links.{Links, Linked, Reaction, in_links, link_acts}
+use Rattle.lapd_sides_interface.specs.Owed.{IsRequest, IsNoRequest}
 use Rattle.lapd_sides_interface.specs.Told.{given_to}
-use Rattle.lapd_sides_interface.proofs.Deeds.{IsRequest, IsNoRequest}
 use Rattle.lapd_sides_interface.proofs.LinkParts.{other_acts, own_granted, absent_refuses}
 
 -- ---- What each request of a link is in the world.

@@ -40,44 +40,10 @@ use Rattle.lapd_sides_interface.specs.Premises.{tells_removal, IsTimely, IsGiven
 use Rattle.lapd_sides_interface.specs.SideView.{Behaviour, Deed, Take, Lose, Expire, Ask, SideView, unmoved, takes_first, runs_on, or_unmoved, if_granted, accepted_by, reaction, does}
 use Rattle.lapd_sides_interface.specs.Projects.{IsTimed, HasLink, ShowsEnd, Projects}
 use Rattle.lapd_sides_interface.proofs.Frames.{told_frames, told_is_known}
-use Rattle.lapd_sides_interface.proofs.LinkParts.{PassesBy, IsStep, IsRemoval, Goes, now_there, passes_by_nothing, any_more, any_behind, learns_both, expected_both}
+use Rattle.lapd_sides_interface.specs.Owed.{PassesBy, IsStep, IsRemoval, Goes, IsRequest, IsNoRequest, ServesLink}
+use Rattle.lapd_sides_interface.proofs.LinkParts.{now_there, passes_by_nothing, any_more, any_behind, learns_both, expected_both}
 use Rattle.lapd_sides_interface.proofs.Lines.{where_lost, removed_spelled, IsFirst, first_of, no_poll, no_final}
 use Rattle.lapd_sides_interface.proofs.Timed.{Agree, is_on, timed_by_step, link_timed, timed_link, stopped_is_off, stopped_agrees}
-
--- ---- What is known of a kind of side.
-
--- an accepted request is nothing to a link, or a move of it
-pub record IsRequest (side : Side) (id : LinkId) (now : ℕ) (before after : Links) (effects : Effects) (given : List (LinkId × List ℕ)) : Type 0 where
-  pub deed : world.Deed
-  pub input : Input
-  pub octets : List ℕ
-  pub is_deed : (v : View) → acts Tagged side deed v ≡ takes Tagged input octets v
-  pub no_expiry : (timer : Timer) → input ≡ Expiry timer → ⊥
-  pub is_step : IsStep side id now input octets (λ t. t) before after effects
-  pub given_is : given_to id given ≡ messages_of input
-
-pub record IsNoRequest (side : Side) (id : LinkId) (now : ℕ) (fresh : Linked) (removed : Bool) (before after : Links) (effects : Effects) (given : List (LinkId × List ℕ)) : Type 0 where
-  pub goes : Goes side id now fresh removed before after effects
-  pub none_given : given_to id given ≡ []
-
--- Octets of other links, other timers and other requests are no step of the link, where its TEI is given once; its own are steps
--- of it, and octets that come where it is not there are discarded.
-pub record ServesLink {S : Type 0} (w : Behaviour S) (side : Side) (id : LinkId) (removed : Bool) : Type 0 where
-  pub takes_other : (octets : List ℕ) (now : ℕ) (s : S) → is_for (other_side side) id octets ≡ false → IsGivenOnce id (w.served s).links removed (w.takes octets now s).effects
-      → Goes side id now (w.fresh id) removed (w.served s).links (w.served (w.takes octets now s).after).links (w.takes octets now s).effects
-  pub takes_own : (frame : Flight) (now : ℕ) (s : S) (l : Linked) (d : StepState) → content_fault frame.role frame.control (length frame.info) ≡ None → (w.served s).links id ≡ Some l
-      → step Tagged (Heard frame.control frame.role) l.end ≡ Ok d
-      → IsStep side id now (Heard frame.control frame.role) frame.info (λ t. t) (w.served s).links (w.served (w.takes (spelled (other_side side) id frame) now s).after).links (w.takes (spelled (other_side side) id frame) now s).effects
-  pub takes_absent : (frame : Flight) (now : ℕ) (s : S) → content_fault frame.role frame.control (length frame.info) ≡ None → (w.served s).links id ≡ None
-      → PassesBy side id (w.served s).links (w.served (w.takes (spelled (other_side side) id frame) now s).after).links (w.takes (spelled (other_side side) id frame) now s).effects
-  pub expires_other : (now : ℕ) (timer : Timer) (of : Option LinkId) (s : S) → ((other : LinkId) → of ≡ Some other → id_eq id other ≡ false) → IsGivenOnce id (w.served s).links removed (w.expires now timer of s).effects
-      → Goes side id now (w.fresh id) removed (w.served s).links (w.served (w.expires now timer of s).after).links (w.expires now timer of s).effects
-  pub expires_own : (now : ℕ) (timer : Timer) (s : S) (l : Linked) (d : StepState) → (w.served s).links id ≡ Some l → step Tagged (Expiry timer) l.end ≡ Ok d
-      → IsStep side id now (Expiry timer) [] (stopped timer) (w.served s).links (w.served (w.expires now timer (Some id) s).after).links (w.expires now timer (Some id) s).effects
-  pub asked : (request : Request) (now : ℕ) (s : S) (a : Reaction S) → w.requested request now s ≡ Ok a → IsGivenOnce id (w.served s).links removed a.effects
-      → IsNoRequest side id now (w.fresh id) removed (w.served s).links (w.served a.after).links a.effects (accepted_by w request now s)
-      ⊎ IsRequest side id now (w.served s).links (w.served a.after).links a.effects (accepted_by w request now s)
-  pub fresh_is_timed : IsTimed (w.fresh id)
 
 same_linked : (a b : Linked) (o : Option Linked) → o ≡ Some a → o ≡ Some b → a ≡ b
 same_linked a b o p q = cc

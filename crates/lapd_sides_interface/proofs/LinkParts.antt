@@ -36,50 +36,9 @@ use Rattle.lapd_sides_links.specs.declared.side_fault.SideKind.TheVariants as ki
 use Rattle.lapd_sides_links.specs.Effects.{Effects, no_effects, sent_by, what_of, timed, stopped, effects_of_link, and_then}
 use Rattle.lapd_sides_links.specs.Links.{Links, Linked, Reaction, acted, link_acts, link_expires, in_place, where_there, in_links, with_link}
 use Rattle.lapd_sides_interface.specs.Addressed.{is_named, is_for, those_for}
+use Rattle.lapd_sides_interface.specs.Owed.{PassesBy, IsStep, IsComing, AreSilent, IsRemoval, Goes}
 use Rattle.lapd_sides_interface.specs.Premises.{tells_removal}
 use Rattle.lapd_sides_interface.specs.Told.{what_for, told_of, Known, learns, learns_all, AreExpectedWhats}
-
--- ---- What a deed of a side is to one of its links: nothing, or one step of it.
-
--- the link stays, none of the frames is its, and nothing is told of it
-pub record PassesBy (side : Side) (id : LinkId) (before now : Links) (effects : Effects) : Type 0 where
-  pub links : now id ≡ before id
-  pub frames : those_for side id effects.frames ≡ []
-  pub told : told_of id effects.primitives ≡ []
-
--- The link does a step of the table, and the frames for it and what is told of it are of that step. Its timers were changed
--- so before: left alone, or stopped where one has expired.
-pub record IsStep (side : Side) (id : LinkId) (at : ℕ) (input : Input) (octets : List ℕ) (change : Timers → Timers) (before now : Links) (effects : Effects) : Type 0 where
-  pub linked : Linked
-  pub was : before id ≡ Some linked
-  pub done : StepState
-  pub is : step Tagged input linked.end ≡ Ok done
-  pub links : now id ≡ Some (record { end = done.end; timers = timed at done.outs (change linked.timers) })
-  pub frames : those_for side id effects.frames ≡ filter_map (sent_by (setup_for side id) done.end octets) done.outs
-  pub told : told_of id effects.primitives ≡ filter_map (what_of octets) done.outs
-
--- The link comes, as it is new, where its TEI was not taken away before; and then it is left alone, or does the establishment
--- that was kept for it.
-pub record IsComing (side : Side) (id : LinkId) (at : ℕ) (fresh : Linked) (removed : Bool) (before now : Links) (effects : Effects) : Type 0 where
-  pub absent : before id ≡ None
-  pub not_removed : removed ≡ false
-  pub comes : PassesBy side id (with_link id (Some fresh) before) now effects ⊎ IsStep side id at Establish [] (λ t. t) (with_link id (Some fresh) before) now effects
-
--- what is told of a link that goes teaches nothing, and reports no error
-pub record AreSilent (whats : List What) : Type 0 where
-  pub teaches : (k : Known) → learns_all whats k ≡ k
-  pub expected : AreExpectedWhats whats
-
--- its TEI is taken away
-pub record IsRemoval (side : Side) (id : LinkId) (now : Links) (effects : Effects) : Type 0 where
-  pub gone : now id ≡ None
-  pub frames : those_for side id effects.frames ≡ []
-  pub told : AreSilent (told_of id effects.primitives)
-  pub tells : list_any (tells_removal id.tei) effects.primitives ≡ true
-
--- what is no step of a link that is there
-abbrev pub Goes : Side → LinkId → ℕ → Linked → Bool → Links → Links → Effects → Type 0
-Goes side id at fresh removed before now effects = PassesBy side id before now effects ⊎ (IsComing side id at fresh removed before now effects ⊎ IsRemoval side id now effects)
 
 -- ---- Lists of which all or none pass.
 

@@ -22,11 +22,12 @@ use Rattle.lapd_sides_links.specs.declared.primitive.What.TheVariants as what
 use Rattle.lapd_sides_links.specs.Effects.{message_sent, outcome_of}
 use Rattle.lapd_sides_links.specs.Links.{Links, Linked, Served, of_sapi, is_served, new_linked, parameters_for, with_tei, without_tei, release_at_removal, primitives_of, told_at_removal, told_of_tei, Reaction, with_link, is_link_of}
 use Rattle.lapd_sides.specs.Management.{links_with, links_without, told_without, manages}
+use Rattle.lapd_sides_interface.specs.Owed.{PassesBy, IsRemoval, AreSilent}
 use Rattle.lapd_sides_interface.specs.Addressed.{is_for}
 use Rattle.lapd_sides_interface.specs.Told.{what_for, told_of}
 use Rattle.lapd_sides_interface.specs.Premises.{tells_removal, tells_assignment, IsGivenOnce}
 use Rattle.lapd_sides_interface.specs.Interface.{fresh_link}
-use Rattle.lapd_sides_interface.proofs.LinkParts.{PassesBy, IsRemoval, AreSilent, none_pass, spelled_is_for, now_there, any_more, silent_both}
+use Rattle.lapd_sides_interface.proofs.LinkParts.{none_pass, spelled_is_for, now_there, any_more, silent_both}
 
 -- ---- Tests.
 

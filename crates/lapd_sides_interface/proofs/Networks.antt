@@ -37,14 +37,14 @@ use Rattle.lapd_sides.specs.Management.{carries_message, is_management, is_ui}
 use Rattle.lapd_sides.specs.Network.{Network, unmoved, assigner_acts, message_heard, with_links, among_links, link_of_network, or_discarded, or_unmoved, fault_heard, heard, network_takes, network_expires, group_frame, unit_to_group, network_requested}
 use Rattle.lapd_sides.specs.declared.request.Request.{Request}
 use Rattle.lapd_sides.specs.declared.request.Request.TheVariants as request
+use Rattle.lapd_sides_interface.specs.Owed.{PassesBy, IsStep, Goes, IsRequest, IsNoRequest, ServesLink}
 use Rattle.lapd_sides_interface.specs.Addressed.{is_named, is_for, parts_of, spelled}
 use Rattle.lapd_sides_interface.specs.Told.{given_to}
 use Rattle.lapd_sides_interface.specs.Premises.{IsGivenOnce}
 use Rattle.lapd_sides_interface.specs.Interface.{fresh_link, network_behaviour}
 use Rattle.lapd_sides_interface.specs.SideView.{if_granted, accepted_by}
 use Rattle.lapd_sides_interface.proofs.Asked.{IsWish, establish_wish, release_wish, busy_wish, free_wish, give_wish, unit_wish, granted_part, none_given, one_given}
-use Rattle.lapd_sides_interface.proofs.Deeds.{IsRequest, IsNoRequest, ServesLink}
-use Rattle.lapd_sides_interface.proofs.LinkParts.{PassesBy, IsStep, Goes, absent_refuses, spelled_is_for, other_acts, other_expires, own_is_step, own_acts, own_expires, passes_by_nothing}
+use Rattle.lapd_sides_interface.proofs.LinkParts.{absent_refuses, spelled_is_for, other_acts, other_expires, own_is_step, own_acts, own_expires, passes_by_nothing}
 use Rattle.lapd_sides_interface.proofs.Timed.{new_is_timed}
 use Rattle.lapd_sides_interface.proofs.Managed.{managing, and_not, not_of_group}
 

@@ -49,14 +49,14 @@ use Rattle.lapd_sides.specs.declared.request.Request.{Request}
 use Rattle.lapd_sides.specs.declared.request.Request.TheVariants as request
 use Rattle.lapd_sides.specs.Management.{carries_message, is_unit_to_group, is_management, is_ui, manages}
 use Rattle.lapd_sides.specs.User.{User, nothing_kept, unmoved, next_reference, drawn, with_links, among_links, link_of_user, or_discarded, or_unmoved, establishes, establishes_kept, told_of_sapi, gives_up_kept, kept_after, assigned, terminal_acts, message_heard, unit_from_group, for_layer_3, data_heard, fault_heard, heard, user_takes, user_expires, with_tei_or, is_kept, keeps, wants, forgets, user_requested}
+use Rattle.lapd_sides_interface.specs.Owed.{PassesBy, IsStep, Goes, IsRequest, IsNoRequest, ServesLink}
 use Rattle.lapd_sides_interface.specs.Addressed.{is_named, is_for, parts_of, spelled}
 use Rattle.lapd_sides_interface.specs.Interface.{fresh_link, user_behaviour, own_link}
 use Rattle.lapd_sides_interface.specs.SideView.{if_granted, accepted_by}
 use Rattle.lapd_sides_interface.specs.Told.{what_for, told_of, given_to}
 use Rattle.lapd_sides_interface.specs.Premises.{IsGivenOnce, tells_assignment}
 use Rattle.lapd_sides_interface.proofs.Asked.{IsWish, establish_wish, release_wish, busy_wish, free_wish, give_wish, unit_wish, granted_part, none_given, one_given}
-use Rattle.lapd_sides_interface.proofs.Deeds.{IsRequest, IsNoRequest, ServesLink}
-use Rattle.lapd_sides_interface.proofs.LinkParts.{PassesBy, IsStep, Goes, now_there, absent_refuses, absent_acts, own_granted, pass_then_step, step_then_pass, removal_then_pass, other_acts, other_expires, own_is_step, own_acts, own_expires, passes_by_nothing, passes_by_both}
+use Rattle.lapd_sides_interface.proofs.LinkParts.{now_there, absent_refuses, absent_acts, own_granted, pass_then_step, step_then_pass, removal_then_pass, other_acts, other_expires, own_is_step, own_acts, own_expires, passes_by_nothing, passes_by_both}
 use Rattle.lapd_sides_interface.proofs.Timed.{new_is_timed}
 use Rattle.lapd_sides_interface.proofs.Managed.{managing, outcomes_spare, and_not, neither, any_first, other_tei, not_of_group}
 

@@ -4,6 +4,7 @@ pub mod SideView
 pub mod Interface
 pub mod Premises
 pub mod Projects
+pub mod Owed
 pub mod ExactTimers
 pub mod ManagementTimers
 pub mod Calls

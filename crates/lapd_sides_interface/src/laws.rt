@@ -1,6 +1,6 @@
 //! Laws of an interface. They do nothing when they are called.
 
-ghost use Rattle.std.specs.Prelude.{◌≡◌, ◌<◌, ◌≤◌, [], ◌∷◌, ℕ, List, Some, Option, Result, Vec, ⊤, is_some, true};
+ghost use Rattle.std.specs.Prelude.{◌≡◌, ◌<◌, ◌≤◌, Bool, [], ◌∷◌, ℕ, List, Some, Option, Result, Vec, ⊤, is_some, true};
 ghost use Rattle.std.specs.List.{All};
 ghost use Rattle.std.specs.declared.alloc.Global.{Global};
 ghost use Rattle.rand_pcg.specs.Lcg.{Lcg};
@@ -30,6 +30,7 @@ ghost use Rattle.lapd_sides_interface.specs.Calls.{NetworkDoes, UserDoes, take_o
 ghost use Rattle.lapd_sides_interface.specs.ExactTimers.{HasExactTimers, HaveExactTimers, BothHaveExactTimers, RunByState, IsWoken, AreOctets, BringsOctets, Turn, turned_by_all, new_view};
 ghost use Rattle.lapd_sides_interface.specs.Interface.{user_behaviour, network_behaviour, Configs, Move, Interface, new_interface, from_here, run};
 ghost use Rattle.lapd_sides_interface.specs.ManagementTimers.{HasTimerOfTerminal, HasTimerOfAssigner, HaveTimersOfManagement, IsAwaited};
+ghost use Rattle.lapd_sides_interface.specs.Owed.{ServesLink};
 ghost use Rattle.lapd_sides_interface.specs.Premises.{AreTimely, GiveTeiOnce, KeepPremises, KeepPremisesAsMade};
 ghost use Rattle.lapd_sides_interface.specs.Projects.{IsRight, IsSafeAt};
 ghost use Rattle.lapd_sides_interface.specs.Schedule.{configs, call, packet, at_first, unassigned, IsMessage, both_links, assigned, removed, hasty, regained, with_old_frames, answered_before};
@@ -70,6 +71,16 @@ pub fn each_link_is_safe()
         → those_for side.Network id i.to_user ≡ [] → those_for side.User id i.to_network ≡ []
         → (moves : List Move) → KeepPremises c id moves (from_here i)
         → IsSafeAt c id (run c moves (from_here i)) }
+{}
+
+/// What a side owes each of its links. Octets for another link or for TEI management, another timer and another request leave
+/// the link and its timers as they are, send nothing for it and tell nothing of it, unless its TEI comes or goes; its own
+/// octets, timers and requests are steps of the state table, whose outputs go out in order and time its timers.
+pub fn each_link_gets_its_own()
+    ensures network { (config : Config) (id : LinkId) → id.tei < 127 → (removed : Bool)
+        → ServesLink (network_behaviour config) side.Network id removed }
+    ensures user { (config : Config) (id : LinkId) → id.tei < 127 → (removed : Bool)
+        → ServesLink (user_behaviour config) side.User id removed }
 {}
 
 /// The calls of a side in code are deeds, by their contracts: of whatever side was shown before, the side in code shows what

@@ -19,12 +19,13 @@
 //!   want.
 //! - `Projects`: what both sides show of the link, which may not be there yet or be there no more, is a world of two ends, which
 //!   some moves lead to (`ProjectsTo`); that world is safe, and what came of the link is right (`IsSafeAt`).
+//! - `Owed`: what each deed of a side is to one of its links (`ServesLink`).
 //! - `ExactTimers`, for all links and without premises: each timer of a link runs exactly where the link's end says so. A
 //!   `Turn` is a deed of one side alone, with octets that come from anyone before it. `ManagementTimers`: T201 and T202 run
 //!   exactly while TEI management waits.
 //! - `Calls`: what a call of a side in code is as a deed; `Schedule`: worked runs.
 //!
-//! [`each_link_is_safe`] says that after every run that keeps the premises of a link, that link is safe. [`calls_are_deeds`]
+//! [`each_link_gets_its_own`] says that a deed is nothing to a link, or one step of it. [`each_link_is_safe`] says that after every run that keeps the premises of a link, that link is safe. [`calls_are_deeds`]
 //! ties `take`, `tick` and `request` of both sides to deeds, by their contracts as they stand. [`schedule_is_computed`] shows
 //! that the premises can be met, and [`each_premise_is_needed`] that none can go. [`timers_run_as_ends_say`] says that no link is
 //! ever without the timer that it waits for, whatever comes and whatever is done, and
@@ -37,6 +38,6 @@
 mod laws;
 
 pub use laws::{
-    calls_are_deeds, each_link_is_safe, each_premise_is_needed,
+    calls_are_deeds, each_link_gets_its_own, each_link_is_safe, each_premise_is_needed,
     management_timers_run_while_it_waits, schedule_is_computed, timers_run_as_ends_say,
 };
