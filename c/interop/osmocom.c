@@ -1,0 +1,330 @@
+/* liblapd and Osmocom's LAPD in one process: a line in memory, and a clock for both that is moved by hand. `osmocom net` has our
+ * network side and Osmocom's user side, and `osmocom user` the other way round. It prints rows; the status is 1 where one says no. */
+#include "common.h"
+#include "osmocom_end.h"
+
+#include <stdio.h>
+#include <string.h>
+#include <time.h>
+
+#include <osmocom/core/timer.h>
+#include <osmocom/core/timer_compat.h>
+
+#define TEI 64
+#define ON_LINE 256
+#define MESSAGES 64
+#define OURS 0
+#define THEIRS 1
+
+static const uint8_t setup[] = { 0x08, 0x01, 0x01, 0x05, 0x04, 0x03, 0x80, 0x90, 0xa3, 0x18, 0x01, 0x89, 0x70, 0x04, 0x80,
+	                         0x32, 0x30, 0x30 };
+
+struct frame {
+	uint8_t octets[LAPD_MOST_FRAME];
+	size_t length;
+};
+
+/* What came to an end's layer 3, and what it sent. */
+struct end {
+	struct frame line[ON_LINE]; /* what it sent, not yet delivered */
+	int first, count;
+	int established, released, reports;
+	int received, in_order; /* messages; each begins with SETUP, and has its number behind */
+	int given;
+	int polls, answers, i_frames, rejects;
+	bool loses; /* its next I frame is lost */
+};
+
+static bool we_are_network;
+static uint8_t window;
+static lapd_side ours = LAPD_SIDE_INIT;
+static struct lapd_instance *theirs;
+static struct end ends[2];
+static uint64_t now;
+
+/* ---- Both ends. */
+
+static void sent(int from, const uint8_t *octets, size_t length)
+{
+	struct end *end = &ends[from];
+	bool network = (from == OURS) == we_are_network, is_lost = end->loses && is_i_frame(octets, length);
+	bool is_supervisory = length == 4 && (octets[2] & 3) == 1;
+
+	trace(octets, length, network, is_lost ? " (lost)" : "");
+	end->polls += is_poll(octets, length, network);
+	end->answers += is_supervisory && (octets[3] & 1) == 1 && !is_poll(octets, length, network);
+	end->rejects += is_supervisory && octets[2] == 9;
+	end->i_frames += is_i_frame(octets, length);
+	if (is_lost) {
+		end->loses = false;
+		return;
+	}
+	if (end->count == ON_LINE || length > LAPD_MOST_FRAME)
+		fail("the line is full");
+	memcpy(end->line[(end->first + end->count) % ON_LINE].octets, octets, length);
+	end->line[(end->first + end->count++) % ON_LINE].length = length;
+}
+
+static void received(int at, const uint8_t *octets, size_t length)
+{
+	struct end *end = &ends[at];
+	bool is_next = length == sizeof setup + 1 && memcmp(octets, setup, sizeof setup) == 0
+	    && octets[sizeof setup] == end->received;
+
+	end->in_order += is_next;
+	end->received++;
+}
+
+static void on_write(const uint8_t *frame, size_t length)
+{
+	sent(THEIRS, frame, length);
+}
+
+static void on_tell(enum osmo_dl_prim primitive, const uint8_t *octets, size_t length)
+{
+	ends[THEIRS].established += primitive == PRIM_DL_EST;
+	ends[THEIRS].released += primitive == PRIM_DL_REL;
+	ends[THEIRS].reports += primitive == PRIM_MDL_ERROR;
+	if (primitive == PRIM_DL_DATA)
+		received(THEIRS, octets, length);
+}
+
+static void fetch(void)
+{
+	uint8_t octets[LAPD_MOST_FRAME];
+	lapd_primitive told;
+	size_t length;
+
+	for (;;) {
+		check(lapd_side_frame(&ours, octets, sizeof octets, &length), "frame");
+		if (length == 0)
+			break;
+		sent(OURS, octets, length);
+	}
+	for (;;) {
+		check(lapd_side_primitive(&ours, &told, octets, sizeof octets), "primitive");
+		if (told.kind == LAPD_NOTHING)
+			return;
+		ends[OURS].established += told.kind == LAPD_ESTABLISH_IND || told.kind == LAPD_ESTABLISH_CONF;
+		ends[OURS].released += told.kind == LAPD_RELEASE_IND || told.kind == LAPD_RELEASE_CONF;
+		ends[OURS].reports += told.kind == LAPD_MDL_ERROR;
+		if (told.kind == LAPD_DATA_IND)
+			received(OURS, octets, told.octets);
+	}
+}
+
+static bool delivered(int from)
+{
+	struct end *end = &ends[from];
+	struct frame *frame = &end->line[end->first];
+
+	if (end->count == 0)
+		return false;
+	end->first = (end->first + 1) % ON_LINE;
+	end->count--;
+	if (from == OURS) {
+		osmocom_take(theirs, frame->octets, frame->length);
+	} else {
+		check(lapd_side_take(&ours, frame->octets, frame->length, now), "take");
+		fetch();
+	}
+	return true;
+}
+
+static void settle(void)
+{
+	fetch();
+	while (delivered(OURS) || delivered(THEIRS))
+		;
+}
+
+static void move_clock(uint64_t to)
+{
+	uint64_t by = to - now;
+
+	now = to;
+	osmo_gettimeofday_override_add((time_t)(by / 1000), (suseconds_t)(by % 1000 * 1000));
+	osmo_clock_override_add(CLOCK_MONOTONIC, (time_t)(by / 1000), (long)(by % 1000 * 1000000));
+}
+
+/* Goes on for so many milliseconds, from what is due to what is due next. */
+static void pass(uint64_t milliseconds)
+{
+	uint64_t end = now + milliseconds, next, due;
+	uint8_t expired;
+
+	while (now < end) {
+		settle();
+		check(lapd_side_deadline(&ours, &due), "deadline");
+		next = now + (uint64_t)osmocom_wait((int)(end - now));
+		next = due < next ? due : next;
+		move_clock(next > now ? next : now + 1);
+		do {
+			check(lapd_side_tick(&ours, now, &expired), "tick");
+			settle();
+		} while (expired);
+		osmocom_tick();
+	}
+	settle();
+}
+
+/* ---- What is tried. Each begins with two ends of its own, and the first three with no link. */
+
+static void begin_with(uint32_t our_t203, int their_t203)
+{
+	static const struct osmocom_calls calls = { on_write, on_tell };
+	lapd_settings settings = LAPD_BASIC;
+	const uint8_t tei = TEI;
+
+	memset(ends, 0, sizeof ends);
+	settings.k0 = window;
+	settings.t203 = our_t203;
+	if (we_are_network)
+		check(lapd_side_network(&ours, &settings, &tei, 1), "network");
+	else
+		check(lapd_side_user(&ours, &settings, tei), "user");
+	if (theirs != NULL)
+		lapd_instance_free(theirs);
+	theirs = osmocom_end(!we_are_network, TEI, window, their_t203, &calls);
+}
+
+/* A link, established by the user side. */
+static void begin(uint32_t our_t203, int their_t203)
+{
+	begin_with(our_t203, their_t203);
+	if (we_are_network)
+		lapd_sap_start(theirs, TEI, 0);
+	else
+		check(lapd_side_establish(&ours, 0, TEI, now), "establish");
+	settle();
+}
+
+static void give(int from)
+{
+	uint8_t message[sizeof setup + 1];
+
+	memcpy(message, setup, sizeof setup);
+	message[sizeof setup] = (uint8_t)ends[from].given++;
+	if (from == THEIRS)
+		osmocom_give(theirs, TEI, message, sizeof message);
+	else
+		check(lapd_side_give(&ours, 0, TEI, message, sizeof message, now), "give");
+	fetch();
+}
+
+/* All that `from` gave has come, once and in order. */
+static bool arrived(int from)
+{
+	const struct end *to = &ends[from == OURS ? THEIRS : OURS];
+
+	return to->received == ends[from].given && to->in_order == ends[from].given;
+}
+
+static bool is_up(void)
+{
+	lapd_link_state link;
+
+	check(lapd_side_state(&ours, 0, TEI, &link), "state");
+	return link.state == 7;
+}
+
+static void try_establishment(void)
+{
+	begin(10000, 10);
+	row("established by the user side", is_up() && ends[OURS].established == 1 && ends[THEIRS].established == 1, "");
+	check(lapd_side_release(&ours, 0, TEI, now), "release");
+	settle();
+	row("released by us", ends[OURS].released == 1 && ends[THEIRS].released == 1, "");
+	begin_with(10000, 10);
+	if (we_are_network)
+		check(lapd_side_establish(&ours, 0, TEI, now), "establish");
+	else
+		lapd_sap_start(theirs, TEI, 0);
+	pass(5000);
+	row("established by the network side", is_up() && ends[THEIRS].established == 1, "");
+}
+
+static void try_messages(void)
+{
+	int at;
+
+	begin(10000, 10);
+	give(OURS);
+	settle();
+	row("SETUP from us", arrived(OURS), "");
+	give(THEIRS);
+	settle();
+	row("SETUP from Osmocom", arrived(THEIRS), "");
+	for (at = 1; at < MESSAGES; at++) {
+		give(OURS);
+		give(THEIRS);
+	}
+	pass(100);
+	row("64 messages each way, given at once", arrived(OURS) && arrived(THEIRS), "%d and %d received", ends[THEIRS].received,
+	    ends[OURS].received);
+}
+
+static void try_loss(int from, const char *what)
+{
+	uint64_t began;
+	int at;
+
+	begin(10000, 10);
+	ends[from].loses = true;
+	for (at = 0; at < 3; at++)
+		give(from);
+	began = now;
+	while (!arrived(from) && now < began + 10000)
+		pass(10);
+	row(what, arrived(from) && ends[OURS].reports == 0, "%d REJ, %d polls, %d ms", ends[OURS].rejects + ends[THEIRS].rejects,
+	    ends[OURS].polls + ends[THEIRS].polls, (int)(now - began));
+}
+
+static void try_enquiries(int from, uint32_t our_t203, int their_t203, const char *what)
+{
+	struct end *poller = &ends[from], *other = &ends[from == OURS ? THEIRS : OURS];
+
+	begin(our_t203, their_t203);
+	pass(30500);
+	row(what, is_up() && poller->polls >= 9 && other->answers == poller->polls && ends[OURS].reports == 0,
+	    "%d polls, %d answers", poller->polls, other->answers);
+}
+
+/* Osmocom's end takes an RR for no end of an RNR, and so what it then sends is told, and not judged. */
+static void try_busy(void)
+{
+	int at;
+
+	begin(10000, 10);
+	check(lapd_side_busy(&ours, 0, TEI, 1, now), "busy");
+	settle();
+	for (at = 0; at < 3; at++)
+		give(THEIRS);
+	pass(20000);
+	row("we are busy for 20 s", is_up() && ends[OURS].received == 0 && ends[OURS].reports == 0, "%d I frames of Osmocom's",
+	    ends[THEIRS].i_frames);
+	check(lapd_side_busy(&ours, 0, TEI, 0, now), "busy");
+	pass(20000);
+	told("and then are busy no more", "%d of the 3 messages come", ends[OURS].received);
+}
+
+int main(int count, char **words)
+{
+	if (count != 3) {
+		fprintf(stderr, "usage: osmocom net|user WINDOW\n");
+		return 2;
+	}
+	we_are_network = strcmp(words[1], "net") == 0;
+	window = words[2][0] == '7' ? 7 : 1;
+	osmo_gettimeofday_override = true;
+	osmo_clock_override_enable(CLOCK_MONOTONIC, true);
+	try_establishment();
+	try_messages();
+	try_loss(OURS, "the first of 3 I frames of ours is lost");
+	try_loss(THEIRS, "the first of 3 I frames of Osmocom's is lost");
+	try_enquiries(OURS, 3000, 3600, "30 s of polls by our T203");
+	try_enquiries(THEIRS, 3600000, 3, "30 s of polls by Osmocom's T203");
+	try_busy();
+	lapd_side_free(&ours);
+	return rows_failed > 0;
+}

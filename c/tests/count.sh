@@ -1,0 +1,11 @@
+#!/bin/sh
+# count.sh COUNT: the instructions of each thing that the program COUNT does, from two runs, so that the start falls out.
+set -u
+counted() {
+	valgrind --tool=callgrind --callgrind-out-file="$(dirname "$1")/callgrind.$2" "$1" "$2" "$3" 2>&1 | awk '/Collected/ { print $4 }'
+}
+for what in message poll tick deadline deadline_of_254 quiet_until; do
+	less=$(counted "$1" $what 2000)
+	more=$(counted "$1" $what 4000)
+	echo "$what: $(((more - less) / 2000)) instructions"
+done
