@@ -4,20 +4,22 @@ use crate::connection;
 use crate::ending::Stop;
 use lapd_cli_commands::{answer, bus, decode, loop_over, pair};
 use lapd_cli_console::Script;
-use lapd_cli_options::{Job, Params};
-use lapd_cli_side_commands::{FromRead, FromWrite, Port, SideRun, net, user};
+use lapd_cli_decode::{LineForm, Style, decode_good_lines, decode_lines};
+use lapd_cli_options::{DecodeOptions, Interface, Job, LinkEnd, Params};
+use lapd_cli_script::ScriptFault;
+use lapd_cli_side_commands::{Config, FromRead, FromWrite, Port, SideRun, net, user};
 use std::io::{Read, Write};
 
 /// The command whose script this is.
 pub fn script_of(job: &Job) -> Script {
     match job {
-        Job::Answer { .. } => Script::Answer,
+        Job::Answer(_) => Script::Answer,
         Job::Bus { .. } => Script::Bus,
         Job::Pair { .. } => Script::Pair,
         Job::Loop { .. } => Script::Loop,
-        Job::Net => Script::Net,
-        Job::User => Script::User,
-        Job::Decode => Script::Decode,
+        Job::Net(_) => Script::Net,
+        Job::User(_) => Script::User,
+        Job::Decode(_) => Script::Decode,
     }
 }
 
@@ -34,15 +36,66 @@ pub fn do_job<R: Read, W: Write>(
     out: &mut W,
 ) -> Result<(), Stop> {
     let ended = match job {
-        Job::Answer { side, params } => answer(rt.alloc(), script, out, side, params),
+        Job::Answer(end) => do_answer(rt, script, out, end),
         Job::Bus { terminals } => bus(rt.alloc(), script, out, terminals),
         Job::Pair { user, network } => pair(rt.alloc(), script, out, user, network),
         Job::Loop { user, network } => return do_loop(rt, script, out, user, network),
-        Job::Net => return do_net(rt, script, out, address),
-        Job::User => return do_user(rt, script, out, address),
-        Job::Decode => decode(rt.alloc(), script, out),
+        Job::Net(interface) => return do_net(rt, script, out, address, &interface),
+        Job::User(interface) => return do_user(rt, script, out, address, &interface),
+        Job::Decode(options) => do_decode(rt, script, out, options),
     };
     ended.map_err(Stop::Script)
+}
+
+// Does a script of this end of a link.
+fn do_answer<R: Read, W: Write>(
+    rt: &HostRuntime,
+    script: &mut R,
+    out: &mut W,
+    end: LinkEnd,
+) -> Result<(), ScriptFault> {
+    let LinkEnd {
+        side,
+        sapi,
+        tei,
+        params,
+    } = end;
+    answer(rt.alloc(), script, out, side, sapi, tei, params)
+}
+
+// Does a script of lines that tell octets.
+fn do_decode<R: Read, W: Write>(
+    rt: &HostRuntime,
+    script: &mut R,
+    out: &mut W,
+    options: DecodeOptions,
+) -> Result<(), ScriptFault> {
+    let (form, style) = (form_of(options), style_of(options));
+    if options.keep_going {
+        return decode_good_lines(rt.alloc(), script, out, form, style, rt.stderr());
+    }
+    match (form, style) {
+        (LineForm::Strict, Style::Plain) => decode(rt.alloc(), script, out),
+        _ => decode_lines(rt.alloc(), script, out, form, style),
+    }
+}
+
+// The form of the lines that `decode` takes.
+fn form_of(options: DecodeOptions) -> LineForm {
+    if options.loose {
+        LineForm::Loose(options.sender)
+    } else {
+        LineForm::Strict
+    }
+}
+
+/// How `decode` prints a frame.
+pub fn style_of(options: DecodeOptions) -> Style {
+    if options.names {
+        Style::Named
+    } else {
+        Style::Plain
+    }
 }
 
 // Does a script of two ends, whose frames cross a connection of the process to itself.
@@ -65,10 +118,18 @@ fn do_net<R: Read, W: Write>(
     script: &mut R,
     out: &mut W,
     listen: &str,
+    interface: &Interface,
 ) -> Result<(), Stop> {
     let stream = connection::accepted(rt, listen).map_err(Stop::NoConnection)?;
     let port = Port::new(FromRead::new(&stream), FromWrite::new(&stream));
-    let SideRun { ended, .. } = net(rt.alloc(), script, out, port);
+    let SideRun { ended, .. } = net(
+        rt.alloc(),
+        script,
+        out,
+        port,
+        config_of(interface),
+        interface.teis.as_slice(),
+    );
     connection::tell_closed(rt, &stream);
     ended.map_err(Stop::Script)
 }
@@ -79,10 +140,29 @@ fn do_user<R: Read, W: Write>(
     script: &mut R,
     out: &mut W,
     connect: &str,
+    interface: &Interface,
 ) -> Result<(), Stop> {
     let stream = connection::made(rt, connect).map_err(Stop::NoConnection)?;
     let port = Port::new(FromRead::new(&stream), FromWrite::new(&stream));
-    let SideRun { ended, .. } = user(rt.alloc(), script, out, port);
+    let SideRun { ended, .. } = user(
+        rt.alloc(),
+        script,
+        out,
+        port,
+        config_of(interface),
+        interface.fixed(),
+    );
     connection::tell_closed(rt, &stream);
     ended.map_err(Stop::Script)
+}
+
+// What a side of this interface is made with.
+fn config_of(interface: &Interface) -> Config {
+    Config {
+        sapi16: interface.sapi16,
+        params0: interface.params0,
+        params16: interface.params16,
+        durations: interface.durations,
+        seed: interface.seed,
+    }
 }

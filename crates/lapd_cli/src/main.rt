@@ -8,12 +8,14 @@
 //! in `lapd_cli_console`.
 #![tactic(auto)]
 
+mod capture;
 mod connection;
 mod ending;
 mod greeting;
 mod job;
 mod reason;
 
+use capture::do_capture;
 use ending::{Ending, Stop, say_ending, say_memory, say_no_invocation, say_words_fault};
 use greeting::Greeting;
 use job::{do_job, script_of};
@@ -33,21 +35,33 @@ fn main(rt: HostRuntime) -> ExitCode {
             Invocation {
                 job,
                 address,
+                pcap,
                 strict,
             },
-        ) => do_invocation(&rt, job, address.unwrap_or(""), strict),
+        ) => match (job, pcap) {
+            (Job::Decode(options), Some(file)) => do_capture(&rt, file, options),
+            (job, _) => do_invocation(&rt, job, address.unwrap_or(""), strict),
+        },
         Err(unchosen) => say_no_invocation(&rt, &unchosen),
     }
 }
 
 // Does what the words chose, over standard input and output. At a terminal a bad line is told, and the next one awaited.
 fn do_invocation(rt: &HostRuntime, job: Job, address: &str, strict: bool) -> ExitCode {
-    if rt.stdin().is_terminal() {
+    if rt.stdin().is_terminal() && !is_loose(&job) {
         let session = Session::new(rt.alloc(), script_of(&job), rt.reader(), rt.stderr());
         let lines = Greeting::new(session, rt.stderr());
         do_script(rt, job, address, strict, lines)
     } else {
         do_script(rt, job, address, strict, rt.stdin())
+    }
+}
+
+// Whether lines are taken whose form a session at a terminal does not know.
+fn is_loose(job: &Job) -> bool {
+    match job {
+        Job::Decode(options) => options.loose,
+        _ => false,
     }
 }
 

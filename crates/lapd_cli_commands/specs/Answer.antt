@@ -3,7 +3,7 @@ use Rattle.std.specs.Prelude.{◌≡◌, ℕ, List, [], ◌∷◌, ◌++◌, dro
 use Rattle.std.specs.Fmt.{decimal}
 use Rattle.std.specs.Str.{bytes_eq}
 use Rattle.lapd_frame.specs.declared.Side.{Side}
-use Rattle.lapd_frame.specs.declared.Sapi.TheVariants.{Call}
+use Rattle.lapd_frame.specs.declared.Sapi.{Sapi}
 use Rattle.lapd_frame.specs.declared.Address.{Address}
 use Rattle.lapd_frame.specs.declared.fault_kind.FaultKind.{FaultKind}
 use Rattle.lapd_frame.specs.declared.frame_fault.FrameFault.{FrameFault}
@@ -30,10 +30,10 @@ pub record Session : Type 0 where
   pub setup : Setup
   pub end : End
 
--- the link of `answer` has SAPI 0 and TEI 64
-abbrev pub new_session : Side → Parameters → Session
-new_session from parameters = record {
-  setup = record { side = from; sapi = Call; tei = 64 };
+-- a new link of this side, SAPI and TEI
+abbrev pub new_session : Side → Sapi → ℕ → Parameters → Session
+new_session from sapi tei parameters = record {
+  setup = record { side = from; sapi = sapi; tei = tei };
   end = new_end parameters;
 }
 

@@ -1,6 +1,6 @@
 //! The command `answer`: one link that answers a script.
 
-ghost use Rattle.std.specs.Prelude.{◌≡◌, ◌≤◌, ◌&&◌, [], length, true, IfOk, IfSome, IsOkUnless, OnOk, Some};
+ghost use Rattle.std.specs.Prelude.{◌≡◌, ◌≢◌, ◌<◌, ◌≤◌, ◌&&◌, [], length, true, IfOk, IfSome, IsOkUnless, OnOk, Some};
 ghost use Rattle.std.specs.Io.KnownBytes.{Appends};
 ghost use Rattle.lapd_cli_commands.specs.Answer.{answer_step, new_session};
 ghost use Rattle.lapd_cli_script.specs.Script.{EndsAs, LineEndsAs, lines_of};
@@ -21,8 +21,8 @@ pub struct Answerer {
     outs: Outs,
 }
 
-/// Goes over a script as one link of SAPI 0 and TEI 64 on this side, made with these parameters, and writes what the
-/// script calls for: a line for each output of each step, or of why there was none.
+/// Goes over a script as this side's end of the link of `sapi` (not management) and `tei` (not the group TEI), made with these
+/// parameters, and writes what the script calls for: a line for each output of each step, or of why there was none.
 ///
 /// # Errors
 ///
@@ -32,13 +32,17 @@ pub fn answer<R: Read, W: Write>(
     script: &mut R,
     out: &mut W,
     side: Side,
+    sapi: Sapi,
+    tei: Tei,
     params: Params,
 ) -> Result<(), ScriptFault>
+    requires sapi { sapi ≢ Sapi.Management }
+    requires tei { tei < 127 }
     ensures { IfSome (R.remaining script.old)
-        (λ octets. EndsAs answer_step (new_session side params) result
+        (λ octets. EndsAs answer_step (new_session side sapi tei params) result
         (lines_of octets) (W.contents out.old) (W.contents out.new)) }
 {
-    let mut answerer = match Answerer::new(alloc, side, params) {
+    let mut answerer = match Answerer::of_link(alloc, side, sapi, tei, params) {
         Ok(answerer) => answerer,
         Err(_) => return Err(ScriptFault::Memory),
     };
@@ -56,10 +60,29 @@ impl Answerer {
     ///
     /// `AllocError` where the memory of its I queue was refused.
     pub fn new(alloc: Global, side: Side, params: Params) -> Result<Answerer, AllocError>
-        ensures { IfOk result (λ answerer. IsAnswerer answerer (new_session side params)) }
+        ensures { IfOk result (λ answerer. IsAnswerer answerer
+            (new_session side Sapi.Call 64 params)) }
     {
-        let tei = Tei::new(64).unwrap();
-        let link = Link::new(alloc, side, Sapi::Call, tei, params)?;
+        Answerer::of_link(alloc, side, Sapi::Call, Tei::new(64).unwrap(), params)
+    }
+
+    /// This side's end of a new link of `sapi` (not management) and `tei` (not the group TEI), made with these parameters.
+    ///
+    /// # Errors
+    ///
+    /// `AllocError` where the memory of its I queue was refused.
+    pub fn of_link(
+        alloc: Global,
+        side: Side,
+        sapi: Sapi,
+        tei: Tei,
+        params: Params,
+    ) -> Result<Answerer, AllocError>
+        requires sapi { sapi ≢ Sapi.Management }
+        requires tei { tei < 127 }
+        ensures { IfOk result (λ answerer. IsAnswerer answerer (new_session side sapi tei params)) }
+    {
+        let link = Link::new(alloc, side, sapi, tei, params)?;
         let outs = Outs::new();
         Ok(Answerer { alloc, link, outs })
     }

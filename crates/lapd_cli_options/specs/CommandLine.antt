@@ -1,7 +1,31 @@
 -- What the words of the command line choose.
+use Rattle.std.specs.Prelude.{◌≡◌, false, None}
+use Rattle.lapd_frame.specs.declared.Side.TheVariants.{Network}
+use Rattle.lapd_frame.specs.declared.Sapi.TheVariants.{Call}
 use Rattle.lapd_link_rows.specs.declared.recovery.Recovery.TheVariants.{Enquiry}
 use Rattle.lapd_link_rows.specs.Parameters.{Parameters}
+use Rattle.lapd_cli_values.specs.declared.link_end.LinkEnd.{LinkEnd}
+use Rattle.lapd_cli_options.specs.declared.invocation.Invocation.{Invocation}
+use Rattle.lapd_cli_options.specs.declared.invocation.Job.{Job}
+use Rattle.lapd_cli_options.specs.declared.invocation.Job.TheVariants.{Answer}
 
 -- the window of basic access for call control, its N200, and room for 512 messages
 abbrev pub default_parameters : Parameters
 default_parameters = record { k = 1; n200 = 3; room = 512; recovery = Enquiry }
+
+-- with no word: the network side of the link with SAPI 0 and TEI 64
+pub record IsDefaultEnd (end : LinkEnd) : Type 0 where
+  pub side : end.side ≡ Network
+  pub sapi : end.sapi ≡ Call
+  pub tei : end.tei ≡ 64
+  pub params : end.params ≡ default_parameters
+
+abbrev pub IsDefaultJob : Job → Type 0
+IsDefaultJob (Answer end) = IsDefaultEnd end
+IsDefaultJob job = ⊥
+
+pub record IsDefault (chosen : Invocation) : Type 0 where
+  pub job : IsDefaultJob chosen.job
+  pub address : chosen.address ≡ None
+  pub pcap : chosen.pcap ≡ None
+  pub strict : chosen.strict ≡ false

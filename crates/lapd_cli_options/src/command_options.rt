@@ -1,33 +1,44 @@
 //! What the options of a command choose, as the parser found them.
 
-use crate::invocation::Job;
+ghost use Rattle.std.specs.Prelude.{◌<◌, ◌≢◌, IfOk};
+ghost use Rattle.lapd_frame.specs.declared.Sapi.TheVariants.{Management};
+
+use crate::invocation::{DecodeOptions, Job};
 use crate::no_invocation::NoInvocation;
 use clap::ArgMatches;
 use lapd_cli_values::{
-    AddressOption, CONNECT, K, LISTEN, N200, NumberOption, OutOfRange, Params, ROOM, Recovery,
-    Side, TERMINALS, params_written, terminals_written,
+    AddressOption, CONNECT, Interface, InterfaceOptions, K, KNOWN_TEI, LINK_TEI, LINKS_K, LISTEN,
+    LinkEnd, N200, NumberOption, OutOfRange, Params, ROOM, Recovery, SEED, Sapi, Side, T200, T201,
+    T202, T203, TERMINALS, Tei, interface_written, params_written, tei_written, terminals_written,
 };
+use std::alloc::Global;
 
 /// What the command of this name chooses, with its options.
-pub(crate) fn job_of<'a>(name: &str, given: &ArgMatches<'a>) -> Result<Job, NoInvocation<'a>> {
+pub(crate) fn job_of<'a>(
+    alloc: Global,
+    name: &str,
+    given: &ArgMatches<'a>,
+) -> Result<Job, NoInvocation<'a>> {
     match name {
         "answer" => answer_of(given),
         "bus" => bus_of(given),
         "pair" => pair_of(given),
         "loop" => loop_of(given),
-        "net" => Ok(Job::Net),
-        "user" => Ok(Job::User),
-        _ => Ok(Job::Decode),
+        "net" => Ok(Job::Net(interface_of(alloc, given)?)),
+        "user" => Ok(Job::User(interface_of(alloc, given)?)),
+        _ => Ok(Job::Decode(decode_of(given))),
     }
 }
 
 fn answer_of<'a>(given: &ArgMatches<'a>) -> Result<Job, NoInvocation<'a>> {
-    match params_of(given) {
-        Ok(params) => Ok(Job::Answer {
-            side: side_of(given),
+    match (params_of(given), link_tei_of(given)) {
+        (Ok(params), Ok(tei)) => Ok(Job::Answer(LinkEnd {
+            side: side_named(given, "side"),
+            sapi: sapi_of(given),
+            tei,
             params: params.with_recovery(recovery_of(given, "recovery")),
-        }),
-        Err(fault) => Err(NoInvocation::OutOfRange(fault)),
+        })),
+        (Err(fault), _) | (_, Err(fault)) => Err(NoInvocation::OutOfRange(fault)),
     }
 }
 
@@ -44,6 +55,23 @@ fn pair_of<'a>(given: &ArgMatches<'a>) -> Result<Job, NoInvocation<'a>> {
 fn loop_of<'a>(given: &ArgMatches<'a>) -> Result<Job, NoInvocation<'a>> {
     let (user, network) = ends_of(given)?;
     Ok(Job::Loop { user, network })
+}
+
+fn decode_of(given: &ArgMatches<'_>) -> DecodeOptions {
+    DecodeOptions {
+        loose: given.get_flag("loose"),
+        sender: side_named(given, "sender"),
+        names: given.get_flag("names"),
+        keep_going: given.get_flag("keep-going"),
+    }
+}
+
+/// The file that was written for the command of this name, where it takes one.
+pub(crate) fn pcap_of<'a>(name: &str, given: &ArgMatches<'a>) -> Option<&'a str> {
+    match name {
+        "decode" => given.get_str("pcap"),
+        _ => None,
+    }
 }
 
 // What the user side and the network side of `pair` or `loop` are made with.
@@ -63,6 +91,45 @@ fn params_of<'a>(given: &ArgMatches<'a>) -> Result<Params, OutOfRange<'a>> {
         number_of(given, N200),
         number_of(given, ROOM),
     )
+}
+
+// The TEI of the link of `answer`.
+fn link_tei_of<'a>(given: &ArgMatches<'a>) -> Result<Tei, OutOfRange<'a>>
+    ensures { IfOk result (λ tei. tei < 127) }
+{
+    tei_written(LINK_TEI, number_of(given, LINK_TEI))
+}
+
+// The SAPI of the link of `answer`.
+fn sapi_of(given: &ArgMatches<'_>) -> Sapi
+    ensures { result ≢ Management }
+{
+    match given.get_str("sapi") {
+        Some("16") => Sapi::Packet,
+        _ => Sapi::Call,
+    }
+}
+
+// What `net` or `user` is made with.
+fn interface_of<'a>(alloc: Global, given: &ArgMatches<'a>) -> Result<Interface, NoInvocation<'a>> {
+    let options = InterfaceOptions {
+        pri: given.get_flag("pri"),
+        sapi16: given.get_flag("sapi16"),
+        k: given.get_str(LINKS_K.name),
+        n200: number_of(given, N200),
+        room: number_of(given, ROOM),
+        recovery: recovery_of(given, "recovery"),
+        t200: number_of(given, T200),
+        t201: number_of(given, T201),
+        t202: number_of(given, T202),
+        t203: number_of(given, T203),
+        seed: number_of(given, SEED),
+    };
+    let teis = given.get_strs(KNOWN_TEI.name).unwrap_or(&[]);
+    match interface_written(alloc, &options, teis) {
+        Ok(interface) => Ok(interface),
+        Err(fault) => Err(NoInvocation::from(fault)),
+    }
 }
 
 // What was written for this option, or its default.
@@ -93,8 +160,9 @@ fn written_address<'a>(
     }
 }
 
-fn side_of(given: &ArgMatches<'_>) -> Side {
-    match given.get_str("side") {
+// The side that the option of this name chooses.
+fn side_named(given: &ArgMatches<'_>, option: &str) -> Side {
+    match given.get_str(option) {
         Some("user") => Side::User,
         _ => Side::Network,
     }

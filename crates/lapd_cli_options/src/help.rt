@@ -5,7 +5,8 @@
 pub const ABOUT: &str = "LAPD, the data link layer of the ISDN D channel (ITU-T Q.921)";
 
 /// What the command `answer` does.
-pub const ANSWER_ABOUT: &str = "Answers a script as one end of a link with SAPI 0 and TEI 64";
+pub const ANSWER_ABOUT: &str =
+    "Answers a script as one end of a link, by default with SAPI 0 and TEI 64";
 
 /// What the command `bus` does.
 pub const BUS_ABOUT: &str = "Assigns TEIs to terminals on a bus, by a script of moves";
@@ -36,6 +37,30 @@ pub const RECOVERY_USER: &str =
 /// What the recovery of the network side of `pair` and `loop` is.
 pub const RECOVERY_NET: &str =
     "What T200 of the network side sends in state 7: an enquiry, or the last message again";
+
+/// What the SAPI of `answer` is.
+pub const SAPI: &str =
+    "The SAPI of the link: 0 is call control, 16 is packet communication on the D channel";
+
+/// What makes an interface one at primary rate.
+pub const PRI: &str =
+    "Primary rate: TEI 0 where --tei is not given, a window of 7, and SAPI 16 only with --sapi16";
+
+/// What has packet communication served at primary rate.
+pub const SAPI16: &str = "With --pri, serves SAPI 16 beside SAPI 0, as is done without --pri";
+
+/// What the options of `decode` are for.
+pub const LOOSE: &str =
+    "Takes spaces, colons and brackets among the digits, and libpri's own lines";
+
+pub const SENDER: &str =
+    "Who sent what is behind > in libpri's lines, and frames of which a capture does not tell";
+
+pub const NAMES: &str = "Names the message of TEI management or of Q.931 behind the line";
+
+pub const KEEP_GOING: &str = "Tells a bad line or packet on standard error, and passes over it";
+
+pub const PCAP: &str = "Prints the frames of this pcap or pcapng file in place of a script";
 
 /// What the option of all commands is for.
 pub const STRICT: &str = "Ends with exit status 5 where a line of the script was refused";
@@ -164,7 +189,8 @@ Refusals:
   L5 LayerThreeEstablishing  a message while the link is being established for layer 3
 
 A frame of this link begins with 0081 if it is a command of the user side or a response of the network
-side, and with 0281 otherwise. The control field and the information field follow. In hexadecimal:
+side, and with 0281 otherwise; with --sapi and --tei the first octet is 4 * SAPI, or 2 more, and the
+second 2 * TEI + 1. The control field and the information field follow. In hexadecimal:
   SABME 6f, DM 0f, UI 03, DISC 43, UA 63, FRMR 87, XID af; 10 more for P=1 or F=1
   RR 01, RNR 05, REJ 09, and a second octet of 2 * N(R); 1 more for P=1 or F=1
   I 2 * N(S), and a second octet of 2 * N(R); 1 more for P=1
@@ -427,9 +453,11 @@ pub const NET: &str = "\
 
 The program waits for one connection, and then does the script. It tells on standard error where it
 listens, with the port that the system chose where 0 is given, who connected, and that the other side
-has closed the connection. Behind the connection are user sides, such as `lapd user`. No TEI is known at first: one is assigned to each terminal that asks, from 64 on,
-and its links with SAPI 0 and 16 are there from then on. The clock begins at 0, and goes on only by
-`tick`: T200 takes 1000 ms, T201 1000 ms, T203 10000 ms.
+has closed the connection. Behind the connection are user sides, such as `lapd user`. No TEI is known
+at first: one is assigned to each terminal that asks, from 64 on, and its links with SAPI 0 and 16 are
+there from then on. With --tei, the links of that TEI are there from the start, and with --pri those of
+TEI 0. The clock begins at 0, and goes on only by `tick`: T200 takes 1000 ms, T201 1000 ms, T203 10000
+ms, or what --t200, --t201 and --t203 say.
 
 Lines of the script. SAPI is 0, 16 or 63, and TEI 0 to 127; 127 stands for all terminals:
   read                  the next frame is waited for, and read from the connection
@@ -497,8 +525,9 @@ pub const USER: &str = "\
 The program connects, and then does the script. It tells on standard error that it is connected, and
 that the other side has closed the connection. Behind the connection is a network side, such as
 `lapd net`. This side is one terminal without a TEI: it asks for one by `ask`, or by `establish`, which
-is kept until it has one. The clock begins at 0, and goes on only by `tick`: T200 takes 1000 ms, T202
-2000 ms, T203 10000 ms.
+is kept until it has one. With --tei it has that TEI from the start, and with --pri TEI 0, and asks for
+none. The clock begins at 0, and goes on only by `tick`: T200 takes 1000 ms, T202 2000 ms, T203 10000
+ms, or what --t200, --t202 and --t203 say.
 
 Lines of the script. SAPI is 0, 16 or 63. TEI is 0 to 127, and is not looked at: it is the terminal's own:
   read                  the next frame is waited for, and read from the connection
@@ -563,6 +592,14 @@ pub const DECODE: &str = "\
 
 Lines of the script:
   SIDE HEX  these octets were sent by this side, user or net
+With --loose also:
+  user 00 81 7f, net 00:81:73   spaces, tabs, colons and brackets among the digits are passed over
+  > [ 00 81 7f ]                libpri's own line: sent by the side that --sender names
+  < [ 00 81 73 ]                the same: sent by the other side
+
+With --pcap no script is read. A capture is pcap or pcapng of link type 177 (LINUX_LAPD) or 203
+(LAPD), or GSMTAP over UDP in Ethernet or IPv4. Packets without LAPD are passed over. A fault is
+told with the place of its packet or block in the file, in octets from 0, and the exit status is 1.
 
 What is printed for a frame, in one line:
   U>N or N>U    it was sent by the user side, or by the network side
@@ -574,6 +611,10 @@ What is printed for a frame, in one line:
   P=b or F=b    the P bit of a command, or the F bit of a response
   info=HEX      the information field, if it has octets
 What is printed for other octets: U>N or N>U, the fault, as F1 TooShort, and HEX.
+With --names there stands behind it, for a message of TEI management or of Q.931:
+  identity request Ri=6199 Ai=127   its kind, reference number and action indicator
+  SETUP cr=1 from origin            its name and call reference, and which way it goes: from the
+                                    side that the call began at, or to it; cr=dummy where it has none
 
 Example. A line of the script stands behind <, and what is printed for it stands behind >.
   < user 00817f

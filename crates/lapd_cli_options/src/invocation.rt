@@ -1,54 +1,67 @@
-ghost use Rattle.std.specs.Prelude.{◌≡◌, false, None};
-ghost use Rattle.lapd_cli_options.specs.CommandLine.{default_parameters};
+ghost use Rattle.lapd_cli_options.specs.CommandLine.{IsDefault};
 
-use lapd_cli_values::{Params, Sapi, Side};
+use lapd_cli_values::{Interface, LinkEnd, Params, Sapi, Side, Tei};
 
 /// What the program's words choose.
-#[derive(Clone, Copy, Debug, PartialEq, Eq)]
+#[derive(Debug, PartialEq, Eq, Drop)]
 pub struct Invocation<'a> {
     /// What the program is to do.
     pub job: Job,
     /// The address and port that were written for `net` or `user`, as they stand.
     pub address: Option<&'a str>,
+    /// The file that was written for `decode --pcap`, as it stands.
+    pub pcap: Option<&'a str>,
     /// Whether the exit status is to tell that a line of the script was refused.
     pub strict: bool,
 }
 
 /// What the program is to do.
-#[derive(Clone, Copy, Debug, PartialEq, Eq)]
+#[derive(Debug, PartialEq, Eq, Drop)]
 pub enum Job {
-    /// Answers a script as one link of this side, made with these parameters.
-    Answer { side: Side, params: Params },
+    /// Answers a script as this end of a link.
+    Answer(LinkEnd),
     /// Goes over a script as a bus of so many terminals, 1 to 127.
     Bus { terminals: u8 },
     /// Makes the moves of a script on two ends, made with these parameters, and the line between them.
     Pair { user: Params, network: Params },
     /// As `Pair`, where each frame crosses a connection of the process to itself.
     Loop { user: Params, network: Params },
-    /// Goes over a script as the network side, over the first connection that comes to the address.
-    Net,
-    /// Goes over a script as the user side, over a connection to the address.
-    User,
+    /// Goes over a script as the network side of such an interface, over the first connection that comes to the address.
+    Net(Interface),
+    /// Goes over a script as the user side of such an interface, over a connection to the address.
+    User(Interface),
     /// Prints octets as trace lines.
-    Decode,
+    Decode(DecodeOptions),
+}
+
+/// What `decode` takes and prints.
+#[derive(Clone, Copy, Debug, PartialEq, Eq)]
+pub struct DecodeOptions {
+    /// Whether lines with more than single spaces in them, and those of libpri, are taken.
+    pub loose: bool,
+    /// Who sent what libpri prints behind `>`, and the frames of which a capture does not tell.
+    pub sender: Side,
+    /// Whether messages are named behind their trace line.
+    pub names: bool,
+    /// Whether lines and packets that can't be read are told and passed over.
+    pub keep_going: bool,
 }
 
 impl Invocation<'_> {
     /// What the program does that is called with no word.
     pub(crate) fn by_no_word() -> Invocation<'static>
-        ensures { result ≡ record {
-          job = Job.Answer Side.Network default_parameters;
-          address = None;
-          strict = false;
-        } }
+        ensures { IsDefault result }
     {
-        let params = Params::basic(Sapi::Call);
+        let end = LinkEnd {
+            side: Side::Network,
+            sapi: Sapi::Call,
+            tei: Tei::new(64).unwrap(),
+            params: Params::basic(Sapi::Call),
+        };
         Invocation {
-            job: Job::Answer {
-                side: Side::Network,
-                params,
-            },
+            job: Job::Answer(end),
             address: None,
+            pcap: None,
             strict: false,
         }
     }

@@ -4,8 +4,8 @@
 //! read here alone. Begin with [`words`] and [`parse_words`].
 #![tactic(auto)]
 
-ghost use Rattle.std.specs.Prelude.{◌≡◌, ◌<◌, length, Ok, None, false};
-ghost use Rattle.lapd_cli_options.specs.CommandLine.{default_parameters};
+ghost use Rattle.std.specs.Prelude.{◌<◌, length, IsOkAnd};
+ghost use Rattle.lapd_cli_options.specs.CommandLine.{IsDefault};
 
 mod command_options;
 pub mod help;
@@ -15,9 +15,11 @@ mod parser;
 mod program_words;
 
 use clap::{ArgMatches, Command};
-use command_options::{address_of, job_of};
-pub use invocation::{Invocation, Job};
-pub use lapd_cli_values::{NoAddress, OutOfRange, Params, Recovery, Side};
+use command_options::{address_of, job_of, pcap_of};
+pub use invocation::{DecodeOptions, Invocation, Job};
+pub use lapd_cli_values::{
+    Durations, Interface, LinkEnd, NoAddress, OutOfRange, Params, Recovery, Sapi, Side, Tei,
+};
 pub use no_invocation::NoInvocation;
 use no_invocation::refused_by_parser;
 pub use parser::VERSION;
@@ -37,12 +39,7 @@ pub fn parse_words<'a, S: AsStr>(
     alloc: Global,
     words: &'a [S],
 ) -> Result<Invocation<'a>, NoInvocation<'a>>
-    ensures { length words.now < 2
-        → result ≡ Ok (record {
-          job = Job.Answer Side.Network default_parameters;
-          address = None;
-          strict = false;
-        }) }
+    ensures { length words.now < 2 → IsOkAnd result (λ chosen. IsDefault chosen) }
 {
     if words.len() < 2 {
         return Ok(Invocation::by_no_word());
@@ -73,11 +70,12 @@ fn invocation_by<'a>(
 ) -> Result<Invocation<'a>, NoInvocation<'a>> {
     match matches.subcommand() {
         Some((name, given)) if is_command(name) => {
-            let job = job_of(name, given)?;
+            let job = job_of(alloc, name, given)?;
             let address = address_of(name, given)?;
             Ok(Invocation {
                 job,
                 address,
+                pcap: pcap_of(name, given),
                 strict: is_strict(given),
             })
         }

@@ -1,6 +1,6 @@
 use clap::Error;
 use clap::error::ErrorKind;
-use lapd_cli_values::{NoAddress, OutOfRange};
+use lapd_cli_values::{InterfaceFault, NoAddress, OutOfRange};
 use std::alloc::Global;
 use std::fmt;
 
@@ -35,6 +35,15 @@ impl fmt::Display for NoInvocation<'_> {
 impl<'a> From<OutOfRange<'a>> for NoInvocation<'a> {
     fn from(fault: OutOfRange<'a>) -> Self {
         NoInvocation::OutOfRange(fault)
+    }
+}
+
+impl<'a> From<InterfaceFault<'a>> for NoInvocation<'a> {
+    fn from(fault: InterfaceFault<'a>) -> Self {
+        match fault {
+            InterfaceFault::OutOfRange(fault) => NoInvocation::OutOfRange(fault),
+            InterfaceFault::Memory => NoInvocation::Memory,
+        }
     }
 }
 

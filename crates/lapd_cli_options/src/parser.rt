@@ -4,7 +4,10 @@ use crate::help;
 use crate::no_invocation::{NoInvocation, refused_by_parser};
 use clap::error::ErrorKind;
 use clap::{Arg, ArgAction, ArgMatches, Command, Error};
-use lapd_cli_values::{AddressOption, CONNECT, K, LISTEN, N200, NumberOption, ROOM, TERMINALS};
+use lapd_cli_values::{
+    AddressOption, CONNECT, FIXED_TEI, K, KNOWN_TEI, LINK_TEI, LINKS_K, LISTEN, N200, NumberOption,
+    ROOM, SEED, T200, T201, T202, T203, TERMINALS,
+};
 use std::alloc::{AllocError, Global};
 use strsim::osa_distance;
 
@@ -130,6 +133,8 @@ fn with_arg<'a>(command: Command<'a>, arg: Arg<'a>) -> Result<Command<'a>, Alloc
 fn answer_command<'a>(alloc: Global) -> Result<Command<'a>, AllocError> {
     let command = described(alloc, "answer", help::ANSWER_ABOUT, help::ANSWER)?;
     let command = with_arg(command, side_option(alloc))?;
+    let command = with_arg(command, sapi_option(alloc))?;
+    let command = with_arg(command, number_option(alloc, LINK_TEI))?;
     let command = with_numbers(alloc, command)?;
     with_arg(command, recovery_option(alloc, "recovery", help::RECOVERY))
 }
@@ -170,17 +175,50 @@ fn bus_command<'a>(alloc: Global) -> Result<Command<'a>, AllocError> {
 }
 
 fn decode_command<'a>(alloc: Global) -> Result<Command<'a>, AllocError> {
-    described(alloc, "decode", help::DECODE_ABOUT, help::DECODE)
+    let command = described(alloc, "decode", help::DECODE_ABOUT, help::DECODE)?;
+    let command = with_arg(command, flag(alloc, "loose", help::LOOSE))?;
+    let command = with_arg(command, sender_option(alloc))?;
+    let command = with_arg(command, flag(alloc, "names", help::NAMES))?;
+    let command = with_arg(command, flag(alloc, "keep-going", help::KEEP_GOING))?;
+    with_arg(command, value_option(alloc, "pcap", "FILE", help::PCAP))
 }
 
 fn net_command<'a>(alloc: Global) -> Result<Command<'a>, AllocError> {
     let command = described(alloc, "net", help::NET_ABOUT, help::NET)?;
-    with_arg(command, address_option(alloc, LISTEN))
+    let command = with_arg(command, address_option(alloc, LISTEN))?;
+    let known = bare_number_option(alloc, KNOWN_TEI).action(ArgAction::Append);
+    with_interface(alloc, command, known)
 }
 
 fn user_command<'a>(alloc: Global) -> Result<Command<'a>, AllocError> {
     let command = described(alloc, "user", help::USER_ABOUT, help::USER)?;
-    with_arg(command, address_option(alloc, CONNECT))
+    let command = with_arg(command, address_option(alloc, CONNECT))?;
+    with_interface(alloc, command, bare_number_option(alloc, FIXED_TEI))
+}
+
+// The options of an interface, of which this one takes its TEIs.
+fn with_interface<'a>(
+    alloc: Global,
+    command: Command<'a>,
+    teis: Arg<'a>,
+) -> Result<Command<'a>, AllocError> {
+    let command = with_arg(command, flag(alloc, "pri", help::PRI))?;
+    let command = with_arg(command, teis)?;
+    let command = with_arg(command, flag(alloc, "sapi16", help::SAPI16))?;
+    let command = with_arg(command, bare_number_option(alloc, LINKS_K))?;
+    let command = with_arg(command, number_option(alloc, N200))?;
+    let command = with_arg(command, number_option(alloc, ROOM))?;
+    let command = with_arg(command, recovery_option(alloc, "recovery", help::RECOVERY))?;
+    let command = with_arg(command, number_option(alloc, T200))?;
+    let command = with_arg(command, number_option(alloc, T201))?;
+    let command = with_arg(command, number_option(alloc, T202))?;
+    let command = with_arg(command, number_option(alloc, T203))?;
+    with_arg(command, number_option(alloc, SEED))
+}
+
+// An option of this name that takes no value.
+fn flag<'a>(alloc: Global, name: &'static str, help: &'static str) -> Arg<'a> {
+    named_option(alloc, name, help).action(ArgAction::SetTrue)
 }
 
 // An option of this name that takes a value, with what stands for the value in the help, and what it is for.
@@ -203,9 +241,12 @@ fn named_option<'a>(alloc: Global, name: &'static str, help: &'static str) -> Ar
 // An option that takes a number. The parser takes any text for it, so that the fault of a number can be told in words of its
 // own, but for one that looks like another option.
 fn number_option<'a>(alloc: Global, option: NumberOption) -> Arg<'a> {
-    value_option(alloc, option.name, option.value_name, option.help)
-        .allow_negative_numbers(true)
-        .default_value(option.default)
+    bare_number_option(alloc, option).default_value(option.default)
+}
+
+// The same, with no default.
+fn bare_number_option<'a>(alloc: Global, option: NumberOption) -> Arg<'a> {
+    value_option(alloc, option.name, option.value_name, option.help).allow_negative_numbers(true)
 }
 
 // An option that takes an address, which has to be given. The parser takes any text for it.
@@ -225,6 +266,18 @@ fn side_option<'a>(alloc: Global) -> Arg<'a> {
     word_option(option, SIDES.as_slice(), "net")
 }
 
+fn sender_option<'a>(alloc: Global) -> Arg<'a> {
+    let option = value_option(alloc, "sender", "SIDE", help::SENDER);
+    word_option(option, SIDES.as_slice(), "net")
+}
+
+static SAPIS: [&str; 2] = ["0", "16"];
+
+fn sapi_option<'a>(alloc: Global) -> Arg<'a> {
+    let option = value_option(alloc, "sapi", "SAPI", help::SAPI);
+    word_option(option, SAPIS.as_slice(), "0")
+}
+
 static RECOVERIES: [&str; 2] = ["enquiry", "last"];
 
 // The recovery that the option of this name takes.
@@ -235,7 +288,7 @@ fn recovery_option<'a>(alloc: Global, name: &'static str, help: &'static str) ->
 
 // The option by which the exit status tells of lines that were refused.
 fn strict_option<'a>(alloc: Global) -> Arg<'a> {
-    named_option(alloc, "strict", help::STRICT).action(ArgAction::SetTrue)
+    flag(alloc, "strict", help::STRICT)
 }
 
 /// Whether the exit status is to tell of lines that were refused.

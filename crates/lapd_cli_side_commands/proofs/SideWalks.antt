@@ -1,10 +1,11 @@
 -- How a side's script ends.
-use Rattle.std.proofs.Common.{◌≡◌, ℕ, List, [], Option, Some, None, Result, Ok, Err, IfSome, OnOk, refl, sym, ap, subst, ◌∙◌}
+use Rattle.std.proofs.Common.{◌≡◌, ℕ, List, Option, Some, None, Result, Ok, Err, IfSome, OnOk, refl, sym, ap, subst, ◌∙◌}
 use Rattle.std.specs.Prelude.{⊤}
 use Rattle.lapd_cli_script.specs.Script.{EndsAs, bad_line, lines_of, state_after}
 use Rattle.lapd_cli_script.specs.declared.script.ScriptFault.{ScriptFault}
 use Rattle.lapd_cli_script.specs.declared.script.ScriptFault.TheVariants.{BadLine, Device, Memory, Port}
 use Rattle.lapd_frame.specs.declared.Side.TheVariants.{Network, User}
+use Rattle.lapd_sides_links.specs.declared.config.Config.{Config}
 use Rattle.lapd_sides.specs.declared.either_side.EitherSide.{EitherSide}
 use Rattle.lapd_sides.specs.declared.either_side.EitherSide.TheVariants as either
 use Rattle.lapd_sides.specs.declared.net_side.NetSide.{NetSide}
@@ -14,7 +15,7 @@ use Rattle.lapd_sides.specs.User.{new_user, seeded}
 use Rattle.lapd_sides.specs.ShowsNetwork.{ShowNetwork}
 use Rattle.lapd_sides.specs.ShowsUser.{ShowUser}
 use Rattle.lapd_sides.specs.Either.{side_of}
-use Rattle.lapd_cli_side_commands.specs.Served.{AtWork, Devices, HasComeTo, HasServed, LinesDo, NetHasServed, Progress, UserHasServed, at_work, basic_access, new_progress, side_step, wishes_of}
+use Rattle.lapd_cli_side_commands.specs.Served.{AtWork, Devices, HasComeTo, HasServed, LinesDo, NetHasServed, Progress, UserHasServed, at_work, new_progress, side_step, wishes_of}
 use Rattle.lapd_cli_side_commands.specs.Wishes.{Clocked, SideEndsAs, Wish, clock_step, new_clock}
 use Rattle.lapd_cli_side_commands.proofs.SideProgress.{progress_after, same_from}
 
@@ -58,19 +59,19 @@ served side before behind now after (Some octets) result a b q come = served_so 
 
 -- ---- The commands.
 
-pub net_served : (side : NetSide) (known : Option (List ℕ)) (result : Result ⊤ ScriptFault) (before behind : Devices) → ShowNetwork side basic_access (new_network basic_access [])
+pub net_served : (side : NetSide) (config : Config) (teis : List ℕ) (known : Option (List ℕ)) (result : Result ⊤ ScriptFault) (before behind : Devices) → ShowNetwork side config (new_network config teis)
     → IfSome known (λ octets. OnOk result (HasServed (either.Network side) (wishes_of Network (lines_of octets)) before behind))
-    → IfSome known (λ octets. OnOk result (NetHasServed (wishes_of Network (lines_of octets)) before behind))
-net_served side None result before behind new served = tt
-net_served side (Some octets) (Ok done) before behind new served = record { began = side; new = new; served = served }
-net_served side (Some octets) (Err fault) before behind new served = tt
+    → IfSome known (λ octets. OnOk result (NetHasServed config teis (wishes_of Network (lines_of octets)) before behind))
+net_served side config teis None result before behind new served = tt
+net_served side config teis (Some octets) (Ok done) before behind new served = record { began = side; new = new; served = served }
+net_served side config teis (Some octets) (Err fault) before behind new served = tt
 
-pub user_served : (side : UserSide) (known : Option (List ℕ)) (result : Result ⊤ ScriptFault) (before behind : Devices) → ShowUser side basic_access (new_user basic_access None (seeded 921))
+pub user_served : (side : UserSide) (config : Config) (fixed : Option ℕ) (known : Option (List ℕ)) (result : Result ⊤ ScriptFault) (before behind : Devices) → ShowUser side config (new_user config fixed (seeded config.seed))
     → IfSome known (λ octets. OnOk result (HasServed (either.User side) (wishes_of User (lines_of octets)) before behind))
-    → IfSome known (λ octets. OnOk result (UserHasServed (wishes_of User (lines_of octets)) before behind))
-user_served side None result before behind new served = tt
-user_served side (Some octets) (Ok done) before behind new served = record { began = side; new = new; served = served }
-user_served side (Some octets) (Err fault) before behind new served = tt
+    → IfSome known (λ octets. OnOk result (UserHasServed config fixed (wishes_of User (lines_of octets)) before behind))
+user_served side config fixed None result before behind new served = tt
+user_served side config fixed (Some octets) (Ok done) before behind new served = record { began = side; new = new; served = served }
+user_served side config fixed (Some octets) (Err fault) before behind new served = tt
 
 -- a fault that names no line says nothing of the script
 pub unsaid : (known : Option (List ℕ)) → IfSome known (λ octets. ⊤)

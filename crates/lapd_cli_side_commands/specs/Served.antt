@@ -143,7 +143,7 @@ pub record HasServed (side : EitherSide) (wishes : List Wish) (before after : De
     pub moment : ℕ
     pub did : LinesDo wishes (at_work side 0 before) (at_work ended moment after)
 
--- ---- The commands, at basic access (Q.921 5.9).
+-- ---- The commands. Where no option is given, the interface is at basic access (Q.921 5.9), and no TEI is known.
 
 abbrev pub basic_access : Config
 basic_access = record {
@@ -154,16 +154,18 @@ basic_access = record {
   seed = 921;
 }
 
--- `net`: a new network side, which knows of no TEI, has done so
-pub record NetHasServed (wishes : List Wish) (before after : Devices) : Type 0 where
+-- `net`: a new network side made so, which knows these TEIs, has done so
+pub record NetHasServed (config : Config) (known : List ℕ) (wishes : List Wish)
+    (before after : Devices) : Type 0 where
   pub began : NetSide
-  pub new : ShowNetwork began basic_access (new_network basic_access [])
+  pub new : ShowNetwork began config (new_network config known)
   pub served : HasServed (either.Network began) wishes before after
 
--- `user`: a new user side, which has no TEI, has done so
-pub record UserHasServed (wishes : List Wish) (before after : Devices) : Type 0 where
+-- `user`: a new user side made so, with this fixed TEI or none, has done so
+pub record UserHasServed (config : Config) (fixed : Option ℕ) (wishes : List Wish)
+    (before after : Devices) : Type 0 where
   pub began : UserSide
-  pub new : ShowUser began basic_access (new_user basic_access None (seeded 921))
+  pub new : ShowUser began config (new_user config fixed (seeded config.seed))
   pub served : HasServed (either.User began) wishes before after
 
 -- ---- A walk over a script.

@@ -14,5 +14,9 @@ mod traced_frame;
 
 pub use lapd_cli_script::ScriptFault;
 pub use lapd_port::{DeviceError, FromRead, FromWrite, Port, PortFault, Sink, Source};
+pub use lapd_sides::{Config, Tei};
+pub use side_lines::{SideLine, link_line, read_line, sapi_of, tei_of};
 pub use side_runner::SideRun;
-pub use sides::{net, user};
+pub use side_texts::push_primitive;
+pub use sides::{basic_access, net, user};
+pub use traced_frame::push_trace;

@@ -15,7 +15,7 @@ const MOST_MS: u64 = 3_600_000;
 
 /// What a line of a side's script asks for.
 #[derive(Drop)]
-pub(crate) enum SideLine {
+pub enum SideLine {
     /// One frame is read from the port, and heard.
     Read,
     /// The clock goes on by so many milliseconds, 1 to 3,600,000, and what is then due is done.
@@ -29,7 +29,7 @@ pub(crate) enum SideLine {
 /// # Errors
 ///
 /// `Bad` where the line is none of this side's, and `Memory`.
-pub(crate) fn read_line(alloc: Global, side: Side, line: &[u8]) -> Result<SideLine, LineFault>
+pub fn read_line(alloc: Global, side: Side, line: &[u8]) -> Result<SideLine, LineFault>
     ensures { Reads wish_of result (wish_of_line side line.now) }
 {
     let mut words = Words::of(line);
@@ -123,7 +123,11 @@ fn of_link(alloc: Global, word: &[u8], mut behind: Words<'_>) -> Result<SideLine
 }
 
 /// What a word asks for of this link, with the words behind its SAPI and TEI.
-fn link_line(
+///
+/// # Errors
+///
+/// `Bad` where the word asks for nothing of a link, and `Memory`.
+pub fn link_line(
     alloc: Global,
     word: &[u8],
     id: LinkId,
@@ -154,7 +158,11 @@ fn id_of(sapi: &[u8], tei: &[u8]) -> Result<LinkId, LineFault>
 }
 
 /// The SAPI, 0, 16 or 63, that a word writes.
-fn sapi_of(word: &[u8]) -> Result<Sapi, LineFault>
+///
+/// # Errors
+///
+/// `Bad` where it writes none.
+pub fn sapi_of(word: &[u8]) -> Result<Sapi, LineFault>
     ensures { Reads (λ sapi. sapi) result (sapi_said word.now) }
 {
     let number = octet_of(word)?;
@@ -165,7 +173,11 @@ fn sapi_of(word: &[u8]) -> Result<Sapi, LineFault>
 }
 
 /// The TEI, 0 to 127, that a word writes.
-fn tei_of(word: &[u8]) -> Result<Tei, LineFault>
+///
+/// # Errors
+///
+/// `Bad` where it writes none.
+pub fn tei_of(word: &[u8]) -> Result<Tei, LineFault>
     ensures { Reads (λ tei. tei) result (tei_said word.now) }
 {
     let number = octet_of(word)?;

@@ -28,7 +28,11 @@ pub(crate) fn push_primitives(primitives: &[Primitive], text: &mut String) -> Re
 }
 
 /// Appends what is told of a link, or what became of a TEI. Messages and timers of TEI management have no line.
-fn push_primitive(primitive: &Primitive, text: &mut String) -> Result<(), AllocError>
+///
+/// # Errors
+///
+/// `AllocError`. A front of it may have been appended.
+pub fn push_primitive(primitive: &Primitive, text: &mut String) -> Result<(), AllocError>
     ensures { OnOk result (string_bytes text.new
         ≡ string_bytes text.old ++ primitive_line primitive.now) }
 {

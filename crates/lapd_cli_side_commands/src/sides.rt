@@ -1,6 +1,7 @@
 //! The commands `net` and `user`.
 
-ghost use Rattle.std.specs.Prelude.{◌≡◌, IfSome, OnOk};
+ghost use Rattle.std.specs.Prelude.{◌≡◌, ◌<◌, IfSome, OnOk};
+ghost use Rattle.std.specs.List.{All};
 ghost use Rattle.lapd_frame.specs.declared.Side.TheVariants as side;
 ghost use Rattle.lapd_cli_script.specs.Script.{lines_of};
 ghost use Rattle.lapd_cli_side_commands.specs.Wishes.{SideEndsAs};
@@ -9,12 +10,12 @@ ghost use Rattle.lapd_cli_side_commands.specs.Served.{NetHasServed, UserHasServe
 use crate::side_runner::{SideRun, run_side};
 use lapd_cli_script::ScriptFault;
 use lapd_port::{Port, Sink, Source};
-use lapd_sides::{Config, Durations, EitherSide, NetSide, Params, Sapi, UserSide};
+use lapd_sides::{Config, Durations, EitherSide, NetSide, Params, Sapi, Tei, UserSide};
 use std::alloc::Global;
 use std::io::{Read, Write};
 
-/// Goes over a script as the network side of an interface at basic access, with the user side behind a port. It serves SAPI 0
-/// and 16 and knows of no TEI. The port and the writer are handed back.
+/// Goes over a script as the network side of an interface made so, with the user side behind a port. It knows these TEIs from
+/// the start, each 0 to 126. The port and the writer are handed back.
 ///
 /// # Errors
 ///
@@ -25,24 +26,27 @@ pub fn net<R: Read, W: Write, S: Source, K: Sink>(
     script: &mut R,
     out: W,
     port: Port<S, K>,
+    config: Config,
+    known: &[Tei],
 ) -> SideRun<W, S, K>
+    requires { All (λ tei. tei < 127) known.now }
     ensures ended { IfSome (R.remaining script.old) (λ octets.
         SideEndsAs side.Network result.ended (lines_of octets)) }
     ensures served { IfSome (R.remaining script.old) (λ octets. OnOk result.ended
-        (NetHasServed (wishes_of side.Network (lines_of octets))
+        (NetHasServed config known.now (wishes_of side.Network (lines_of octets))
         (devices (S.rest port.source) (K.written port.sink) (W.contents out))
         (devices (S.rest result.port.source) (K.written result.port.sink)
         (W.contents result.out)))) }
 {
-    let Ok(side) = NetSide::new(alloc, basic_access(), &[]) else {
+    let Ok(side) = NetSide::new(alloc, config, known) else {
         let ended = Err(ScriptFault::Memory);
         return SideRun { ended, port, out };
     };
     run_side(alloc, EitherSide::Network(side), script, out, port)
 }
 
-/// Goes over a script as the user side of an interface at basic access, with the network side behind a port. It serves SAPI 0
-/// and 16 and has no TEI. The port and the writer are handed back.
+/// Goes over a script as the user side of an interface made so, with the network side behind a port. It has this fixed TEI, 0
+/// to 126, or none. The port and the writer are handed back.
 ///
 /// # Errors
 ///
@@ -52,16 +56,19 @@ pub fn user<R: Read, W: Write, S: Source, K: Sink>(
     script: &mut R,
     out: W,
     port: Port<S, K>,
+    config: Config,
+    fixed: Option<Tei>,
 ) -> SideRun<W, S, K>
+    requires { IfSome fixed (λ tei. tei < 127) }
     ensures ended { IfSome (R.remaining script.old) (λ octets.
         SideEndsAs side.User result.ended (lines_of octets)) }
     ensures served { IfSome (R.remaining script.old) (λ octets. OnOk result.ended
-        (UserHasServed (wishes_of side.User (lines_of octets))
+        (UserHasServed config fixed (wishes_of side.User (lines_of octets))
         (devices (S.rest port.source) (K.written port.sink) (W.contents out))
         (devices (S.rest result.port.source) (K.written result.port.sink)
         (W.contents result.out)))) }
 {
-    let Ok(side) = UserSide::new(alloc, basic_access(), None) else {
+    let Ok(side) = UserSide::new(alloc, config, fixed) else {
         let ended = Err(ScriptFault::Memory);
         return SideRun { ended, port, out };
     };
@@ -69,7 +76,7 @@ pub fn user<R: Read, W: Write, S: Source, K: Sink>(
 }
 
 /// What a side of an interface at basic access is made with (Q.921 5.9).
-fn basic_access() -> Config
+pub fn basic_access() -> Config
     ensures { result ≡ basic_access }
 {
     Config {

@@ -98,7 +98,7 @@ impl TracedFrame {
 /// # Errors
 ///
 /// `AllocError`.
-pub(crate) fn push_trace(
+pub fn push_trace(
     alloc: Global,
     text: &mut String,
     side: Side,

@@ -1,10 +1,13 @@
 //! What the program's words choose, and the texts of the help.
 
+use crate::commands::scripts::answer_as;
 use crate::devices::{SOUND, port_of};
 use crate::dialogues::{BOTH_NET, BOTH_USER, MOST, Row, octets_of, play};
 use crate::wants::{are_same, is_said, wants};
-use lapd_cli_commands::{answer, bus, decode, pair};
-use lapd_cli_options::{Invocation, Job, NoInvocation, WordsFault, help, parse_words, words};
+use lapd_cli_commands::{bus, decode, pair};
+use lapd_cli_options::{
+    Invocation, Job, LinkEnd, NoInvocation, WordsFault, help, parse_words, words,
+};
 use lapd_cli_script::{PortFault, ScriptFault};
 use lapd_frame::{Sapi, Side};
 use lapd_link::{Params, Recovery};
@@ -172,25 +175,45 @@ fn params(numbers: Numbers, recovery: Recovery) -> Option<Params> {
     Some(params.with_recovery(recovery))
 }
 
-// What is to be done, where its numbers are in range.
-fn job(wanted: Wanted) -> Option<Job> {
+// Whether this is what is to be done. What `net` and `user` are made with is looked at in `interfaces`.
+fn is_job(job: &Job, wanted: Wanted) -> bool {
+    match job {
+        Job::Answer(end) => is_answer(end, wanted),
+        Job::Pair { user, network } => is_pair(*user, *network, wanted),
+        Job::Loop { user, network } => is_loop(*user, *network, wanted),
+        Job::Bus { terminals } => matches!(wanted, Wanted::Bus(most) if most == *terminals),
+        Job::Net(_) => matches!(wanted, Wanted::Net(_)),
+        Job::User(_) => matches!(wanted, Wanted::User(_)),
+        Job::Decode(_) => matches!(wanted, Wanted::Decode),
+    }
+}
+
+// Whether this end of the link of SAPI 0 and TEI 64 is wanted.
+fn is_answer(end: &LinkEnd, wanted: Wanted) -> bool {
     match wanted {
-        Wanted::Answer(side, numbers, recovery) => Some(Job::Answer {
-            side,
-            params: params(numbers, recovery)?,
-        }),
-        Wanted::Pair(numbers, user, network) => Some(Job::Pair {
-            user: params(numbers, user)?,
-            network: params(numbers, network)?,
-        }),
-        Wanted::Loop(numbers, user, network) => Some(Job::Loop {
-            user: params(numbers, user)?,
-            network: params(numbers, network)?,
-        }),
-        Wanted::Bus(terminals) => Some(Job::Bus { terminals }),
-        Wanted::Net(_) => Some(Job::Net),
-        Wanted::User(_) => Some(Job::User),
-        Wanted::Decode => Some(Job::Decode),
+        Wanted::Answer(side, numbers, recovery) => {
+            let is_link = end.sapi == Sapi::Call && end.tei.value() == 64;
+            is_link && end.side == side && Some(end.params) == params(numbers, recovery)
+        }
+        _ => false,
+    }
+}
+
+fn is_pair(user: Params, network: Params, wanted: Wanted) -> bool {
+    match wanted {
+        Wanted::Pair(numbers, of_user, of_network) => {
+            Some(user) == params(numbers, of_user) && Some(network) == params(numbers, of_network)
+        }
+        _ => false,
+    }
+}
+
+fn is_loop(user: Params, network: Params, wanted: Wanted) -> bool {
+    match wanted {
+        Wanted::Loop(numbers, of_user, of_network) => {
+            Some(user) == params(numbers, of_user) && Some(network) == params(numbers, of_network)
+        }
+        _ => false,
     }
 }
 
@@ -204,12 +227,8 @@ fn address(wanted: Wanted) -> Option<&'static str> {
 
 // Whether this is what is wanted.
 fn is_wanted(chosen: &Invocation<'_>, wanted: Wanted, strict: bool) -> bool {
-    match job(wanted) {
-        Some(job) => {
-            chosen.job == job && chosen.address == address(wanted) && chosen.strict == strict
-        }
-        None => false,
-    }
+    let is_so = chosen.address == address(wanted) && chosen.strict == strict;
+    is_so && is_job(&chosen.job, wanted)
 }
 
 // Whether the words choose this.
@@ -460,7 +479,7 @@ const NUMBERS: &[(&[&str], &str)] = &[
 ];
 
 // Whether this is said of the words, which choose nothing.
-fn says(alloc: Global, words: &[&str], text: &str) -> bool {
+pub(crate) fn says(alloc: Global, words: &[&str], text: &str) -> bool {
     let chosen = parse_words(alloc, words);
     match &chosen {
         Err(unchosen) => is_said(alloc, unchosen, text),
@@ -612,7 +631,7 @@ fn run(
 ) -> Result<(), ScriptFault> {
     let params = Params::basic(Sapi::Call);
     match command {
-        Command::Answer(side) => answer(alloc, &mut script, printed, side, params),
+        Command::Answer(side) => answer_as(alloc, &mut script, printed, side, params),
         Command::Bus => bus(alloc, &mut script, printed, 2),
         Command::Decode => decode(alloc, &mut script, printed),
         Command::Loop | Command::Pair => pair(alloc, &mut script, printed, params, params),
@@ -652,7 +671,7 @@ const EXAMPLES: &[(&str, Command, &str, bool)] = &[
     ),
     ("a loop", Command::Loop, NO_LINE, false),
     ("a bus", Command::Bus, NO_LINE, false),
-    ("octets are decoded", Command::Decode, NO_LINE, false),
+    ("octets are decoded", Command::Decode, "Example. ", true),
 ];
 
 // Puts a line at the end of others.

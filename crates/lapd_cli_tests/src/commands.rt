@@ -6,4 +6,4 @@ mod buses;
 mod decodes;
 mod devices;
 mod pairs;
-mod scripts;
+pub(crate) mod scripts;

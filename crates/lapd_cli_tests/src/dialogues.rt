@@ -4,7 +4,7 @@ use crate::devices::{Devices, MemoryPort, Paper, SOUND, port_of};
 use crate::port::devices::calls_of;
 use crate::wants::{are_same, wants};
 use lapd_cli_script::ScriptFault;
-use lapd_cli_side_commands::{Port, SideRun, Sink, Source, net, user};
+use lapd_cli_side_commands::{Port, SideRun, Sink, Source, basic_access, net, user};
 use std::alloc::Global;
 use std::io::Write;
 use std::test::Fail;
@@ -58,8 +58,8 @@ pub(crate) fn go_over<W: Write, S: Source, K: Sink>(
     port: Port<S, K>,
 ) -> SideRun<W, S, K> {
     match who {
-        Who::Net => net(alloc, &mut script, printed, port),
-        Who::User => user(alloc, &mut script, printed, port),
+        Who::Net => net(alloc, &mut script, printed, port, basic_access(), &[]),
+        Who::User => user(alloc, &mut script, printed, port, basic_access(), None),
     }
 }
 

@@ -21,6 +21,8 @@ mod dialogues;
 #[cfg(test)]
 mod faults;
 #[cfg(test)]
+mod interfaces;
+#[cfg(test)]
 mod port;
 #[cfg(test)]
 mod reasons;

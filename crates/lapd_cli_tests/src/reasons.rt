@@ -1,11 +1,12 @@
 //! Why a line is none of its command's: worked lines, and drawn ones, of each command. What calls a line bad is the command.
 
+use crate::commands::scripts::answer_as;
 use crate::devices::{Paper, SOUND, port_of};
 use crate::dialogues::{Who, play};
 use crate::wants::wants;
 use crate::wire::{Trouble, Wire};
 use arrayvec::ArrayVec;
-use lapd_cli_commands::{Params, answer, bus, decode, loop_over, pair};
+use lapd_cli_commands::{Params, bus, decode, loop_over, pair};
 use lapd_cli_console::{Script, reason};
 use lapd_cli_script::ScriptFault;
 use lapd_frame::{Sapi, Side};
@@ -207,7 +208,7 @@ fn is_bad(alloc: Global, script: Script, line: &[u8]) -> bool {
 }
 
 fn answer_to(alloc: Global, mut line: &[u8], paper: &mut Paper) -> Result<(), ScriptFault> {
-    answer(
+    answer_as(
         alloc,
         &mut line,
         paper,

@@ -1,8 +1,9 @@
 //! What is remembered of standard streams, and lines that are typed.
 
+use crate::commands::scripts::answer_as;
 use crate::devices::Paper;
 use crate::wants::{are_same, wants};
-use lapd_cli_commands::{Params, answer};
+use lapd_cli_commands::Params;
 use lapd_cli_console::{KeptLines, Refusals, Script, Session, Watched};
 use lapd_cli_script::ScriptFault;
 use lapd_frame::{Sapi, Side};
@@ -161,7 +162,7 @@ fn answer_to<R: Read, W: Write>(
     script: &mut R,
     out: &mut W,
 ) -> Result<(), ScriptFault> {
-    answer(alloc, script, out, Side::Network, Params::basic(Sapi::Call))
+    answer_as(alloc, script, out, Side::Network, Params::basic(Sapi::Call))
 }
 
 /// How a read failed after a line, as it is remembered.

@@ -1,2 +1,4 @@
 pub mod Options
 pub mod Numerals
+pub mod Interfaces
+pub mod InterfaceChoices

@@ -2,10 +2,10 @@
 use Rattle.std.specs.Prelude.{◌≡◌, ℕ, ◌≤◌, List, ◌⊎◌}
 use Rattle.std.specs.Str.Parse.{digits_value, IsNumeral}
 
--- one is written in decimal digits alone, and lies from 1 to `most`
-pub record IsNumberTo (most : ℕ) (text : List ℕ) : Type 0 where
+-- one is written in decimal digits alone, and lies from `least` to `most`
+pub record IsNumberFrom (least most : ℕ) (text : List ℕ) : Type 0 where
   pub digits : IsNumeral 10 text
-  pub low : 1 ≤ digits_value 10 text
+  pub low : least ≤ digits_value 10 text
   pub high : digits_value 10 text ≤ most
 
 -- one of the three, and the last number of its range

@@ -1,11 +1,11 @@
 //! The options that take a number.
 
 ghost use Rattle.std.specs.Prelude.{◌↔◌, IsTrue};
-ghost use Rattle.lapd_cli_values.specs.Options.{IsNumberTo};
+ghost use Rattle.lapd_cli_values.specs.Options.{IsNumberFrom};
 
 use crate::numbers::number_of;
 
-/// An option that takes a number from 1 on, written in decimal digits alone.
+/// An option that takes a number of a range, written in decimal digits alone.
 #[derive(Clone, Copy, Debug, PartialEq, Eq)]
 pub struct NumberOption {
     /// Its long name, without the hyphens.
@@ -16,8 +16,10 @@ pub struct NumberOption {
     pub help: &'static str,
     /// The number where the option is not given.
     pub default: &'static str,
+    /// The first number of its range.
+    pub least: u64,
     /// The last number of its range.
-    pub most: u16,
+    pub most: u64,
 }
 
 /// The window k (Q.921 5.9.5).
@@ -26,6 +28,7 @@ pub const K: NumberOption = NumberOption {
     value_name: "FRAMES",
     help: "The most outstanding I frames, the window k, 1 to 127",
     default: "1",
+    least: 1,
     most: 127,
 };
 
@@ -35,6 +38,7 @@ pub const N200: NumberOption = NumberOption {
     value_name: "TIMES",
     help: "The most retransmissions of a frame, N200, 1 to 100",
     default: "3",
+    least: 1,
     most: 100,
 };
 
@@ -44,6 +48,7 @@ pub const ROOM: NumberOption = NumberOption {
     value_name: "MESSAGES",
     help: "The most messages in the I queue, 1 to 1024",
     default: "512",
+    least: 1,
     most: 1024,
 };
 
@@ -53,16 +58,107 @@ pub const TERMINALS: NumberOption = NumberOption {
     value_name: "TERMINALS",
     help: "The terminals on the bus, 1 to 127",
     default: "2",
+    least: 1,
     most: 127,
+};
+
+/// The TEI of the link of the command `answer` (Q.921 3.3.4).
+pub const LINK_TEI: NumberOption = NumberOption {
+    name: "tei",
+    value_name: "TEI",
+    help: "The TEI of the link, 0 to 126",
+    default: "64",
+    least: 0,
+    most: 126,
+};
+
+/// A TEI that the network side knows. It may be given more than once, and has no default.
+pub const KNOWN_TEI: NumberOption = NumberOption {
+    name: "tei",
+    value_name: "TEI",
+    help: "A TEI that is known from the start, 0 to 126; may be given for each of several",
+    default: "",
+    least: 0,
+    most: 126,
+};
+
+/// The fixed TEI of the user side. It has no default.
+pub const FIXED_TEI: NumberOption = NumberOption {
+    name: "tei",
+    value_name: "TEI",
+    help: "The fixed TEI of this side, 0 to 126, which then asks for none",
+    default: "",
+    least: 0,
+    most: 126,
+};
+
+/// The window of all links of an interface (Q.921 5.9.5). Its default is that of the rate and the SAPI.
+pub const LINKS_K: NumberOption = NumberOption {
+    name: "k",
+    value_name: "FRAMES",
+    help: "The most outstanding I frames of a link, the window k, 1 to 127 [default: 1 for SAPI 0 and 3 for SAPI 16; with --pri 7]",
+    default: "",
+    least: 1,
+    most: 127,
+};
+
+/// How long T200 runs (Q.921 5.9.1).
+pub const T200: NumberOption = NumberOption {
+    name: "t200",
+    value_name: "MS",
+    help: "How long T200 runs before a frame is sent again, in milliseconds, 1 to 3600000",
+    default: "1000",
+    least: 1,
+    most: 3_600_000,
+};
+
+/// How long T201 runs (Q.921 5.9.6).
+pub const T201: NumberOption = NumberOption {
+    name: "t201",
+    value_name: "MS",
+    help: "How long T201 of the network side runs before a TEI is checked again, in milliseconds, 1 to 3600000",
+    default: "1000",
+    least: 1,
+    most: 3_600_000,
+};
+
+/// How long T202 runs (Q.921 5.9.7).
+pub const T202: NumberOption = NumberOption {
+    name: "t202",
+    value_name: "MS",
+    help: "How long T202 of the user side runs before a TEI is asked for again, in milliseconds, 1 to 3600000",
+    default: "2000",
+    least: 1,
+    most: 3_600_000,
+};
+
+/// How long T203 runs (Q.921 5.9.8).
+pub const T203: NumberOption = NumberOption {
+    name: "t203",
+    value_name: "MS",
+    help: "How long T203 runs on an idle link before the other side is enquired, in milliseconds, 1 to 3600000",
+    default: "10000",
+    least: 1,
+    most: 3_600_000,
+};
+
+/// Where the references of TEI management begin (Q.921 5.3.1.1).
+pub const SEED: NumberOption = NumberOption {
+    name: "seed",
+    value_name: "NUMBER",
+    help: "Where the references of the user side's TEI management begin, 0 to 18446744073709551615",
+    default: "921",
+    least: 0,
+    most: 18_446_744_073_709_551_615,
 };
 
 impl NumberOption {
     /// Whether this is a number of its range, written in decimal digits alone.
     pub fn takes(self, written: &str) -> bool
-        ensures { IsTrue result ↔ IsNumberTo self.most written.now }
+        ensures { IsTrue result ↔ IsNumberFrom self.least self.most written.now }
     {
         match number_of(written) {
-            Some(number) => 1 <= number && number <= self.most,
+            Some(number) => self.least <= number && number <= self.most,
             None => false,
         }
     }

@@ -15,12 +15,13 @@ pub fn params_of(k: &str, n200: &str, room: &str) -> Option<Params>
 {
     let k = u8::try_from(number_of(k)?).ok()?;
     let n200 = u8::try_from(number_of(n200)?).ok()?;
-    Params::new(k, n200, number_of(room)?)
+    let room = u16::try_from(number_of(room)?).ok()?;
+    Params::new(k, n200, room)
 }
 
-/// The number below 65,536 that this text writes in decimal digits alone. `None` where it writes none.
-pub fn number_of(digits: &str) -> Option<u16>
-    ensures { SomeIff result (IsNumeral 10 digits.now × (digits_value 10 digits.now < 2 ^ 16))
+/// The number below 2^64 that this text writes in decimal digits alone. `None` where it writes none.
+pub fn number_of(digits: &str) -> Option<u64>
+    ensures { SomeIff result (IsNumeral 10 digits.now × (digits_value 10 digits.now < 2 ^ 64))
         (digits_value 10 digits.now) }
 {
     if digits.starts_with('+') {

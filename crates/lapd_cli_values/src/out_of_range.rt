@@ -2,7 +2,7 @@
 
 ghost use Rattle.std.specs.Prelude.{◌≡◌, MatchResult, SomeIff};
 ghost use Rattle.std.specs.Str.Parse.{digits_value};
-ghost use Rattle.lapd_cli_values.specs.Options.{IsNumberTo, IsRangeOf};
+ghost use Rattle.lapd_cli_values.specs.Options.{IsNumberFrom, IsRangeOf};
 ghost use Rattle.lapd_cli_values.specs.Numerals.{parameters_written, AreWritten};
 
 use crate::number_option::{K, N200, NumberOption, ROOM, TERMINALS};
@@ -12,7 +12,7 @@ use thiserror::Error;
 
 /// What was written for an option that takes a number is none of its range.
 #[derive(Clone, Copy, Debug, Error)]
-#[error("error: invalid value '{shown}' for '--{name} <{value_name}>': not a number from 1 to {most} in decimal digits", shown = .written.escape_debug(), name = .option.name, value_name = .option.value_name, most = .option.most)]
+#[error("error: invalid value '{shown}' for '--{name} <{value_name}>': not a number from {least} to {most} in decimal digits", shown = .written.escape_debug(), name = .option.name, value_name = .option.value_name, least = .option.least, most = .option.most)]
 pub struct OutOfRange<'a> {
     option: NumberOption,
     written: &'a str,
@@ -32,7 +32,7 @@ pub fn params_written<'a>(
         (λ params. AreWritten k.now n200.now room.now
         × (params ≡ parameters_written k.now n200.now room.now))
         (λ fault. IsRangeOf k.now n200.now room.now fault.option.most fault.written.now
-        × (¬ IsNumberTo fault.option.most fault.written.now)) }
+        × (¬ IsNumberFrom fault.option.least fault.option.most fault.written.now)) }
 {
     match params_of(k, n200, room) {
         Some(params) => Ok(params),
@@ -44,7 +44,7 @@ pub fn params_written<'a>(
 fn first_out_of_range<'a>(k: &'a str, n200: &'a str, room: &'a str) -> OutOfRange<'a>
     requires { ¬ AreWritten k.now n200.now room.now }
     ensures named { IsRangeOf k.now n200.now room.now result.option.most result.written.now }
-    ensures refused { ¬ IsNumberTo result.option.most result.written.now }
+    ensures refused { ¬ IsNumberFrom result.option.least result.option.most result.written.now }
 {
     if !K.takes(k) {
         refused(K, k)
@@ -62,6 +62,24 @@ fn refused(option: NumberOption, written: &str) -> OutOfRange<'_>
     OutOfRange { option, written }
 }
 
+/// The number that this writes for an option.
+///
+/// # Errors
+///
+/// Where it is none of the option's range.
+pub fn number_written(option: NumberOption, written: &str) -> Result<u64, OutOfRange<'_>>
+    ensures { MatchResult result
+        (λ number. IsNumberFrom option.least option.most written.now
+        × (number ≡ digits_value 10 written.now))
+        (λ fault. (fault ≡ record { option = option; written = written.entry })
+        × (¬ IsNumberFrom option.least option.most written.now)) }
+{
+    match number_of(written) {
+        Some(number) if option.least <= number && number <= option.most => Ok(number),
+        _ => Err(refused(option, written)),
+    }
+}
+
 /// How many terminals this writes in decimal digits alone, 1 to 127.
 ///
 /// # Errors
@@ -69,23 +87,12 @@ fn refused(option: NumberOption, written: &str) -> OutOfRange<'_>
 /// Where it is none of the range.
 pub fn terminals_written(written: &str) -> Result<u8, OutOfRange<'_>>
     ensures { MatchResult result
-        (λ terminals. IsNumberTo 127 written.now × (terminals ≡ digits_value 10 written.now))
+        (λ terminals. IsNumberFrom 1 127 written.now × (terminals ≡ digits_value 10 written.now))
         (λ fault. (fault.option.most ≡ 127) × (fault.written ≡ written.entry)
-        × (¬ IsNumberTo 127 written.now)) }
+        × (¬ IsNumberFrom 1 127 written.now)) }
 {
-    match terminals_of(written) {
-        Some(terminals) => Ok(terminals),
-        None => Err(refused(TERMINALS, written)),
-    }
-}
-
-// How many terminals this writes, 1 to 127.
-fn terminals_of(written: &str) -> Option<u8>
-    ensures { SomeIff result (IsNumberTo 127 written.now) (digits_value 10 written.now) }
-{
-    if TERMINALS.takes(written) {
-        u8::try_from(number_of(written)?).ok()
-    } else {
-        None
+    match number_written(TERMINALS, written) {
+        Ok(terminals) => Ok(terminals as u8),
+        Err(fault) => Err(fault),
     }
 }

@@ -1,9 +1,8 @@
 //! The command `answer`: scripts, and what they call for.
 
 use crate::commands::devices::keeps_whole_lines;
-use crate::commands::scripts::{ANSWERS, SCRIPT, params, push_lines, run};
+use crate::commands::scripts::{ANSWERS, SCRIPT, answer_as, params, push_lines, run};
 use crate::wants::wants;
-use lapd_cli_commands::answer;
 use lapd_cli_script::ScriptFault;
 use lapd_frame::Side;
 use lapd_link::Params;
@@ -121,7 +120,7 @@ fn answers_so(alloc: Global, script: &Script) -> Result<(), Fail> {
     let (row, side, octets, end, text) = *script;
     let mut printed = Vec::new(alloc);
     let mut rest = octets;
-    let ended = answer(alloc, &mut rest, &mut printed, side, params());
+    let ended = answer_as(alloc, &mut rest, &mut printed, side, params());
     let so = ended == end && printed.as_slice() == text;
     wants(so, row, "its end, or its text")
 }
@@ -452,7 +451,7 @@ fn prints(
     want: &str,
 ) -> Result<(), Fail> {
     let mut printed = Vec::new(alloc);
-    let ended = answer(alloc, &mut script.as_bytes(), &mut printed, side, params);
+    let ended = answer_as(alloc, &mut script.as_bytes(), &mut printed, side, params);
     let so = ended == DONE && printed.as_slice() == want.as_bytes();
     wants(so, row, "its end, or its text")
 }
@@ -574,7 +573,7 @@ fn requests_while_there_is_memory(rt: HostRuntime) -> Result<(), Fail> {
         return Ok(());
     };
     let mut script = REQUESTS;
-    let ended = answer(
+    let ended = answer_as(
         rt.alloc(),
         &mut script,
         &mut printed,

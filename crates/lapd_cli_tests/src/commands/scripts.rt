@@ -3,7 +3,7 @@
 use crate::wants::wants;
 use lapd_cli_commands::answer;
 use lapd_cli_script::ScriptFault;
-use lapd_frame::Side;
+use lapd_frame::{Sapi, Side, Tei};
 use lapd_link::Params;
 use std::alloc::Global;
 use std::io::{Read, Write};
@@ -15,7 +15,19 @@ pub(crate) fn run<R: Read, W: Write>(
     script: &mut R,
     out: &mut W,
 ) -> Result<(), ScriptFault> {
-    answer(alloc, script, out, Side::Network, params())
+    answer_as(alloc, script, out, Side::Network, params())
+}
+
+/// Goes over a script as this side's end of the link of SAPI 0 and TEI 64.
+pub(crate) fn answer_as<R: Read, W: Write>(
+    alloc: Global,
+    script: &mut R,
+    out: &mut W,
+    side: Side,
+    params: Params,
+) -> Result<(), ScriptFault> {
+    let tei = Tei::new(64).unwrap();
+    answer(alloc, script, out, side, Sapi::Call, tei, params)
 }
 
 /// What the command line chooses where no option is given.

@@ -1,0 +1,4 @@
+pub mod Octets
+pub mod Packet
+pub mod Reading
+pub mod Written

@@ -1,0 +1,117 @@
+-- What a packet of a capture holds, by the link type of its interface. All places are places in the capture's octets.
+use Rattle.std.specs.Prelude.{ℕ, ◌+◌, ◌*◌, ◌/◌, ◌%◌, ◌-◌, ◌≤◌, ◌==◌, nat_lt, not, if◌then◌else◌, List, slice_index, Option, Some, None, ⊤}
+use Rattle.lapd_field.specs.declared.side.Side.{Side}
+use Rattle.lapd_field.specs.declared.side.Side.TheVariants.{Network, User}
+use Rattle.lapd_field.specs.Address.{other_side}
+use Rattle.lapd_capture.specs.declared.order.Order.TheVariants.{Big}
+use Rattle.lapd_capture.specs.declared.found.Found.{Found}
+use Rattle.lapd_capture.specs.declared.found.Found.TheVariants.{Frame, Other, Unreadable, End}
+use Rattle.lapd_capture.specs.declared.found.PacketFault.TheVariants.{BadLength, BadHeader, Partial}
+use Rattle.lapd_capture.specs.declared.link_type.LinkType.{LinkType}
+use Rattle.lapd_capture.specs.declared.link_type.LinkType.TheVariants.{LinuxLapd, Lapd, Ethernet, Ip, NotServed}
+use Rattle.lapd_capture.specs.Octets.{number_at}
+
+-- the link type of a number: LINKTYPE_LINUX_LAPD, LINKTYPE_LAPD, LINKTYPE_ETHERNET, LINKTYPE_RAW and LINKTYPE_IPV4
+abbrev pub link_type_of : ℕ → LinkType
+link_type_of number = if number == 177 then LinuxLapd else (
+    if number == 203 then Lapd else (
+    if number == 1 then Ethernet else (
+    if number == 101 then Ip else (
+    if number == 228 then Ip else NotServed))))
+
+-- ---- LINKTYPE_LINUX_LAPD: 16 octets before each frame.
+
+-- the side that captured: the network's where the first octet of the address is not 0
+abbrev pub capturing_side : ℕ → Side
+capturing_side first = if first == 0 then User else Network
+
+-- who sent the frame, by the packet type: to this host, to all, to some, from another terminal, from this host
+abbrev pub sender_of : ℕ → Side → Option Side
+sender_of type side = if nat_lt type 3 then Some (other_side side) else (
+    if type == 3 then Some User else (
+    if type == 4 then Some side else None))
+
+-- the frame behind the 16 octets from `start` on: packet type, ARPHRD type, length of the address, 8 octets of address, and
+-- the protocol, 0x0030
+abbrev pub linux_lapd : ℕ → ℕ → List ℕ → Found
+linux_lapd start end octets = if nat_lt (end - start) 16 then Unreadable BadLength else (
+    if number_at Big 2 (start + 14) octets == 0x0030 then Frame (record {
+      from = sender_of (number_at Big 2 start octets)
+          (capturing_side (slice_index octets (start + 6)));
+      start = start + 16;
+      end = end;
+    }) else Unreadable BadHeader)
+
+-- ---- GSMTAP over UDP over IPv4.
+
+-- the uplink bit of the channel number: the user sent it
+abbrev pub gsmtap_sender : ℕ → Side
+gsmtap_sender channel = if channel / 0x4000 % 2 == 1 then User else Network
+
+-- behind a GSMTAP header of this length in octets
+abbrev pub gsmtap_frame : ℕ → ℕ → ℕ → List ℕ → Found
+gsmtap_frame header start end octets = if nat_lt header 16 then Unreadable BadLength else (
+    if nat_lt (end - start) header then Unreadable BadLength else Frame (record {
+      from = Some (gsmtap_sender (number_at Big 2 (start + 4) octets));
+      start = start + header;
+      end = end;
+    }))
+
+-- GSMTAP of version 2: the length of its header in words of four octets, its type, 0x13 for E1 and T1 lines, and at 12 its
+-- subtype, 1 for LAPD
+abbrev pub gsmtap : ℕ → ℕ → List ℕ → Found
+gsmtap start end octets = if nat_lt (end - start) 16 then Unreadable BadLength else (
+    if not (slice_index octets start == 2) then Other else (
+    if not (slice_index octets (start + 2) == 0x13) then Other else (
+    if not (slice_index octets (start + 12) == 1) then Other else
+    gsmtap_frame (slice_index octets (start + 1) * 4) start end octets)))
+
+-- a UDP datagram to the port of GSMTAP, 4729, by its own length
+abbrev pub udp : ℕ → ℕ → List ℕ → Found
+udp start end octets = if not (number_at Big 2 (start + 2) octets == 4729) then Other else (
+    if nat_lt (number_at Big 2 (start + 4) octets) 8 then Unreadable BadLength else (
+    if nat_lt (end - start) (number_at Big 2 (start + 4) octets) then Unreadable BadLength else
+    gsmtap (start + 8) (start + number_at Big 2 (start + 4) octets) octets))
+
+-- behind an IPv4 header of this length, in a packet of this total length
+abbrev pub ip_payload : ℕ → ℕ → ℕ → ℕ → List ℕ → Found
+ip_payload header total start end octets = if nat_lt header 20 then Unreadable BadLength else (
+    if nat_lt total (header + 8) then Unreadable BadLength else (
+    if nat_lt (end - start) total then Unreadable BadLength else
+    udp (start + header) (start + total) octets))
+
+-- an IPv4 packet that is whole and carries UDP
+abbrev pub ip : ℕ → ℕ → List ℕ → Found
+ip start end octets = if nat_lt (end - start) 20 then Unreadable BadLength else (
+    if not (slice_index octets start / 16 == 4) then Other else (
+    if not (slice_index octets (start + 9) == 17) then Other else (
+    if not (number_at Big 2 (start + 6) octets % 0x4000 == 0) then Other else
+    ip_payload (slice_index octets start % 16 * 4) (number_at Big 2 (start + 2) octets) start end
+    octets)))
+
+-- an Ethernet frame with IPv4 in it
+abbrev pub ethernet : ℕ → ℕ → List ℕ → Found
+ethernet start end octets = if nat_lt (end - start) 14 then Unreadable BadLength else (
+    if number_at Big 2 (start + 12) octets == 0x0800 then ip (start + 14) end octets else Other)
+
+-- ---- All of them.
+
+-- what the octets from `start` to `end` hold, on an interface of this link type
+abbrev pub packet_at : LinkType → ℕ → ℕ → List ℕ → Found
+packet_at LinuxLapd start end octets = linux_lapd start end octets
+packet_at Lapd start end octets = Frame (record { from = None; start = start; end = end })
+packet_at Ethernet start end octets = ethernet start end octets
+packet_at Ip start end octets = ip start end octets
+packet_at NotServed start end octets = Other
+
+-- the same of a packet that had so many octets on its line: it was captured in part where these are fewer
+abbrev pub whole_packet_at : ℕ → LinkType → ℕ → ℕ → List ℕ → Found
+whole_packet_at original link start end octets =
+    if nat_lt (end - start) original then Unreadable Partial else packet_at link start end octets
+
+-- a frame that was found stands within so many octets
+abbrev pub IsWithin : ℕ → Found → Type 0
+IsWithin count (Frame span) = (span.start ≤ span.end) × (span.end ≤ count)
+IsWithin count Other = ⊤
+IsWithin count (Unreadable fault) = ⊤
+IsWithin count End = ⊤

@@ -1,0 +1,393 @@
+ghost use Rattle.std.specs.Prelude.{◌≡◌, ◌≤◌, ◌<◌, ◌-◌, ◌+◌, ◌^◌, Ok, Err, length, IfOk, slice_get, take, drop};
+ghost use Rattle.lapd_capture.specs.Reading.{MakesStep, behind, block_length, block_of_kind, block_order, block_step, enhanced_packet, found_on, interface_step, left_of, length_checked, next_step, number_in, opened, order_of_magic, order_of_pcap, pcap_opened, record_packet, record_step, section_step, simple_packet};
+ghost use Rattle.lapd_capture.specs.Packet.{IsWithin};
+
+use crate::fault::CaptureFault;
+use crate::found::{Found, PacketFault, Span};
+use crate::link_type::LinkType;
+use crate::order::Order;
+use crate::packet::whole_packet_at;
+use arrayvec::ArrayVec;
+use std::marker::Model;
+
+/// The greatest packet of a pcap file, in octets.
+const MOST_PACKET: usize = 262_144;
+
+/// The length of a record's header, in octets.
+const RECORD_HEADER: usize = 16;
+
+/// The most interfaces of a section of a pcapng file.
+const MOST_INTERFACES: usize = 64;
+
+/// The kind of a section header, with which a pcapng file begins. It reads so in either order.
+const SECTION: usize = 0x0a0d_0d0a;
+
+/// The kind of an interface description.
+const INTERFACE: usize = 1;
+
+/// The kind of a simple packet block.
+const SIMPLE_PACKET: usize = 3;
+
+/// The kind of an enhanced packet block.
+const ENHANCED_PACKET: usize = 6;
+
+/// The least length of a block, in octets.
+const LEAST_BLOCK: usize = 12;
+
+/// How a file is laid out.
+#[derive(Clone, Copy, Debug, PartialEq, Eq)]
+pub(crate) enum Layout {
+    /// pcap.
+    Records,
+    /// pcapng.
+    Blocks,
+}
+
+/// A capture in memory, and how far it is read. All places are those of its octets, from 0.
+#[derive(Debug, Drop)]
+pub struct Capture<'a> {
+    octets: &'a [u8],
+    place: usize,
+    order: Order,
+    layout: Layout,
+    links: ArrayVec<LinkType, MOST_INTERFACES>,
+}
+
+impl<'a> Model for Capture<'a> {
+    ghost use Rattle.std.specs.Prelude.{◌≤◌, length};
+    ghost use Rattle.lapd_capture.specs.Reading.{Reading};
+
+    ghost Value = { Reading };
+
+    ghost view = { λ c. record {
+      octets = c.octets.now;
+      place = c.place;
+      order = c.order;
+      layout = c.layout;
+      links = c.links.items;
+    } };
+
+    ghost invariant = { λ c. c.place ≤ length c.octets.now };
+}
+
+impl<'a> Capture<'a> {
+    /// The capture that these octets are, at its first record or block.
+    ///
+    /// # Errors
+    ///
+    /// `NotACapture`; for a pcap file `Cut`, where it is shorter than its header, and `LinkNotServed`.
+    pub fn new(octets: &'a [u8]) -> Result<Capture<'a>, CaptureFault>
+        ensures { result ≡ opened octets.now }
+    {
+        if octets.len() < 4 {
+            return Err(CaptureFault::NotACapture);
+        }
+        let magic = Order::Big.u32_at(0, octets);
+        if magic == SECTION {
+            return Ok(Capture {
+                octets,
+                place: 0,
+                order: Order::Big,
+                layout: Layout::Blocks,
+                links: ArrayVec::new(),
+            });
+        }
+        match order_of_pcap(magic) {
+            None => Err(CaptureFault::NotACapture),
+            Some(order) => Capture::of_pcap(order, octets),
+        }
+    }
+
+    /// A pcap file, at its first record.
+    fn of_pcap(order: Order, octets: &'a [u8]) -> Result<Capture<'a>, CaptureFault>
+        ensures { result ≡ pcap_opened order octets.now }
+    {
+        if octets.len() < 24 {
+            return Err(CaptureFault::Cut);
+        }
+        let link = LinkType::of(order.u32_at(20, octets) % 0x1_0000);
+        if link == LinkType::NotServed {
+            return Err(CaptureFault::LinkNotServed);
+        }
+        let mut links = ArrayVec::new();
+        links.push(link);
+        Ok(Capture {
+            octets,
+            place: 24,
+            order,
+            layout: Layout::Records,
+            links,
+        })
+    }
+
+    /// How far it is read: the place of the next record or block.
+    pub fn place(&self) -> usize
+        ensures { result ≡ self.now.place }
+    {
+        self.place
+    }
+
+    /// The octets of a frame that was found.
+    pub fn octets_of(&self, frame: Span) -> &'a [u8]
+        requires { IsWithin (length self.now.octets) (Found.Frame frame) }
+        ensures { result.now ≡ take (frame.end - frame.start) (drop frame.start self.now.octets) }
+    {
+        &self.octets[frame.start..frame.end]
+    }
+
+    /// Finds what stands next, and goes behind it.
+    ///
+    /// # Errors
+    ///
+    /// `Cut`, `BadLength`, `TooManyInterfaces`, and `NotACapture` at a section of pcapng that tells no byte order. It
+    /// stays where it was then, so each later call answers the same.
+    pub fn next(&mut self) -> Result<Found, CaptureFault>
+        ensures step { MakesStep (next_step self.old) result self.old self.new }
+        ensures within { IfOk result (IsWithin (length self.old.octets)) }
+        ensures octets { self.new.octets ≡ self.old.octets }
+    {
+        if self.left() == 0 {
+            return Ok(Found::End);
+        }
+        match self.layout {
+            Layout::Records => self.next_record(),
+            Layout::Blocks => self.next_block(),
+        }
+    }
+
+    /// How many octets are left.
+    fn left(&self) -> usize
+        ensures { result ≡ left_of self.now }
+    {
+        self.octets.len() - self.place
+    }
+
+    /// The number of four octets, so many octets behind the place.
+    fn number(&self, order: Order, behind: usize) -> usize
+        requires { behind + 4 ≤ left_of self.now }
+        ensures number { result ≡ number_in order 4 behind self.now }
+        ensures fits { result < 2 ^ 32 }
+    {
+        order.u32_at(self.place + behind, self.octets)
+    }
+
+    /// Goes so many octets on, in this order.
+    fn go_behind(&mut self, order: Order, count: usize)
+        requires { count ≤ left_of self.old }
+        ensures { self.new ≡ behind count (record self.old { order = order }) }
+    {
+        self.order = order;
+        self.place += count;
+    }
+
+    /// What a packet of an interface holds.
+    fn found_on(&self, interface: usize, original: usize, start: usize, end: usize) -> Found
+        requires order { start ≤ end }
+        requires within { end ≤ length self.now.octets }
+        ensures exact { result ≡ found_on (slice_get self.now.links interface) original start end
+            self.now.octets }
+        ensures within { IsWithin (length self.now.octets) result }
+    {
+        match self.links.as_slice().get(interface) {
+            None => Found::Unreadable(PacketFault::NoInterface),
+            Some(link) => whole_packet_at(original, *link, start, end, self.octets),
+        }
+    }
+
+    /// The next record.
+    fn next_record(&mut self) -> Result<Found, CaptureFault>
+        ensures step { MakesStep (record_step self.old) result self.old self.new }
+        ensures within { IfOk result (IsWithin (length self.old.octets)) }
+        ensures octets { self.new.octets ≡ self.old.octets }
+    {
+        if self.left() < RECORD_HEADER {
+            return Err(CaptureFault::Cut);
+        }
+        let order = self.order;
+        let captured = self.number(order, 8);
+        let original = self.number(order, 12);
+        self.take_record(captured, original)
+    }
+
+    /// A record with a packet of so many octets captured of so many.
+    fn take_record(&mut self, captured: usize, original: usize) -> Result<Found, CaptureFault>
+        requires { RECORD_HEADER ≤ left_of self.old }
+        ensures step { MakesStep (record_packet captured original self.old) result self.old
+            self.new }
+        ensures within { IfOk result (IsWithin (length self.old.octets)) }
+        ensures octets { self.new.octets ≡ self.old.octets }
+    {
+        if captured > MOST_PACKET {
+            return Err(CaptureFault::BadLength);
+        }
+        if self.left() - RECORD_HEADER < captured {
+            return Err(CaptureFault::Cut);
+        }
+        let start = self.place + RECORD_HEADER;
+        let found = self.found_on(0, original, start, start + captured);
+        self.place = start + captured;
+        Ok(found)
+    }
+
+    /// The next block.
+    fn next_block(&mut self) -> Result<Found, CaptureFault>
+        ensures step { MakesStep (block_step self.old) result self.old self.new }
+        ensures within { IfOk result (IsWithin (length self.old.octets)) }
+        ensures octets { self.new.octets ≡ self.old.octets }
+    {
+        if self.left() < LEAST_BLOCK {
+            return Err(CaptureFault::Cut);
+        }
+        let order = self.block_order()?;
+        let count = self.block_length(order)?;
+        self.take_block(order, count)
+    }
+
+    /// The order of the next block.
+    fn block_order(&self) -> Result<Order, CaptureFault>
+        requires { LEAST_BLOCK ≤ left_of self.now }
+        ensures { result ≡ block_order self.now }
+    {
+        if self.number(Order::Big, 0) == SECTION {
+            order_of_magic(self.number(Order::Big, 8))
+        } else {
+            Ok(self.order)
+        }
+    }
+
+    /// The length of the next block, in octets.
+    fn block_length(&self, order: Order) -> Result<usize, CaptureFault>
+        requires { LEAST_BLOCK ≤ left_of self.now }
+        ensures exact { result ≡ block_length order self.now }
+        ensures within { IfOk result (λ n. (LEAST_BLOCK ≤ n) × (n ≤ left_of self.now)) }
+    {
+        let count = self.number(order, 4);
+        if count < LEAST_BLOCK {
+            return Err(CaptureFault::BadLength);
+        }
+        if count % 4 != 0 {
+            return Err(CaptureFault::BadLength);
+        }
+        if self.left() < count {
+            return Err(CaptureFault::Cut);
+        }
+        if self.number(order, count - 4) == count {
+            Ok(count)
+        } else {
+            Err(CaptureFault::BadLength)
+        }
+    }
+
+    /// A block of this order and length.
+    fn take_block(&mut self, order: Order, count: usize) -> Result<Found, CaptureFault>
+        requires least { LEAST_BLOCK ≤ count }
+        requires most { count ≤ left_of self.old }
+        ensures step { MakesStep (block_of_kind (number_in order 4 0 self.old) count
+            (record self.old { order = order })) result self.old self.new }
+        ensures within { IfOk result (IsWithin (length self.old.octets)) }
+        ensures octets { self.new.octets ≡ self.old.octets }
+    {
+        let found = match self.number(order, 0) {
+            SECTION => return self.take_section(order, count),
+            INTERFACE => return self.take_interface(order, count),
+            ENHANCED_PACKET => self.enhanced_packet(order, count),
+            SIMPLE_PACKET => self.simple_packet(order, count),
+            _ => Found::Other,
+        };
+        self.go_behind(order, count);
+        Ok(found)
+    }
+
+    /// A section header: no interface is known any more.
+    fn take_section(&mut self, order: Order, count: usize) -> Result<Found, CaptureFault>
+        requires { count ≤ left_of self.old }
+        ensures step { MakesStep (section_step count (record self.old { order = order })) result
+            self.old self.new }
+        ensures other { IfOk result (λ found. found ≡ Found.Other) }
+        ensures octets { self.new.octets ≡ self.old.octets }
+    {
+        if count < 28 {
+            return Err(CaptureFault::BadLength);
+        }
+        self.links.clear();
+        self.go_behind(order, count);
+        Ok(Found::Other)
+    }
+
+    /// An interface description.
+    fn take_interface(&mut self, order: Order, count: usize) -> Result<Found, CaptureFault>
+        requires { count ≤ left_of self.old }
+        ensures step { MakesStep (interface_step count (record self.old { order = order })) result
+            self.old self.new }
+        ensures other { IfOk result (λ found. found ≡ Found.Other) }
+        ensures octets { self.new.octets ≡ self.old.octets }
+    {
+        if count < 20 {
+            return Err(CaptureFault::BadLength);
+        }
+        if self.links.len() == MOST_INTERFACES {
+            return Err(CaptureFault::TooManyInterfaces);
+        }
+        let number = order.u16_at(self.place + 8, self.octets);
+        self.links.push(LinkType::of(number));
+        self.go_behind(order, count);
+        Ok(Found::Other)
+    }
+
+    /// The packet of an enhanced packet block of this length.
+    fn enhanced_packet(&self, order: Order, count: usize) -> Found
+        requires { count ≤ left_of self.now }
+        ensures exact { result ≡ enhanced_packet count (record self.now { order = order }) }
+        ensures within { IsWithin (length self.now.octets) result }
+    {
+        if count < 32 {
+            return Found::Unreadable(PacketFault::BadLength);
+        }
+        let captured = self.number(order, 20);
+        if count - 32 < captured {
+            return Found::Unreadable(PacketFault::BadLength);
+        }
+        let (interface, original) = (self.number(order, 8), self.number(order, 24));
+        let start = self.place + 28;
+        self.found_on(interface, original, start, start + captured)
+    }
+
+    /// The packet of a simple packet block of this length.
+    fn simple_packet(&self, order: Order, count: usize) -> Found
+        requires { count ≤ left_of self.now }
+        ensures exact { result ≡ simple_packet count (record self.now { order = order }) }
+        ensures within { IsWithin (length self.now.octets) result }
+    {
+        if count < 16 {
+            return Found::Unreadable(PacketFault::BadLength);
+        }
+        let original = self.number(order, 8);
+        if count - 16 < original {
+            return Found::Unreadable(PacketFault::Partial);
+        }
+        let start = self.place + 12;
+        self.found_on(0, original, start, start + original)
+    }
+}
+
+/// The order of a pcap file's numbers, by its first four octets.
+fn order_of_pcap(magic: usize) -> Option<Order>
+    ensures { result ≡ order_of_pcap magic }
+{
+    match magic {
+        0xa1b2_c3d4 | 0xa1b2_3c4d => Some(Order::Big),
+        0xd4c3_b2a1 | 0x4d3c_b2a1 => Some(Order::Little),
+        _ => None,
+    }
+}
+
+/// The order that a section header tells.
+fn order_of_magic(magic: usize) -> Result<Order, CaptureFault>
+    ensures { result ≡ order_of_magic magic }
+{
+    match magic {
+        0x1a2b_3c4d => Ok(Order::Big),
+        0x4d3c_2b1a => Ok(Order::Little),
+        _ => Err(CaptureFault::NotACapture),
+    }
+}

@@ -1,0 +1,164 @@
+//! GSMTAP over UDP over IPv4, with Ethernet before it or not.
+
+ghost use Rattle.std.specs.Prelude.{◌≡◌, ◌≤◌, ◌<◌, ◌+◌, length};
+ghost use Rattle.lapd_capture.specs.Packet.{ethernet, ip, ip_payload, udp, gsmtap, gsmtap_frame, gsmtap_sender, IsWithin};
+
+use crate::found::{Found, PacketFault, Span};
+use crate::order::Order;
+use lapd_field::Side;
+
+/// The EtherType of IPv4.
+const IP: usize = 0x0800;
+
+/// The protocol number of UDP.
+const UDP: u8 = 17;
+
+/// The UDP port of GSMTAP.
+const PORT: usize = 4729;
+
+/// The least length of a GSMTAP header, in octets.
+const LEAST_HEADER: usize = 16;
+
+/// The GSMTAP type of E1 and T1 lines.
+const LINE_TYPE: u8 = 0x13;
+
+/// The GSMTAP subtype of LAPD on them.
+const LAPD_SUBTYPE: u8 = 1;
+
+const BAD_LENGTH: Found = Found::Unreadable(PacketFault::BadLength);
+
+/// What an Ethernet frame holds.
+pub(crate) fn ethernet(start: usize, end: usize, octets: &[u8]) -> Found
+    requires order { start ≤ end }
+    requires within { end ≤ length octets.now }
+    ensures exact { result ≡ ethernet start end octets.now }
+    ensures within { IsWithin (length octets.now) result }
+{
+    if end - start < 14 {
+        return BAD_LENGTH;
+    }
+    if Order::Big.u16_at(start + 12, octets) == IP {
+        ip(start + 14, end, octets)
+    } else {
+        Found::Other
+    }
+}
+
+/// What an IPv4 packet holds, where it is whole and carries UDP.
+pub(crate) fn ip(start: usize, end: usize, octets: &[u8]) -> Found
+    requires order { start ≤ end }
+    requires within { end ≤ length octets.now }
+    ensures exact { result ≡ ip start end octets.now }
+    ensures within { IsWithin (length octets.now) result }
+{
+    if end - start < 20 {
+        return BAD_LENGTH;
+    }
+    if octets[start] / 16 != 4 {
+        return Found::Other;
+    }
+    if octets[start + 9] != UDP {
+        return Found::Other;
+    }
+    if Order::Big.u16_at(start + 6, octets) % 0x4000 != 0 {
+        return Found::Other;
+    }
+    let header = usize::from(octets[start] % 16) * 4;
+    let total = Order::Big.u16_at(start + 2, octets);
+    ip_payload(header, total, start, end, octets)
+}
+
+/// What stands behind an IPv4 header of this length, in a packet of this total length.
+fn ip_payload(header: usize, total: usize, start: usize, end: usize, octets: &[u8]) -> Found
+    requires header { header < 64 }
+    requires order { start ≤ end }
+    requires within { end ≤ length octets.now }
+    ensures exact { result ≡ ip_payload header total start end octets.now }
+    ensures within { IsWithin (length octets.now) result }
+{
+    if header < 20 {
+        return BAD_LENGTH;
+    }
+    if total < header + 8 {
+        return BAD_LENGTH;
+    }
+    if end - start < total {
+        return BAD_LENGTH;
+    }
+    udp(start + header, start + total, octets)
+}
+
+/// What a UDP datagram to the port of GSMTAP holds.
+fn udp(start: usize, end: usize, octets: &[u8]) -> Found
+    requires order { start + 8 ≤ end }
+    requires within { end ≤ length octets.now }
+    ensures exact { result ≡ udp start end octets.now }
+    ensures within { IsWithin (length octets.now) result }
+{
+    if Order::Big.u16_at(start + 2, octets) != PORT {
+        return Found::Other;
+    }
+    let count = Order::Big.u16_at(start + 4, octets);
+    if count < 8 {
+        return BAD_LENGTH;
+    }
+    if end - start < count {
+        return BAD_LENGTH;
+    }
+    gsmtap(start + 8, start + count, octets)
+}
+
+/// The frame behind a GSMTAP header of version 2, where it is one of LAPD.
+fn gsmtap(start: usize, end: usize, octets: &[u8]) -> Found
+    requires order { start ≤ end }
+    requires within { end ≤ length octets.now }
+    ensures exact { result ≡ gsmtap start end octets.now }
+    ensures within { IsWithin (length octets.now) result }
+{
+    if end - start < LEAST_HEADER {
+        return BAD_LENGTH;
+    }
+    if octets[start] != 2 {
+        return Found::Other;
+    }
+    if octets[start + 2] != LINE_TYPE {
+        return Found::Other;
+    }
+    if octets[start + 12] != LAPD_SUBTYPE {
+        return Found::Other;
+    }
+    let header = usize::from(octets[start + 1]) * 4;
+    gsmtap_frame(header, start, end, octets)
+}
+
+/// The frame behind a GSMTAP header of this length.
+fn gsmtap_frame(header: usize, start: usize, end: usize, octets: &[u8]) -> Found
+    requires order { start ≤ end }
+    requires within { end ≤ length octets.now }
+    ensures exact { result ≡ gsmtap_frame header start end octets.now }
+    ensures within { IsWithin (length octets.now) result }
+{
+    if header < LEAST_HEADER {
+        return BAD_LENGTH;
+    }
+    if end - start < header {
+        return BAD_LENGTH;
+    }
+    let channel = Order::Big.u16_at(start + 4, octets);
+    Found::Frame(Span {
+        from: Some(gsmtap_sender(channel)),
+        start: start + header,
+        end,
+    })
+}
+
+/// Who sent a frame, by the uplink bit of its channel number.
+fn gsmtap_sender(channel: usize) -> Side
+    ensures { result ≡ gsmtap_sender channel }
+{
+    if channel / 0x4000 % 2 == 1 {
+        Side::User
+    } else {
+        Side::Network
+    }
+}

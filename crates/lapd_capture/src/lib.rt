@@ -1,0 +1,26 @@
+//! Captures of frames of the ISDN D channel, as tcpdump and Wireshark write and read them.
+//!
+//! Begin with [`Capture`]: it reads the frames of a pcap or pcapng file that lies in memory, of either byte order. It
+//! knows the link types LINUX_LAPD (177) and LAPD (203), and GSMTAP over UDP in Ethernet (1) or in IPv4 (101 and 228).
+//! [`FILE_HEADER`] and [`record_of`] write a pcap file of link type 177, and [`gsmtap_of`] a frame for GSMTAP.
+//!
+//! No call takes memory: each length in a capture is compared with the octets that are there. Nothing here knows what a
+//! frame says.
+#![tactic(auto)]
+
+mod capture;
+mod fault;
+mod found;
+mod gsmtap;
+mod link_type;
+mod order;
+mod packet;
+mod written;
+
+pub use capture::Capture;
+pub use fault::CaptureFault;
+pub use found::{Found, PacketFault, Span};
+pub use lapd_field::Side;
+pub use link_type::LinkType;
+pub use order::Order;
+pub use written::{FILE_HEADER, MOST_FRAME, gsmtap_of, record_of};

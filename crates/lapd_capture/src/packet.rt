@@ -1,0 +1,98 @@
+//! What a packet of a capture holds, by the link type of its interface.
+
+ghost use Rattle.std.specs.Prelude.{◌≡◌, ◌≤◌, ◌+◌, length};
+ghost use Rattle.lapd_capture.specs.Packet.{linux_lapd, capturing_side, sender_of, packet_at, whole_packet_at, IsWithin};
+
+use crate::found::{Found, PacketFault, Span};
+use crate::gsmtap;
+use crate::link_type::LinkType;
+use crate::order::Order;
+use lapd_field::Side;
+
+/// How many octets stand before a frame of link type 177.
+const LINUX_HEADER: usize = 16;
+
+/// The protocol number of LAPD in them, ETH_P_LAPD.
+const PROTOCOL: usize = 0x0030;
+
+/// What the octets from `start` to `end` hold, of which there were `original` on the line.
+pub(crate) fn whole_packet_at(
+    original: usize,
+    link: LinkType,
+    start: usize,
+    end: usize,
+    octets: &[u8],
+) -> Found
+    requires order { start ≤ end }
+    requires within { end ≤ length octets.now }
+    ensures exact { result ≡ whole_packet_at original link start end octets.now }
+    ensures within { IsWithin (length octets.now) result }
+{
+    if end - start < original {
+        return Found::Unreadable(PacketFault::Partial);
+    }
+    packet_at(link, start, end, octets)
+}
+
+/// What the octets from `start` to `end` hold, on an interface of this link type.
+fn packet_at(link: LinkType, start: usize, end: usize, octets: &[u8]) -> Found
+    requires order { start ≤ end }
+    requires within { end ≤ length octets.now }
+    ensures exact { result ≡ packet_at link start end octets.now }
+    ensures within { IsWithin (length octets.now) result }
+{
+    match link {
+        LinkType::LinuxLapd => linux_lapd(start, end, octets),
+        LinkType::Lapd => Found::Frame(Span {
+            from: None,
+            start,
+            end,
+        }),
+        LinkType::Ethernet => gsmtap::ethernet(start, end, octets),
+        LinkType::Ip => gsmtap::ip(start, end, octets),
+        LinkType::NotServed => Found::Other,
+    }
+}
+
+/// The frame behind the header of link type 177.
+fn linux_lapd(start: usize, end: usize, octets: &[u8]) -> Found
+    requires order { start ≤ end }
+    requires within { end ≤ length octets.now }
+    ensures exact { result ≡ linux_lapd start end octets.now }
+    ensures within { IsWithin (length octets.now) result }
+{
+    if end - start < LINUX_HEADER {
+        return Found::Unreadable(PacketFault::BadLength);
+    }
+    if Order::Big.u16_at(start + 14, octets) != PROTOCOL {
+        return Found::Unreadable(PacketFault::BadHeader);
+    }
+    let side = capturing_side(octets[start + 6]);
+    Found::Frame(Span {
+        from: sender_of(Order::Big.u16_at(start, octets), side),
+        start: start + LINUX_HEADER,
+        end,
+    })
+}
+
+/// The side that captured, by the first octet of the address.
+fn capturing_side(first: u8) -> Side
+    ensures { result ≡ capturing_side first }
+{
+    match first {
+        0 => Side::User,
+        _ => Side::Network,
+    }
+}
+
+/// Who sent a frame that this side captured, by the packet type.
+fn sender_of(packet_type: usize, side: Side) -> Option<Side>
+    ensures { result ≡ sender_of packet_type side }
+{
+    match packet_type {
+        0..=2 => Some(side.other()),
+        3 => Some(Side::User),
+        4 => Some(side),
+        _ => None,
+    }
+}

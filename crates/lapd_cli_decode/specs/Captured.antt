@@ -1,0 +1,84 @@
+-- What `decode` prints of a capture.
+use Rattle.std.specs.Prelude.{◌≡◌, ℕ, ◌-◌, zero, suc, List, [], ◌++◌, take, drop, Option, Some, None, unwrap_or, Bool, true, false, Result, Ok, Err, ⊤}
+use Rattle.std.specs.Io.KnownBytes.{Appends}
+use Rattle.lapd_capture.specs.declared.Found.{Found}
+use Rattle.lapd_capture.specs.declared.Found.TheVariants.{Frame, Other, Unreadable, End}
+use Rattle.lapd_capture.specs.declared.PacketFault.{PacketFault}
+use Rattle.lapd_capture.specs.Reading.{Reading, next_step}
+use Rattle.lapd_cli_script.specs.Line.{text_line}
+use Rattle.lapd_cli_decode.specs.declared.capture_lines.CaptureStop.{CaptureStop}
+use Rattle.lapd_cli_decode.specs.declared.capture_lines.CaptureStop.TheVariants.{Capture, Packet, Device, Memory}
+use Rattle.lapd_cli_decode.specs.declared.capture_lines.CaptureStyle.{CaptureStyle}
+use Rattle.lapd_cli_decode.specs.Style.{styled_text}
+
+-- the line of what was found: of a frame of which nobody tells who sent it, as if the sender that was chosen had
+abbrev pub found_text : CaptureStyle → List ℕ → Found → List ℕ
+found_text how octets (Frame span) = text_line (styled_text how.style
+    (unwrap_or span.from how.sender) (take (span.end - span.start) (drop span.start octets)))
+found_text how octets (Unreadable fault) = []
+found_text how octets Other = []
+found_text how octets End = []
+
+-- a packet that can't be read, at which reading stops unless such packets are passed over
+abbrev pub packet_fault : Bool → Found → Option PacketFault
+packet_fault keeping (Frame span) = None
+packet_fault true (Unreadable fault) = None
+packet_fault false (Unreadable fault) = Some fault
+packet_fault keeping Other = None
+packet_fault keeping End = None
+
+-- so many steps lead from the one place to the other, and this text is printed for what they find
+abbrev pub Prints : CaptureStyle → ℕ → Reading → List ℕ → Reading → Type 0
+Prints how zero old text new = (text ≡ []) × (new ≡ old)
+Prints how (suc n) old text new = (mid : Reading) × (found : Found)
+    × (before : List ℕ) × Prints how n old before mid
+    × (next_step mid ≡ Ok (record { found = found; reading = new }))
+    × (packet_fault how.keeping found ≡ None)
+    × (text ≡ before ++ found_text how mid.octets found)
+
+-- this is printed up to a place
+abbrev pub PrintsTo : CaptureStyle → Reading → Option (List ℕ) → Option (List ℕ) → Reading
+    → Type 0
+PrintsTo how start old new place = (n : ℕ) × (text : List ℕ)
+    × Prints how n start text place × Appends old new text
+
+-- how a capture ends that is read from a place on, and what the writer holds then: all frames are printed, or those
+-- before the fault that stands there
+abbrev pub CaptureEnds : CaptureStyle → Reading → Result ⊤ CaptureStop → Option (List ℕ)
+    → Option (List ℕ) → Type 0
+CaptureEnds how start (Ok done) old new = (place : Reading) × (behind : Reading)
+    × PrintsTo how start old new place
+    × (next_step place ≡ Ok (record { found = End; reading = behind }))
+CaptureEnds how start (Err (Capture fault at)) old new = (place : Reading)
+    × PrintsTo how start old new place
+    × (next_step place ≡ Err fault) × (at ≡ place.place)
+CaptureEnds how start (Err (Packet fault at)) old new = (place : Reading)
+    × (behind : Reading) × PrintsTo how start old new place
+    × (next_step place ≡ Ok (record { found = Unreadable fault; reading = behind }))
+    × (at ≡ place.place)
+CaptureEnds how start (Err Device) old new = ⊤
+CaptureEnds how start (Err Memory) old new = ⊤
+
+-- a failure of the writer or of memory alone
+abbrev pub IsOtherStop : Result ⊤ CaptureStop → Type 0
+IsOtherStop (Ok done) = ⊤
+IsOtherStop (Err (Capture fault at)) = ⊥
+IsOtherStop (Err (Packet fault at)) = ⊥
+IsOtherStop (Err Device) = ⊤
+IsOtherStop (Err Memory) = ⊤
+
+-- one step: what it finds is printed, or it is at the end, or it stops
+abbrev pub TakesStep : CaptureStyle → Result Bool CaptureStop → Reading → Reading
+    → Option (List ℕ) → Option (List ℕ) → Type 0
+TakesStep how (Ok false) old new a b = (found : Found)
+    × (next_step old ≡ Ok (record { found = found; reading = new }))
+    × (packet_fault how.keeping found ≡ None) × Appends a b (found_text how old.octets found)
+TakesStep how (Ok true) old new a b = (next_step old ≡ Ok (record { found = End; reading = new }))
+    × Appends a b []
+TakesStep how (Err (Capture fault at)) old new a b = (next_step old ≡ Err fault)
+    × (at ≡ old.place) × Appends a b []
+TakesStep how (Err (Packet fault at)) old new a b =
+    (next_step old ≡ Ok (record { found = Unreadable fault; reading = new }))
+    × (at ≡ old.place) × Appends a b []
+TakesStep how (Err Device) old new a b = ⊤
+TakesStep how (Err Memory) old new a b = ⊤

@@ -1,0 +1,6 @@
+-- What a decoder of lines stands for.
+use Rattle.lapd_cli_decode.specs.declared.line_decoder.LineDecoder.{LineDecoder}
+use Rattle.lapd_cli_decode.specs.Lines.{Decoding}
+
+abbrev pub stood_for : LineDecoder → Decoding
+stood_for decoder = record { form = decoder.form; style = decoder.style }

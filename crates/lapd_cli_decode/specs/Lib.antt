@@ -1,0 +1,4 @@
+pub mod Captured
+pub mod Decoder
+pub mod Lines
+pub mod Style

@@ -1,0 +1,12 @@
+-- How octets that a side sent are printed.
+use Rattle.std.specs.Prelude.{ℕ, List, ◌++◌}
+use Rattle.lapd_frame.specs.declared.Side.{Side}
+use Rattle.lapd_trace.specs.Trace.{trace_line}
+use Rattle.lapd_names.specs.Names.{names_text}
+use Rattle.lapd_cli_decode.specs.declared.style.Style.{Style}
+use Rattle.lapd_cli_decode.specs.declared.style.Style.TheVariants.{Plain, Named}
+
+-- the trace line, and behind it, where names are asked for, what its message is
+abbrev pub styled_text : Style → Side → List ℕ → List ℕ
+styled_text Plain from octets = trace_line from octets
+styled_text Named from octets = trace_line from octets ++ names_text from octets

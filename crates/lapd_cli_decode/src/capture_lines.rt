@@ -1,0 +1,119 @@
+//! The frames of a capture as lines.
+
+ghost use Rattle.std.specs.Prelude.{length, OnOk};
+ghost use Rattle.std.specs.Io.KnownBytes.{Appends};
+ghost use Rattle.lapd_capture.specs.Packet.{IsWithin};
+ghost use Rattle.lapd_cli_decode.specs.Captured.{CaptureEnds, found_text, IsOtherStop, TakesStep};
+
+use crate::style::Style;
+use lapd_capture::{Capture, CaptureFault, Found, PacketFault, Span};
+use lapd_cli_script::{LineFault, put_line};
+use lapd_frame::Side;
+use std::alloc::Global;
+use std::io::Write;
+use thiserror::Error;
+
+/// How reading a capture ends before its end. Places are those of its octets, from 0.
+#[derive(Clone, Copy, Debug, PartialEq, Eq, Error)]
+pub enum CaptureStop {
+    /// What stands at this place can't be read, nor what is behind it.
+    #[error("octet {1}: {0}")]
+    Capture(CaptureFault, usize),
+    /// The packet at this place can't be read.
+    #[error("octet {1}: {0}")]
+    Packet(PacketFault, usize),
+    /// The writer failed.
+    #[error("device fault")]
+    Device,
+    /// Memory ran out.
+    #[error("out of memory")]
+    Memory,
+}
+
+/// What becomes of the frames of a capture.
+#[derive(Clone, Copy, Debug, PartialEq, Eq)]
+pub struct CaptureStyle {
+    /// How each is printed.
+    pub style: Style,
+    /// Who sent those of which the capture does not tell.
+    pub sender: Side,
+    /// Whether packets that can't be read are passed over.
+    pub keeping: bool,
+}
+
+/// Prints the frames of a capture from where it stands to its end. Where `keeping` is set, a packet that can't be read is
+/// told on the error writer and passed over; what that does not take is given up.
+///
+/// # Errors
+///
+/// `Capture` and `Packet`, where what was before is printed, `Device` where a write fails, and `Memory`.
+pub fn decode_capture<W: Write, E: Write>(
+    alloc: Global,
+    capture: &mut Capture<'_>,
+    out: &mut W,
+    errors: &mut E,
+    how: CaptureStyle,
+) -> Result<(), CaptureStop>
+    ensures { CaptureEnds how capture.old result (W.contents out.old) (W.contents out.new) }
+{
+    for _step in 0..u64::MAX {
+        if print_next(alloc, capture, out, errors, how)? {
+            return Ok(());
+        }
+    }
+    Err(CaptureStop::Device)
+}
+
+/// Prints what stands next, and tells whether it is the end.
+fn print_next<W: Write, E: Write>(
+    alloc: Global,
+    capture: &mut Capture<'_>,
+    out: &mut W,
+    errors: &mut E,
+    how: CaptureStyle,
+) -> Result<bool, CaptureStop>
+    ensures { TakesStep how result capture.old capture.new (W.contents out.old)
+        (W.contents out.new) }
+{
+    let place = capture.place();
+    match capture.next() {
+        Ok(Found::End) => Ok(true),
+        Ok(Found::Other) => Ok(false),
+        Ok(Found::Frame(frame)) => {
+            put_frame(alloc, capture, frame, out, how)?;
+            Ok(false)
+        }
+        Ok(Found::Unreadable(fault)) => {
+            let stop = CaptureStop::Packet(fault, place);
+            if !how.keeping {
+                return Err(stop);
+            }
+            let _ = writeln!(errors, "passed over: {stop}");
+            Ok(false)
+        }
+        Err(fault) => Err(CaptureStop::Capture(fault, place)),
+    }
+}
+
+/// Prints a frame that was found.
+fn put_frame<W: Write>(
+    alloc: Global,
+    capture: &Capture<'_>,
+    frame: Span,
+    out: &mut W,
+    how: CaptureStyle,
+) -> Result<(), CaptureStop>
+    requires { IsWithin (length capture.now.octets) (Found.Frame frame) }
+    ensures line { OnOk result (Appends (W.contents out.old) (W.contents out.new)
+        (found_text how capture.now.octets (Found.Frame frame))) }
+    ensures fault { IsOtherStop result }
+{
+    let from = frame.from.unwrap_or(how.sender);
+    let Ok(text) = how.style.text(alloc, from, capture.octets_of(frame)) else {
+        return Err(CaptureStop::Memory);
+    };
+    match put_line(text.as_bytes(), &[], out) {
+        Ok(()) => Ok(()),
+        Err(_) => Err(CaptureStop::Device),
+    }
+}

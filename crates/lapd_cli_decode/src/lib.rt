@@ -1,0 +1,18 @@
+//! The command `decode` with options: octets as trace lines, from lines of several forms and from captures.
+//!
+//! [`decode_lines`] goes over a script whose lines are of a [`LineForm`], and prints each frame in a [`Style`];
+//! [`decode_good_lines`] passes over lines that are none, and tells them. [`decode_capture`] prints the frames of a capture
+//! of `lapd_capture`. What `decode` prints without an option is `decode` of `lapd_cli_commands`.
+#![tactic(auto)]
+
+mod capture_lines;
+mod line_decoder;
+mod line_form;
+mod style;
+
+pub use capture_lines::{CaptureStop, CaptureStyle, decode_capture};
+pub use lapd_capture::{Capture, CaptureFault, PacketFault};
+pub use lapd_frame::Side;
+pub use line_decoder::{decode_good_lines, decode_lines};
+pub use line_form::LineForm;
+pub use style::Style;

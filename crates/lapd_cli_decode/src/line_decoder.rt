@@ -1,0 +1,123 @@
+//! Lines of octets, in each form and style.
+
+ghost use Rattle.std.specs.Prelude.{◌≡◌, IfSome};
+ghost use Rattle.lapd_cli_script.specs.Script.{EndsAs, lines_of};
+ghost use Rattle.lapd_cli_decode.specs.Lines.{keeping_step, line_step};
+ghost use Rattle.lapd_cli_decode.specs.Decoder.{stood_for};
+
+use crate::line_form::LineForm;
+use crate::style::Style;
+use lapd_cli_script::{Command, LineFault, ScriptFault, put_line, walk};
+use std::alloc::Global;
+use std::io::{Read, Write};
+
+/// What prints lines of a form in a style.
+#[derive(Drop)]
+struct LineDecoder {
+    alloc: Global,
+    form: LineForm,
+    style: Style,
+}
+
+/// Goes over a script of lines of this form, and writes each frame in this style.
+///
+/// # Errors
+///
+/// `BadLine` at the first line that is none of this form, `Device` where a read or a write fails, and `Memory`.
+pub fn decode_lines<R: Read, W: Write>(
+    alloc: Global,
+    script: &mut R,
+    out: &mut W,
+    form: LineForm,
+    style: Style,
+) -> Result<(), ScriptFault>
+    ensures { IfSome (R.remaining script.old) (λ octets. EndsAs line_step
+        (record { form = form; style = style }) result
+        (lines_of octets) (W.contents out.old) (W.contents out.new)) }
+{
+    let mut decoder = LineDecoder { alloc, form, style };
+    walk(alloc, &mut decoder, script, out)
+}
+
+/// As [`decode_lines`], where a line that is none of this form is told on the error writer and passed over. What the error
+/// writer does not take is given up.
+///
+/// # Errors
+///
+/// `Device` where a read or a write fails, and `Memory`.
+pub fn decode_good_lines<R: Read, W: Write, E: Write + Drop>(
+    alloc: Global,
+    script: &mut R,
+    out: &mut W,
+    form: LineForm,
+    style: Style,
+    errors: E,
+) -> Result<(), ScriptFault>
+    ensures { IfSome (R.remaining script.old) (λ octets. EndsAs keeping_step
+        (record { form = form; style = style }) result (lines_of octets) (W.contents out.old) (W.contents out.new)) }
+{
+    let decoder = LineDecoder { alloc, form, style };
+    let mut decoder = GoodLines { decoder, errors };
+    walk(alloc, &mut decoder, script, out)
+}
+
+impl LineDecoder {
+    ghost use Rattle.lapd_cli_script.specs.Script.{LineEndsAs};
+
+    /// Prints what one line tells.
+    fn decode<W: Write>(&self, line: &[u8], out: &mut W) -> Result<(), LineFault>
+        ensures { LineEndsAs (λ decoder state. state ≡ stood_for decoder)
+            (line_step (stood_for self.now) line.now) result self.now
+            (W.contents out.old) (W.contents out.new) }
+    {
+        let sent = self.form.read(self.alloc, line)?;
+        match self
+            .style
+            .text(self.alloc, sent.from, sent.octets.as_slice())
+        {
+            Ok(text) => put_line(text.as_bytes(), &[], out),
+            Err(_) => Err(LineFault::Memory),
+        }
+    }
+}
+
+impl Command for LineDecoder {
+    ghost use Rattle.lapd_cli_decode.specs.Lines.{Decoding};
+
+    ghost State = { Decoding };
+
+    ghost step = { line_step };
+
+    ghost stands_for = { λ decoder state. state ≡ stood_for decoder };
+
+    fn run<W: Write>(&mut self, line: &[u8], out: &mut W) -> Result<(), LineFault> {
+        self.decode(line, out)
+    }
+}
+
+/// What prints the lines that are good, and tells the others.
+#[derive(Drop)]
+struct GoodLines<E> {
+    decoder: LineDecoder,
+    errors: E,
+}
+
+impl<E: Write> Command for GoodLines<E> {
+    ghost use Rattle.lapd_cli_decode.specs.Lines.{Decoding};
+
+    ghost State = { Decoding };
+
+    ghost step = { keeping_step };
+
+    ghost stands_for = { λ lines state. state ≡ stood_for lines.decoder };
+
+    fn run<W: Write>(&mut self, line: &[u8], out: &mut W) -> Result<(), LineFault> {
+        match self.decoder.decode(line, out) {
+            Err(LineFault::Bad) => {
+                let _ = writeln!(self.errors, "passed over: {}", line.escape_ascii());
+                Ok(())
+            }
+            ended => ended,
+        }
+    }
+}

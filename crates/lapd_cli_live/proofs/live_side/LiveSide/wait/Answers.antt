@@ -1,0 +1,11 @@
+use Rattle.std.proofs.Common.{refl, subst}
+use Rattle.lapd_cli_live.specs.Deeds.{Adds, waited}
+use Rattle.lapd_cli_live.specs.declared.outside.Woken.{Woken}
+use Rattle.lapd_cli_live.proofs.Turns.{and_heard}
+use Rattle.lapd_cli_live.proofs.live_side.LiveSide.wait.Goals as goal
+
+pub returns-in_ok-hear-in-Frame : goal.returns-in_ok-hear-in-Frame
+returns-in_ok-hear-in-Frame g c =
+    let adds = subst (λ (woken : Woken). Adds (g.O.Outside.deeds c.args.self.now.outside) (g.O.Outside.deeds c.wait.new.self) (waited c.sooner-until.result c.wait.new.frame woken))
+    c.in-Frame.is c.in_ok-count.ensures.deeds in
+    and_heard _ _ _ _ _ _ _ _ _ _ c.next_deadline.ensures c.sooner-until.ensures refl adds c.in_ok-hear-in-Frame.ensures

@@ -1,0 +1,39 @@
+use lapd_cli_script::LineFault;
+use lapd_port::PortFault;
+use std::alloc::AllocError;
+use std::io;
+
+/// Why a side is served no longer.
+#[derive(Clone, Copy, Debug, PartialEq, Eq)]
+pub enum LiveFault {
+    /// A line is none of the side's, the writer failed, or memory ran out.
+    Line(LineFault),
+    /// What is around the side answered this.
+    Port(PortFault),
+    /// A line was not printed in time that was waited for.
+    Unmet,
+}
+
+impl From<LineFault> for LiveFault {
+    fn from(fault: LineFault) -> LiveFault {
+        LiveFault::Line(fault)
+    }
+}
+
+impl From<PortFault> for LiveFault {
+    fn from(fault: PortFault) -> LiveFault {
+        LiveFault::Port(fault)
+    }
+}
+
+impl From<io::Error> for LiveFault {
+    fn from(_error: io::Error) -> LiveFault {
+        LiveFault::Line(LineFault::Device)
+    }
+}
+
+impl From<AllocError> for LiveFault {
+    fn from(_error: AllocError) -> LiveFault {
+        LiveFault::Line(LineFault::Memory)
+    }
+}

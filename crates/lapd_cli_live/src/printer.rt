@@ -1,0 +1,180 @@
+//! The lines that a side prints while it is served.
+
+use crate::fault::LiveFault;
+use crate::stats::Stats;
+use lapd_cli_script::LineFault;
+use lapd_cli_side_commands::{push_primitive, push_trace};
+use lapd_frame::Side;
+use lapd_sides::{Primitive, SideKind};
+use std::alloc::Global;
+use std::io::Write;
+
+/// Which lines are printed, and how.
+#[derive(Clone, Copy, Debug, PartialEq, Eq)]
+pub struct Style {
+    /// Whether each line begins with the moment, in milliseconds since the start.
+    pub time: bool,
+    /// Whether the trace lines of frames are left out.
+    pub quiet: bool,
+}
+
+/// A writer of lines, which looks out for a line.
+#[derive(Drop)]
+pub struct Printer<W> {
+    alloc: Global,
+    out: W,
+    style: Style,
+    /// The moment that lines begin with.
+    moment: u64,
+    /// Room for a line, which is used again.
+    line: String,
+    /// What a line is to begin with that is looked out for. It is empty where none is.
+    awaited: Vec<u8>,
+    is_found: bool,
+    stats: Stats,
+}
+
+impl<W: Write> Printer<W> {
+    /// Prints lines of this style.
+    pub fn new(alloc: Global, out: W, style: Style) -> Printer<W> {
+        Printer {
+            alloc,
+            out,
+            style,
+            moment: 0,
+            line: String::new(alloc),
+            awaited: Vec::new(alloc),
+            is_found: false,
+            stats: Stats::new(),
+        }
+    }
+
+    /// The writer.
+    pub fn into_inner(self) -> W {
+        self.out
+    }
+
+    /// The lines from here on are of this moment.
+    pub(crate) fn set_moment(&mut self, now: u64) {
+        self.moment = now;
+    }
+
+    /// Looks out for a line that begins so, from here on.
+    pub(crate) fn await_line(&mut self, front: Vec<u8>) {
+        self.awaited = front;
+        self.is_found = false;
+    }
+
+    /// Looks out for no line any more, and tells whether the one was printed.
+    pub(crate) fn end_wait(&mut self) -> bool {
+        self.awaited.clear();
+        let was_found = self.is_found;
+        self.is_found = false;
+        was_found
+    }
+
+    /// Whether the line was printed that is looked out for.
+    pub(crate) fn is_found(&self) -> bool {
+        self.is_found
+    }
+
+    /// A frame goes over the line that this side, or the other one, sent: it is counted, and its trace line printed. Each
+    /// frame that comes or goes passes here, at the moment that is set.
+    ///
+    /// # Errors
+    ///
+    /// `Device` and `Memory`.
+    pub(crate) fn pass(&mut self, own: Side, from: Side, frame: &[u8]) -> Result<(), LiveFault> {
+        if own == from {
+            self.stats.count_sent(from, frame);
+        } else {
+            self.stats.count_received(from, frame);
+        }
+        if self.style.quiet {
+            return Ok(());
+        }
+        self.line.clear();
+        push_trace(self.alloc, &mut self.line, from, frame)?;
+        self.put()
+    }
+
+    /// Prints what the layers above are told, where that has a line.
+    ///
+    /// # Errors
+    ///
+    /// `Device` and `Memory`.
+    pub(crate) fn tell(&mut self, primitive: &Primitive) -> Result<(), LiveFault> {
+        self.stats.count_told(primitive);
+        self.line.clear();
+        push_primitive(primitive, &mut self.line)?;
+        if self.line.is_empty() {
+            return Ok(());
+        }
+        self.put()
+    }
+
+    /// Prints why a request is refused.
+    ///
+    /// # Errors
+    ///
+    /// `Device` and `Memory`.
+    pub(crate) fn refuse(&mut self, kind: SideKind) -> Result<(), LiveFault> {
+        if kind == SideKind::Memory {
+            return Err(LiveFault::Line(LineFault::Memory));
+        }
+        self.line.clear();
+        writeln!(self.line, "refused {kind}")?;
+        self.put()
+    }
+
+    /// Prints a line.
+    ///
+    /// # Errors
+    ///
+    /// `Device` and `Memory`.
+    pub(crate) fn put_text(&mut self, text: &str) -> Result<(), LiveFault> {
+        self.line.clear();
+        writeln!(self.line, "{text}")?;
+        self.put()
+    }
+
+    /// Prints what went over the line so far, where the side discarded so many frames.
+    ///
+    /// # Errors
+    ///
+    /// `Device` and `Memory`.
+    pub(crate) fn put_stats(&mut self, discarded: u64) -> Result<(), LiveFault> {
+        let mut text = String::new(self.alloc);
+        self.stats.push_sent(&mut text)?;
+        self.put_text(text.as_str())?;
+        text.clear();
+        self.stats.push_received(discarded, &mut text)?;
+        self.put_text(text.as_str())?;
+        text.clear();
+        self.stats.push_reports(&mut text)?;
+        self.put_text(text.as_str())
+    }
+
+    /// Hands what was printed to the device.
+    ///
+    /// # Errors
+    ///
+    /// `Device`.
+    pub(crate) fn flush(&mut self) -> Result<(), LiveFault> {
+        self.out.flush()?;
+        Ok(())
+    }
+
+    /// Prints the line that stands in the room for it.
+    fn put(&mut self) -> Result<(), LiveFault> {
+        let line = self.line.as_bytes();
+        if !self.awaited.is_empty() && line.starts_with(self.awaited.as_slice()) {
+            self.is_found = true;
+        }
+        if self.style.time {
+            write!(self.out, "{} ", self.moment)?;
+        }
+        self.out.write_all(line)?;
+        Ok(())
+    }
+}

@@ -1,0 +1,87 @@
+//! A script that a side goes over, with what comes to it, and what it prints.
+
+use crate::made::Made;
+use crate::wants::{are_same, wants};
+use lapd_cli_live::{LiveSide, LiveStop, Printer, Style, live_script};
+use lapd_sides::{Acts, Config, Durations, EitherSide, NetSide, Params, Sapi, Tei, UserSide};
+use std::alloc::{AllocError, Global};
+use std::test::Fail;
+
+/// Which side goes over a script.
+#[derive(Clone, Copy)]
+pub(crate) enum Who {
+    /// The network side, to which TEI 64 is known.
+    Net,
+    /// A user side with no TEI.
+    User,
+}
+
+/// A dialogue.
+#[derive(Clone, Copy)]
+pub(crate) struct Row {
+    pub(crate) name: &'static str,
+    pub(crate) who: Who,
+    /// What comes, and when.
+    pub(crate) coming: &'static str,
+    pub(crate) script: &'static str,
+    pub(crate) style: Style,
+    /// How it ends.
+    pub(crate) ended: Result<(), LiveStop>,
+    pub(crate) printed: &'static str,
+}
+
+/// How a script ended, what was around its side, and what was printed.
+#[derive(Drop)]
+pub(crate) struct Played<'s> {
+    pub(crate) ended: Result<(), LiveStop>,
+    pub(crate) made: Made<'s>,
+    pub(crate) printed: Vec<u8>,
+}
+
+/// A side at basic access (Q.921 5.9).
+fn side_of(alloc: Global, who: Who) -> Result<EitherSide, AllocError> {
+    let config = Config {
+        sapi16: true,
+        params0: Params::basic(Sapi::Call),
+        params16: Params::basic(Sapi::Packet),
+        durations: Durations::standard(),
+        seed: 921,
+    };
+    match who {
+        Who::Net => {
+            let known = [Tei::new(64).unwrap_or(Tei::group())];
+            Ok(EitherSide::Network(NetSide::new(alloc, config, &known)?))
+        }
+        Who::User => Ok(EitherSide::User(UserSide::new(alloc, config, None)?)),
+    }
+}
+
+/// Goes over a script as this side.
+pub(crate) fn play<'s>(
+    alloc: Global,
+    who: Who,
+    mut script: &[u8],
+    style: Style,
+    made: Made<'s>,
+) -> Result<Played<'s>, AllocError> {
+    let side = side_of(alloc, who)?;
+    let acts = Acts::new(alloc)?;
+    let printer = Printer::new(alloc, Vec::new(alloc), style);
+    let live = LiveSide::new(alloc, side, acts, made, printer);
+    let (ended, live) = live_script(alloc, live, &mut script);
+    let (made, printed) = live.into_parts();
+    Ok(Played {
+        ended,
+        made,
+        printed,
+    })
+}
+
+/// Whether a row comes out.
+pub(crate) fn check_row(alloc: Global, row: &Row) -> Result<(), Fail> {
+    let made = Made::new(row.coming, None);
+    let played = play(alloc, row.who, row.script.as_bytes(), row.style, made)?;
+    let printed = are_same(played.printed.as_slice(), row.printed.as_bytes());
+    wants(played.ended == row.ended, row.name, "it ends otherwise")?;
+    wants(printed, row.name, "other lines are printed")
+}

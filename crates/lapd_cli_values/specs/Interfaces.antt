@@ -1,0 +1,60 @@
+-- What the options of `net` and `user` choose, and how a TEI is written.
+use Rattle.std.specs.Prelude.{ℕ, List, [], ◌∷◌, map, codes, Bool, true, false, Option, Some, None}
+use Rattle.std.specs.List.{All}
+use Rattle.std.specs.Str.Parse.{digits_value}
+use Rattle.lapd_frame.specs.declared.Sapi.{Sapi}
+use Rattle.lapd_frame.specs.declared.Sapi.TheVariants.{Packet}
+use Rattle.lapd_timers.specs.Durations.{Lengths}
+use Rattle.lapd_link_rows.specs.declared.recovery.Recovery.{Recovery}
+use Rattle.lapd_link_rows.specs.Parameters.{Parameters}
+use Rattle.lapd_cli_values.specs.Numerals.{parameters_written}
+use Rattle.lapd_cli_values.specs.Options.{IsNumberFrom}
+
+-- the window where none is written (Q.921 5.9.5): 7 at primary rate; at basic access 3 for packet communication, and else 1
+abbrev pub usual_window : Bool → Sapi → List ℕ
+usual_window true sapi = codes "7"
+usual_window false Packet = codes "3"
+usual_window false sapi = codes "1"
+
+abbrev pub window_meant : Bool → Sapi → Option (List ℕ) → List ℕ
+window_meant pri sapi None = usual_window pri sapi
+window_meant pri sapi (Some k) = k
+
+-- the parameters with these numbers and this recovery
+abbrev pub link_written : List ℕ → List ℕ → List ℕ → Recovery → Parameters
+link_written k n200 room recovery = record (parameters_written k n200 room) { recovery = recovery }
+
+-- ---- Timers, in milliseconds.
+
+abbrev pub lengths_written : List ℕ → List ℕ → List ℕ → List ℕ → Lengths
+lengths_written t200 t201 t202 t203 = record {
+  t200 = digits_value 10 t200;
+  t201 = digits_value 10 t201;
+  t202 = digits_value 10 t202;
+  t203 = digits_value 10 t203;
+}
+
+-- each is written in decimal digits alone, and lies from a millisecond to an hour
+pub record AreLengths (t200 t201 t202 t203 : List ℕ) : Type 0 where
+  pub t200_is : IsNumberFrom 1 3600000 t200
+  pub t201_is : IsNumberFrom 1 3600000 t201
+  pub t202_is : IsNumberFrom 1 3600000 t202
+  pub t203_is : IsNumberFrom 1 3600000 t203
+
+-- ---- TEIs.
+
+-- the numbers that some texts write, and that each is a TEI which a terminal may have (Q.921 3.3.4)
+abbrev pub teis_written : List (List ℕ) → List ℕ
+teis_written texts = map (digits_value 10) texts
+
+abbrev pub AreTeis : List (List ℕ) → Type 0
+AreTeis texts = All (IsNumberFrom 0 126) texts
+
+-- those that are written, in that order; at primary rate TEI 0, where none is
+abbrev pub teis_meant : Bool → List ℕ → List ℕ
+teis_meant true [] = 0 ∷ []
+teis_meant pri teis = teis
+
+abbrev pub first_of : List ℕ → Option ℕ
+first_of [] = None
+first_of (tei ∷ teis) = Some tei

@@ -1,0 +1,245 @@
+//! What was written for the options of `net` and `user`, and what it chooses.
+
+ghost use Rattle.std.specs.Prelude.{◌≡◌, ◌<◌, [], ◌∷◌, map, option_map, IfOk, MatchResult};
+ghost use Rattle.std.specs.List.{All};
+ghost use Rattle.std.specs.Str.Parse.{digits_value};
+ghost use Rattle.lapd_cli_values.specs.Interfaces.{AreLengths, AreTeis, lengths_written, link_written, teis_meant, teis_written, usual_window, window_meant};
+ghost use Rattle.lapd_cli_values.specs.InterfaceChoices.{IsChosenBy, IsNoneOfItsRange, window_of};
+ghost use Rattle.lapd_cli_values.specs.Numerals.{AreWritten};
+ghost use Rattle.lapd_cli_values.specs.Options.{IsNumberFrom};
+
+use crate::interface::Interface;
+use crate::number_option::{KNOWN_TEI, NumberOption, SEED, T200, T201, T202, T203};
+use crate::out_of_range::{OutOfRange, number_written, params_written};
+use lapd_link_rows::{Params, Recovery, Sapi, Tei};
+use lapd_timers::Durations;
+use std::alloc::{AllocError, Global};
+
+/// What was written for the options of an interface that each are given once at most, or the options' defaults.
+#[derive(Clone, Copy, Debug)]
+pub struct InterfaceOptions<'a> {
+    /// Whether it is one at primary rate.
+    pub pri: bool,
+    /// Whether SAPI 16 is to be served at primary rate.
+    pub sapi16: bool,
+    /// The window of all links.
+    pub k: Option<&'a str>,
+    /// Their N200.
+    pub n200: &'a str,
+    /// The room of their I queues.
+    pub room: &'a str,
+    /// What their T200 sends in state 7.
+    pub recovery: Recovery,
+    /// How long T200 runs.
+    pub t200: &'a str,
+    /// How long T201 runs.
+    pub t201: &'a str,
+    /// How long T202 runs.
+    pub t202: &'a str,
+    /// How long T203 runs.
+    pub t203: &'a str,
+    /// Where the references of the user side begin.
+    pub seed: &'a str,
+}
+
+/// Why what was written for an interface chooses none.
+#[derive(Clone, Copy, Debug)]
+pub enum InterfaceFault<'a> {
+    /// A number that is none of its option's range.
+    OutOfRange(OutOfRange<'a>),
+    /// Memory ran out.
+    Memory,
+}
+
+/// What these texts choose: those of the options that are given once, and those of the TEIs. At primary rate, where no TEI is
+/// written, it is TEI 0.
+///
+/// # Errors
+///
+/// `OutOfRange` at a number that is none of its option's range, and `Memory`.
+pub fn interface_written<'a>(
+    alloc: Global,
+    options: &InterfaceOptions<'a>,
+    teis: &[&'a str],
+) -> Result<Interface, InterfaceFault<'a>>
+    ensures { MatchResult result
+        (λ interface. IsChosenBy options.now (map (λ t. t.now) teis.now) interface)
+        (λ fault. IsNoneOfItsRange fault) }
+{
+    let links0 = links_written(options, Sapi::Call);
+    let links16 = links_written(options, Sapi::Packet);
+    let durations = durations_written(options.t200, options.t201, options.t202, options.t203);
+    let seed = number_written(SEED, options.seed);
+    match (links0, links16, durations, seed) {
+        (Ok(params0), Ok(params16), Ok(durations), Ok(seed)) => {
+            match known_teis(alloc, options.pri, teis) {
+                Ok(teis) => Ok(Interface {
+                    params0,
+                    params16,
+                    durations,
+                    sapi16: !options.pri || options.sapi16,
+                    seed,
+                    teis,
+                }),
+                Err(fault) => Err(fault),
+            }
+        }
+        (Err(fault), _, _, _)
+        | (_, Err(fault), _, _)
+        | (_, _, Err(fault), _)
+        | (_, _, _, Err(fault)) => Err(InterfaceFault::OutOfRange(fault)),
+    }
+}
+
+// What the links of this SAPI are made with.
+fn links_written<'a>(options: &InterfaceOptions<'a>, sapi: Sapi) -> Result<Params, OutOfRange<'a>>
+    ensures { MatchResult result
+        (λ params. AreWritten (window_of options.now sapi) options.now.n200.now options.now.room.now
+        × (params ≡ link_written (window_of options.now sapi) options.now.n200.now
+        options.now.room.now options.now.recovery))
+        (λ fault. ¬ IsNumberFrom fault.option.least fault.option.most fault.written.now) }
+{
+    let k = window(options.pri, sapi, options.k);
+    match params_written(k, options.n200, options.room) {
+        Ok(params) => Ok(params.with_recovery(options.recovery)),
+        Err(fault) => Err(fault),
+    }
+}
+
+// The window that is written, or the usual one.
+fn window<'a>(pri: bool, sapi: Sapi, k: Option<&'a str>) -> &'a str
+    ensures { result.now ≡ window_meant pri sapi (option_map (λ k. k.now) k.entry) }
+{
+    match k {
+        Some(k) => k,
+        None => usual_window(pri, sapi),
+    }
+}
+
+// The window where none is written (Q.921 5.9.5).
+fn usual_window(pri: bool, sapi: Sapi) -> &'static str
+    ensures { result.now ≡ usual_window pri sapi }
+{
+    if pri {
+        return "7";
+    }
+    match sapi {
+        Sapi::Packet => "3",
+        Sapi::Call | Sapi::Management => "1",
+    }
+}
+
+/// How long the timers run that these texts write in milliseconds.
+///
+/// # Errors
+///
+/// The first of the four that is not from 1 to 3,600,000.
+pub fn durations_written<'a>(
+    t200: &'a str,
+    t201: &'a str,
+    t202: &'a str,
+    t203: &'a str,
+) -> Result<Durations, OutOfRange<'a>>
+    ensures { MatchResult result
+        (λ durations. AreLengths t200.now t201.now t202.now t203.now
+        × (durations ≡ lengths_written t200.now t201.now t202.now t203.now))
+        (λ fault. ¬ IsNumberFrom fault.option.least fault.option.most fault.written.now) }
+{
+    let t200 = milliseconds(T200, t200)?;
+    let t201 = milliseconds(T201, t201)?;
+    let t202 = milliseconds(T202, t202)?;
+    let t203 = milliseconds(T203, t203)?;
+    match Durations::new(t200, t201, t202, t203) {
+        Some(durations) => Ok(durations),
+        None => unreachable!(),
+    }
+}
+
+// How long a timer runs, by what was written for its option.
+fn milliseconds(option: NumberOption, written: &str) -> Result<u32, OutOfRange<'_>>
+    requires { option.most < 4294967296 }
+    ensures { MatchResult result
+        (λ number. IsNumberFrom option.least option.most written.now
+        × (number ≡ digits_value 10 written.now))
+        (λ fault. (fault ≡ record { option = option; written = written.entry })
+        × (¬ IsNumberFrom option.least option.most written.now)) }
+{
+    match number_written(option, written) {
+        Ok(number) => Ok(number as u32),
+        Err(fault) => Err(fault),
+    }
+}
+
+/// The TEI that this writes for an option.
+///
+/// # Errors
+///
+/// Where it is not from 0 to 126.
+pub fn tei_written(option: NumberOption, written: &str) -> Result<Tei, OutOfRange<'_>>
+    requires { option.most < 127 }
+    ensures { MatchResult result
+        (λ tei. IsNumberFrom option.least option.most written.now
+        × (tei ≡ digits_value 10 written.now))
+        (λ fault. (fault ≡ record { option = option; written = written.entry })
+        × (¬ IsNumberFrom option.least option.most written.now)) }
+{
+    match number_written(option, written) {
+        Ok(number) => Ok(Tei::new(number as u8).unwrap()),
+        Err(fault) => Err(fault),
+    }
+}
+
+// The TEIs that are known.
+fn known_teis<'a>(
+    alloc: Global,
+    pri: bool,
+    teis: &[&'a str],
+) -> Result<Vec<Tei>, InterfaceFault<'a>>
+    ensures { MatchResult result
+        (λ known. AreTeis (map (λ t. t.now) teis.now)
+        × (known.items ≡ teis_meant pri (teis_written (map (λ t. t.now) teis.now)))
+        × All (λ tei. tei < 127) known.items)
+        (λ fault. IsNoneOfItsRange fault) }
+{
+    match listed_teis(alloc, teis) {
+        Ok(known) => match or_tei_zero(pri, known) {
+            Ok(known) => Ok(known),
+            Err(_) => Err(InterfaceFault::Memory),
+        },
+        Err(fault) => Err(fault),
+    }
+}
+
+// These TEIs; at primary rate TEI 0, where there is none.
+fn or_tei_zero(pri: bool, mut known: Vec<Tei>) -> Result<Vec<Tei>, AllocError>
+    requires { All (λ tei. tei < 127) known.items }
+    ensures { IfOk result (λ meant. (meant.items ≡ teis_meant pri known.items)
+        × All (λ tei. tei < 127) meant.items) }
+{
+    if pri && known.is_empty() {
+        known.push(Tei::new(0).unwrap())?;
+    }
+    Ok(known)
+}
+
+// The TEIs that these texts write, in that order.
+fn listed_teis<'a>(alloc: Global, teis: &[&'a str]) -> Result<Vec<Tei>, InterfaceFault<'a>>
+    ensures { MatchResult result
+        (λ known. AreTeis (map (λ t. t.now) teis.now)
+        × (known.items ≡ teis_written (map (λ t. t.now) teis.now))
+        × All (λ tei. tei < 127) known.items)
+        (λ fault. IsNoneOfItsRange fault) }
+{
+    let mut known = Vec::new(alloc);
+    for written in teis {
+        match tei_written(KNOWN_TEI, written) {
+            Ok(tei) => {
+                let Ok(()) = known.push(tei) else {
+                    return Err(InterfaceFault::Memory);
+                };
+            }
+            Err(fault) => return Err(InterfaceFault::OutOfRange(fault)),
+        }
+    }
+    Ok(known)
+}

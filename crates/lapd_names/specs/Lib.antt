@@ -1,0 +1,2 @@
+pub mod CallMessage
+pub mod Names
