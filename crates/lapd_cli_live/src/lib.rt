@@ -3,7 +3,8 @@
 //! A [`LiveSide`] is a side with what is around it, which is anything that implements [`Outside`]: a connection and a clock, or
 //! a device in memory. [`LiveSide::serve`] does what is due, waits until the next moment at which something is due, and hears
 //! each frame that comes. [`live_script`] goes over a script, whose lines say where the
-//! side is served. What is done, and in which order, is `IsServed` in specs/Turns.antt.
+//! side is served. What is done, and in which order, is `IsServed` in specs/Turns.antt. A [`Tapped`] line hands each frame that
+//! comes or goes to a [`Tap`].
 #![tactic(auto)]
 
 mod fault;
@@ -14,6 +15,7 @@ mod outside;
 mod printer;
 mod scripted_side;
 mod stats;
+mod tapped;
 mod words;
 
 pub use fault::LiveFault;
@@ -21,3 +23,4 @@ pub use live_side::{Came, LiveSide};
 pub use outside::{Outside, Woken};
 pub use printer::{Printer, Style};
 pub use scripted_side::{LiveStop, live_script};
+pub use tapped::{Tap, Tapped};
