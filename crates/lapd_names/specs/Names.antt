@@ -1,6 +1,7 @@
 -- What stands behind a trace line: the message of TEI management or of Q.931 in words.
-use Rattle.std.specs.Prelude.{ℕ, List, [], ◌++◌, codes, Result, Ok, Err}
+use Rattle.std.specs.Prelude.{ℕ, ◌/◌, ◌%◌, List, [], ◌∷◌, ◌++◌, codes, Result, Ok, Err}
 use Rattle.std.specs.Fmt.{decimal}
+use Rattle.hex.specs.Hex.{encode_lower}
 use Rattle.lapd_frame.specs.declared.Side.{Side}
 use Rattle.lapd_frame.specs.declared.Sapi.{Sapi}
 use Rattle.lapd_frame.specs.declared.Sapi.TheVariants.{Call, Packet, Management}
@@ -26,10 +27,15 @@ kind_text CheckResponse = codes " identity check response Ri="
 kind_text Remove = codes " identity remove Ri="
 kind_text Verify = codes " identity verify Ri="
 
+-- a reference number: its two octets in lower case hexadecimal, high first
+abbrev pub reference_number_text : ℕ → List ℕ
+reference_number_text ri = encode_lower ((ri / 256) ∷ (ri % 256) ∷ [])
+
 -- a message of TEI management; nothing for octets that are none
 abbrev pub tei_text : Result TeiMessage TeiFault → List ℕ
 tei_text (Err fault) = []
-tei_text (Ok m) = kind_text m.kind ++ (decimal m.ri ++ (codes " Ai=" ++ decimal m.ai))
+tei_text (Ok m) = kind_text m.kind
+    ++ (reference_number_text m.ri ++ (codes " Ai=" ++ decimal m.ai))
 
 -- the information of an I or UI frame of this service access point: 0 carries Q.931, 63 in UI frames TEI management
 abbrev pub information_text : Sapi → List ℕ → List ℕ

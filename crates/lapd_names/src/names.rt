@@ -1,7 +1,7 @@
 ghost use Rattle.std.specs.Prelude.{◌≡◌, ◌++◌, OnOk, option_map};
 ghost use Rattle.std.specs.String.{string_bytes};
 ghost use Rattle.lapd_names.specs.CallMessage.{call_text, message_at, name_or_number, reference_text, way_text};
-ghost use Rattle.lapd_names.specs.Names.{names_text, information_text, unit_data_text, control_text, kind_text, tei_text};
+ghost use Rattle.lapd_names.specs.Names.{names_text, information_text, unit_data_text, control_text, kind_text, reference_number_text, tei_text};
 ghost use Rattle.lapd_tei.specs.Message.{message_at as tei_message_at};
 
 use crate::call_message::{CallMessage, CallReference};
@@ -75,7 +75,24 @@ fn push_management(text: &mut String, info: &[u8]) -> Result<(), AllocError>
         return Ok(());
     };
     let (kind, ri, ai) = (kind_name(message.kind), message.ri, message.ai);
-    write!(text, "{kind}{ri} Ai={ai}")
+    text.push_str(kind)?;
+    push_reference_number(text, ri)?;
+    write!(text, " Ai={ai}")
+}
+
+/// Appends a reference number in four hexadecimal digits.
+fn push_reference_number(text: &mut String, ri: u16) -> Result<(), AllocError>
+    ensures { OnOk result (string_bytes text.new
+        ≡ string_bytes text.old ++ reference_number_text ri) }
+{
+    let mut digits = [0; 4];
+    let Ok(()) = hex::encode_to_slice([(ri / 256) as u8, (ri % 256) as u8], &mut digits) else {
+        unreachable!()
+    };
+    let Ok(digits) = str::from_utf8(&digits) else {
+        unreachable!()
+    };
+    text.push_str(digits)
 }
 
 /// The name of a message of TEI management (Q.921 Table 8), up to its reference number.
