@@ -91,10 +91,11 @@ fn form_of(options: DecodeOptions) -> LineForm {
 
 /// How `decode` prints a frame.
 pub fn style_of(options: DecodeOptions) -> Style {
-    if options.names {
-        Style::Named
-    } else {
-        Style::Plain
+    match (options.json, options.names) {
+        (false, false) => Style::Plain,
+        (false, true) => Style::Named,
+        (true, false) => Style::Json,
+        (true, true) => Style::NamedJson,
     }
 }
 

@@ -3,10 +3,13 @@ use Rattle.std.specs.Prelude.{ℕ, List, ◌++◌}
 use Rattle.lapd_frame.specs.declared.Side.{Side}
 use Rattle.lapd_trace.specs.Trace.{trace_line}
 use Rattle.lapd_names.specs.Names.{names_text}
+use Rattle.lapd_json.specs.Json.{frame_members, named_members, object_text}
 use Rattle.lapd_cli_decode.specs.declared.style.Style.{Style}
-use Rattle.lapd_cli_decode.specs.declared.style.Style.TheVariants.{Plain, Named}
+use Rattle.lapd_cli_decode.specs.declared.style.Style.TheVariants.{Plain, Named, Json, NamedJson}
 
--- the trace line, and behind it, where names are asked for, what its message is
+-- the trace line, and behind it, where names are asked for, what its message is; or the object of the same
 abbrev pub styled_text : Style → Side → List ℕ → List ℕ
 styled_text Plain from octets = trace_line from octets
 styled_text Named from octets = trace_line from octets ++ names_text from octets
+styled_text Json from octets = object_text (frame_members from octets)
+styled_text NamedJson from octets = object_text (named_members from octets)

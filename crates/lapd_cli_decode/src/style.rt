@@ -12,6 +12,10 @@ pub enum Style {
     Plain,
     /// As its trace line, and behind it what its message is.
     Named,
+    /// As a JSON object.
+    Json,
+    /// As a JSON object that also says what its message is.
+    NamedJson,
 }
 
 impl Style {
@@ -23,11 +27,20 @@ impl Style {
     pub(crate) fn text(self, alloc: Global, from: Side, octets: &[u8]) -> Result<String, AllocError>
         ensures { IfOk result (λ text. string_bytes text ≡ styled_text self from octets.now) }
     {
-        let mut text = lapd_trace::line(alloc, from, octets)?;
         match self {
-            Style::Plain => {}
-            Style::Named => lapd_names::push_names(&mut text, from, octets)?,
+            Style::Plain => lapd_trace::line(alloc, from, octets),
+            Style::Named => named_line(alloc, from, octets),
+            Style::Json => lapd_json::line(alloc, from, octets),
+            Style::NamedJson => lapd_json::named_line(alloc, from, octets),
         }
-        Ok(text)
     }
+}
+
+/// The trace line for octets that `from` sent, and behind it what their message is.
+fn named_line(alloc: Global, from: Side, octets: &[u8]) -> Result<String, AllocError>
+    ensures { IfOk result (λ text. string_bytes text ≡ styled_text Style.Named from octets.now) }
+{
+    let mut text = lapd_trace::line(alloc, from, octets)?;
+    lapd_names::push_names(&mut text, from, octets)?;
+    Ok(text)
 }

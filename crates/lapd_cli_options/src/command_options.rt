@@ -62,6 +62,7 @@ fn decode_of(given: &ArgMatches<'_>) -> DecodeOptions {
         loose: given.get_flag("loose"),
         sender: side_named(given, "sender"),
         names: given.get_flag("names"),
+        json: given.get_flag("json"),
         keep_going: given.get_flag("keep-going"),
     }
 }

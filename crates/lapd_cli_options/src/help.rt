@@ -58,6 +58,8 @@ pub const SENDER: &str =
 
 pub const NAMES: &str = "Names the message of TEI management or of Q.931 behind the line";
 
+pub const JSON: &str = "Prints each frame as a JSON object, one a line";
+
 pub const KEEP_GOING: &str = "Tells a bad line or packet on standard error, and passes over it";
 
 pub const PCAP: &str = "Prints the frames of this pcap or pcapng file in place of a script";
@@ -615,6 +617,18 @@ With --names there stands behind it, for a message of TEI management or of Q.931
   identity request Ri=6199 Ai=127   its kind, reference number and action indicator
   SETUP cr=1 from origin            its name and call reference, and which way it goes: from the
                                     side that the call began at, or to it; cr=dummy where it has none
+
+With --json a line is an object with these members, in the order of their names:
+  direction        \"U>N\" or \"N>U\"
+  sapi, tei        numbers
+  role             \"command\" or \"response\"
+  frame            its name
+  ns, nr           numbers, where the frame has them
+  p or f           0 or 1
+  info             \"HEX\", if it has octets
+  message          with --names, the same words as above
+  fault, octets    in place of all but direction: \"F1 TooShort\" and \"HEX\"
+As {\"direction\":\"U>N\",\"frame\":\"SABME\",\"p\":1,\"role\":\"command\",\"sapi\":0,\"tei\":64}
 
 Example. A line of the script stands behind <, and what is printed for it stands behind >.
   < user 00817f

@@ -41,8 +41,10 @@ pub struct DecodeOptions {
     pub loose: bool,
     /// Who sent what libpri prints behind `>`, and the frames of which a capture does not tell.
     pub sender: Side,
-    /// Whether messages are named behind their trace line.
+    /// Whether messages are named.
     pub names: bool,
+    /// Whether each frame is printed as a JSON object.
+    pub json: bool,
     /// Whether lines and packets that can't be read are told and passed over.
     pub keep_going: bool,
 }

@@ -179,6 +179,7 @@ fn decode_command<'a>(alloc: Global) -> Result<Command<'a>, AllocError> {
     let command = with_arg(command, flag(alloc, "loose", help::LOOSE))?;
     let command = with_arg(command, sender_option(alloc))?;
     let command = with_arg(command, flag(alloc, "names", help::NAMES))?;
+    let command = with_arg(command, flag(alloc, "json", help::JSON))?;
     let command = with_arg(command, flag(alloc, "keep-going", help::KEEP_GOING))?;
     with_arg(command, value_option(alloc, "pcap", "FILE", help::PCAP))
 }

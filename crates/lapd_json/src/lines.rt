@@ -1,14 +1,15 @@
-ghost use Rattle.std.specs.Prelude.{◌≡◌, IfOk, OnOk};
+ghost use Rattle.std.specs.Prelude.{◌≡◌, IfOk, OnOk, codes};
 ghost use Rattle.std.specs.String.{string_bytes};
-ghost use Rattle.lapd_json.specs.Json.{bit, direction_text, frame_members, object_text, poll_key, role_text, with_address, with_control, with_frame, with_message, with_numbered, with_octets, with_poll, with_unnumbered};
-ghost use Rattle.lapd_names.specs.Names.{names_text};
+ghost use Rattle.serde_json.specs.View.{members_view};
+ghost use Rattle.lapd_frame.specs.Reading.{frame_at};
+ghost use Rattle.lapd_json.specs.Json.{bit, direction_text, frame_members, named_members, object_text, poll_key, role_text, with_address, with_control, with_frame, with_message, with_numbered, with_octets, with_poll, with_reading, with_text, with_unnumbered};
 
 use crate::members::Members;
 use lapd_frame::{Address, Control, Frame, Number, Role, Side};
 use std::alloc::{AllocError, Global};
-use std::marker::Model;
 
-/// Octets that a side sent as a JSON object.
+/// The JSON object for octets that `from` sent, in one line with no space and no line feed. Its members stand in the order of
+/// their names.
 ///
 /// ```text
 /// {"direction":"U>N","frame":"SABME","p":1,"role":"command","sapi":0,"tei":64}
@@ -16,70 +17,61 @@ use std::marker::Model;
 /// {"direction":"N>U","f":1,"frame":"RR","nr":0,"role":"response","sapi":0,"tei":64}
 /// {"direction":"U>N","fault":"F3 SapiNotServed","octets":"04817f"}
 /// ```
-#[derive(Drop)]
-pub struct FrameObject {
+///
+/// # Errors
+///
+/// `AllocError` where there was no memory for it.
+pub fn line(alloc: Global, from: Side, octets: &[u8]) -> Result<String, AllocError>
+    ensures { IfOk result (λ text.
+        string_bytes text ≡ object_text (frame_members from octets.now)) }
+{
+    let mut members = Members::new(alloc);
+    put_reading(alloc, &mut members, from, octets)?;
+    members.into_text()
+}
+
+/// The same with a member `message`, in words, where the octets are a frame with a message of TEI management or of Q.931.
+///
+/// # Errors
+///
+/// `AllocError` where there was no memory for it.
+pub fn named_line(alloc: Global, from: Side, octets: &[u8]) -> Result<String, AllocError>
+    ensures { IfOk result (λ text.
+        string_bytes text ≡ object_text (named_members from octets.now)) }
+{
+    let mut members = Members::new(alloc);
+    put_reading(alloc, &mut members, from, octets)?;
+    let mut names = String::new(alloc);
+    lapd_names::push_names(&mut names, from, octets)?;
+    put_words(&mut members, names.as_str())?;
+    members.into_text()
+}
+
+/// Puts who sent octets, and their frame or their first fault.
+fn put_reading(
     alloc: Global,
-    members: Members,
-}
-
-impl Model for FrameObject {
-    ghost use Rattle.serde_json.specs.Data.{Members as MembersOf};
-
-    ghost Value = { MembersOf };
-
-    ghost view = { λ object. object.members };
-}
-
-impl FrameObject {
-    /// The object for octets that `from` sent.
-    ///
-    /// # Errors
-    ///
-    /// `AllocError` where there was no memory for it.
-    pub fn new(alloc: Global, from: Side, octets: &[u8]) -> Result<FrameObject, AllocError>
-        ensures { IfOk result (λ object. object ≡ frame_members from octets.now) }
-    {
-        let mut members = Members::new(alloc);
-        members.put_text("direction", direction_name(from))?;
-        match lapd_frame::read(octets, from) {
-            Ok(frame) => put_frame(alloc, &mut members, &frame)?,
-            Err(fault) => {
-                members.put_text("fault", fault.kind.name())?;
-                put_octets(alloc, &mut members, "octets", octets)?;
-            }
+    members: &mut Members,
+    from: Side,
+    octets: &[u8],
+) -> Result<(), AllocError>
+    ensures { OnOk result (members_view members.new.map.entries
+        ≡ with_reading octets.now (frame_at from octets.now) (with_text (codes "direction")
+        (direction_text from) (members_view members.old.map.entries))) }
+{
+    members.put_text("direction", direction_name(from))?;
+    match lapd_frame::read(octets, from) {
+        Ok(frame) => put_frame(alloc, members, &frame),
+        Err(fault) => {
+            members.put_text("fault", fault.kind.name())?;
+            put_octets(alloc, members, "octets", octets)
         }
-        Ok(FrameObject { alloc, members })
-    }
-
-    /// Adds what the message in octets is that `from` sent, in words, where it is one of TEI management or of Q.931.
-    ///
-    /// # Errors
-    ///
-    /// `AllocError` where there was no memory for it.
-    pub fn put_message(&mut self, from: Side, octets: &[u8]) -> Result<(), AllocError>
-        ensures { OnOk result (self.new
-            ≡ with_message (names_text from octets.now) self.old) }
-    {
-        let mut text = String::new(self.alloc);
-        lapd_names::push_names(&mut text, from, octets)?;
-        put_words(&mut self.members, text.as_str())
-    }
-
-    /// Its text, in one line with no space. The members stand in the order of their names.
-    ///
-    /// # Errors
-    ///
-    /// `AllocError` where there was no memory for it.
-    pub fn into_text(self) -> Result<String, AllocError>
-        ensures { IfOk result (λ text. string_bytes text ≡ object_text self) }
-    {
-        self.members.into_text()
     }
 }
 
 /// Puts the words of a message, before which a space stands.
 fn put_words(members: &mut Members, text: &str) -> Result<(), AllocError>
-    ensures { OnOk result (members.new ≡ with_message text.now members.old) }
+    ensures { OnOk result (members_view members.new.map.entries
+        ≡ with_message text.now (members_view members.old.map.entries)) }
 {
     match text.strip_prefix(" ") {
         Some(words) => members.put_text("message", words),
@@ -89,7 +81,8 @@ fn put_words(members: &mut Members, text: &str) -> Result<(), AllocError>
 
 /// Puts address, control field and information.
 fn put_frame(alloc: Global, members: &mut Members, frame: &Frame<'_>) -> Result<(), AllocError>
-    ensures { OnOk result (members.new ≡ with_frame frame.now members.old) }
+    ensures { OnOk result (members_view members.new.map.entries
+        ≡ with_frame frame.now (members_view members.old.map.entries)) }
 {
     let address = frame.address();
     put_address(members, &address)?;
@@ -99,7 +92,8 @@ fn put_frame(alloc: Global, members: &mut Members, frame: &Frame<'_>) -> Result<
 
 /// Puts SAPI, TEI and role.
 fn put_address(members: &mut Members, address: &Address) -> Result<(), AllocError>
-    ensures { OnOk result (members.new ≡ with_address address.now members.old) }
+    ensures { OnOk result (members_view members.new.map.entries
+        ≡ with_address address.now (members_view members.old.map.entries)) }
 {
     members.put_number("sapi", u64::from(address.sapi.value()))?;
     members.put_number("tei", u64::from(address.tei.value()))?;
@@ -108,7 +102,8 @@ fn put_address(members: &mut Members, address: &Address) -> Result<(), AllocErro
 
 /// Puts the name of the frame, its sequence numbers and its P/F bit.
 fn put_control(members: &mut Members, role: Role, control: Control) -> Result<(), AllocError>
-    ensures { OnOk result (members.new ≡ with_control role control members.old) }
+    ensures { OnOk result (members_view members.new.map.entries
+        ≡ with_control role control (members_view members.old.map.entries)) }
 {
     match control {
         Control::I { ns, nr, p } => {
@@ -136,7 +131,8 @@ fn put_numbered(
     role: Role,
     pf: bool,
 ) -> Result<(), AllocError>
-    ensures { OnOk result (members.new ≡ with_numbered name.now nr role pf members.old) }
+    ensures { OnOk result (members_view members.new.map.entries
+        ≡ with_numbered name.now nr role pf (members_view members.old.map.entries)) }
 {
     members.put_text("frame", name)?;
     members.put_number("nr", u64::from(nr.value()))?;
@@ -145,7 +141,8 @@ fn put_numbered(
 
 /// Puts the name of an unnumbered frame and its P/F bit.
 fn put_unnumbered(members: &mut Members, name: &str, role: Role, pf: bool) -> Result<(), AllocError>
-    ensures { OnOk result (members.new ≡ with_unnumbered name.now role pf members.old) }
+    ensures { OnOk result (members_view members.new.map.entries
+        ≡ with_unnumbered name.now role pf (members_view members.old.map.entries)) }
 {
     members.put_text("frame", name)?;
     put_poll(members, role, pf)
@@ -153,7 +150,8 @@ fn put_unnumbered(members: &mut Members, name: &str, role: Role, pf: bool) -> Re
 
 /// Puts the P/F bit.
 fn put_poll(members: &mut Members, role: Role, pf: bool) -> Result<(), AllocError>
-    ensures { OnOk result (members.new ≡ with_poll role pf members.old) }
+    ensures { OnOk result (members_view members.new.map.entries
+        ≡ with_poll role pf (members_view members.old.map.entries)) }
 {
     members.put_number(poll_name(role), bit(pf))
 }
@@ -165,7 +163,8 @@ fn put_octets(
     key: &str,
     octets: &[u8],
 ) -> Result<(), AllocError>
-    ensures { OnOk result (members.new ≡ with_octets key.now octets.now members.old) }
+    ensures { OnOk result (members_view members.new.map.entries
+        ≡ with_octets key.now octets.now (members_view members.old.map.entries)) }
 {
     if octets.is_empty() {
         return Ok(());

@@ -1,0 +1,2 @@
+pub mod NoFloats
+pub mod Words
