@@ -8,6 +8,8 @@ mod captures;
 #[cfg(test)]
 mod lines;
 #[cfg(test)]
+mod objects;
+#[cfg(test)]
 mod wants;
 #[cfg(test)]
 mod written;

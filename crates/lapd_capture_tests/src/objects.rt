@@ -1,0 +1,57 @@
+//! JSON objects for octets, as docs/SPECIFICATION.md has them.
+
+use crate::wants::wants;
+use lapd_cli_decode::{LineForm, Style, decode_lines};
+use std::alloc::Global;
+use std::test::Fail;
+
+// A line, and its object.
+const OBJECTS: &str =
+    r#"user 00817f|{"direction":"U>N","frame":"SABME","p":1,"role":"command","sapi":0,"tei":64}
+net 008173|{"direction":"N>U","f":1,"frame":"UA","role":"response","sapi":0,"tei":64}
+user 008102040801|{"direction":"U>N","frame":"I","info":"0801","nr":2,"ns":1,"p":0,"role":"command","sapi":0,"tei":64}
+net 02810103|{"direction":"N>U","frame":"RR","nr":1,"p":1,"role":"command","sapi":0,"tei":64}
+net 00810502|{"direction":"N>U","f":0,"frame":"RNR","nr":1,"role":"response","sapi":0,"tei":64}
+user 02810902|{"direction":"U>N","f":0,"frame":"REJ","nr":1,"role":"response","sapi":0,"tei":64}
+user 02811f|{"direction":"U>N","f":1,"frame":"DM","role":"response","sapi":0,"tei":64}
+user 40fd53|{"direction":"U>N","frame":"DISC","p":1,"role":"command","sapi":16,"tei":126}
+user fcff030f619901ff|{"direction":"U>N","frame":"UI","info":"0f619901ff","p":0,"role":"command","sapi":63,"tei":127}
+user 0281877f00020401|{"direction":"U>N","f":0,"frame":"FRMR","info":"7f00020401","role":"response","sapi":0,"tei":64}
+user 0081af|{"direction":"U>N","frame":"XID","p":0,"role":"command","sapi":0,"tei":64}
+user 04817f|{"direction":"U>N","fault":"F3 SapiNotServed","octets":"04817f"}
+net|{"direction":"N>U","fault":"F1 TooShort"}"#;
+
+// The same where messages are named.
+const NAMED: &str =
+    r#"user 00817f|{"direction":"U>N","frame":"SABME","p":1,"role":"command","sapi":0,"tei":64}
+user fcff030f619901ff|{"direction":"U>N","frame":"UI","info":"0f619901ff","message":"identity request Ri=6199 Ai=127","p":0,"role":"command","sapi":63,"tei":127}
+net fefb030f00070281|{"direction":"N>U","frame":"UI","info":"0f00070281","message":"identity assigned Ri=0007 Ai=64","p":0,"role":"command","sapi":63,"tei":125}
+net 02810000080101050403|{"direction":"N>U","frame":"I","info":"080101050403","message":"SETUP cr=1 from origin","nr":0,"ns":0,"p":0,"role":"command","sapi":0,"tei":64}
+net 04817f|{"direction":"N>U","fault":"F3 SapiNotServed","octets":"04817f"}"#;
+
+#[test]
+fn objects_are_printed(rt: HostRuntime) -> Result<(), Fail> {
+    are_printed(rt.alloc(), OBJECTS, Style::Json)?;
+    are_printed(rt.alloc(), NAMED, Style::NamedJson)
+}
+
+// Whether the object of each row is printed for its line.
+fn are_printed(alloc: Global, rows: &str, style: Style) -> Result<(), Fail> {
+    for row in rows.lines() {
+        let (line, object) = row.split_once('|').unwrap_or(("", ""));
+        let is_so = is_printed(alloc, line, object, style);
+        wants(is_so, line, "its object")?;
+    }
+    Ok(())
+}
+
+// Whether this object is printed for this line.
+fn is_printed(alloc: Global, line: &str, object: &str, style: Style) -> bool {
+    let mut printed = Vec::new(alloc);
+    let mut script = line.as_bytes();
+    let ended = decode_lines(alloc, &mut script, &mut printed, LineForm::Strict, style);
+    match printed.as_slice().strip_suffix(b"\n") {
+        Some(text) => ended == Ok(()) && text == object.as_bytes(),
+        None => false,
+    }
+}
