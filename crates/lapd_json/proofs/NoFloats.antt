@@ -1,11 +1,14 @@
 -- An object of texts and numbers has no float, so its text is known.
-use Rattle.std.proofs.Common.{◌≡◌, ℕ, List, false, ◌||◌, refl}
+use Rattle.std.proofs.Common.{◌≡◌, ℕ, List, false, Result, Ok, Err, OnOk, OnErr, String, refl, ap, ◌∙◌}
 use Rattle.std.proofs.lemmas.Bool.{or_parts}
 use Rattle.std.specs.Ordering.{nat_cmp, match_ordering}
 use Rattle.std.specs.Cmp.Lexicographic.{slice_cmp}
 use Rattle.std.specs.declared.cmp.Ordering.{Ordering}
 use Rattle.std.specs.declared.cmp.Ordering.TheVariants.{Less, Equal, Greater}
 use Rattle.serde_json.specs.Data.{Data, Members, no_members, member, put}
+use Rattle.std.specs.declared.alloc.Global.{Global}
+use Rattle.serde_json.specs.declared.value.Value.{Value}
+use Rattle.serde_json.specs.View.{members_view}
 use Rattle.serde_json.specs.Written.{has_float, members_have_float}
 
 one_of_three : (o : Ordering) (a b c : Members) → members_have_float a ≡ false → members_have_float b ≡ false → members_have_float c ≡ false
@@ -27,3 +30,10 @@ put_no_float key d (member other e rest) one all =
     (both_none d (member other e rest) key one all)
     (both_none d rest other one parts.1)
     (both_none e (put key d rest) other parts.0 (put_no_float key d rest one parts.1))
+
+-- an object keeps none, whether a member is put or there is no memory for it
+pub put_keeps : {A E : Type 0} (r : Result A E) (key : List ℕ) (d : Data) (old new : List (String Global × Value)) → has_float d ≡ false
+    → members_have_float (members_view old) ≡ false → OnOk r (members_view new ≡ put key d (members_view old)) → OnErr r (new ≡ old)
+    → members_have_float (members_view new) ≡ false
+put_keeps (Ok done) key d old new one all ok err = ap members_have_float ok ∙ put_no_float key d (members_view old) one all
+put_keeps (Err fault) key d old new one all ok err = ap (λ entries. members_have_float (members_view entries)) err ∙ all
