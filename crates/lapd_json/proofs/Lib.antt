@@ -1,2 +1,1 @@
 pub mod NoFloats
-pub mod Words
