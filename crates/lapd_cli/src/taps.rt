@@ -112,7 +112,11 @@ impl GsmtapSocket {
     // A socket for datagrams to this address.
     fn open(rt: &HostRuntime, address: &str) -> io::Result<GsmtapSocket> {
         let address = gsmtap_address(rt, address)?;
-        let own = if address.is_ipv4() { "0.0.0.0:0" } else { "[::]:0" };
+        let own = if address.is_ipv4() {
+            "0.0.0.0:0"
+        } else {
+            "[::]:0"
+        };
         let socket = UdpSocket::bind(rt, own)?;
         Ok(GsmtapSocket { socket, address })
     }
