@@ -1,2 +1,3 @@
 pub mod Deeds
 pub mod Turns
+pub mod Typed

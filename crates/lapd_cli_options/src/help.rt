@@ -62,6 +62,18 @@ pub const KEEP_GOING: &str = "Tells a bad line or packet on standard error, and 
 
 pub const PCAP: &str = "Prints the frames of this pcap or pcapng file in place of a script";
 
+/// What the options of the clock are for.
+pub const CLOCK: &str =
+    "The clock: that of the script, which goes on by tick alone, or the real one";
+
+pub const TIME: &str =
+    "With --clock real, begins each line with the moment, in milliseconds since the start";
+
+pub const QUIET: &str = "With --clock real, prints no trace lines of frames";
+
+pub const LIVE_PCAP: &str =
+    "With --clock real, writes each frame into this file, as pcap of link type 177 (LINUX_LAPD)";
+
 /// What the option of all commands is for.
 pub const STRICT: &str = "Ends with exit status 5 where a line of the script was refused";
 
