@@ -62,7 +62,8 @@ const ROWS: &[Row] = &[
         who: Who::Net,
         coming: "1 line\n20 line\n30 line\n",
         typed: "expect 0 64 established 10\n|tick 5\n|state 0 64\n",
-        printed: "11 expected 0 64 established\n",
+        printed: "11 expected 0 64 established\n\
+            30 0 64 state 4 V(S)=0 V(A)=0 V(R)=0 RC=0 queue=0\n",
         told: "not done: no line begins so; the lines with the real clock are: read [MS], run [MS], wait MS, \
             expect WORDS.. MS, establish SAPI TEI, release SAPI TEI, give SAPI TEI HEX, unit SAPI TEI HEX, \
             check TEI, state [SAPI TEI], stats\n",
