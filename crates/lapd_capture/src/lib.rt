@@ -2,13 +2,15 @@
 //!
 //! Begin with [`Capture`]: it reads the frames of a pcap or pcapng file that lies in memory, of either byte order. It
 //! knows the link types LINUX_LAPD (177) and LAPD (203), and GSMTAP over UDP in Ethernet (1) or in IPv4 (101 and 228).
-//! [`FILE_HEADER`] and [`record_of`] write a pcap file of link type 177, and [`gsmtap_of`] a frame for GSMTAP.
+//! A [`CaptureWriter`] writes a pcap file of link type 177, of [`FILE_HEADER`] and a [`record_of`] each frame, and
+//! [`gsmtap_of`] a frame for GSMTAP.
 //!
 //! No call takes memory: each length in a capture is compared with the octets that are there. Nothing here knows what a
 //! frame says.
 #![tactic(auto)]
 
 mod capture;
+mod capture_writer;
 mod fault;
 mod found;
 mod gsmtap;
@@ -18,6 +20,7 @@ mod packet;
 mod written;
 
 pub use capture::Capture;
+pub use capture_writer::CaptureWriter;
 pub use fault::CaptureFault;
 pub use found::{Found, PacketFault, Span};
 pub use lapd_field::Side;

@@ -5,9 +5,10 @@ ghost use Rattle.std.specs.Prelude.{◌≡◌, ◌&&◌, IfNone, IfSome, if◌th
 ghost use Rattle.lapd_cli_script.specs.Script.{status_of as status_of_fault};
 
 use crate::reason::Reason;
+use crate::taps::NoTaps;
 use lapd_cli_console::{Script, reason};
 use lapd_cli_live::LiveReason;
-use lapd_cli_options::{NoInvocation, Side, WordsFault};
+use lapd_cli_options::{Clock, NoInvocation, Side, WordsFault};
 use lapd_cli_script::{PortFault, ScriptFault};
 use std::io::{self, ErrorKind};
 use std::process::ExitCode;
@@ -28,6 +29,8 @@ pub enum Stop {
     Script(ScriptFault),
     /// A line was expected, and did not come in time.
     Unmet,
+    /// Frames can't go where they were to besides.
+    NoTaps(NoTaps),
 }
 
 /// What is known when a script has ended.
@@ -35,8 +38,8 @@ pub enum Stop {
 pub struct Ending<'a> {
     /// The command whose script it was.
     pub script: Script,
-    /// Whether it goes by the real clock.
-    pub is_live: bool,
+    /// By which clock it goes.
+    pub clock: Clock<'a>,
     /// The address of `net` or `user`. Of another command it is empty.
     pub address: &'a str,
     /// Whether the exit status tells of a line that was refused.
@@ -60,6 +63,10 @@ pub fn say_ending(rt: &HostRuntime, ending: &Ending<'_>, ended: &Result<(), Stop
         }
         Err(Stop::NoConnection(error)) => {
             say_no_connection(rt, ending, error);
+            Some(ScriptFault::Device)
+        }
+        Err(Stop::NoTaps(taps)) => {
+            say_no_taps(rt, ending, taps);
             Some(ScriptFault::Device)
         }
         Err(Stop::Script(fault)) => {
@@ -122,13 +129,27 @@ fn say_no_connection(rt: &HostRuntime, ending: &Ending<'_>, error: &io::Error) {
     };
 }
 
+// Says why frames can't go where they were to besides.
+fn say_no_taps(rt: &HostRuntime, ending: &Ending<'_>, taps: &NoTaps) {
+    let (pcap, gsmtap) = match ending.clock {
+        Clock::Real(options) => (options.pcap.unwrap_or(""), options.gsmtap.unwrap_or("")),
+        Clock::Script => ("", ""),
+    };
+    let _ = eprintln!(rt; "{}", ScriptFault::Device);
+    let _ = match taps {
+        NoTaps::Clock(error) => eprintln!(rt; "no clock: {}", Reason(error)),
+        NoTaps::File(error) => eprintln!(rt; "cannot write {pcap}: {}", Reason(error)),
+        NoTaps::Socket(error) => eprintln!(rt; "cannot send to {gsmtap}: {}", Reason(error)),
+    };
+}
+
 // Says what is wrong with a line. A `tick` that is right by its form takes the clock past its end.
 fn say_bad_line(rt: &HostRuntime, ending: &Ending<'_>) {
     let line = ending.line;
     if line.is_empty() {
         return;
     }
-    if ending.is_live {
+    if ending.clock != Clock::Script {
         let side = side_of(ending.script);
         let _ = eprintln!(rt; "{}", LiveReason { side, line });
         return;

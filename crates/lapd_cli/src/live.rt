@@ -4,7 +4,8 @@ use crate::connection;
 use crate::connections::Connections;
 use crate::ending::Stop;
 use crate::job::config_of;
-use lapd_cli_live::{LiveSide, LiveStop, Printer, Style, live_script, live_session};
+use crate::taps::{NoTaps, Taps};
+use lapd_cli_live::{LiveSide, LiveStop, Printer, Style, Tapped, live_script, live_session};
 use lapd_cli_options::{Interface, LiveOptions};
 use lapd_cli_script::ScriptFault;
 use lapd_sides::{Acts, EitherSide, NetSide, Side, UserSide};
@@ -17,7 +18,7 @@ use std::io::{self, IsTerminal, Read, Write};
 ///
 /// # Errors
 ///
-/// `NoConnection`, `Unmet`, and those of any script.
+/// `NoTaps`, `NoConnection`, `Unmet`, and those of any script.
 pub fn do_live<R: Read, W: Write>(
     rt: &HostRuntime,
     side: Side,
@@ -27,6 +28,7 @@ pub fn do_live<R: Read, W: Write>(
     script: &mut R,
     out: &mut W,
 ) -> Result<(), Stop> {
+    let mut taps = Taps::open(rt, side, options.pcap, options.gsmtap).map_err(Stop::NoTaps)?;
     let connections = match side {
         Side::Network => accepted(rt, address, options.terminals),
         Side::User => made(rt, address),
@@ -36,6 +38,10 @@ pub fn do_live<R: Read, W: Write>(
     if is_typed {
         connections.hear_typed().map_err(Stop::NoConnection)?;
     }
+    if let Err(error) = taps.start_clock() {
+        return Err(Stop::NoTaps(NoTaps::Clock(error)));
+    }
+    let line = Tapped::new(side, connections, taps);
     let Ok((side, acts)) = made_side(rt, side, interface) else {
         return Err(Stop::Script(ScriptFault::Memory));
     };
@@ -44,15 +50,16 @@ pub fn do_live<R: Read, W: Write>(
         quiet: options.quiet,
     };
     let printer = Printer::new(rt.alloc(), out, style);
-    let live = LiveSide::new(rt.alloc(), side, acts, connections, printer);
+    let live = LiveSide::new(rt.alloc(), side, acts, line, printer);
     let (ended, live) = if is_typed {
         live_session(rt.alloc(), live, script, &mut rt.stderr())
     } else {
         live_script(rt.alloc(), live, script)
     };
-    let (connections, out) = live.into_parts();
+    let (line, out) = live.into_parts();
     // What stands in front of a fault is printed all the same. What the writer does not take is known to it.
     let _ = out.flush();
+    let (connections, _taps) = line.into_parts();
     connections.tell_closed();
     ended.map_err(stop_of)
 }

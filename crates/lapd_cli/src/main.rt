@@ -17,6 +17,7 @@ mod greeting;
 mod job;
 mod live;
 mod reason;
+mod taps;
 
 use capture::do_capture;
 use ending::{Ending, Stop, say_ending, say_memory, say_no_invocation, say_words_fault};
@@ -99,7 +100,7 @@ fn do_script<R: Read + Drop>(
     let refusal = refusals.first().unwrap_or(&[]);
     let ending = Ending {
         script,
-        is_live: matches!(clock, Clock::Real(_)),
+        clock: *clock,
         address,
         strict,
         line,

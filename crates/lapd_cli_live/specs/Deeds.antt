@@ -1,6 +1,5 @@
 -- What is done around a side that is served.
-use Rattle.std.specs.Prelude.{◌≡◌, ℕ, ◌≤◌, List, [], ◌∷◌, ◌++◌, map, take, Option, None, Some, Result, Ok, Err, ⊤}
-use Rattle.lapd_port.specs.declared.port_fault.PortFault.{PortFault}
+use Rattle.std.specs.Prelude.{◌≡◌, ℕ, ◌≤◌, List, [], ◌∷◌, ◌++◌, map, take, Option, None, Some, ⊤}
 use Rattle.lapd_cli_live.specs.declared.outside.Woken.{Woken}
 use Rattle.lapd_cli_live.specs.declared.outside.Woken.TheVariants.{Frame}
 
@@ -10,9 +9,10 @@ pub data Deed : Type 0 where
   Comes : (frame : List ℕ) → Deed
   Sends : (frame : List ℕ) → Deed
 
--- where it is known what was done, just this is done then
+-- where it is known what was done, just this is done then; where it is not known, it is not known afterwards
 abbrev pub Adds : Option (List Deed) → Option (List Deed) → List Deed → Type 0
-Adds None new deeds = ⊤
+Adds None None deeds = ⊤
+Adds None (Some after) deeds = ⊥
 Adds (Some before) None deeds = ⊥
 Adds (Some before) (Some after) deeds = after ≡ before ++ deeds
 

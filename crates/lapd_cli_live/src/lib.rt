@@ -3,7 +3,8 @@
 //! A [`LiveSide`] is a side with what is around it, which is anything that implements [`Outside`]: a connection and a clock, or
 //! a device in memory. [`LiveSide::serve`] does what is due, waits until the next moment at which something is due, and hears
 //! each frame that comes. [`live_script`] goes over a script, whose lines say where the side is served, and [`live_session`]
-//! serves it while lines are typed. What is done, and in which order, is `IsServed` in specs/Turns.antt.
+//! serves it while lines are typed. What is done, and in which order, is `IsServed` in specs/Turns.antt. A [`Tapped`] line hands
+//! each frame that comes or goes to a [`Tap`].
 #![tactic(auto)]
 
 mod fault;
@@ -16,6 +17,7 @@ mod printer;
 mod scripted_side;
 mod session;
 mod stats;
+mod tapped;
 mod typed_lines;
 mod words;
 
@@ -26,3 +28,4 @@ pub use outside::{Outside, Woken};
 pub use printer::{Printer, Style};
 pub use scripted_side::{LiveStop, live_script};
 pub use session::live_session;
+pub use tapped::{Tap, Tapped};

@@ -1,0 +1,169 @@
+//! Where the frames of a line go besides: a capture in a file, and GSMTAP over UDP.
+
+ghost use Rattle.std.specs.Prelude.{◌≤◌, length};
+
+use crate::reason::Reason;
+use lapd_capture::{CaptureWriter, gsmtap_of};
+use lapd_cli_live::Tap;
+use lapd_cli_options::Side;
+use std::fs::{self, File};
+use std::io::{self, ErrorKind};
+use std::net::{SocketAddr, ToSocketAddrs, UdpSocket};
+use std::time::{SystemTime, UNIX_EPOCH};
+
+/// The UDP port of GSMTAP, where none is written.
+const GSMTAP_PORT: u16 = 4729;
+
+/// Why frames can't go where they were to.
+#[derive(Debug, Drop)]
+pub enum NoTaps {
+    /// The clock of the day is not to be had.
+    Clock(io::Error),
+    /// The file of the capture can't be made.
+    File(io::Error),
+    /// There is no socket for the address of `--gsmtap`.
+    Socket(io::Error),
+}
+
+/// A capture and a socket, each where it was asked for. What one of them does not take is told on standard error, once, and
+/// from then on it gets nothing more.
+#[derive(Drop)]
+pub struct Taps<'rt> {
+    rt: &'rt HostRuntime,
+    /// The moment of the start, in milliseconds since 1970.
+    begun: u64,
+    capture: Option<CaptureWriter<File>>,
+    gsmtap: Option<GsmtapSocket>,
+}
+
+/// A UDP socket, and where its datagrams go.
+#[derive(Drop)]
+struct GsmtapSocket {
+    socket: UdpSocket,
+    address: SocketAddr,
+}
+
+impl<'rt> Taps<'rt> {
+    /// The capture that this side makes into the file `pcap`, which is made anew, and GSMTAP to the address `gsmtap`, a host
+    /// with a port or without. The moments in the capture are those of the day's clock: the start is now.
+    ///
+    /// # Errors
+    ///
+    /// `Clock`, `File` and `Socket`.
+    pub fn open(
+        rt: &'rt HostRuntime,
+        own: Side,
+        pcap: Option<&str>,
+        gsmtap: Option<&str>,
+    ) -> Result<Taps<'rt>, NoTaps> {
+        let begun = milliseconds_now(rt).map_err(NoTaps::Clock)?;
+        let capture = match pcap {
+            Some(file) => Some(capture_into(rt, own, file).map_err(NoTaps::File)?),
+            None => None,
+        };
+        let gsmtap = match gsmtap {
+            Some(address) => Some(GsmtapSocket::open(rt, address).map_err(NoTaps::Socket)?),
+            None => None,
+        };
+        Ok(Taps {
+            rt,
+            begun,
+            capture,
+            gsmtap,
+        })
+    }
+}
+
+impl Taps<'_> {
+    /// The start is now, in place of when these were opened.
+    ///
+    /// # Errors
+    ///
+    /// That the clock of the day is not to be had.
+    pub fn start_clock(&mut self) -> io::Result<()> {
+        self.begun = milliseconds_now(self.rt)?;
+        Ok(())
+    }
+}
+
+impl Tap for Taps<'_> {
+    fn pass(&mut self, from: Side, moment: u64, frame: &[u8]) {
+        self.capture_frame(from, moment, frame);
+        self.send_frame(from, frame);
+    }
+}
+
+impl Taps<'_> {
+    // Writes a frame into the capture, where there is one.
+    fn capture_frame(&mut self, from: Side, moment: u64, frame: &[u8])
+        requires { length frame.now ≤ 264 }
+    {
+        let Some(capture) = &mut self.capture else {
+            return;
+        };
+        if let Err(error) = capture.write(from, self.begun.saturating_add(moment), frame) {
+            let _ = eprintln!(self.rt; "the capture ends here: {}", Reason(&error));
+            self.capture = None;
+        }
+    }
+
+    // Sends a frame as GSMTAP, where that was asked for.
+    fn send_frame(&mut self, from: Side, frame: &[u8])
+        requires { length frame.now ≤ 264 }
+    {
+        let Some(gsmtap) = &self.gsmtap else {
+            return;
+        };
+        if let Err(error) = gsmtap.send(from, frame) {
+            let _ = eprintln!(self.rt; "GSMTAP ends here: {}", Reason(&error));
+            self.gsmtap = None;
+        }
+    }
+}
+
+impl GsmtapSocket {
+    // A socket for datagrams to this address.
+    fn open(rt: &HostRuntime, address: &str) -> io::Result<GsmtapSocket> {
+        let address = gsmtap_address(rt, address)?;
+        let own = if address.is_ipv4() {
+            "0.0.0.0:0"
+        } else {
+            "[::]:0"
+        };
+        let socket = UdpSocket::bind(rt, own)?;
+        Ok(GsmtapSocket { socket, address })
+    }
+
+    // Sends a frame. The socket is bound to no peer, so that nobody has to listen.
+    fn send(&self, from: Side, frame: &[u8]) -> io::Result<()>
+        requires { length frame.now ≤ 264 }
+    {
+        let datagram = gsmtap_of(from, frame);
+        self.socket.send_to(datagram.as_slice(), self.address)?;
+        Ok(())
+    }
+}
+
+// The first address of a host with a port, or of a host without one.
+fn gsmtap_address(rt: &HostRuntime, address: &str) -> io::Result<SocketAddr> {
+    let found = match address.to_socket_addrs(rt) {
+        Err(error) if error.kind() == ErrorKind::InvalidInput => {
+            (address, GSMTAP_PORT).to_socket_addrs(rt)?.next()
+        }
+        found => found?.next(),
+    };
+    found.ok_or(io::Error::from(ErrorKind::NotFound))
+}
+
+// The capture of this side into a file that is made anew.
+fn capture_into(rt: &HostRuntime, own: Side, file: &str) -> io::Result<CaptureWriter<File>> {
+    CaptureWriter::new(own, fs::create(rt, file)?)
+}
+
+// The moment by the clock of the day, in milliseconds since 1970; 0 before.
+fn milliseconds_now(rt: &HostRuntime) -> io::Result<u64> {
+    match SystemTime::now(rt)?.duration_since(UNIX_EPOCH) {
+        Ok(passed) => Ok(u64::try_from(passed.as_millis()).unwrap_or(u64::MAX)),
+        Err(_) => Ok(0),
+    }
+}
