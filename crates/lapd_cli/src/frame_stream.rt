@@ -160,9 +160,20 @@ impl FrameStream {
         }
     }
 
-    /// Whether the other side has closed the connection, and all that it sent was read.
+    /// Whether the other side has closed the connection, and each frame that it sent was taken.
     pub fn is_closed(&self) -> bool {
         let mut octet = [0u8];
-        self.text.is_empty() && matches!(self.stream.peek(&mut octet), Ok(0))
+        !self.has_frame() && matches!(self.stream.peek(&mut octet), Ok(0))
+    }
+
+    /// Whether a frame came whole that is not taken.
+    fn has_frame(&self) -> bool {
+        match self.text.as_slice().split_first_chunk::<LENGTH_OCTETS>() {
+            Some((length, behind)) => {
+                let count = usize::from(u16::from_be_bytes(*length));
+                LEAST_OCTETS <= count && count <= MOST_OCTETS && count <= behind.len()
+            }
+            None => false,
+        }
     }
 }

@@ -51,6 +51,16 @@ pub fn do_live<R: Read, W: Write>(
     };
     let printer = Printer::new(rt.alloc(), out, style);
     let live = LiveSide::new(rt.alloc(), side, acts, line, printer);
+    serve(rt, live, script, is_typed).map_err(stop_of)
+}
+
+// Serves a side, and tells that the other one has closed the connection, where it has.
+fn serve<R: Read, W: Write>(
+    rt: &HostRuntime,
+    live: LiveSide<Tapped<Connections<'_>, Taps<'_>>, &mut W>,
+    script: &mut R,
+    is_typed: bool,
+) -> Result<(), LiveStop> {
     let (ended, live) = if is_typed {
         live_session(rt.alloc(), live, script, &mut rt.stderr())
     } else {
@@ -61,7 +71,7 @@ pub fn do_live<R: Read, W: Write>(
     let _ = out.flush();
     let (connections, _taps) = line.into_parts();
     connections.tell_closed();
-    ended.map_err(stop_of)
+    ended
 }
 
 // Why the script of a side that is served was not done to its end.
