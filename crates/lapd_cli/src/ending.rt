@@ -137,7 +137,6 @@ fn say_no_taps(rt: &HostRuntime, ending: &Ending<'_>, taps: &NoTaps) {
     };
     let _ = eprintln!(rt; "{}", ScriptFault::Device);
     let _ = match taps {
-        NoTaps::Clock(error) => eprintln!(rt; "no clock: {}", Reason(error)),
         NoTaps::File(error) => eprintln!(rt; "cannot write {pcap}: {}", Reason(error)),
         NoTaps::Socket(error) => eprintln!(rt; "cannot send to {gsmtap}: {}", Reason(error)),
     };

@@ -4,7 +4,7 @@ use crate::connection;
 use crate::connections::Connections;
 use crate::ending::Stop;
 use crate::job::config_of;
-use crate::taps::{NoTaps, Taps};
+use crate::taps::Taps;
 use lapd_cli_live::{LiveSide, LiveStop, Printer, Style, Tapped, live_script, live_session};
 use lapd_cli_options::{Interface, LiveOptions};
 use lapd_cli_script::ScriptFault;
@@ -28,7 +28,7 @@ pub fn do_live<R: Read, W: Write>(
     script: &mut R,
     out: &mut W,
 ) -> Result<(), Stop> {
-    let mut taps = Taps::open(rt, side, options.pcap, options.gsmtap).map_err(Stop::NoTaps)?;
+    let taps = Taps::open(rt, side, options.pcap, options.gsmtap).map_err(Stop::NoTaps)?;
     let connections = match side {
         Side::Network => accepted(rt, address, options.terminals),
         Side::User => made(rt, address),
@@ -37,9 +37,6 @@ pub fn do_live<R: Read, W: Write>(
     let is_typed = rt.stdin().is_terminal();
     if is_typed {
         connections.hear_typed().map_err(Stop::NoConnection)?;
-    }
-    if let Err(error) = taps.start_clock() {
-        return Err(Stop::NoTaps(NoTaps::Clock(error)));
     }
     let line = Tapped::new(side, connections, taps);
     let Ok((side, acts)) = made_side(rt, side, interface) else {

@@ -17,8 +17,6 @@ const GSMTAP_PORT: u16 = 4729;
 /// Why frames can't go where they were to.
 #[derive(Debug, Drop)]
 pub enum NoTaps {
-    /// The clock of the day is not to be had.
-    Clock(io::Error),
     /// The file of the capture can't be made.
     File(io::Error),
     /// There is no socket for the address of `--gsmtap`.
@@ -30,8 +28,8 @@ pub enum NoTaps {
 #[derive(Drop)]
 pub struct Taps<'rt> {
     rt: &'rt HostRuntime,
-    /// The moment of the start, in milliseconds since 1970.
-    begun: u64,
+    /// The moment of the start, in milliseconds since 1970, as soon as a frame was passed.
+    begun: Option<u64>,
     capture: Option<CaptureWriter<File>>,
     gsmtap: Option<GsmtapSocket>,
 }
@@ -45,18 +43,17 @@ struct GsmtapSocket {
 
 impl<'rt> Taps<'rt> {
     /// The capture that this side makes into the file `pcap`, which is made anew, and GSMTAP to the address `gsmtap`, a host
-    /// with a port or without. The moments in the capture are those of the day's clock: the start is now.
+    /// with a port or without. The first frame has the moment of the day's clock, and the others go by the clock of the line.
     ///
     /// # Errors
     ///
-    /// `Clock`, `File` and `Socket`.
+    /// `File` and `Socket`.
     pub fn open(
         rt: &'rt HostRuntime,
         own: Side,
         pcap: Option<&str>,
         gsmtap: Option<&str>,
     ) -> Result<Taps<'rt>, NoTaps> {
-        let begun = milliseconds_now(rt).map_err(NoTaps::Clock)?;
         let capture = match pcap {
             Some(file) => Some(capture_into(rt, own, file).map_err(NoTaps::File)?),
             None => None,
@@ -67,22 +64,10 @@ impl<'rt> Taps<'rt> {
         };
         Ok(Taps {
             rt,
-            begun,
+            begun: None,
             capture,
             gsmtap,
         })
-    }
-}
-
-impl Taps<'_> {
-    /// The start is now, in place of when these were opened.
-    ///
-    /// # Errors
-    ///
-    /// That the clock of the day is not to be had.
-    pub fn start_clock(&mut self) -> io::Result<()> {
-        self.begun = milliseconds_now(self.rt)?;
-        Ok(())
     }
 }
 
@@ -101,7 +86,9 @@ impl Taps<'_> {
         let Some(capture) = &mut self.capture else {
             return;
         };
-        if let Err(error) = capture.write(from, self.begun.saturating_add(moment), frame) {
+        let begun = begun_at(self.rt, self.begun, moment);
+        self.begun = Some(begun);
+        if let Err(error) = capture.write(from, begun.saturating_add(moment), frame) {
             let _ = eprintln!(self.rt; "the capture ends here: {}", Reason(&error));
             self.capture = None;
         }
@@ -160,10 +147,21 @@ fn capture_into(rt: &HostRuntime, own: Side, file: &str) -> io::Result<CaptureWr
     CaptureWriter::new(own, fs::create(rt, file)?)
 }
 
-// The moment by the clock of the day, in milliseconds since 1970; 0 before.
-fn milliseconds_now(rt: &HostRuntime) -> io::Result<u64> {
-    match SystemTime::now(rt)?.duration_since(UNIX_EPOCH) {
-        Ok(passed) => Ok(u64::try_from(passed.as_millis()).unwrap_or(u64::MAX)),
-        Err(_) => Ok(0),
+// The moment of the start, where it is known, or where it is so many milliseconds ago now.
+fn begun_at(rt: &HostRuntime, begun: Option<u64>, moment: u64) -> u64 {
+    match begun {
+        Some(begun) => begun,
+        None => milliseconds_now(rt).saturating_sub(moment),
+    }
+}
+
+// The moment by the clock of the day, in milliseconds since 1970; 0 where it can't be read.
+fn milliseconds_now(rt: &HostRuntime) -> u64 {
+    let Ok(now) = SystemTime::now(rt) else {
+        return 0;
+    };
+    match now.duration_since(UNIX_EPOCH) {
+        Ok(passed) => u64::try_from(passed.as_millis()).unwrap_or(u64::MAX),
+        Err(_) => 0,
     }
 }

@@ -22,7 +22,7 @@ mod typed_lines;
 mod words;
 
 pub use fault::LiveFault;
-pub use live_forms::{LiveForm, LiveReason, live_forms};
+pub use live_forms::{LiveForm, LiveReason};
 pub use live_side::{Came, LiveSide};
 pub use outside::{Outside, Woken};
 pub use printer::{Printer, Style};

@@ -48,7 +48,7 @@ const USER: &[LiveForm] = &[
 ];
 
 /// The forms of the lines of this side.
-pub fn live_forms(side: Side) -> &'static [LiveForm] {
+pub fn forms_of(side: Side) -> &'static [LiveForm] {
     match side {
         Side::Network => NETWORK,
         Side::User => USER,
@@ -74,7 +74,7 @@ impl LiveReason<'_> {
     /// The form of the line's first word, where a line begins so.
     fn form(&self) -> Option<LiveForm> {
         let word = self.line.split(|octet| *octet == b' ').next()?;
-        for form in live_forms(self.side) {
+        for form in forms_of(self.side) {
             if form.word.as_bytes() == word {
                 return Some(*form);
             }
@@ -101,7 +101,7 @@ impl fmt::Display for LiveReason<'_> {
         }
         f.write_str("no line begins so; the lines with the real clock are: ")?;
         let mut parted_by = "";
-        for form in live_forms(self.side) {
+        for form in forms_of(self.side) {
             write!(f, "{parted_by}{form}")?;
             parted_by = ", ";
         }

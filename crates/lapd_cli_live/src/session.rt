@@ -5,7 +5,7 @@ ghost use Rattle.lapd_cli_script.specs.Script.{is_passed_over as passed_over};
 ghost use Rattle.lapd_cli_live.specs.Typed.{deed_of};
 
 use crate::fault::LiveFault;
-use crate::live_forms::{LiveReason, live_forms};
+use crate::live_forms::{LiveReason, forms_of};
 use crate::live_side::{Came, LiveSide};
 use crate::outside::Outside;
 use crate::scripted_side::LiveStop;
@@ -172,7 +172,7 @@ fn put_help<E: Write, O: Outside, W: Write>(
     errors: &mut E,
 ) -> io::Result<()> {
     errors.write_all(b"the lines with the real clock:\n")?;
-    for form in live_forms(live.side().side()) {
+    for form in forms_of(live.side().side()) {
         writeln!(errors, "  {form}")?;
     }
     errors.write_all(b"and help, which tells these, and quit, which ends the session\n")
