@@ -156,7 +156,7 @@ impl<'a> Connections<'a> {
         self.take_in();
         for _place in 0..self.most {
             let place = self.turn;
-            self.turn = if place + 1 < self.most { place + 1 } else { 0 };
+            self.turn = place_behind(place, self.most);
             if let Some(woken) = self.come_from(place, frame)? {
                 return Ok(Some(woken));
             }
@@ -265,6 +265,12 @@ impl<'a> Connections<'a> {
         self.sleep(Some(Duration::from_millis(left)))?;
         Ok(true)
     }
+}
+
+// The place behind this one among so many, of which the first is behind the last.
+fn place_behind(place: usize, most: usize) -> usize {
+    let next = place.saturating_add(1);
+    if next < most { next } else { 0 }
 }
 
 impl Outside for Connections<'_> {
