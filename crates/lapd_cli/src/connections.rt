@@ -201,7 +201,7 @@ impl<'a> Connections<'a> {
     /// Takes in the connections that wait, while there is room, and tells from where they come.
     fn take_in(&mut self) {
         for _connection in 0..self.most {
-            if !self.is_coming || self.most <= self.streams.len() {
+            if !self.may_come() {
                 return;
             }
             match self.accept() {
@@ -209,6 +209,11 @@ impl<'a> Connections<'a> {
                 Err(_) => self.is_coming = false,
             }
         }
+    }
+
+    /// Whether a connection may wait, and there is room for it.
+    fn may_come(&self) -> bool {
+        self.is_coming && self.streams.len() < self.most
     }
 
     /// The next connection that waits.
@@ -286,6 +291,10 @@ impl Outside for Connections<'_> {
         for _sleep in 0..u64::MAX {
             if let Some(woken) = self.next_come(frame)? {
                 return Ok(woken);
+            }
+            // One that was let go of has made room.
+            if self.may_come() {
+                continue;
             }
             match self.sleep_until(until) {
                 Ok(true) => {}
