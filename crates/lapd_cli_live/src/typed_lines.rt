@@ -1,6 +1,7 @@
 //! Lines that are typed, as their octets come.
 
-ghost use Rattle.std.specs.Prelude.{◌≡◌, ◌++◌, [], option_map, IfOk, OnOk};
+ghost use Rattle.std.specs.Prelude.{◌≡◌, ◌++◌, ◌∷◌, [], option_map, IfOk, IfSome, IfNone, OnOk};
+ghost use Rattle.lapd_cli_script.specs.WalkState.{HasNoFeed};
 ghost use Rattle.lapd_cli_live.specs.Typed.{IsFirstLine};
 
 use memchr::memchr;
@@ -44,12 +45,11 @@ impl TypedLines {
         ensures { IfOk result (λ line. IsFirstLine self.old.text.items
             (option_map (λ line. line.items) line) self.new.text.items) }
     {
-        let text = self.text.as_slice();
-        let Some(end) = memchr(b'\n', text) else {
+        let Some((line, rest)) = first_line(self.text.as_slice()) else {
             return Ok(None);
         };
-        let line = text[..end].to_vec(self.alloc)?;
-        let rest = text[end + 1..].to_vec(self.alloc)?;
+        let line = owned(self.alloc, line)?;
+        let rest = owned(self.alloc, rest)?;
         self.text = rest;
         Ok(Some(line))
     }
@@ -60,4 +60,23 @@ impl TypedLines {
     {
         self.text.as_slice()
     }
+}
+
+/// The octets before the first line feed, and those behind it.
+fn first_line(octets: &[u8]) -> Option<(&[u8], &[u8])>
+    ensures found { IfSome result (λ parts. HasNoFeed parts.0.now
+        × (octets.now ≡ parts.0.now ++ 10 ∷ parts.1.now)) }
+    ensures none { IfNone result (HasNoFeed octets.now) }
+{
+    let end = memchr(b'\n', octets)?;
+    Some((&octets[..end], &octets[end + 1..]))
+}
+
+/// These octets, in memory of their own.
+fn owned(alloc: Global, octets: &[u8]) -> Result<Vec<u8>, AllocError>
+    ensures { IfOk result (λ copy. copy.items ≡ octets.now) }
+{
+    let mut copy = Vec::new(alloc);
+    copy.extend_from_slice(octets)?;
+    Ok(copy)
 }
