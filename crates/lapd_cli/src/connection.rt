@@ -2,7 +2,7 @@
 //! up.
 
 use std::io::{self, ErrorKind};
-use std::net::{TcpListener, TcpStream};
+use std::net::{SocketAddr, TcpListener, TcpStream};
 
 /// Both ends of a new connection of the process to itself, over the loopback interface. What is written to the first is
 /// read from the second, each frame at once.
@@ -21,20 +21,39 @@ pub fn to_itself(rt: &HostRuntime) -> io::Result<(TcpStream, TcpStream)> {
     Ok((near, far))
 }
 
-/// The connection that comes first to this address, which is listened on. Told are the address, with the port that is listened
-/// on, and from where the connection came.
+/// The connection that comes first to this address, which is listened on, as [`listening`] and [`next`] do and tell.
 ///
 /// # Errors
 ///
 /// Those of the system.
 pub fn accepted(rt: &HostRuntime, address: &str) -> io::Result<TcpStream> {
+    let listener = listening(rt, address)?;
+    let (stream, _from) = next(rt, &listener)?;
+    Ok(stream)
+}
+
+/// Listens on this address. Told is the address, with the port that is listened on.
+///
+/// # Errors
+///
+/// Those of the system.
+pub fn listening(rt: &HostRuntime, address: &str) -> io::Result<TcpListener> {
     let listener = TcpListener::bind(rt, address)?;
     let own = listener.local_addr()?;
     let _ = eprintln!(rt; "listening on {own}");
+    Ok(listener)
+}
+
+/// The next connection that comes here, and from where it comes, which is told.
+///
+/// # Errors
+///
+/// Those of the system.
+pub fn next(rt: &HostRuntime, listener: &TcpListener) -> io::Result<(TcpStream, SocketAddr)> {
     let (stream, from) = listener.accept()?;
     let _ = eprintln!(rt; "connected by {from}");
     stream.set_nodelay(true)?;
-    Ok(stream)
+    Ok((stream, from))
 }
 
 /// A connection to this address, which is told.

@@ -5,8 +5,10 @@ ghost use Rattle.std.specs.Prelude.{◌≡◌, ◌&&◌, IfNone, IfSome, if◌th
 ghost use Rattle.lapd_cli_script.specs.Script.{status_of as status_of_fault};
 
 use crate::reason::Reason;
+use crate::taps::NoTaps;
 use lapd_cli_console::{Script, reason};
-use lapd_cli_options::{NoInvocation, WordsFault};
+use lapd_cli_live::LiveReason;
+use lapd_cli_options::{Clock, NoInvocation, Side, WordsFault};
 use lapd_cli_script::{PortFault, ScriptFault};
 use std::io::{self, ErrorKind};
 use std::process::ExitCode;
@@ -14,7 +16,8 @@ use std::process::ExitCode;
 /// The exit status after a fault of the command line.
 const COMMAND_LINE: u8 = 2;
 
-/// The exit status after a script of which a line was refused, where that is to be told.
+/// The exit status after a script of which a line was refused, where that is to be told, and after one that expected a line in
+/// vain.
 const REFUSED: u8 = 5;
 
 /// Why a script was not done to its end.
@@ -24,16 +27,10 @@ pub enum Stop {
     NoConnection(io::Error),
     /// The command ended by this fault.
     Script(ScriptFault),
-}
-
-impl Stop {
-    /// The fault that the first line names.
-    fn fault(&self) -> ScriptFault {
-        match self {
-            Stop::NoConnection(_) => ScriptFault::Device,
-            Stop::Script(fault) => *fault,
-        }
-    }
+    /// A line was expected, and did not come in time.
+    Unmet,
+    /// Frames can't go where they were to besides.
+    NoTaps(NoTaps),
 }
 
 /// What is known when a script has ended.
@@ -41,6 +38,8 @@ impl Stop {
 pub struct Ending<'a> {
     /// The command whose script it was.
     pub script: Script,
+    /// By which clock it goes.
+    pub clock: Clock<'a>,
     /// The address of `net` or `user`. Of another command it is empty.
     pub address: &'a str,
     /// Whether the exit status tells of a line that was refused.
@@ -57,11 +56,28 @@ pub struct Ending<'a> {
 
 /// Says how a script ended.
 pub fn say_ending(rt: &HostRuntime, ending: &Ending<'_>, ended: &Result<(), Stop>) -> ExitCode {
-    match ended {
-        Ok(()) => say_refusal(rt, ending),
-        Err(stop) => say_stop(rt, ending, stop),
-    }
-    let fault = ended.as_ref().err().map(Stop::fault);
+    let fault = match ended {
+        Ok(()) => {
+            say_refusal(rt, ending);
+            None
+        }
+        Err(Stop::NoConnection(error)) => {
+            say_no_connection(rt, ending, error);
+            Some(ScriptFault::Device)
+        }
+        Err(Stop::NoTaps(taps)) => {
+            say_no_taps(rt, ending, taps);
+            Some(ScriptFault::Device)
+        }
+        Err(Stop::Script(fault)) => {
+            say_fault(rt, ending, *fault);
+            Some(*fault)
+        }
+        Err(Stop::Unmet) => {
+            let _ = eprintln!(rt; "a line that was expected did not come in time");
+            return ExitCode::from(REFUSED);
+        }
+    };
     ExitCode::from(status_of(fault, ending.strict, !ending.refusal.is_empty()))
 }
 
@@ -85,21 +101,19 @@ fn say_refusal(rt: &HostRuntime, ending: &Ending<'_>) {
     }
 }
 
-// Says why a script was not done to its end. Where nobody reads what is printed any more, nothing is said.
-fn say_stop(rt: &HostRuntime, ending: &Ending<'_>, stop: &Stop) {
-    let fault = stop.fault();
+// Says by which fault a script ended, and why. Where nobody reads what is printed any more, nothing is said.
+fn say_fault(rt: &HostRuntime, ending: &Ending<'_>, fault: ScriptFault) {
     if fault == ScriptFault::Device && ending.output == Some(ErrorKind::BrokenPipe) {
         return;
     }
     let _ = eprintln!(rt; "{fault}");
-    match stop {
-        Stop::NoConnection(error) => say_no_connection(rt, ending, error),
-        Stop::Script(ScriptFault::BadLine(_)) => say_bad_line(rt, ending),
-        Stop::Script(ScriptFault::Device) => say_device(rt, ending),
-        Stop::Script(ScriptFault::Port(fault)) => {
-            let _ = eprintln!(rt; "{}", words_of(*fault));
+    match fault {
+        ScriptFault::BadLine(_) => say_bad_line(rt, ending),
+        ScriptFault::Device => say_device(rt, ending),
+        ScriptFault::Port(fault) => {
+            let _ = eprintln!(rt; "{}", words_of(fault));
         }
-        Stop::Script(ScriptFault::Memory) => {}
+        ScriptFault::Memory => {}
     }
 }
 
@@ -107,6 +121,7 @@ fn say_stop(rt: &HostRuntime, ending: &Ending<'_>, stop: &Stop) {
 fn say_no_connection(rt: &HostRuntime, ending: &Ending<'_>, error: &io::Error) {
     let address = ending.address;
     let reason = Reason(error);
+    let _ = eprintln!(rt; "{}", ScriptFault::Device);
     let _ = match ending.script {
         Script::Net => eprintln!(rt; "cannot listen on {address}: {reason}"),
         Script::User => eprintln!(rt; "cannot connect to {address}: {reason}"),
@@ -114,18 +129,45 @@ fn say_no_connection(rt: &HostRuntime, ending: &Ending<'_>, error: &io::Error) {
     };
 }
 
+// Says why frames can't go where they were to besides.
+fn say_no_taps(rt: &HostRuntime, ending: &Ending<'_>, taps: &NoTaps) {
+    let (pcap, gsmtap) = match ending.clock {
+        Clock::Real(options) => (options.pcap.unwrap_or(""), options.gsmtap.unwrap_or("")),
+        Clock::Script => ("", ""),
+    };
+    let _ = eprintln!(rt; "{}", ScriptFault::Device);
+    let _ = match taps {
+        NoTaps::File(error) => eprintln!(rt; "cannot write {pcap}: {}", Reason(error)),
+        NoTaps::Socket(error) => eprintln!(rt; "cannot send to {gsmtap}: {}", Reason(error)),
+    };
+}
+
 // Says what is wrong with a line. A `tick` that is right by its form takes the clock past its end.
 fn say_bad_line(rt: &HostRuntime, ending: &Ending<'_>) {
-    if ending.line.is_empty() {
+    let line = ending.line;
+    if line.is_empty() {
         return;
     }
-    let _ = match reason(rt.alloc(), ending.script, ending.line) {
+    if ending.clock != Clock::Script {
+        let side = side_of(ending.script);
+        let _ = eprintln!(rt; "{}", LiveReason { side, line });
+        return;
+    }
+    let _ = match reason(rt.alloc(), ending.script, line) {
         Ok(Some(reason)) => eprintln!(rt; "{reason}"),
-        Ok(None) if ending.line.starts_with(b"tick ") => eprintln!(rt;
+        Ok(None) if line.starts_with(b"tick ") => eprintln!(rt;
             "the clock ends at 1,000,000,000,000,000 ms"
         ),
         _ => Ok(()),
     };
+}
+
+// The side whose command this is.
+fn side_of(script: Script) -> Side {
+    match script {
+        Script::User => Side::User,
+        _ => Side::Network,
+    }
 }
 
 // Says which device failed, and how.
@@ -140,8 +182,8 @@ fn say_device(rt: &HostRuntime, ending: &Ending<'_>) {
     };
 }
 
-// A fault of a port, in words.
-fn words_of(fault: PortFault) -> &'static str {
+/// A fault of a port, in words.
+pub fn words_of(fault: PortFault) -> &'static str {
     match fault {
         PortFault::End => "the other side has closed the connection",
         PortFault::BadLength => "a length that is not from 3 to 264 came over the connection",

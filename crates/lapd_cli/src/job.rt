@@ -2,10 +2,11 @@
 
 use crate::connection;
 use crate::ending::Stop;
+use crate::live::do_live;
 use lapd_cli_commands::{answer, bus, decode, loop_over, pair};
 use lapd_cli_console::Script;
 use lapd_cli_decode::{LineForm, Style, decode_good_lines, decode_lines};
-use lapd_cli_options::{DecodeOptions, Interface, Job, LinkEnd, Params};
+use lapd_cli_options::{Clock, DecodeOptions, Interface, Job, LinkEnd, Params, Side};
 use lapd_cli_script::ScriptFault;
 use lapd_cli_side_commands::{Config, FromRead, FromWrite, Port, SideRun, net, user};
 use std::io::{Read, Write};
@@ -23,7 +24,7 @@ pub fn script_of(job: &Job) -> Script {
     }
 }
 
-/// Does a script, of `net` or `user` with this address.
+/// Does a script, of `net` or `user` with this clock and this address.
 ///
 /// # Errors
 ///
@@ -31,6 +32,7 @@ pub fn script_of(job: &Job) -> Script {
 pub fn do_job<R: Read, W: Write>(
     rt: &HostRuntime,
     job: Job,
+    clock: &Clock<'_>,
     address: &str,
     script: &mut R,
     out: &mut W,
@@ -40,8 +42,22 @@ pub fn do_job<R: Read, W: Write>(
         Job::Bus { terminals } => bus(rt.alloc(), script, out, terminals),
         Job::Pair { user, network } => pair(rt.alloc(), script, out, user, network),
         Job::Loop { user, network } => return do_loop(rt, script, out, user, network),
-        Job::Net(interface) => return do_net(rt, script, out, address, &interface),
-        Job::User(interface) => return do_user(rt, script, out, address, &interface),
+        Job::Net(interface) => {
+            return match clock {
+                Clock::Script => do_net(rt, script, out, address, &interface),
+                Clock::Real(options) => {
+                    do_live(rt, Side::Network, &interface, address, options, script, out)
+                }
+            };
+        }
+        Job::User(interface) => {
+            return match clock {
+                Clock::Script => do_user(rt, script, out, address, &interface),
+                Clock::Real(options) => {
+                    do_live(rt, Side::User, &interface, address, options, script, out)
+                }
+            };
+        }
         Job::Decode(options) => do_decode(rt, script, out, options),
     };
     ended.map_err(Stop::Script)
@@ -157,8 +173,8 @@ fn do_user<R: Read, W: Write>(
     ended.map_err(Stop::Script)
 }
 
-// What a side of this interface is made with.
-fn config_of(interface: &Interface) -> Config {
+/// What a side of this interface is made with.
+pub fn config_of(interface: &Interface) -> Config {
     Config {
         sapi16: interface.sapi16,
         params0: interface.params0,

@@ -10,17 +10,21 @@
 
 mod capture;
 mod connection;
+mod connections;
 mod ending;
+mod frame_stream;
 mod greeting;
 mod job;
+mod live;
 mod reason;
+mod taps;
 
 use capture::do_capture;
 use ending::{Ending, Stop, say_ending, say_memory, say_no_invocation, say_words_fault};
 use greeting::Greeting;
 use job::{do_job, script_of};
 use lapd_cli_console::{KeptLines, Refusals, Session, Watched};
-use lapd_cli_options::{Invocation, Job, parse_words, words};
+use lapd_cli_options::{Clock, Invocation, Job, parse_words, words};
 use lapd_cli_script::ScriptFault;
 use std::io::{BufWriter, IsTerminal, Read};
 use std::process::ExitCode;
@@ -36,32 +40,39 @@ fn main(rt: HostRuntime) -> ExitCode {
                 job,
                 address,
                 pcap,
+                clock,
                 strict,
             },
         ) => match (job, pcap) {
             (Job::Decode(options), Some(file)) => do_capture(&rt, file, options),
-            (job, _) => do_invocation(&rt, job, address.unwrap_or(""), strict),
+            (job, _) => do_invocation(&rt, job, &clock, address.unwrap_or(""), strict),
         },
         Err(unchosen) => say_no_invocation(&rt, &unchosen),
     }
 }
 
 // Does what the words chose, over standard input and output. At a terminal a bad line is told, and the next one awaited.
-fn do_invocation(rt: &HostRuntime, job: Job, address: &str, strict: bool) -> ExitCode {
-    if rt.stdin().is_terminal() && !is_loose(&job) {
+fn do_invocation(
+    rt: &HostRuntime,
+    job: Job,
+    clock: &Clock<'_>,
+    address: &str,
+    strict: bool,
+) -> ExitCode {
+    if rt.stdin().is_terminal() && has_forms(&job, clock) {
         let session = Session::new(rt.alloc(), script_of(&job), rt.reader(), rt.stderr());
         let lines = Greeting::new(session, rt.stderr());
-        do_script(rt, job, address, strict, lines)
+        do_script(rt, job, clock, address, strict, lines)
     } else {
-        do_script(rt, job, address, strict, rt.stdin())
+        do_script(rt, job, clock, address, strict, rt.stdin())
     }
 }
 
-// Whether lines are taken whose form a session at a terminal does not know.
-fn is_loose(job: &Job) -> bool {
+// Whether the lines have the forms that a session at a terminal knows. With the real clock a side has a session of its own.
+fn has_forms(job: &Job, clock: &Clock<'_>) -> bool {
     match job {
-        Job::Decode(options) => options.loose,
-        _ => false,
+        Job::Decode(options) => !options.loose,
+        _ => *clock == Clock::Script,
     }
 }
 
@@ -69,6 +80,7 @@ fn is_loose(job: &Job) -> bool {
 fn do_script<R: Read + Drop>(
     rt: &HostRuntime,
     job: Job,
+    clock: &Clock<'_>,
     address: &str,
     strict: bool,
     reader: R,
@@ -79,7 +91,7 @@ fn do_script<R: Read + Drop>(
     let Ok(mut out) = BufWriter::new(rt.alloc(), watched) else {
         return say_memory(rt);
     };
-    let ended = do_job(rt, job, address, &mut lines, &mut out);
+    let ended = do_job(rt, job, clock, address, &mut lines, &mut out);
     // What a device that failed did not take is given up.
     let (watched, _left) = out.into_parts();
     let output = watched.fault();
@@ -88,6 +100,7 @@ fn do_script<R: Read + Drop>(
     let refusal = refusals.first().unwrap_or(&[]);
     let ending = Ending {
         script,
+        clock: *clock,
         address,
         strict,
         line,

@@ -11,9 +11,6 @@ use std::io::{self, ErrorKind};
 use std::net::{SocketAddr, ToSocketAddrs, UdpSocket};
 use std::time::{SystemTime, UNIX_EPOCH};
 
-/// The UDP port of GSMTAP, where none is written.
-const GSMTAP_PORT: u16 = 4729;
-
 /// Why frames can't go where they were to.
 #[derive(Debug, Drop)]
 pub enum NoTaps {
@@ -43,7 +40,7 @@ struct GsmtapSocket {
 
 impl<'rt> Taps<'rt> {
     /// The capture that this side makes into the file `pcap`, which is made anew, and GSMTAP to the address `gsmtap`, a host
-    /// with a port or without. The first frame has the moment of the day's clock, and the others go by the clock of the line.
+    /// and a port. The first frame has the moment of the day's clock, and the others go by the clock of the line.
     ///
     /// # Errors
     ///
@@ -131,15 +128,10 @@ impl GsmtapSocket {
     }
 }
 
-// The first address of a host with a port, or of a host without one.
+// The first address of this host and port.
 fn gsmtap_address(rt: &HostRuntime, address: &str) -> io::Result<SocketAddr> {
-    let found = match address.to_socket_addrs(rt) {
-        Err(error) if error.kind() == ErrorKind::InvalidInput => {
-            (address, GSMTAP_PORT).to_socket_addrs(rt)?.next()
-        }
-        found => found?.next(),
-    };
-    found.ok_or(io::Error::from(ErrorKind::NotFound))
+    let first = address.to_socket_addrs(rt)?.next();
+    first.ok_or(io::Error::from(ErrorKind::NotFound))
 }
 
 // The capture of this side into a file that is made anew.

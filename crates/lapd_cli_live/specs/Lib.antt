@@ -1,3 +1,4 @@
 pub mod Deeds
 pub mod Passed
 pub mod Turns
+pub mod Typed

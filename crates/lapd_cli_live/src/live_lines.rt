@@ -20,8 +20,11 @@ impl<O: Outside, W: Write> LiveSide<O, W> {
     /// `Line(Device)`, `Line(Memory)` and `Port`.
     pub fn obey(&mut self, line: &[u8]) -> Result<(), LiveFault> {
         let side = self.side().side();
-        self.do_line(read_live_line(self.alloc(), side, self.own_tei(), line)?)?;
-        self.printer().flush()
+        let line = read_live_line(self.alloc(), side, self.own_tei(), line)?;
+        let done = self.do_line(line);
+        let flushed = self.printer().flush();
+        done?;
+        flushed
     }
 
     /// Does what is asked for.

@@ -15,4 +15,6 @@ mod made;
 #[cfg(test)]
 mod played;
 #[cfg(test)]
+mod sessions;
+#[cfg(test)]
 mod wants;

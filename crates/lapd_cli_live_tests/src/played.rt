@@ -56,6 +56,19 @@ fn side_of(alloc: Global, who: Who) -> Result<EitherSide, AllocError> {
     }
 }
 
+/// This side with this around it, which prints into memory.
+pub(crate) fn made_live<'s>(
+    alloc: Global,
+    who: Who,
+    style: Style,
+    made: Made<'s>,
+) -> Result<LiveSide<Made<'s>, Vec<u8>>, AllocError> {
+    let side = side_of(alloc, who)?;
+    let acts = Acts::new(alloc)?;
+    let printer = Printer::new(alloc, Vec::new(alloc), style);
+    Ok(LiveSide::new(alloc, side, acts, made, printer))
+}
+
 /// Goes over a script as this side.
 pub(crate) fn play<'s>(
     alloc: Global,
@@ -64,10 +77,7 @@ pub(crate) fn play<'s>(
     style: Style,
     made: Made<'s>,
 ) -> Result<Played<'s>, AllocError> {
-    let side = side_of(alloc, who)?;
-    let acts = Acts::new(alloc)?;
-    let printer = Printer::new(alloc, Vec::new(alloc), style);
-    let live = LiveSide::new(alloc, side, acts, made, printer);
+    let live = made_live(alloc, who, style, made)?;
     let (ended, live) = live_script(alloc, live, &mut script);
     let (made, printed) = live.into_parts();
     Ok(Played {

@@ -6,6 +6,7 @@ use Rattle.lapd_link_rows.specs.declared.recovery.Recovery.TheVariants.{Enquiry}
 use Rattle.lapd_link_rows.specs.Parameters.{Parameters}
 use Rattle.lapd_cli_values.specs.declared.link_end.LinkEnd.{LinkEnd}
 use Rattle.lapd_cli_options.specs.declared.invocation.Invocation.{Invocation}
+use Rattle.lapd_cli_options.specs.declared.invocation.Clock.TheVariants.{Script}
 use Rattle.lapd_cli_options.specs.declared.invocation.Job.{Job}
 use Rattle.lapd_cli_options.specs.declared.invocation.Job.TheVariants.{Answer}
 
@@ -28,4 +29,5 @@ pub record IsDefault (chosen : Invocation) : Type 0 where
   pub job : IsDefaultJob chosen.job
   pub address : chosen.address ≡ None
   pub pcap : chosen.pcap ≡ None
+  pub clock : chosen.clock ≡ Script
   pub strict : chosen.strict ≡ false

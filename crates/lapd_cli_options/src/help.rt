@@ -64,6 +64,18 @@ pub const KEEP_GOING: &str = "Tells a bad line or packet on standard error, and 
 
 pub const PCAP: &str = "Prints the frames of this pcap or pcapng file in place of a script";
 
+/// What the options of the clock are for.
+pub const CLOCK: &str =
+    "The clock: that of the script, which goes on by tick alone, or the real one";
+
+pub const TIME: &str =
+    "With --clock real, begins each line with the moment, in milliseconds since the start";
+
+pub const QUIET: &str = "With --clock real, prints no trace lines of frames";
+
+pub const LIVE_PCAP: &str =
+    "With --clock real, writes each frame into this file, as pcap of link type 177 (LINUX_LAPD)";
+
 /// What the option of all commands is for.
 pub const STRICT: &str = "Ends with exit status 5 where a line of the script was refused";
 
@@ -118,9 +130,11 @@ Exit status:
   2  a fault of the command line
   3  `device fault`: a read or a write failed, or 1,000,000 reads did not reach the script's end; in
      `lapd loop`, `net` and `user` also where no connection can be had; in `net` and `user`
-     `port S3 Cut`, or another of S2 to S6, where the connection fails
+     `port S3 Cut`, or another of S2 to S6, where the connection fails; with --pcap and --gsmtap where
+     the file or the socket can't be had
   4  `out of memory`
-  5  with --strict: the script was answered to its end, and `refused` was printed for a line
+  5  with --strict: the script was answered to its end, and `refused` was printed for a line; with
+     --clock real: a line that was expected did not come in time
 The text goes to standard error; of 1, 3 and 5 a second line tells why. Nothing is said where standard
 output is a pipe that nobody reads any more.";
 
@@ -517,7 +531,42 @@ line of the script stands behind <, and what is printed for it stands behind >.
   < read
   > U>N SAPI 0 TEI 64 C DISC P=1
   > N>U SAPI 0 TEI 64 R UA F=1
-  > 0 64 released";
+  > 0 64 released
+
+With --clock real the clock goes on by itself. Moments are milliseconds since the first connection was
+there; a timer expires when it is due, and a frame is heard when it comes, wherever the side is served. At
+a terminal it is served at all times, and each line that is typed is done when it comes. A script from a
+file or a pipe goes on line by line, and its lines say where the side is served:
+  read [MS]             until the next frame, for MS milliseconds at most; then `nothing` is printed
+  run [MS]              for MS milliseconds, or until the other side closes the connection
+  wait MS               for MS milliseconds
+  expect WORDS.. MS     until a line is printed that begins with WORDS, for MS milliseconds at most; then
+                        `expected WORDS..` is printed, and the script ends with exit status 5
+MS is 1 to 3600000. `tick` is no line then; the other lines above are, and these:
+  state [SAPI TEI]      the state of the link, or of each: state, V(S), V(A), V(R), RC, the messages in its
+                        queue, who is busy, and the timers that run with the milliseconds left of each
+  stats                 the frames of each kind that were sent and received, their octets, I frames sent
+                        again, frames discarded, and reports by their letters
+With --terminals N up to N connections are taken, each of a terminal on the bus. Each frame of this side
+goes to all of them, and takes effect where its TEI is; give each `lapd user` a --seed of its own. One that
+closes, breaks the framing or does not take what it is sent is let go of, which is told on standard error,
+and the others go on. The script begins once the first one is there; `run` alone does not end then.
+T200 has to be longer than the way there and back, or frames are sent again that were on their way.
+
+Example, with the real clock:
+  $ printf 'expect 0 64 established 60000\ngive 0 64 0807\nexpect 0 64 acknowledged 5000\nstate\n' |
+      lapd net --listen 127.0.0.1:4000 --clock real --time
+  1 U>N SAPI 63 TEI 127 C UI P=0 info=0f619901ff
+  1 N>U SAPI 63 TEI 127 C UI P=0 info=0f61990281
+  1 tei given 64
+  2 U>N SAPI 0 TEI 64 C SABME P=1
+  2 N>U SAPI 0 TEI 64 R UA F=1
+  2 0 64 established
+  2 N>U SAPI 0 TEI 64 C I N(S)=0 N(R)=0 P=0 info=0807
+  3 U>N SAPI 0 TEI 64 R RR N(R)=1 F=0
+  3 0 64 acknowledged 1
+  3 0 64 state 7 V(S)=1 V(A)=1 V(R)=0 RC=0 queue=0 T203=10000
+  3 16 64 state 4 V(S)=0 V(A)=0 V(R)=0 RC=0 queue=0";
 
 /// The lines of `user`.
 pub const USER: &str = "\
@@ -586,7 +635,32 @@ of the script stands behind <, and what is printed for it stands behind >.
   > U>N SAPI 0 TEI 64 C DISC P=1
   < read
   > N>U SAPI 0 TEI 64 R UA F=1
-  > 0 64 release-confirmed";
+  > 0 64 release-confirmed
+
+With --clock real the clock goes on by itself. Moments are milliseconds since the connection was
+made; a timer expires when it is due, and a frame is heard when it comes, wherever the side is served. At
+a terminal it is served at all times, and each line that is typed is done when it comes. A script from a
+file or a pipe goes on line by line, and its lines say where the side is served:
+  read [MS], run [MS], wait MS, expect WORDS.. MS
+                        as `lapd net --help` tells
+  establish SAPI, release SAPI, give SAPI HEX, unit SAPI HEX, ask
+                        as above; no TEI is written, since it is the terminal's own
+  state [SAPI], stats   as `lapd net --help` tells
+`tick` is no line then. T200 has to be longer than the way there and back, or frames are sent again that
+were on their way.
+
+Example, with the real clock and the `lapd net` of the example of `lapd net --help` on the other side:
+  $ printf 'establish 0\nexpect 0 64 confirmed 5000\nread 1000\n' |
+      lapd user --connect 127.0.0.1:4000 --clock real --time
+  0 U>N SAPI 63 TEI 127 C UI P=0 info=0f619901ff
+  1 N>U SAPI 63 TEI 127 C UI P=0 info=0f61990281
+  1 U>N SAPI 0 TEI 64 C SABME P=1
+  1 tei got 64
+  2 N>U SAPI 0 TEI 64 R UA F=1
+  2 0 64 confirmed
+  2 N>U SAPI 0 TEI 64 C I N(S)=0 N(R)=0 P=0 info=0807
+  2 U>N SAPI 0 TEI 64 R RR N(R)=1 F=0
+  2 0 64 data 0807";
 
 /// The lines of `decode`.
 pub const DECODE: &str = "\

@@ -11,6 +11,8 @@ pub struct Invocation<'a> {
     pub address: Option<&'a str>,
     /// The file that was written for `decode --pcap`, as it stands.
     pub pcap: Option<&'a str>,
+    /// By which clock `net` or `user` goes.
+    pub clock: Clock<'a>,
     /// Whether the exit status is to tell that a line of the script was refused.
     pub strict: bool,
 }
@@ -32,6 +34,30 @@ pub enum Job {
     User(Interface),
     /// Prints octets as trace lines.
     Decode(DecodeOptions),
+}
+
+/// By which clock a side goes.
+#[derive(Clone, Copy, Debug, PartialEq, Eq)]
+pub enum Clock<'a> {
+    /// That of its script, which stands but for `tick`. All other commands have this one.
+    Script,
+    /// The real one.
+    Real(LiveOptions<'a>),
+}
+
+/// What goes with the real clock.
+#[derive(Clone, Copy, Debug, PartialEq, Eq)]
+pub struct LiveOptions<'a> {
+    /// Whether each line begins with the moment, in milliseconds since the start.
+    pub time: bool,
+    /// Whether the trace lines of frames are left out.
+    pub quiet: bool,
+    /// How many terminals the network side takes, 1 to 127. Of the user side it is 1.
+    pub terminals: u8,
+    /// The file that was written for `--pcap`, as it stands.
+    pub pcap: Option<&'a str>,
+    /// The address and port that were written for `--gsmtap`, as they stand.
+    pub gsmtap: Option<&'a str>,
 }
 
 /// What `decode` takes and prints.
@@ -64,6 +90,7 @@ impl Invocation<'_> {
             job: Job::Answer(end),
             address: None,
             pcap: None,
+            clock: Clock::Script,
             strict: false,
         }
     }

@@ -7,6 +7,7 @@
 ghost use Rattle.std.specs.Prelude.{◌<◌, length, IsOkAnd};
 ghost use Rattle.lapd_cli_options.specs.CommandLine.{IsDefault};
 
+mod clock_options;
 mod command_options;
 pub mod help;
 mod invocation;
@@ -15,8 +16,9 @@ mod parser;
 mod program_words;
 
 use clap::{ArgMatches, Command};
+use clock_options::clock_of;
 use command_options::{address_of, job_of, pcap_of};
-pub use invocation::{DecodeOptions, Invocation, Job};
+pub use invocation::{Clock, DecodeOptions, Invocation, Job, LiveOptions};
 pub use lapd_cli_values::{
     Durations, Interface, LinkEnd, NoAddress, OutOfRange, Params, Recovery, Sapi, Side, Tei,
 };
@@ -33,7 +35,8 @@ use std::convert::AsStr;
 ///
 /// # Errors
 ///
-/// `Shown`, where the words ask for help or the version; `Refused`, `OutOfRange` and `NoAddress`, where they choose nothing;
+/// `Shown`, where the words ask for help or the version; `Refused`, `OutOfRange`, `NoAddress` and `NotReal`, where they choose
+/// nothing;
 /// `Memory`.
 pub fn parse_words<'a, S: AsStr>(
     alloc: Global,
@@ -72,10 +75,12 @@ fn invocation_by<'a>(
         Some((name, given)) if is_command(name) => {
             let job = job_of(alloc, name, given)?;
             let address = address_of(name, given)?;
+            let clock = clock_of(name, given)?;
             Ok(Invocation {
                 job,
                 address,
                 pcap: pcap_of(name, given),
+                clock,
                 strict: is_strict(given),
             })
         }

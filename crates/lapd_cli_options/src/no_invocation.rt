@@ -10,12 +10,14 @@ pub enum NoInvocation<'a> {
     /// They ask for help or the version, which is this text. It is for standard output, and the exit status is 0.
     Shown(String),
     /// The parser does not take them, as this text says. It is for standard error, and the exit status is 2, as with
-    /// `OutOfRange` and `NoAddress`.
+    /// `OutOfRange`, `NoAddress` and `NotReal`.
     Refused(String),
     /// A number that is not in the range of its option.
     OutOfRange(OutOfRange<'a>),
     /// Something in the place of an address that is none.
     NoAddress(NoAddress<'a>),
+    /// An option of this name, without the hyphens, was given that goes with the real clock alone, and that clock was not.
+    NotReal(&'static str),
     /// Memory ran out.
     Memory,
 }
@@ -27,6 +29,9 @@ impl fmt::Display for NoInvocation<'_> {
             NoInvocation::Shown(text) | NoInvocation::Refused(text) => f.write_str(text.as_str()),
             NoInvocation::OutOfRange(fault) => writeln!(f, "{fault}"),
             NoInvocation::NoAddress(fault) => writeln!(f, "{fault}"),
+            NoInvocation::NotReal(option) => {
+                writeln!(f, "error: --{option} goes with --clock real")
+            }
             NoInvocation::Memory => f.write_str("out of memory\n"),
         }
     }

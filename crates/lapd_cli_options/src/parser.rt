@@ -5,8 +5,8 @@ use crate::no_invocation::{NoInvocation, refused_by_parser};
 use clap::error::ErrorKind;
 use clap::{Arg, ArgAction, ArgMatches, Command, Error};
 use lapd_cli_values::{
-    AddressOption, CONNECT, FIXED_TEI, K, KNOWN_TEI, LINK_TEI, LINKS_K, LISTEN, N200, NumberOption,
-    ROOM, SEED, T200, T201, T202, T203, TERMINALS,
+    AddressOption, CONNECT, CONNECTED_TERMINALS, FIXED_TEI, GSMTAP, K, KNOWN_TEI, LINK_TEI,
+    LINKS_K, LISTEN, N200, NumberOption, ROOM, SEED, T200, T201, T202, T203, TERMINALS,
 };
 use std::alloc::{AllocError, Global};
 use strsim::osa_distance;
@@ -186,15 +186,28 @@ fn decode_command<'a>(alloc: Global) -> Result<Command<'a>, AllocError> {
 
 fn net_command<'a>(alloc: Global) -> Result<Command<'a>, AllocError> {
     let command = described(alloc, "net", help::NET_ABOUT, help::NET)?;
-    let command = with_arg(command, address_option(alloc, LISTEN))?;
+    let command = with_arg(command, address_option(alloc, LISTEN).required(true))?;
     let known = bare_number_option(alloc, KNOWN_TEI).action(ArgAction::Append);
-    with_interface(alloc, command, known)
+    let command = with_interface(alloc, command, known)?;
+    let command = with_clock(alloc, command)?;
+    with_arg(command, bare_number_option(alloc, CONNECTED_TERMINALS))
 }
 
 fn user_command<'a>(alloc: Global) -> Result<Command<'a>, AllocError> {
     let command = described(alloc, "user", help::USER_ABOUT, help::USER)?;
-    let command = with_arg(command, address_option(alloc, CONNECT))?;
-    with_interface(alloc, command, bare_number_option(alloc, FIXED_TEI))
+    let command = with_arg(command, address_option(alloc, CONNECT).required(true))?;
+    let command = with_interface(alloc, command, bare_number_option(alloc, FIXED_TEI))?;
+    with_clock(alloc, command)
+}
+
+// The options of the clock, and of what goes with the real one.
+fn with_clock<'a>(alloc: Global, command: Command<'a>) -> Result<Command<'a>, AllocError> {
+    let command = with_arg(command, clock_option(alloc))?;
+    let command = with_arg(command, flag(alloc, "time", help::TIME))?;
+    let command = with_arg(command, flag(alloc, "quiet", help::QUIET))?;
+    let pcap = value_option(alloc, "pcap", "FILE", help::LIVE_PCAP);
+    let command = with_arg(command, pcap)?;
+    with_arg(command, address_option(alloc, GSMTAP))
 }
 
 // The options of an interface, of which this one takes its TEIs.
@@ -250,9 +263,9 @@ fn bare_number_option<'a>(alloc: Global, option: NumberOption) -> Arg<'a> {
     value_option(alloc, option.name, option.value_name, option.help).allow_negative_numbers(true)
 }
 
-// An option that takes an address, which has to be given. The parser takes any text for it.
+// An option that takes an address. The parser takes any text for it.
 fn address_option<'a>(alloc: Global, option: AddressOption) -> Arg<'a> {
-    value_option(alloc, option.name, "ADDRESS", option.help).required(true)
+    value_option(alloc, option.name, "ADDRESS", option.help)
 }
 
 // An option that takes one of these words, and this one where it is not given.
@@ -285,6 +298,14 @@ static RECOVERIES: [&str; 2] = ["enquiry", "last"];
 fn recovery_option<'a>(alloc: Global, name: &'static str, help: &'static str) -> Arg<'a> {
     let option = value_option(alloc, name, "RECOVERY", help);
     word_option(option, RECOVERIES.as_slice(), "enquiry")
+}
+
+static CLOCKS: [&str; 2] = ["script", "real"];
+
+// The option that chooses the clock of a side.
+fn clock_option<'a>(alloc: Global) -> Arg<'a> {
+    let option = value_option(alloc, "clock", "CLOCK", help::CLOCK);
+    word_option(option, CLOCKS.as_slice(), "script")
 }
 
 // The option by which the exit status tells of lines that were refused.

@@ -6,7 +6,8 @@ use crate::dialogues::{BOTH_NET, BOTH_USER, MOST, Row, octets_of, play};
 use crate::wants::{are_same, is_said, wants};
 use lapd_cli_commands::{bus, decode, pair};
 use lapd_cli_options::{
-    Invocation, Job, LinkEnd, NoInvocation, WordsFault, help, parse_words, words,
+    Clock, Invocation, Job, LinkEnd, LiveOptions, NoInvocation, WordsFault, help, parse_words,
+    words,
 };
 use lapd_cli_script::{PortFault, ScriptFault};
 use lapd_frame::{Sapi, Side};
@@ -277,6 +278,82 @@ fn words_choose_strictly(rt: HostRuntime) -> Result<(), Fail> {
     Ok(())
 }
 
+// What goes with the real clock where nothing is written for it.
+const BARE: LiveOptions<'static> = LiveOptions {
+    time: false,
+    quiet: false,
+    terminals: 1,
+    pcap: None,
+    gsmtap: None,
+};
+
+// A name, words, and what goes with the real clock that they choose; `None` where they choose the clock of the script.
+const CLOCKS: &[(&str, &[&str], Option<LiveOptions<'static>>)] = &[
+    ("no clock", &["lapd", "net", "--listen", "a:1"], None),
+    (
+        "the clock of the script",
+        &["lapd", "user", "--connect", "a:1", "--clock", "script"],
+        None,
+    ),
+    (
+        "the real clock",
+        &["lapd", "net", "--listen", "a:1", "--clock", "real"],
+        Some(BARE),
+    ),
+    (
+        "moments before lines",
+        &["lapd", "user", "--clock=real", "--time", "--connect=a:1"],
+        Some(LiveOptions { time: true, ..BARE }),
+    ),
+    (
+        "no trace lines",
+        &["lapd", "user", "--connect=a:1", "--quiet", "--clock=real"],
+        Some(LiveOptions {
+            quiet: true,
+            ..BARE
+        }),
+    ),
+    (
+        "terminals, a file and an address",
+        &[
+            "lapd",
+            "net",
+            "--listen=a:1",
+            "--clock=real",
+            "--terminals=127",
+            "--pcap",
+            "line.pcap",
+            "--gsmtap",
+            "b:4729",
+        ],
+        Some(LiveOptions {
+            terminals: 127,
+            pcap: Some("line.pcap"),
+            gsmtap: Some("b:4729"),
+            ..BARE
+        }),
+    ),
+];
+
+// Whether the words choose this clock.
+fn goes_by(alloc: Global, words: &[&str], wanted: Option<LiveOptions<'static>>) -> bool {
+    let chosen = parse_words(alloc, words);
+    match (&chosen, wanted) {
+        (Ok(chosen), Some(options)) => chosen.clock == Clock::Real(options),
+        (Ok(chosen), None) => chosen.clock == Clock::Script,
+        (Err(_), _) => false,
+    }
+}
+
+#[test]
+fn clocks_are_chosen(rt: HostRuntime) -> Result<(), Fail> {
+    for (row, words, wanted) in CLOCKS {
+        let chosen = goes_by(rt.alloc(), words, *wanted);
+        wants(chosen, row, "another clock, or other options")?;
+    }
+    Ok(())
+}
+
 // Words that the parser does not take.
 const FAULTS: &[&[&str]] = &[
     &["lapd", "--side", "user"],
@@ -305,6 +382,18 @@ const FAULTS: &[&[&str]] = &[
     &["lapd", "net", "--listen", "a:1", "--listen", "a:1"],
     &["lapd", "user"],
     &["lapd", "user", "--listen", "127.0.0.1:7000"],
+    &[
+        "lapd",
+        "user",
+        "--connect",
+        "a:1",
+        "--clock",
+        "real",
+        "--terminals",
+        "2",
+    ],
+    &["lapd", "net", "--listen", "a:1", "--clock", "other"],
+    &["lapd", "answer", "--clock", "real"],
     &["lapd", "decode", "--side", "user"],
     &["lapd", "decode", "--k", "3"],
     &["lapd", "decode", "more"],
@@ -477,6 +566,58 @@ const NUMBERS: &[(&[&str], &str)] = &[
         "error: invalid value '128' for '--terminals <TERMINALS>': not a number from 1 to 127 in decimal digits\n",
     ),
 ];
+
+// Words with an option that goes with the real clock alone, and without that clock.
+const NOT_REAL: &[(&[&str], &str)] = &[
+    (
+        &["lapd", "user", "--connect=a:1", "--time"],
+        "error: --time goes with --clock real\n",
+    ),
+    (
+        &["lapd", "net", "--listen=a:1", "--clock=script", "--quiet"],
+        "error: --quiet goes with --clock real\n",
+    ),
+    (
+        &["lapd", "net", "--listen=a:1", "--terminals", "1"],
+        "error: --terminals goes with --clock real\n",
+    ),
+    (
+        &["lapd", "net", "--listen=a:1", "--pcap", "line.pcap"],
+        "error: --pcap goes with --clock real\n",
+    ),
+    (
+        &["lapd", "user", "--connect=a:1", "--gsmtap", "b:4729"],
+        "error: --gsmtap goes with --clock real\n",
+    ),
+    (
+        &[
+            "lapd",
+            "net",
+            "--listen=a:1",
+            "--clock=real",
+            "--terminals=128",
+        ],
+        "error: invalid value '128' for '--terminals <TERMINALS>': not a number from 1 to 127 in decimal digits\n",
+    ),
+    (
+        &[
+            "lapd",
+            "user",
+            "--connect=a:1",
+            "--clock=real",
+            "--gsmtap=b",
+        ],
+        "error: invalid value 'b' for '--gsmtap <ADDRESS>': ADDRESS is an address and a port, as 127.0.0.1:4000\n",
+    ),
+];
+
+#[test]
+fn options_of_the_real_clock(rt: HostRuntime) -> Result<(), Fail> {
+    for (words, text) in NOT_REAL {
+        wants(says(rt.alloc(), words, text), text, "another text is told")?;
+    }
+    Ok(())
+}
 
 // Whether this is said of the words, which choose nothing.
 pub(crate) fn says(alloc: Global, words: &[&str], text: &str) -> bool {

@@ -25,6 +25,12 @@ pub const CONNECT: AddressOption = AddressOption {
     help: "Connects to this address, such as 127.0.0.1:4000",
 };
 
+/// Where frames are sent to as GSMTAP.
+pub const GSMTAP: AddressOption = AddressOption {
+    name: "gsmtap",
+    help: "With --clock real, sends each frame as GSMTAP over UDP to this address, such as 127.0.0.1:4729",
+};
+
 impl AddressOption {
     /// What was written for it, as it stands, where it has the form of an address: a host, a colon and a port. The host may be
     /// a name, which the system looks up, and an address with colons may stand in brackets.

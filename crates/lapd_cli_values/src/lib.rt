@@ -12,7 +12,7 @@ mod number_option;
 mod numbers;
 mod out_of_range;
 
-pub use address_option::{AddressOption, CONNECT, LISTEN, NoAddress};
+pub use address_option::{AddressOption, CONNECT, GSMTAP, LISTEN, NoAddress};
 pub use interface::Interface;
 pub use interface_options::{
     InterfaceFault, InterfaceOptions, durations_written, interface_written, tei_written,
@@ -21,8 +21,8 @@ pub use lapd_link_rows::{Params, Recovery, Sapi, Side, Tei};
 pub use lapd_timers::Durations;
 pub use link_end::LinkEnd;
 pub use number_option::{
-    FIXED_TEI, K, KNOWN_TEI, LINK_TEI, LINKS_K, N200, NumberOption, ROOM, SEED, T200, T201, T202,
-    T203, TERMINALS,
+    CONNECTED_TERMINALS, FIXED_TEI, K, KNOWN_TEI, LINK_TEI, LINKS_K, N200, NumberOption, ROOM,
+    SEED, T200, T201, T202, T203, TERMINALS,
 };
 pub use numbers::{number_of, params_of};
 pub use out_of_range::{OutOfRange, number_written, params_written, terminals_written};

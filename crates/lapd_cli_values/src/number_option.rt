@@ -62,6 +62,16 @@ pub const TERMINALS: NumberOption = NumberOption {
     most: 127,
 };
 
+/// The terminals that the network side takes. Its default is one.
+pub const CONNECTED_TERMINALS: NumberOption = NumberOption {
+    name: "terminals",
+    value_name: "TERMINALS",
+    help: "With --clock real, takes so many connections, each of a terminal on the bus, 1 to 127 [default: 1]",
+    default: "",
+    least: 1,
+    most: 127,
+};
+
 /// The TEI of the link of the command `answer` (Q.921 3.3.4).
 pub const LINK_TEI: NumberOption = NumberOption {
     name: "tei",

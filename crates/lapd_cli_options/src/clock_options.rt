@@ -1,0 +1,74 @@
+//! By which clock `net` or `user` goes, as the parser found it.
+
+use crate::invocation::{Clock, LiveOptions};
+use crate::no_invocation::NoInvocation;
+use clap::ArgMatches;
+use lapd_cli_values::{CONNECTED_TERMINALS, GSMTAP, terminals_written};
+
+// The flags that go with the real clock.
+const REAL_FLAGS: [&str; 2] = ["time", "quiet"];
+
+// The options with a value that do.
+const REAL_OPTIONS: [&str; 3] = ["pcap", "gsmtap", "terminals"];
+
+/// The clock that was chosen for the command of this name. What goes with the real clock is refused without it.
+pub(crate) fn clock_of<'a>(
+    name: &str,
+    given: &ArgMatches<'a>,
+) -> Result<Clock<'a>, NoInvocation<'a>> {
+    if name != "net" && name != "user" {
+        return Ok(Clock::Script);
+    }
+    if given.get_str("clock") == Some("real") {
+        return Ok(Clock::Real(live_options_of(given)?));
+    }
+    match real_option_of(given) {
+        Some(option) => Err(NoInvocation::NotReal(option)),
+        None => Ok(Clock::Script),
+    }
+}
+
+// The first option that was given of those that go with the real clock.
+fn real_option_of(given: &ArgMatches<'_>) -> Option<&'static str> {
+    for flag in REAL_FLAGS {
+        if given.get_flag(flag) {
+            return Some(flag);
+        }
+    }
+    for option in REAL_OPTIONS {
+        if given.get_str(option).is_some() {
+            return Some(option);
+        }
+    }
+    None
+}
+
+// What goes with the real clock.
+fn live_options_of<'a>(given: &ArgMatches<'a>) -> Result<LiveOptions<'a>, NoInvocation<'a>> {
+    Ok(LiveOptions {
+        time: given.get_flag("time"),
+        quiet: given.get_flag("quiet"),
+        terminals: terminals_of(given)?,
+        pcap: given.get_str("pcap"),
+        gsmtap: gsmtap_of(given)?,
+    })
+}
+
+// How many terminals the network side takes.
+fn terminals_of<'a>(given: &ArgMatches<'a>) -> Result<u8, NoInvocation<'a>> {
+    match given.get_str(CONNECTED_TERMINALS.name) {
+        Some(written) => Ok(terminals_written(written)?),
+        None => Ok(1),
+    }
+}
+
+// The address that frames are sent to as GSMTAP.
+fn gsmtap_of<'a>(given: &ArgMatches<'a>) -> Result<Option<&'a str>, NoInvocation<'a>> {
+    let Some(written) = given.get_str(GSMTAP.name) else {
+        return Ok(None);
+    };
+    match GSMTAP.address(written) {
+        Ok(address) => Ok(Some(address)),
+        Err(fault) => Err(NoInvocation::NoAddress(fault)),
+    }
+}
