@@ -12,7 +12,7 @@ const REFUSED: &[u8] = b"refused ";
 /// How many octets are noted of a line.
 const NOTED: usize = 256;
 
-/// A writer that hands on to another writer, and notes the first line that begins with `refused `.
+/// A writer that hands on to another writer, and notes the first line that begins with `refused `, or with a moment and that.
 #[derive(Drop)]
 pub struct Refusals<W> {
     writer: W,
@@ -30,7 +30,8 @@ impl<W: Write> Refusals<W> {
         }
     }
 
-    /// The first line that was written whole and begins with `refused `, without its line feed and cut to 256 octets.
+    /// The first line that was written whole and begins with `refused `, or with a moment and that, without its line feed and cut
+    /// to 256 octets.
     pub fn first(&self) -> Option<&[u8]> {
         self.noted.refusal()
     }
@@ -105,11 +106,24 @@ impl Noted {
 
     /// Ends the line, which stays where it is the first refusal.
     fn end_line(&mut self) {
-        if self.line.as_slice().starts_with(REFUSED) {
+        if without_moment(self.line.as_slice()).starts_with(REFUSED) {
             self.is_refused = true;
         } else {
             self.line.clear();
         }
+    }
+}
+
+/// A line without the moment that it begins with, where it begins with one: decimal digits and a space.
+fn without_moment(line: &[u8]) -> &[u8] {
+    let Some(end) = memchr(b' ', line) else {
+        return line;
+    };
+    let (moment, rest) = line.split_at(end);
+    if moment.iter().all(u8::is_ascii_digit) {
+        rest.strip_prefix(b" ").unwrap_or(rest)
+    } else {
+        line
     }
 }
 

@@ -215,7 +215,10 @@ fn refuses(text: &[u8], most: usize, first: Option<&[u8]>) -> bool {
 fn first_refusals(_rt: HostRuntime) -> Result<(), Fail> {
     let text = b"state 4\nrefused L1 NotEstablished\nsend 00\nrefused L2 QueueFull\n".as_slice();
     let first = b"refused L1 NotEstablished".as_slice();
-    let none = b"state 4\ndata refused \nrefuse d\nrefused\n\nrefused L1".as_slice();
+    let none =
+        b"state 4\ndata refused \nrefuse d\nrefused\n5x refused L1\n7 8 refused L1\n\nrefused L1".as_slice();
+    let behind = b"1566 refused B1 NoLink".as_slice();
+    let timed = b"12 0 64 established\n1566 refused B1 NoLink\nrefused L2 QueueFull\n".as_slice();
     for most in 1..70 {
         wants(
             refuses(text, most, Some(first)),
@@ -223,6 +226,11 @@ fn first_refusals(_rt: HostRuntime) -> Result<(), Fail> {
             "it is not noted",
         )?;
         wants(refuses(none, most, None), "no refusal", "one is noted")?;
+        wants(
+            refuses(timed, most, Some(behind)),
+            "a refusal behind its moment",
+            "another is noted",
+        )?;
     }
     Ok(())
 }
