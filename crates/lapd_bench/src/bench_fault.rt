@@ -1,45 +1,54 @@
-use lapd_frame::{FaultKind, FrameFault};
+use lapd_frame::FrameFault;
 use lapd_link::{LinkFault, Refused};
 use lapd_pair::PairFault;
 use lapd_port::PortFault;
-use lapd_sides::{SideFault, SideKind};
+use lapd_sides::SideFault;
 use lapd_table::TableFault;
 use std::alloc::AllocError;
-use thiserror::Error;
 
-/// Why the messages were not all passed.
-#[derive(Clone, Copy, Debug, Error)]
+/// Why not all was done.
+#[derive(Clone, Copy)]
 pub enum BenchFault {
     /// The words ask for nothing that is done.
-    #[error("usage: lapd_bench [MESSAGES], lapd_bench pair MESSAGES, lapd_bench line FRAMES MOVES, lapd_bench table|side|tick|expire LINKS TIMES, lapd_bench port FRAMES OCTETS, or lapd_bench due|terminal|check|request TIMES")]
     CommandLine,
     /// Memory ran out.
-    #[error("out of memory")]
     Memory,
-    /// A request was refused.
-    #[error("refused: {0}")]
-    Refused(LinkFault),
+    /// A link refused a request.
+    Link,
     /// What came over the line is no frame.
-    #[error("no frame: {0:?}")]
-    NoFrame(FaultKind),
+    NoFrame,
     /// A frame came over the line that is for another link.
-    #[error("a frame for another link")]
     NotForLink,
     /// More frames were sent than the line holds.
-    #[error("the line is full")]
     LineFull,
-    /// A move of a pair was refused.
-    #[error("refused: {0}")]
-    Pair(PairFault),
-    /// A frame or a link was refused by a table.
-    #[error("refused: {0}")]
-    Table(TableFault),
-    /// Octets or a link were refused by a side.
-    #[error("refused: {0}")]
-    Side(SideKind),
-    /// A port answered this.
-    #[error("port {0}")]
-    Port(PortFault),
+    /// A pair refused a move.
+    Pair,
+    /// A table refused a frame or a link.
+    Table,
+    /// A side refused octets.
+    Side,
+    /// A port failed.
+    Port,
+}
+
+impl BenchFault {
+    /// It in words.
+    pub fn text(self) -> &'static str {
+        match self {
+            BenchFault::CommandLine => {
+                "usage: lapd_bench [MESSAGES], lapd_bench pair MESSAGES, lapd_bench line FRAMES MOVES, lapd_bench table|side|tick|expire LINKS TIMES, lapd_bench port FRAMES OCTETS, or lapd_bench due|terminal|check|request TIMES"
+            }
+            BenchFault::Memory => "out of memory",
+            BenchFault::Link => "a link refuses a request",
+            BenchFault::NoFrame => "no frame",
+            BenchFault::NotForLink => "a frame for another link",
+            BenchFault::LineFull => "the line is full",
+            BenchFault::Pair => "a pair refuses a move",
+            BenchFault::Table => "a table refuses a frame or a link",
+            BenchFault::Side => "a side refuses octets",
+            BenchFault::Port => "a port fails",
+        }
+    }
 }
 
 impl From<AllocError> for BenchFault {
@@ -49,43 +58,43 @@ impl From<AllocError> for BenchFault {
 }
 
 impl From<LinkFault> for BenchFault {
-    fn from(fault: LinkFault) -> BenchFault {
-        BenchFault::Refused(fault)
+    fn from(_fault: LinkFault) -> BenchFault {
+        BenchFault::Link
     }
 }
 
 impl From<Refused> for BenchFault {
-    fn from(refused: Refused) -> BenchFault {
-        BenchFault::Refused(refused.fault)
+    fn from(_refused: Refused) -> BenchFault {
+        BenchFault::Link
     }
 }
 
 impl From<FrameFault> for BenchFault {
-    fn from(fault: FrameFault) -> BenchFault {
-        BenchFault::NoFrame(fault.kind)
+    fn from(_fault: FrameFault) -> BenchFault {
+        BenchFault::NoFrame
     }
 }
 
 impl From<PairFault> for BenchFault {
-    fn from(fault: PairFault) -> BenchFault {
-        BenchFault::Pair(fault)
+    fn from(_fault: PairFault) -> BenchFault {
+        BenchFault::Pair
     }
 }
 
 impl From<TableFault> for BenchFault {
-    fn from(fault: TableFault) -> BenchFault {
-        BenchFault::Table(fault)
+    fn from(_fault: TableFault) -> BenchFault {
+        BenchFault::Table
     }
 }
 
 impl From<SideFault> for BenchFault {
-    fn from(fault: SideFault) -> BenchFault {
-        BenchFault::Side(fault.kind)
+    fn from(_fault: SideFault) -> BenchFault {
+        BenchFault::Side
     }
 }
 
 impl From<PortFault> for BenchFault {
-    fn from(fault: PortFault) -> BenchFault {
-        BenchFault::Port(fault)
+    fn from(_fault: PortFault) -> BenchFault {
+        BenchFault::Port
     }
 }

@@ -15,7 +15,7 @@
 #![tactic(auto)]
 
 mod bench_fault;
-mod counts;
+mod done;
 mod end;
 mod over_pair;
 mod over_port;
@@ -23,17 +23,17 @@ mod over_side;
 mod over_table;
 mod over_tei;
 mod wire;
-mod work;
 
 use bench_fault::BenchFault;
-use counts::{Counts, Done, Octets};
+use done::Done;
 use end::End;
 use lapd_frame::Side;
+use over_side::Deed;
 use std::alloc::Global;
-use std::io;
+use std::env::Args;
 use std::process::ExitCode;
+use std::{env, io};
 use wire::Wire;
-use work::{Work, asked};
 
 /// How many messages are passed where the command line does not say.
 const MESSAGES: u32 = 1_000;
@@ -45,61 +45,113 @@ const WINDOW: u32 = 7;
 const OCTETS: usize = 20;
 
 fn main(rt: HostRuntime) -> ExitCode {
-    match done(&rt) {
-        Ok(done) => show(&rt, done),
+    match do_asked(&rt) {
+        Ok(done) => status(show(&rt, done)),
         Err(fault) => {
-            let _ = eprintln!(rt; "{fault}");
+            let _ = eprintln!(rt; "{}", fault.text());
             ExitCode::FAILURE
         }
     }
 }
 
-/// Does what the command line asks for.
-fn done(rt: &HostRuntime) -> Result<Done, BenchFault> {
-    let alloc = rt.alloc();
-    match asked(rt)? {
-        Work::Links(messages) => Ok(Done::Messages(run(alloc, messages)?)),
-        Work::Pair(messages) => Ok(Done::Messages(over_pair::pass(alloc, messages)?)),
-        Work::Wire(frames, moves) => Ok(Done::Messages(over_pair::stand(alloc, frames, moves)?)),
-        Work::Table(links, frames) => Ok(Done::Messages(over_table::answer(alloc, links, frames)?)),
-        Work::Side(links, frames) => Ok(Done::Messages(over_side::take(alloc, links, frames)?)),
-        Work::Tick(links, times) => Ok(Done::Messages(over_side::tick(alloc, links, times)?)),
-        Work::Expire(links, rounds) => Ok(Done::Messages(over_side::expire(alloc, links, rounds)?)),
-        Work::Port(frames, octets) => Ok(Done::Frames(over_port::pass(alloc, frames, octets)?)),
-        Work::Due(times) => Ok(Done::Outputs(over_tei::due(times))),
-        Work::Terminal(times) => Ok(Done::Outputs(over_tei::terminal(times))),
-        Work::Check(times) => Ok(Done::Outputs(over_tei::check(times))),
-        Work::Request(times) => Ok(Done::Outputs(over_tei::request(times))),
-    }
-}
-
-/// Prints what was done.
-fn show(rt: &HostRuntime, done: Done) -> ExitCode {
-    let shown = match done {
-        Done::Messages(counts) => show_counts(rt, counts),
-        Done::Frames(octets) => show_octets(rt, octets),
-        Done::Outputs(outputs) => println!(rt; "{outputs} outputs"),
-    };
+/// The exit status, when this has become of printing.
+fn status(shown: io::Result<()>) -> ExitCode {
     match shown {
         Ok(()) => ExitCode::SUCCESS,
         Err(_) => ExitCode::FAILURE,
     }
 }
 
-/// Prints how many messages were given, received and acknowledged.
-fn show_counts(rt: &HostRuntime, counts: Counts) -> io::Result<()> {
-    let Counts {
-        given,
-        received,
-        acknowledged,
-    } = counts;
-    println!(rt; "{given} given, {received} received, {acknowledged} acknowledged")
+/// Prints what was done.
+fn show(rt: &HostRuntime, done: Done) -> io::Result<()> {
+    match done {
+        Done::Messages {
+            given,
+            received,
+            acknowledged,
+        } => println!(rt; "{given} given, {received} received, {acknowledged} acknowledged"),
+        Done::Frames { written, read } => {
+            println!(rt; "{written} octets written, {read} frames read")
+        }
+        Done::Outputs(outputs) => println!(rt; "{outputs} outputs"),
+    }
 }
 
-/// Prints how many octets were written, and how many frames were read.
-fn show_octets(rt: &HostRuntime, octets: Octets) -> io::Result<()> {
-    let Octets { written, read } = octets;
-    println!(rt; "{written} octets written, {read} frames read")
+/// Does what the command line asks for.
+fn do_asked(rt: &HostRuntime) -> Result<Done, BenchFault> {
+    match env::args(rt) {
+        Ok(mut words) => do_words(rt.alloc(), &mut words),
+        Err(_) => Err(BenchFault::CommandLine),
+    }
+}
+
+/// Does what these words ask for, of which the first is the program's name.
+fn do_words(alloc: Global, words: &mut Args) -> Result<Done, BenchFault> {
+    let _program = words.next();
+    match words.next() {
+        Some(word) => do_word(alloc, word.as_str(), words),
+        None => run(alloc, MESSAGES),
+    }
+}
+
+/// Does what this word asks for, with the numbers behind it.
+fn do_word(alloc: Global, word: &str, words: &mut Args) -> Result<Done, BenchFault> {
+    let first = next_number(words)?;
+    let second = next_number(words)?;
+    if words.next().is_some() {
+        return Err(BenchFault::CommandLine);
+    }
+    match (first, second) {
+        (None, _) => run(alloc, number(word)?),
+        (Some(times), None) => do_with_one(alloc, word, times),
+        (Some(count), Some(times)) => do_with_two(alloc, word, count, times),
+    }
+}
+
+/// Does what this word asks for with one number.
+fn do_with_one(alloc: Global, word: &str, times: u32) -> Result<Done, BenchFault> {
+    match word {
+        "pair" => over_pair::pass(alloc, times),
+        "due" => Ok(over_tei::due(times)),
+        "terminal" => Ok(over_tei::terminal(times)),
+        "check" => Ok(over_tei::check(times)),
+        "request" => Ok(over_tei::request(times)),
+        _ => Err(BenchFault::CommandLine),
+    }
+}
+
+/// Does what this word asks for with two numbers.
+fn do_with_two(alloc: Global, word: &str, count: u32, times: u32) -> Result<Done, BenchFault> {
+    match word {
+        "line" => over_pair::stand(alloc, count, times),
+        "table" => over_table::answer(alloc, count, times),
+        "side" => over_side::pass(alloc, count, Deed::Take(times)),
+        "tick" => over_side::pass(alloc, count, Deed::Tick(times)),
+        "expire" => over_side::pass(alloc, count, Deed::Expire(times)),
+        "port" => over_port::pass(alloc, count, times),
+        _ => Err(BenchFault::CommandLine),
+    }
+}
+
+/// The number that the next word writes, where there is one.
+fn next_number(words: &mut Args) -> Result<Option<u32>, BenchFault> {
+    match words.next() {
+        Some(word) => some_number(word.as_str()),
+        None => Ok(None),
+    }
+}
+
+/// The number that a word writes, where a word may be left out.
+fn some_number(word: &str) -> Result<Option<u32>, BenchFault> {
+    Ok(Some(number(word)?))
+}
+
+/// The number that a word writes.
+fn number(word: &str) -> Result<u32, BenchFault> {
+    match word.parse::<u32>() {
+        Ok(number) => Ok(number),
+        Err(_) => Err(BenchFault::CommandLine),
+    }
 }
 
 /// The two ends of the link, and the two directions of the line between them.
@@ -112,29 +164,36 @@ struct Pair {
 }
 
 /// Establishes the link, and passes so many messages over it from the user to the network.
-fn run(alloc: Global, messages: u32) -> Result<Counts, BenchFault> {
-    let mut pair = Pair::new(alloc)?;
+fn run(alloc: Global, messages: u32) -> Result<Done, BenchFault> {
+    let user = End::new(alloc, Side::User)?;
+    run_from(alloc, user, messages)
+}
+
+/// Passes so many messages from this end to a new one.
+fn run_from(alloc: Global, user: End, messages: u32) -> Result<Done, BenchFault> {
+    let network = End::new(alloc, Side::Network)?;
+    let mut pair = Pair::new(user, network);
     pair.run(alloc, messages)
 }
 
 impl Pair {
-    fn new(alloc: Global) -> Result<Pair, BenchFault> {
-        Ok(Pair {
-            user: End::new(alloc, Side::User)?,
-            network: End::new(alloc, Side::Network)?,
+    fn new(user: End, network: End) -> Pair {
+        Pair {
+            user,
+            network,
             to_network: Wire::new(Side::User),
             to_user: Wire::new(Side::Network),
-        })
+        }
     }
 
     /// The link is established, and so many messages are passed a window at a time.
-    fn run(&mut self, alloc: Global, messages: u32) -> Result<Counts, BenchFault> {
+    fn run(&mut self, alloc: Global, messages: u32) -> Result<Done, BenchFault> {
         self.establish()?;
         for _ in 0..messages / WINDOW {
             self.pass(alloc, WINDOW)?;
         }
         self.pass(alloc, messages % WINDOW)?;
-        Ok(Counts {
+        Ok(Done::Messages {
             given: self.user.given,
             received: self.network.received,
             acknowledged: self.user.acknowledged,

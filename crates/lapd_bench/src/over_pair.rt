@@ -1,7 +1,7 @@
 //! The same messages over a [`Pair`], which keeps what became of each; and frames that stand on its line.
 
 use crate::bench_fault::BenchFault;
-use crate::counts::Counts;
+use crate::done::Done;
 use crate::{OCTETS, WINDOW};
 use lapd_frame::Side;
 use lapd_link::{Outs, Params};
@@ -13,22 +13,22 @@ use std::alloc::Global;
 /// # Errors
 ///
 /// `Memory`, and `Pair` where a move is refused.
-pub fn pass(alloc: Global, messages: u32) -> Result<Counts, BenchFault> {
+pub fn pass(alloc: Global, messages: u32) -> Result<Done, BenchFault> {
     let give = Move::Give(Side::User, [0; OCTETS].to_vec(alloc)?);
     pass_each(alloc, &give, messages)
 }
 
 /// Passes a message so often over a pair with the parameters of primary rate access.
-fn pass_each(alloc: Global, give: &Move, messages: u32) -> Result<Counts, BenchFault> {
+fn pass_each(alloc: Global, give: &Move, messages: u32) -> Result<Done, BenchFault> {
     let mut pair = Pair::new(alloc, Params::primary(), Params::primary())?;
     pass_over(&mut pair, give, messages)
 }
 
 /// Passes a message so often over this pair, whose link the user establishes.
-fn pass_over(pair: &mut Pair, give: &Move, messages: u32) -> Result<Counts, BenchFault> {
+fn pass_over(pair: &mut Pair, give: &Move, messages: u32) -> Result<Done, BenchFault> {
     let mut outs = Outs::new();
     pass_all(pair, give, messages, &mut outs)?;
-    Ok(Counts {
+    Ok(Done::Messages {
         given: pair.given(Side::User).len() as u64,
         received: pair.received(Side::Network).len() as u64,
         acknowledged: pair.acknowledged(Side::User),
@@ -76,23 +76,23 @@ fn repeat(pair: &mut Pair, deed: &Move, times: u32, outs: &mut Outs) -> Result<(
 /// # Errors
 ///
 /// `Memory`, and `Pair` where a move is refused.
-pub fn stand(alloc: Global, frames: u32, moves: u32) -> Result<Counts, BenchFault> {
+pub fn stand(alloc: Global, frames: u32, moves: u32) -> Result<Done, BenchFault> {
     let unit = Move::Unit(Side::User, [0; OCTETS].to_vec(alloc)?);
     stand_each(alloc, &unit, frames, moves)
 }
 
 /// So many frames stand on the line of a pair, and so many more move over it.
-fn stand_each(alloc: Global, unit: &Move, frames: u32, moves: u32) -> Result<Counts, BenchFault> {
+fn stand_each(alloc: Global, unit: &Move, frames: u32, moves: u32) -> Result<Done, BenchFault> {
     let mut pair = Pair::new(alloc, Params::primary(), Params::primary())?;
     stand_over(&mut pair, unit, frames, moves)
 }
 
 /// So many frames stand on the line of this pair, and so many more move over it.
-fn stand_over(pair: &mut Pair, unit: &Move, frames: u32, moves: u32) -> Result<Counts, BenchFault> {
+fn stand_over(pair: &mut Pair, unit: &Move, frames: u32, moves: u32) -> Result<Done, BenchFault> {
     let mut outs = Outs::new();
     repeat(pair, unit, frames, &mut outs)?;
     move_on(pair, unit, moves, &mut outs)?;
-    Ok(Counts {
+    Ok(Done::Messages {
         given: u64::from(frames).wrapping_add(u64::from(moves)),
         received: pair.units(Side::Network).len() as u64,
         acknowledged: 0,

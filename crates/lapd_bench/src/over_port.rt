@@ -4,7 +4,7 @@ ghost use Rattle.std.specs.Prelude.{length};
 ghost use Rattle.lapd_port.specs.SocketText.{IsFrameLength};
 
 use crate::bench_fault::BenchFault;
-use crate::counts::Octets;
+use crate::done::Done;
 use lapd_port::{FromRead, FromWrite, LEAST_OCTETS, MOST_OCTETS, Port, PortFault};
 use std::alloc::Global;
 
@@ -16,7 +16,7 @@ type Memory<'a> = Port<FromRead<&'a [u8]>, FromWrite<Vec<u8>>>;
 /// # Errors
 ///
 /// `Memory`, `Port`, and `CommandLine` for a length that no frame has.
-pub fn pass(alloc: Global, frames: u32, octets: u32) -> Result<Octets, BenchFault> {
+pub fn pass(alloc: Global, frames: u32, octets: u32) -> Result<Done, BenchFault> {
     let octets = octets as usize;
     if !(LEAST_OCTETS..=MOST_OCTETS).contains(&octets) {
         return Err(BenchFault::CommandLine);
@@ -26,7 +26,7 @@ pub fn pass(alloc: Global, frames: u32, octets: u32) -> Result<Octets, BenchFaul
 }
 
 /// Writes a frame so often, and reads back what was written.
-fn pass_each(alloc: Global, frames: u32, frame: &[u8]) -> Result<Octets, BenchFault>
+fn pass_each(alloc: Global, frames: u32, frame: &[u8]) -> Result<Done, BenchFault>
     requires { IsFrameLength (length frame.now) }
 {
     let text = Vec::with_capacity(alloc, frames as usize * (2 + frame.len()))?;
@@ -41,14 +41,14 @@ fn pass_through(
     port: &mut Memory<'_>,
     frames: u32,
     frame: &[u8],
-) -> Result<Octets, BenchFault>
+) -> Result<Done, BenchFault>
     requires { IsFrameLength (length frame.now) }
 {
     for _ in 0..frames {
         port.write_frame(frame)?;
     }
     let text = port.sink().get_ref().as_slice();
-    Ok(Octets {
+    Ok(Done::Frames {
         written: text.len(),
         read: read_all(alloc, text, frames)?,
     })
@@ -67,7 +67,7 @@ fn read_each(port: &mut Memory<'_>, frames: u32) -> Result<u32, BenchFault> {
         match port.read_frame(&mut frame) {
             Ok(_) => {}
             Err(PortFault::End) => return Ok(read),
-            Err(fault) => return Err(BenchFault::Port(fault)),
+            Err(_) => return Err(BenchFault::Port),
         }
     }
     Ok(frames)

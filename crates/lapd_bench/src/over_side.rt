@@ -6,7 +6,7 @@ ghost use Rattle.std.specs.List.{All};
 
 use crate::OCTETS;
 use crate::bench_fault::BenchFault;
-use crate::counts::Counts;
+use crate::done::Done;
 use lapd_sides::{Acts, Config, Durations, NetSide, Params, Primitive, Tei, What};
 use std::alloc::Global;
 
@@ -21,46 +21,23 @@ type Message = [u8; 4 + OCTETS];
 
 /// What is done over a side.
 #[derive(Clone, Copy)]
-enum Deed {
-    /// So many I frames are handed in.
+pub enum Deed {
+    /// So many I frames are handed in, one after another to each link, and the messages that go up and the frames that answer
+    /// are counted.
     Take(u32),
-    /// It is asked so many times what is due.
+    /// It is asked so many times what is due, where nothing is.
     Tick(u32),
-    /// So many times the timers of all links are due.
+    /// So many times the timers of all links are due at one moment, and are done one after another; the peers are silent. T203 is
+    /// the first, then T200 until N200 is reached, twice.
     Expire(u32),
 }
 
-/// Hands in so many I frames, one after another to each of so many established links, and counts the messages that went
-/// up and the frames that answer.
+/// Does a deed over a side with so many established links, and has room for the messages that are to come for them.
 ///
 /// # Errors
 ///
 /// `Memory`, and `CommandLine` for no links or more than 254.
-pub fn take(alloc: Global, links: u32, frames: u32) -> Result<Counts, BenchFault> {
-    with_messages(alloc, links, Deed::Take(frames))
-}
-
-/// Asks so many times what is due on a side of so many established links, where nothing is.
-///
-/// # Errors
-///
-/// As [`take`].
-pub fn tick(alloc: Global, links: u32, times: u32) -> Result<Counts, BenchFault> {
-    with_messages(alloc, links, Deed::Tick(times))
-}
-
-/// Lets the timers of all of so many established links be due at one moment, and does one after another, so many times; the
-/// peers are silent. T203 is the first, then T200 until N200 is reached, twice.
-///
-/// # Errors
-///
-/// As [`take`].
-pub fn expire(alloc: Global, links: u32, rounds: u32) -> Result<Counts, BenchFault> {
-    with_messages(alloc, links, Deed::Expire(rounds))
-}
-
-/// Does a deed over a side with so many links, and has room for the messages that are to come for them.
-fn with_messages(alloc: Global, links: u32, deed: Deed) -> Result<Counts, BenchFault> {
+pub fn pass(alloc: Global, links: u32, deed: Deed) -> Result<Done, BenchFault> {
     let mut messages = Vec::with_capacity(alloc, links as usize)?;
     with_known(alloc, links, deed, &mut messages)
 }
@@ -71,7 +48,7 @@ fn with_known(
     links: u32,
     deed: Deed,
     messages: &mut Vec<Message>,
-) -> Result<Counts, BenchFault> {
+) -> Result<Done, BenchFault> {
     let known = known(alloc, links)?;
     with_side(alloc, links, deed, messages, &known)
 }
@@ -83,7 +60,7 @@ fn with_side(
     deed: Deed,
     messages: &mut Vec<Message>,
     known: &[Tei],
-) -> Result<Counts, BenchFault>
+) -> Result<Done, BenchFault>
     requires { All (λ tei. tei < 127) known.now }
 {
     let mut side = NetSide::new(alloc, config(links), known)?;
@@ -97,7 +74,7 @@ fn with_acts(
     links: u32,
     deed: Deed,
     messages: &mut Vec<Message>,
-) -> Result<Counts, BenchFault> {
+) -> Result<Done, BenchFault> {
     let mut acts = Acts::new(alloc)?;
     establish_and_do(side, links, deed, messages, &mut acts)
 }
@@ -109,7 +86,7 @@ fn establish_and_do(
     deed: Deed,
     messages: &mut Vec<Message>,
     acts: &mut Acts,
-) -> Result<Counts, BenchFault> {
+) -> Result<Done, BenchFault> {
     establish(side, links, messages, acts)?;
     match deed {
         Deed::Take(frames) => take_each(side, frames, messages.as_mut_slice(), acts),
@@ -124,7 +101,7 @@ fn take_each(
     frames: u32,
     messages: &mut [Message],
     acts: &mut Acts,
-) -> Result<Counts, BenchFault> {
+) -> Result<Done, BenchFault> {
     let mut up: u64 = 0;
     let mut answered: u64 = 0;
     let mut at: usize = 0;
@@ -141,7 +118,7 @@ fn take_each(
         up = up.wrapping_add(messages_up(acts));
         answered = answered.wrapping_add(acts.frames().len() as u64);
     }
-    Ok(Counts {
+    Ok(Done::Messages {
         given: u64::from(frames),
         received: up,
         acknowledged: answered,
@@ -149,14 +126,14 @@ fn take_each(
 }
 
 /// Asks so many times what is due.
-fn tick_each(side: &mut NetSide, times: u32, acts: &mut Acts) -> Counts {
+fn tick_each(side: &mut NetSide, times: u32, acts: &mut Acts) -> Done {
     let mut due: u64 = 0;
     for _ in 0..times {
         if side.tick(MOMENT, acts) {
             due = due.wrapping_add(1);
         }
     }
-    Counts {
+    Done::Messages {
         given: u64::from(times),
         received: due,
         acknowledged: 0,
@@ -164,13 +141,13 @@ fn tick_each(side: &mut NetSide, times: u32, acts: &mut Acts) -> Counts {
 }
 
 /// The clock goes on so many times, and what is then due is done.
-fn expire_each(side: &mut NetSide, rounds: u32, acts: &mut Acts) -> Counts {
+fn expire_each(side: &mut NetSide, rounds: u32, acts: &mut Acts) -> Done {
     let mut due: u64 = 0;
     for round in 0..rounds {
         let now = (u64::from(round) + 1) * ROUND;
         due = due.wrapping_add(due_at(side, now, acts));
     }
-    Counts {
+    Done::Messages {
         given: u64::from(rounds),
         received: due,
         acknowledged: 0,

@@ -3,7 +3,7 @@
 ghost use Rattle.std.specs.Prelude.{◌≢◌, ◌<◌, IfOk};
 
 use crate::bench_fault::BenchFault;
-use crate::counts::Counts;
+use crate::done::Done;
 use lapd_frame::{Frame, MOST_OCTETS, Sapi, Side, Tei, write};
 use lapd_link::{Link, Out, Outs, Params};
 use lapd_table::{LinkId, LinkTable};
@@ -17,7 +17,7 @@ type Enquiry = [u8; 4];
 /// # Errors
 ///
 /// `Memory`, `CommandLine` for no links or more than 254, and `Table` where a frame is refused.
-pub fn answer(alloc: Global, links: u32, frames: u32) -> Result<Counts, BenchFault> {
+pub fn answer(alloc: Global, links: u32, frames: u32) -> Result<Done, BenchFault> {
     let mut enquiries: Vec<Enquiry> = Vec::with_capacity(alloc, links as usize)?;
     let mut table = LinkTable::new(alloc, Side::Network);
     add_and_answer(alloc, &mut table, &mut enquiries, links, frames)
@@ -30,14 +30,14 @@ fn add_and_answer(
     enquiries: &mut Vec<Enquiry>,
     links: u32,
     frames: u32,
-) -> Result<Counts, BenchFault> {
+) -> Result<Done, BenchFault> {
     for number in 0..links {
         let enquiry = add_link(alloc, table, number)?;
         if enquiries.push(enquiry).is_err() {
             return Err(BenchFault::Memory);
         }
     }
-    Ok(Counts {
+    Ok(Done::Messages {
         given: u64::from(frames),
         received: answer_each(table, enquiries.as_slice(), frames)?,
         acknowledged: 0,
@@ -92,7 +92,7 @@ fn reply(
                     let _len = write(&frame, Side::Network, octets);
                     sent = sent.wrapping_add(1);
                 }
-                Err(kind) => return Err(BenchFault::NoFrame(kind)),
+                Err(_) => return Err(BenchFault::NoFrame),
             }
         }
     }
@@ -121,7 +121,7 @@ fn add_established(alloc: Global, table: &mut LinkTable, id: LinkId) -> Result<(
     let link = Link::new(alloc, table.side(), id.sapi, id.tei, Params::primary())?;
     match table.add(link) {
         Ok(()) => establish(table, id),
-        Err((fault, _link)) => Err(BenchFault::Table(fault)),
+        Err(_) => Err(BenchFault::Table),
     }
 }
 

@@ -2,11 +2,12 @@
 
 ghost use Rattle.std.specs.Prelude.{◌≡◌};
 
+use crate::done::Done;
 use lapd_tei::{Assigner, AssignerEvent, Tei, TeiKind, TeiMessage, Terminal, TerminalEvent, Timer};
 use lapd_timers::{Durations, TimerSet};
 
 /// All four timers run, and the one that is due is started anew, so often: how many were due.
-pub fn due(times: u32) -> u64 {
+pub fn due(times: u32) -> Done {
     let mut timers = TimerSet::new(Durations::standard());
     timers.start(Timer::T203, 0);
     timers.start(Timer::T202, 100);
@@ -20,11 +21,11 @@ pub fn due(times: u32) -> u64 {
             outputs = outputs.wrapping_add(1);
         }
     }
-    outputs
+    Done::Outputs(outputs)
 }
 
 /// A terminal asks for a TEI, gets it and leaves, three steps, so often: how many outputs there were.
-pub fn terminal(times: u32) -> u64 {
+pub fn terminal(times: u32) -> Done {
     let mut terminal = Terminal::new(None);
     let mut outputs: u64 = 0;
     for number in 0..times {
@@ -40,7 +41,7 @@ pub fn terminal(times: u32) -> u64 {
         );
         outputs = outputs.wrapping_add(terminal.handle(TerminalEvent::Leave).len() as u64);
     }
-    outputs
+    Done::Outputs(outputs)
 }
 
 /// The TEI 64.
@@ -51,7 +52,7 @@ fn checked() -> Tei
 }
 
 /// An assigner checks a TEI, hears a response, and T201 expires, three steps, so often: how many outputs there were.
-pub fn check(times: u32) -> u64 {
+pub fn check(times: u32) -> Done {
     let mut assigner = Assigner::new(&[checked()]);
     let mut outputs: u64 = 0;
     for number in 0..times {
@@ -68,11 +69,11 @@ pub fn check(times: u32) -> u64 {
         );
         outputs = outputs.wrapping_add(assigner.handle(AssignerEvent::T201).len() as u64);
     }
-    outputs
+    Done::Outputs(outputs)
 }
 
 /// An assigner that holds 62 of its 63 TEIs serves a request, so often: how many outputs there were.
-pub fn request(times: u32) -> u64 {
+pub fn request(times: u32) -> Done {
     let mut full = Assigner::new(&[]);
     for _ in 0..62 {
         full.handle(asked(0));
@@ -84,7 +85,7 @@ pub fn request(times: u32) -> u64 {
             assigner.handle(asked((number % 65_536) as u16)).len() as u64,
         );
     }
-    outputs
+    Done::Outputs(outputs)
 }
 
 /// A request with this reference.
