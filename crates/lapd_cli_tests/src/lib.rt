@@ -21,6 +21,8 @@ mod dialogues;
 #[cfg(test)]
 mod faults;
 #[cfg(test)]
+mod help_examples;
+#[cfg(test)]
 mod interfaces;
 #[cfg(test)]
 mod port;
