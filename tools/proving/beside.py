@@ -7,6 +7,8 @@ rt lets one run work in a crate and in all crates below it, so that of several m
 for all crates, and starts a command for a crate when all below it are built. So no run writes what another reads, and the
 command is run here without taking the locks again. Where the environment has LAPD_ALONE, rt takes nothing that other
 checkouts on this machine built, and offers them nothing.
+
+`rt try` answers without what it does beside that for a hint at names that a check refuses, a second reading of all sources.
 """
 
 import importlib.machinery
@@ -34,6 +36,9 @@ def main(path, *words):
     rt.rtlib.lock = lambda crates: []
     if ALONE in os.environ:
         rt.share_work = lambda is_alone: None
+    if words[0] == "try":
+        # It calls rattle for that hint alone.
+        rt.rtlib.RATTLE = "true"
     return rt.main(list(words))
 
 

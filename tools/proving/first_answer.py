@@ -13,12 +13,12 @@ from proving.report import write
 class FirstAnswer:
     """The answer that `rt try` makes of the program's source, before its proof, of which it says nothing."""
 
-    def __init__(self, rt, words, script, report):
+    def __init__(self, command, words, script, report):
         self.report, self.begun = report, time.monotonic()
         self.printed, self.said = tempfile.TemporaryFile(), tempfile.TemporaryFile()
         self.is_over, self.end, self.is_lost = False, None, False
         how = {"stdin": script.from_start(), "stdout": self.printed, "stderr": self.said, "start_new_session": True}
-        self.process = subprocess.Popen([rt, "try", "--", *words], cwd=f"{TOP}/crates/{CLI}", **how)
+        self.process = subprocess.Popen([*command, "try", "--", *words], cwd=f"{TOP}/crates/{CLI}", **how)
 
     def look(self):
         """Passes the answer on, once it is there."""

@@ -27,8 +27,10 @@ class Proofs:
     """The crates on their way to be proved: those that are left, those under way, and those that are done."""
 
     def __init__(self, plan, rt, report):
-        self.plan, self.rt, self.report = plan, rt, report
+        self.plan, self.report = plan, report
         self.held, self.made_of, self.is_beside = [], "", beside.loaded(rt) is not None
+        # The words that begin a command of rt.
+        self.command = [sys.executable, beside.__file__, rt] if self.is_beside else [rt]
         self.processors, self.environment = processors(), None
         self.lanes = min(self.processors, room()) if self.is_beside else 1
         self.left = {it: SECONDS.get(it, OTHER) for it in plan.below}
@@ -50,11 +52,10 @@ class Proofs:
     def start(self, name, jobs):
         folder = f"{TOP}/crates/{name}"
         words = ["run" if name == CLI else "lib", "--jobs", str(jobs)]
-        command = [sys.executable, beside.__file__, self.rt] if self.is_beside else [self.rt]
         with open(f"{folder}/out/{LOG}", "wb") as log:
             how = {"stdin": subprocess.DEVNULL, "stdout": log, "stderr": subprocess.STDOUT, "env": self.environment}
             how.update(pass_fds=self.held, start_new_session=True)
-            process = subprocess.Popen([*command, *words], cwd=folder, **how)
+            process = subprocess.Popen([*self.command, *words], cwd=folder, **how)
         self.running[name] = process, time.monotonic()
 
     def reap(self):
