@@ -158,8 +158,8 @@ fn refusal(done: Result<(), SideFault>) -> Option<SideKind> {
 
 impl Clocked {
     /// A network side with the TEI of the pair.
-    fn network(alloc: Global, config: Config) -> Result<Clocked, AllocError> {
-        let side = NetSide::new(alloc, config, &[tei(64)])?;
+    fn network(alloc: Global) -> Result<Clocked, Fail> {
+        let side = NetSide::new(alloc, config()?, &[tei(64)])?;
         Ok(Clocked {
             side: EitherSide::Network(side),
             clock: 0,
@@ -167,8 +167,8 @@ impl Clocked {
     }
 
     /// A user side with the TEI of the pair.
-    fn user(alloc: Global, config: Config) -> Result<Clocked, AllocError> {
-        let side = UserSide::new(alloc, config, Some(tei(64)))?;
+    fn user(alloc: Global) -> Result<Clocked, Fail> {
+        let side = UserSide::new(alloc, config()?, Some(tei(64)))?;
         Ok(Clocked {
             side: EitherSide::User(side),
             clock: 0,
@@ -204,10 +204,9 @@ impl Clocked {
 impl Sides {
     /// Both sides, with the TEI and the link of the pair.
     fn new(alloc: Global) -> Result<Sides, Fail> {
-        let config = config()?;
         let acts = Acts::new(alloc)?;
-        let network = Clocked::network(alloc, config)?;
-        let user = Clocked::user(alloc, config)?;
+        let network = Clocked::network(alloc)?;
+        let user = Clocked::user(alloc)?;
         Ok(Sides {
             alloc,
             network,

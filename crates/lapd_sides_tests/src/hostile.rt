@@ -10,7 +10,7 @@ ghost use Rattle.std.specs.List.{All};
 
 use crate::calls::{config, octets_of, tei};
 use crate::dialogues::{Held, Made, side_of};
-use crate::hostile::drawn::{Draws, FRONTS, MOST, put};
+use crate::hostile::drawn::{Draws, MOST, fronts, put};
 use crate::hostile::watch::Watch;
 use lapd_sides::{EitherSide, NetSide, Tei};
 use std::alloc::Global;
@@ -187,7 +187,7 @@ fn each_front_comes(
 
 /// Strings of all lengths come that begin as frames do.
 fn long_strings_come(alloc: Global, watch: &mut Watch, state: u8) -> Result<(), Fail> {
-    for front in FRONTS {
+    for front in fronts() {
         let mut octets = [0xab; MOST];
         put(&mut octets, front);
         each_front_comes(alloc, watch, state, &octets)?;
