@@ -5,7 +5,8 @@ ghost use Rattle.std.specs.Prelude.{◌≡◌, ◌<◌};
 use lapd_cli_script::put_hex;
 use lapd_link::LinkFault;
 use lapd_sides::{
-    Acts, Config, Durations, EitherSide, LinkId, Params, Request, Sapi, SideFault, SideKind, Tei,
+    Acts, Config, Durations, LinkId, NetSide, Params, Request, Sapi, SideFault, SideKind, Tei,
+    UserSide,
 };
 use std::alloc::Global;
 use std::io;
@@ -24,6 +25,13 @@ pub(crate) enum Call {
     Busy(u64, u8, u8, bool),
     AskTei(u64),
     Check(u64, u8),
+}
+
+/// A side of either kind.
+#[derive(Drop)]
+pub(crate) enum AnySide {
+    Network(NetSide),
+    User(UserSide),
 }
 
 /// What a side is made with: basic access, by the standard durations, and with the seed 921.
@@ -76,18 +84,6 @@ impl Call {
         }
     }
 
-    /// Its moment.
-    fn now(self) -> u64 {
-        let (now, _, _, _) = self.parts();
-        now
-    }
-
-    /// The link of the SAPI and the TEI that it names.
-    pub(crate) fn id(self) -> Result<LinkId, Fail> {
-        let (_, sapi, tei, _) = self.parts();
-        id_of(sapi, tei)
-    }
-
     /// The octets that it names, in hexadecimal digits.
     pub(crate) fn digits(self) -> &'static str {
         let (_, _, _, digits) = self.parts();
@@ -109,99 +105,128 @@ impl Call {
     }
 }
 
-/// Makes a call, with this link and these octets. A refusal is written, and `none` where nothing is due.
-fn make(
-    side: &mut EitherSide,
-    call: Call,
-    id: LinkId,
-    octets: Vec<u8>,
-    acts: &mut Acts,
-    text: &mut Vec<u8>,
-) -> io::Result<()> {
-    match call {
-        Call::Take(now, _) => take(side, octets.as_slice(), now, acts, text),
-        Call::Tick(now) => tick(side, now, acts, text),
-        _ => ask(side, call.request(id, octets), call.now(), acts, text),
+impl AnySide {
+    /// Something is asked for.
+    pub(crate) fn request(
+        &mut self,
+        request: Request,
+        now: u64,
+        acts: &mut Acts,
+    ) -> Result<(), SideFault> {
+        match self {
+            AnySide::Network(side) => side.request(request, now, acts),
+            AnySide::User(side) => side.request(request, now, acts),
+        }
     }
-}
 
-/// Octets come. A refusal is written.
-fn take(
-    side: &mut EitherSide,
-    octets: &[u8],
-    now: u64,
-    acts: &mut Acts,
-    text: &mut Vec<u8>,
-) -> io::Result<()> {
-    put_end(&side.take(octets, now, acts), text)
-}
+    /// How many frames it has discarded.
+    pub(crate) fn discarded(&self) -> u64 {
+        match self {
+            AnySide::Network(side) => side.discarded(),
+            AnySide::User(side) => side.discarded(),
+        }
+    }
 
-/// What is due first is done. `none` is written where nothing is.
-fn tick(side: &mut EitherSide, now: u64, acts: &mut Acts, text: &mut Vec<u8>) -> io::Result<()> {
-    if side.tick(now, acts) {
+    /// The next moment at which something is due.
+    pub(crate) fn next_deadline(&self) -> Option<u64> {
+        match self {
+            AnySide::Network(side) => side.next_deadline(),
+            AnySide::User(side) => side.next_deadline(),
+        }
+    }
+
+    /// Octets come. A refusal is written.
+    fn take(
+        &mut self,
+        octets: &[u8],
+        now: u64,
+        acts: &mut Acts,
+        text: &mut Vec<u8>,
+    ) -> io::Result<()> {
+        let done = match self {
+            AnySide::Network(side) => side.take(octets, now, acts),
+            AnySide::User(side) => side.take(octets, now, acts),
+        };
+        put_end(&done, text)
+    }
+
+    /// What is due first is done, where something is.
+    pub(crate) fn does_due(&mut self, now: u64, acts: &mut Acts) -> bool {
+        match self {
+            AnySide::Network(side) => side.tick(now, acts),
+            AnySide::User(side) => side.tick(now, acts),
+        }
+    }
+
+    /// What is due first is done. `none` is written where nothing is.
+    fn tick(&mut self, now: u64, acts: &mut Acts, text: &mut Vec<u8>) -> io::Result<()> {
+        if self.does_due(now, acts) {
+            Ok(())
+        } else {
+            text.write_all(b"none;")
+        }
+    }
+
+    /// Something is asked for. A refusal is written.
+    fn ask(
+        &mut self,
+        request: Option<Request>,
+        now: u64,
+        acts: &mut Acts,
+        text: &mut Vec<u8>,
+    ) -> io::Result<()> {
+        match request {
+            Some(request) => put_end(&self.request(request, now, acts), text),
+            None => text.write_all(b"no request;"),
+        }
+    }
+
+    /// Makes a call with these octets. A refusal is written, and `none` where nothing is due.
+    fn make(
+        &mut self,
+        call: Call,
+        octets: Vec<u8>,
+        acts: &mut Acts,
+        text: &mut Vec<u8>,
+    ) -> Result<(), Fail> {
+        let (now, sapi, tei, _) = call.parts();
+        let id = id_of(sapi, tei)?;
+        let done = match call {
+            Call::Take(..) => self.take(octets.as_slice(), now, acts, text),
+            Call::Tick(_) => self.tick(now, acts, text),
+            _ => self.ask(call.request(id, octets), now, acts, text),
+        };
+        Ok(done?)
+    }
+
+    /// Whether this is what a call gives: a refusal, or that nothing is due, then each frame and each primitive, with `;`
+    /// behind it.
+    pub(crate) fn gives(
+        &mut self,
+        alloc: Global,
+        call: Call,
+        acts: &mut Acts,
+        wanted: &str,
+    ) -> Result<bool, Fail> {
+        let mut text = Vec::new(alloc);
+        let octets = octets_of(alloc, call.digits())?;
+        self.write_given(call, octets, acts, &mut text)?;
+        Ok(text.as_slice() == wanted.as_bytes())
+    }
+
+    /// Writes what a call with these octets gives.
+    pub(crate) fn write_given(
+        &mut self,
+        call: Call,
+        octets: Vec<u8>,
+        acts: &mut Acts,
+        text: &mut Vec<u8>,
+    ) -> Result<(), Fail> {
+        self.make(call, octets, acts, text)?;
+        put_frames(acts, text)?;
+        put_primitives(acts, text)?;
         Ok(())
-    } else {
-        text.write_all(b"none;")
     }
-}
-
-/// Something is asked for. A refusal is written.
-fn ask(
-    side: &mut EitherSide,
-    request: Option<Request>,
-    now: u64,
-    acts: &mut Acts,
-    text: &mut Vec<u8>,
-) -> io::Result<()> {
-    match request {
-        Some(request) => put_end(&side.request(request, now, acts), text),
-        None => text.write_all(b"no request;"),
-    }
-}
-
-/// Whether this is what a call gives: a refusal, or that nothing is due, then each frame and each primitive, with `;` behind it.
-pub(crate) fn gives(
-    alloc: Global,
-    side: &mut EitherSide,
-    call: Call,
-    acts: &mut Acts,
-    wanted: &str,
-) -> Result<bool, Fail> {
-    let mut text = Vec::new(alloc);
-    write_call(alloc, side, call, acts, &mut text)?;
-    Ok(text.as_slice() == wanted.as_bytes())
-}
-
-/// Writes what a call gives.
-pub(crate) fn write_call(
-    alloc: Global,
-    side: &mut EitherSide,
-    call: Call,
-    acts: &mut Acts,
-    text: &mut Vec<u8>,
-) -> Result<(), Fail> {
-    let id = call.id()?;
-    let octets = octets_of(alloc, call.digits())?;
-    write_given(side, call, id, octets, acts, text)
-}
-
-/// Writes what a call with this link and these octets gives.
-pub(crate) fn write_given(
-    side: &mut EitherSide,
-    call: Call,
-    id: LinkId,
-    octets: Vec<u8>,
-    acts: &mut Acts,
-    text: &mut Vec<u8>,
-) -> Result<(), Fail> {
-    make(side, call, id, octets, acts, text)?;
-    put_acts(acts, text)
-}
-
-/// Writes the frames and the primitives.
-fn put_acts(acts: &Acts, text: &mut Vec<u8>) -> Result<(), Fail> {
-    put_frames(acts, text)?;
-    Ok(put_primitives(acts, text)?)
 }
 
 /// Writes the frames.

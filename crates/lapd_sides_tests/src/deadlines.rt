@@ -1,9 +1,9 @@
 //! The next moment at which something is due on a side.
 
-use crate::calls::{Call, write_call};
+use crate::calls::{AnySide, Call, octets_of};
 use crate::dialogues::{Held, Made, side_of};
 use crate::wants::wants;
-use lapd_sides::{Acts, EitherSide};
+use lapd_sides::Acts;
 use std::alloc::Global;
 use std::test::Fail;
 
@@ -80,26 +80,29 @@ const ROWS: &[Row] = &[
 /// Whether a call leaves this as the next moment.
 fn leaves(
     alloc: Global,
-    side: &mut EitherSide,
+    side: &mut AnySide,
     call: Call,
     acts: &mut Acts,
     wanted: Option<u64>,
 ) -> Result<bool, Fail> {
     let mut text = Vec::new(alloc);
-    write_call(alloc, side, call, acts, &mut text)?;
+    let octets = octets_of(alloc, call.digits())?;
+    side.write_given(call, octets, acts, &mut text)?;
     Ok(side.next_deadline() == wanted)
 }
 
 /// Whether nothing is due a millisecond before the next moment, and something at it; where there is none, nothing ever is.
-fn is_exact(side: &mut EitherSide, acts: &mut Acts) -> bool {
+fn is_exact(side: &mut AnySide, acts: &mut Acts) -> bool {
     match side.next_deadline() {
-        Some(moment) => !side.tick(moment.saturating_sub(1), acts) && side.tick(moment, acts),
-        None => !side.tick(u64::MAX, acts),
+        Some(moment) => {
+            !side.does_due(moment.saturating_sub(1), acts) && side.does_due(moment, acts)
+        }
+        None => !side.does_due(u64::MAX, acts),
     }
 }
 
 /// Goes over the calls of a row.
-fn keeps_to(alloc: Global, row: &Row, side: &mut EitherSide, acts: &mut Acts) -> Result<(), Fail> {
+fn keeps_to(alloc: Global, row: &Row, side: &mut AnySide, acts: &mut Acts) -> Result<(), Fail> {
     let (name, _, calls) = row;
     for (call, wanted) in *calls {
         let left = leaves(alloc, side, *call, acts, *wanted)?;
@@ -111,14 +114,9 @@ fn keeps_to(alloc: Global, row: &Row, side: &mut EitherSide, acts: &mut Acts) ->
 /// Goes over a row.
 fn goes(alloc: Global, row: &Row) -> Result<(), Fail> {
     let (_, made, _) = row;
-    let mut side = side_of(alloc, *made)?;
-    goes_over(alloc, row, &mut side)
-}
-
-/// Goes over a row with this side.
-fn goes_over(alloc: Global, row: &Row, side: &mut EitherSide) -> Result<(), Fail> {
     let mut acts = Acts::new(alloc)?;
-    keeps_to(alloc, row, side, &mut acts)
+    let mut side = side_of(alloc, *made)?;
+    keeps_to(alloc, row, &mut side, &mut acts)
 }
 
 #[test]

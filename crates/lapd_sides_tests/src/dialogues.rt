@@ -1,8 +1,8 @@
 //! Dialogues of a side with the line, layer 3 and its clock.
 
-use crate::calls::{Call, config, gives, tei};
+use crate::calls::{AnySide, Call, config, tei};
 use crate::wants::wants;
-use lapd_sides::{Acts, EitherSide, NetSide, UserSide};
+use lapd_sides::{Acts, NetSide, UserSide};
 use std::alloc::{AllocError, Global};
 use std::test::Fail;
 
@@ -23,7 +23,7 @@ pub(crate) enum Made {
 /// A name, the side, calls with what they give, and how many frames are discarded then.
 pub(crate) type Row = (&'static str, Made, &'static [(Call, &'static str)], u64);
 
-const NETWORK: &[Row] = &[
+pub(crate) const NETWORK: &[Row] = &[
     (
         "a link goes, and the timer of the other runs on",
         Made::Net(Held::Tei64, true),
@@ -186,7 +186,7 @@ const NETWORK: &[Row] = &[
     ),
 ];
 
-const USER: &[Row] = &[
+pub(crate) const USER: &[Row] = &[
     (
         "no TEI is assigned",
         Made::User(Held::Nothing, false),
@@ -343,16 +343,6 @@ const USER: &[Row] = &[
     ),
 ];
 
-/// The rows of a network side. They are lent, as a constant is written out in each function that names it.
-pub(crate) fn network_rows() -> &'static [Row] {
-    NETWORK
-}
-
-/// The rows of a user side.
-pub(crate) fn user_rows() -> &'static [Row] {
-    USER
-}
-
 /// A network side that knows of TEI 64, named twice, or of none.
 fn network_side(alloc: Global, known: Held, sapi16: bool) -> Result<NetSide, AllocError> {
     match known {
@@ -370,18 +360,18 @@ fn user_side(alloc: Global, fixed: Held, sapi16: bool) -> Result<UserSide, Alloc
 }
 
 /// A side as the row wants it.
-pub(crate) fn side_of(alloc: Global, made: Made) -> Result<EitherSide, AllocError> {
+pub(crate) fn side_of(alloc: Global, made: Made) -> Result<AnySide, AllocError> {
     match made {
-        Made::Net(known, sapi16) => Ok(EitherSide::Network(network_side(alloc, known, sapi16)?)),
-        Made::User(fixed, sapi16) => Ok(EitherSide::User(user_side(alloc, fixed, sapi16)?)),
+        Made::Net(known, sapi16) => Ok(AnySide::Network(network_side(alloc, known, sapi16)?)),
+        Made::User(fixed, sapi16) => Ok(AnySide::User(user_side(alloc, fixed, sapi16)?)),
     }
 }
 
 /// Goes over the calls of a row, and looks at how many frames were discarded.
-fn talks(alloc: Global, row: &Row, side: &mut EitherSide, acts: &mut Acts) -> Result<(), Fail> {
+fn talks(alloc: Global, row: &Row, side: &mut AnySide, acts: &mut Acts) -> Result<(), Fail> {
     let (name, _, calls, discarded) = row;
     for (call, wanted) in *calls {
-        let given = gives(alloc, side, *call, acts, wanted)?;
+        let given = side.gives(alloc, *call, acts, wanted)?;
         wants(given, name, wanted)?;
     }
     wants(side.discarded() == *discarded, name, "another count")
@@ -390,14 +380,9 @@ fn talks(alloc: Global, row: &Row, side: &mut EitherSide, acts: &mut Acts) -> Re
 /// Goes over a row.
 fn goes(alloc: Global, row: &Row) -> Result<(), Fail> {
     let (_, made, _, _) = row;
-    let mut side = side_of(alloc, *made)?;
-    goes_over(alloc, row, &mut side)
-}
-
-/// Goes over a row with this side.
-fn goes_over(alloc: Global, row: &Row, side: &mut EitherSide) -> Result<(), Fail> {
     let mut acts = Acts::new(alloc)?;
-    talks(alloc, row, side, &mut acts)
+    let mut side = side_of(alloc, *made)?;
+    talks(alloc, row, &mut side, &mut acts)
 }
 
 /// Goes over the calls of each row.
@@ -410,10 +395,10 @@ fn go_over(alloc: Global, rows: &[Row]) -> Result<(), Fail> {
 
 #[test]
 fn a_network_side_gives_as_said(rt: HostRuntime) -> Result<(), Fail> {
-    go_over(rt.alloc(), network_rows())
+    go_over(rt.alloc(), NETWORK)
 }
 
 #[test]
 fn a_user_side_gives_as_said(rt: HostRuntime) -> Result<(), Fail> {
-    go_over(rt.alloc(), user_rows())
+    go_over(rt.alloc(), USER)
 }

@@ -2,11 +2,11 @@
 //! in turn, and the test prints where it met it (docs/DEVELOPING.md). A call that finds no memory gives nothing and leaves
 //! all that the side shows as it was, and made again it gives what it gives where none is refused.
 
-use crate::calls::{Call, octets_of, write_given};
-use crate::dialogues::{Made, Row, network_rows, side_of, user_rows};
+use crate::calls::{AnySide, Call, octets_of};
+use crate::dialogues::{Made, NETWORK, Row, USER, side_of};
 use crate::shown::digest;
 use crate::wants::wants;
-use lapd_sides::{Acts, EitherSide};
+use lapd_sides::Acts;
 use std::alloc::{AllocError, Global};
 use std::test::Fail;
 
@@ -23,7 +23,7 @@ struct Refusals {
 #[derive(Drop)]
 struct Talk<'a> {
     alloc: Global,
-    side: &'a mut EitherSide,
+    side: &'a mut AnySide,
     acts: &'a mut Acts,
     text: &'a mut Vec<u8>,
     met: &'a mut Refusals,
@@ -44,10 +44,9 @@ impl Talk<'_> {
 
     /// Makes a call, and writes what it gives.
     fn write(&mut self, call: Call) -> Result<(), Fail> {
-        let id = call.id()?;
         let octets = self.octets(call.digits())?;
         self.text.clear();
-        write_given(self.side, call, id, octets, self.acts, self.text)
+        self.side.write_given(call, octets, self.acts, self.text)
     }
 
     /// Whether this is written.
@@ -79,7 +78,7 @@ impl Talk<'_> {
 }
 
 /// A side as the row wants it, at the second try where the first finds no memory.
-fn new_side(alloc: Global, made: Made, met: &mut Refusals) -> Result<EitherSide, AllocError> {
+fn new_side(alloc: Global, made: Made, met: &mut Refusals) -> Result<AnySide, AllocError> {
     match side_of(alloc, made) {
         Ok(side) => Ok(side),
         Err(AllocError) => {
@@ -121,7 +120,7 @@ fn keeps(alloc: Global, row: &Row, met: &mut Refusals) -> Result<(), Fail> {
 fn keeps_side(
     alloc: Global,
     row: &Row,
-    side: &mut EitherSide,
+    side: &mut AnySide,
     met: &mut Refusals,
 ) -> Result<(), Fail> {
     let mut acts = new_acts(alloc, met)?;
@@ -156,10 +155,10 @@ fn keep_all(rt: &HostRuntime, rows: &[Row]) -> Result<(), Fail> {
 
 #[test]
 fn a_network_side_without_memory(rt: HostRuntime) -> Result<(), Fail> {
-    keep_all(&rt, network_rows())
+    keep_all(&rt, NETWORK)
 }
 
 #[test]
 fn a_user_side_without_memory(rt: HostRuntime) -> Result<(), Fail> {
-    keep_all(&rt, user_rows())
+    keep_all(&rt, USER)
 }

@@ -1,10 +1,10 @@
 //! Requests with more octets than a frame has room for. They are handed back, and nothing is given.
 
-use crate::calls::id_of;
+use crate::calls::{AnySide, id_of};
 use crate::dialogues::{Held, Made, side_of};
 use crate::wants::wants;
 use lapd_link::LinkFault;
-use lapd_sides::{Acts, EitherSide, LinkId, Request, SideFault, SideKind};
+use lapd_sides::{Acts, LinkId, Request, SideFault, SideKind};
 use std::alloc::{AllocError, Global};
 use std::test::Fail;
 
@@ -106,7 +106,7 @@ fn is_end(done: &Result<(), SideFault>, acts: &Acts, len: usize, wanted: Option<
 /// Whether a side answers so to so many octets for a link.
 fn answers(
     alloc: Global,
-    side: &mut EitherSide,
+    side: &mut AnySide,
     sort: Sort,
     (sapi, tei): (u8, u8),
     len: usize,
@@ -119,7 +119,7 @@ fn answers(
 }
 
 /// Asks a side for what a row says.
-fn ask(alloc: Global, side: &mut EitherSide, sort: Sort, row: &Row) -> Result<(), Fail> {
+fn ask(alloc: Global, side: &mut AnySide, sort: Sort, row: &Row) -> Result<(), Fail> {
     let (name, links, lengths, wanted) = row;
     for link in *links {
         for len in *lengths {
@@ -131,7 +131,7 @@ fn ask(alloc: Global, side: &mut EitherSide, sort: Sort, row: &Row) -> Result<()
 }
 
 /// Asks a side for what each row says.
-fn ask_rows(alloc: Global, side: &mut EitherSide, sort: Sort, rows: &[Row]) -> Result<(), Fail> {
+fn ask_rows(alloc: Global, side: &mut AnySide, sort: Sort, rows: &[Row]) -> Result<(), Fail> {
     for row in rows {
         ask(alloc, side, sort, row)?;
     }

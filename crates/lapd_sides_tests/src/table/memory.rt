@@ -54,16 +54,15 @@ fn keeps(
     }
 }
 
-/// Adds all of these links, and looks at which are there.
-fn are_kept(alloc: Global, table: &mut LinkTable, links: &[Numbers]) -> Result<(), Fail> {
-    for (number, numbers) in links.iter().enumerate() {
-        let before = links.get(..number).unwrap_or(&[]);
-        let kept = keeps(alloc, table, *numbers, before)?;
+/// Adds all links, and looks at which are there.
+fn are_kept(alloc: Global, table: &mut LinkTable) -> Result<(), Fail> {
+    for (number, numbers) in LINKS.iter().enumerate() {
+        let kept = keeps(alloc, table, *numbers, &LINKS[..number])?;
         wants(kept, "a link", "not added, or the table has changed")?;
     }
-    let all = match has(table, links) {
+    let all = match has(table, LINKS) {
         Ok(all) => all,
-        Err(_) => has(table, links)?,
+        Err(_) => has(table, LINKS)?,
     };
     wants(all, "all links", "others are there")
 }
@@ -71,5 +70,5 @@ fn are_kept(alloc: Global, table: &mut LinkTable, links: &[Numbers]) -> Result<(
 #[test]
 fn links_without_memory(rt: HostRuntime) -> Result<(), Fail> {
     let mut table = LinkTable::new(rt.alloc(), Side::Network);
-    are_kept(rt.alloc(), &mut table, LINKS)
+    are_kept(rt.alloc(), &mut table)
 }
