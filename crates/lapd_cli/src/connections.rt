@@ -29,6 +29,9 @@ const COMING: Token = Token(1001);
 /// How many things a wait tells at most.
 const EVENTS: usize = 130;
 
+/// How many frames are told one after another before it is looked whether something else has come.
+const MOST_IN_TURN: u32 = 64;
+
 /// Connections, and a clock that begins when they are made.
 #[derive(Drop)]
 pub struct Connections<'a> {
@@ -39,6 +42,8 @@ pub struct Connections<'a> {
     streams: Slab<FrameStream>,
     /// The place at which the next frame is looked for first.
     turn: usize,
+    /// How many frames were told since a wait.
+    told: u32,
     /// How many connections there are at most.
     most: usize,
     /// Where connections come.
@@ -75,6 +80,7 @@ impl<'a> Connections<'a> {
             events: Events::with_capacity(rt.alloc(), EVENTS)?,
             streams: Slab::new(rt.alloc()),
             turn: 0,
+            told: 0,
             most: usize::from(most),
             listener: None,
             is_coming: false,
@@ -149,23 +155,40 @@ impl<'a> Connections<'a> {
         Ok(u64::try_from(elapsed.as_millis()).unwrap_or(u64::MAX))
     }
 
-    /// What has come and was not told, where there is something: a frame before a line, and those of the connections in turn.
+    /// What has come and was not told, where there is something: lines that are typed, once after each wait, before frames.
     fn next_come(&mut self, frame: &mut [u8; MOST_OCTETS]) -> Result<Option<Woken>, PortFault>
         ensures { IfOk result (λ woken. IfSome woken HasRoom) }
     {
-        self.take_in();
-        for _place in 0..self.most {
-            let place = self.turn;
-            self.turn = place_behind(place, self.most);
-            if let Some(woken) = self.come_from(place, frame)? {
-                return Ok(Some(woken));
-            }
-        }
         if self.typing == Typing::Ready {
             self.typing = Typing::Told;
             return Ok(Some(Woken::Line));
         }
+        self.take_in();
+        self.next_heard(frame)
+    }
+
+    /// The next frame that came, and how a connection ended; those of the connections are told in turn.
+    fn next_heard(&mut self, frame: &mut [u8; MOST_OCTETS]) -> Result<Option<Woken>, PortFault>
+        ensures { IfOk result (λ woken. IfSome woken HasRoom) }
+    {
+        for _place in 0..self.most {
+            let place = self.turn;
+            self.turn = place_behind(place, self.most);
+            if let Some(woken) = self.come_from(place, frame)? {
+                self.told = self.told.saturating_add(1);
+                return Ok(Some(woken));
+            }
+        }
         Ok(None)
+    }
+
+    /// Looks whether something else has come, behind so many frames: a line that is typed, or a connection, does not wait until
+    /// no frame comes any more.
+    fn look_round(&mut self) -> io::Result<()> {
+        if self.told < MOST_IN_TURN {
+            return Ok(());
+        }
+        self.sleep(Some(Duration::ZERO))
     }
 
     /// What has come over the connection at this place.
@@ -236,6 +259,7 @@ impl<'a> Connections<'a> {
 
     /// Waits until something comes, for so long at most.
     fn sleep(&mut self, left: Option<Duration>) -> io::Result<()> {
+        self.told = 0;
         if self.typing == Typing::Told {
             let mut input = SourceFd(&STANDARD_INPUT);
             self.poll
@@ -289,6 +313,9 @@ impl Outside for Connections<'_> {
         frame: &mut [u8; MOST_OCTETS],
     ) -> Result<Woken, PortFault> {
         for _sleep in 0..u64::MAX {
+            if self.look_round().is_err() {
+                return Err(PortFault::Device);
+            }
             if let Some(woken) = self.next_come(frame)? {
                 return Ok(woken);
             }
