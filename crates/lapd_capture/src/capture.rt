@@ -135,7 +135,7 @@ impl<'a> Capture<'a> {
         self.place
     }
 
-    /// How many packets were passed: the number of the last of them, from 1, as Wireshark counts them.
+    /// How many packets were passed, with those that hold no frame: the number of the last of them, from 1.
     pub fn packets(&self) -> usize
         ensures { result ≡ self.now.packets }
     {
