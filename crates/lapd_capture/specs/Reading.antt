@@ -1,5 +1,5 @@
 -- Reading a capture: its layout, and what stands next in it. Each length is compared with what is there before it is used.
-use Rattle.std.specs.Prelude.{◌≡◌, ℕ, ◌+◌, ◌%◌, ◌-◌, ◌==◌, nat_lt, not, if◌then◌else◌, List, [], ◌∷◌, ◌++◌, length, Option, Some, None, Result, Ok, Err, slice_get}
+use Rattle.std.specs.Prelude.{◌≡◌, ℕ, ◌+◌, ◌*◌, ◌/◌, ◌%◌, ◌-◌, ◌==◌, ◌||◌, nat_lt, not, if◌then◌else◌, Bool, true, false, List, [], ◌∷◌, ◌++◌, length, Option, Some, None, Result, Ok, Err, slice_get}
 use Rattle.lapd_capture.specs.declared.order.Order.{Order}
 use Rattle.lapd_capture.specs.declared.order.Order.TheVariants.{Big, Little}
 use Rattle.lapd_capture.specs.declared.found.Found.{Found}
@@ -14,14 +14,16 @@ use Rattle.lapd_capture.specs.declared.capture.Layout.TheVariants.{Records, Bloc
 use Rattle.lapd_capture.specs.Octets.{number_at}
 use Rattle.lapd_capture.specs.Packet.{link_type_of, whole_packet_at}
 
--- a capture and how far it is read: the layout of what stands at the place, and the link types of the interfaces, of which
--- a pcap file has one
+-- a capture and how far it is read: the layout of what stands at the place, the link types of the interfaces, of which a pcap
+-- file has one, how many packets were passed, and when the last of them was captured, where that is told
 pub record Reading : Type 0 where
   pub octets : List ℕ
   pub place : ℕ
   pub order : Order
   pub layout : Layout
   pub links : List LinkType
+  pub packets : ℕ
+  pub moment : Option ℕ
 
 -- what was found, and the capture behind it
 pub record Step : Type 0 where
@@ -47,13 +49,32 @@ abbrev pub found_on : Option LinkType → ℕ → ℕ → ℕ → List ℕ → F
 found_on None original start end octets = Unreadable NoInterface
 found_on (Some link) original start end octets = whole_packet_at original link start end octets
 
+-- a pcap file has nanoseconds in place of microseconds, by its first four octets
+abbrev pub has_nanoseconds : List ℕ → Bool
+has_nanoseconds octets =
+    (number_at Big 4 0 octets == 0xA1B23C4D) || (number_at Big 4 0 octets == 0x4D3CB2A1)
+
+-- parts of a second in microseconds, of nanoseconds the whole ones
+abbrev pub microseconds : Bool → ℕ → ℕ
+microseconds true parts = parts / 1000
+microseconds false parts = parts
+
+-- the moment of a record, in microseconds since 1970: its seconds, and parts of a second
+abbrev pub record_moment : Reading → ℕ
+record_moment r = number_in r.order 4 0 r * 1000000
+    + microseconds (has_nanoseconds r.octets) (number_in r.order 4 4 r)
+
 -- a packet behind a record's header, with so many octets captured of so many
 abbrev pub record_packet : ℕ → ℕ → Reading → Result Step CaptureFault
 record_packet captured original r = if nat_lt most_packet captured then Err BadLength else (
     if nat_lt (left_of r - 16) captured then Err Cut else Ok (record {
       found = found_on (slice_get r.links 0) original (r.place + 16) (r.place + 16 + captured)
           r.octets;
-      reading = record r { place = r.place + 16 + captured };
+      reading = record r {
+        place = r.place + 16 + captured;
+        packets = r.packets + 1;
+        moment = Some (record_moment r);
+      };
     }))
 
 -- a record: the moment in two numbers, how many octets were captured, and how many there were on the line
@@ -101,20 +122,27 @@ simple_packet n r = if nat_lt n 16 then Unreadable BadPacketLength else (
 abbrev pub behind : ℕ → Reading → Reading
 behind n r = record r { place = r.place + n }
 
--- the packet of a block
+-- the packet of a block, of which it is not said when it was captured
+abbrev pub behind_packet : ℕ → Reading → Reading
+behind_packet n r = record r { place = r.place + n; packets = r.packets + 1; moment = None }
+
 abbrev pub packet_step : Found → ℕ → Reading → Result Step CaptureFault
-packet_step found n r = Ok (record { found = found; reading = behind n r })
+packet_step found n r = Ok (record { found = found; reading = behind_packet n r })
+
+-- a block that is no packet
+abbrev pub other_step : ℕ → Reading → Result Step CaptureFault
+other_step n r = Ok (record { found = Other; reading = behind n r })
 
 -- a section header: no interface is known any more
 abbrev pub section_step : ℕ → Reading → Result Step CaptureFault
 section_step n r = if nat_lt n 28 then Err BadLength else
-    packet_step Other n (record r { links = [] })
+    other_step n (record r { links = [] })
 
 -- an interface description
 abbrev pub interface_step : ℕ → Reading → Result Step CaptureFault
 interface_step n r = if nat_lt n 20 then Err BadLength else (
     if length r.links == 64 then Err TooManyInterfaces else
-    packet_step Other n (record r {
+    other_step n (record r {
       links = r.links ++ link_type_of (number_in r.order 2 8 r) ∷ [];
     }))
 
@@ -123,7 +151,7 @@ abbrev pub block_of_kind : ℕ → ℕ → Reading → Result Step CaptureFault
 block_of_kind kind n r = if kind == 0x0A0D0D0A then section_step n r else (
     if kind == 1 then interface_step n r else (
     if kind == 6 then packet_step (enhanced_packet n r) n r else (
-    if kind == 3 then packet_step (simple_packet n r) n r else packet_step Other n r)))
+    if kind == 3 then packet_step (simple_packet n r) n r else other_step n r)))
 
 abbrev pub block_of_length : Result ℕ CaptureFault → Reading → Result Step CaptureFault
 block_of_length (Err fault) r = Err fault
@@ -170,6 +198,8 @@ with_link order link octets = Ok (record {
   order = order;
   layout = Records;
   links = link ∷ [];
+  packets = 0;
+  moment = None;
 })
 
 -- a pcap file: the number of its link type stands in the low half of its last four octets
@@ -190,4 +220,6 @@ opened octets = if nat_lt (length octets) 4 then Err NotACapture else (
       order = Big;
       layout = Blocks;
       links = [];
+      packets = 0;
+      moment = None;
     }) else opened_by_order (order_of_pcap (number_at Big 4 0 octets)) octets)

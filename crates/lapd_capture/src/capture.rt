@@ -1,5 +1,5 @@
 ghost use Rattle.std.specs.Prelude.{◌≡◌, ◌≤◌, ◌<◌, ◌-◌, ◌+◌, ◌^◌, Ok, Err, length, IfOk, slice_get, take, drop};
-ghost use Rattle.lapd_capture.specs.Reading.{MakesStep, behind, block_length, block_of_kind, block_order, block_step, enhanced_packet, found_on, interface_step, left_of, length_checked, next_step, number_in, opened, order_of_magic, order_of_pcap, pcap_opened, record_packet, record_step, section_step, simple_packet};
+ghost use Rattle.lapd_capture.specs.Reading.{MakesStep, behind, behind_packet, block_length, block_of_kind, block_order, block_step, enhanced_packet, found_on, has_nanoseconds, interface_step, left_of, length_checked, next_step, number_in, opened, order_of_magic, order_of_pcap, other_step, pcap_opened, record_moment, record_packet, record_step, section_step, simple_packet};
 ghost use Rattle.lapd_capture.specs.Packet.{IsWithin};
 
 use crate::fault::CaptureFault;
@@ -51,6 +51,8 @@ pub struct Capture<'a> {
     order: Order,
     layout: Layout,
     links: ArrayVec<LinkType, MOST_INTERFACES>,
+    packets: usize,
+    moment: Option<u64>,
 }
 
 impl<'a> Model for Capture<'a> {
@@ -65,9 +67,11 @@ impl<'a> Model for Capture<'a> {
       order = c.order;
       layout = c.layout;
       links = c.links.items;
+      packets = c.packets;
+      moment = c.moment;
     } };
 
-    ghost invariant = { λ c. c.place ≤ length c.octets.now };
+    ghost invariant = { λ c. (c.place ≤ length c.octets.now) × (c.packets ≤ c.place) };
 }
 
 impl<'a> Capture<'a> {
@@ -90,6 +94,8 @@ impl<'a> Capture<'a> {
                 order: Order::Big,
                 layout: Layout::Blocks,
                 links: ArrayVec::new(),
+                packets: 0,
+                moment: None,
             });
         }
         match order_of_pcap(magic) {
@@ -117,6 +123,8 @@ impl<'a> Capture<'a> {
             order,
             layout: Layout::Records,
             links,
+            packets: 0,
+            moment: None,
         })
     }
 
@@ -125,6 +133,21 @@ impl<'a> Capture<'a> {
         ensures { result ≡ self.now.place }
     {
         self.place
+    }
+
+    /// How many packets were passed, with those that hold no frame: the number of the last of them, from 1.
+    pub fn packets(&self) -> usize
+        ensures { result ≡ self.now.packets }
+    {
+        self.packets
+    }
+
+    /// When the last packet that was passed was captured, in microseconds since 1970. `None` before the first one, and in a
+    /// pcapng file.
+    pub fn moment(&self) -> Option<u64>
+        ensures { result ≡ self.now.moment }
+    {
+        self.moment
     }
 
     /// The octets of a frame that was found.
@@ -225,8 +248,25 @@ impl<'a> Capture<'a> {
         }
         let start = self.place + RECORD_HEADER;
         let found = self.found_on(0, original, start, start + captured);
+        let moment = self.record_moment();
         self.place = start + captured;
+        self.packets += 1;
+        self.moment = Some(moment);
         Ok(found)
+    }
+
+    /// When the record that stands next was captured, in microseconds since 1970.
+    fn record_moment(&self) -> u64
+        requires { RECORD_HEADER ≤ left_of self.now }
+        ensures { result ≡ record_moment self.now }
+    {
+        let seconds = self.number(self.order, 0) as u64;
+        let parts = self.number(self.order, 4) as u64;
+        if has_nanoseconds(self.octets) {
+            seconds * 1_000_000 + parts / 1000
+        } else {
+            seconds * 1_000_000 + parts
+        }
     }
 
     /// The next block.
@@ -292,10 +332,34 @@ impl<'a> Capture<'a> {
             INTERFACE => return self.take_interface(order, count),
             ENHANCED_PACKET => self.enhanced_packet(order, count),
             SIMPLE_PACKET => self.simple_packet(order, count),
-            _ => Found::Other,
+            _ => return self.take_other(order, count),
         };
-        self.go_behind(order, count);
+        self.pass_packet(order, count);
         Ok(found)
+    }
+
+    /// Goes behind the packet of a block of this order and length.
+    fn pass_packet(&mut self, order: Order, count: usize)
+        requires least { LEAST_BLOCK ≤ count }
+        requires most { count ≤ left_of self.old }
+        ensures { self.new ≡ behind_packet count (record self.old { order = order }) }
+    {
+        self.order = order;
+        self.place += count;
+        self.packets += 1;
+        self.moment = None;
+    }
+
+    /// A block that is passed over.
+    fn take_other(&mut self, order: Order, count: usize) -> Result<Found, CaptureFault>
+        requires { count ≤ left_of self.old }
+        ensures step { MakesStep (other_step count (record self.old { order = order })) result
+            self.old self.new }
+        ensures other { IfOk result (λ found. found ≡ Found.Other) }
+        ensures octets { self.new.octets ≡ self.old.octets }
+    {
+        self.go_behind(order, count);
+        Ok(Found::Other)
     }
 
     /// A section header: no interface is known any more.
@@ -368,6 +432,14 @@ impl<'a> Capture<'a> {
         let start = self.place + 12;
         self.found_on(0, original, start, start + original)
     }
+}
+
+/// Whether a pcap file has nanoseconds in place of microseconds.
+fn has_nanoseconds(octets: &[u8]) -> bool
+    requires { 4 ≤ length octets.now }
+    ensures { result ≡ has_nanoseconds octets.now }
+{
+    matches!(Order::Big.u32_at(0, octets), 0xa1b2_3c4d | 0x4d3c_b2a1)
 }
 
 /// The order of a pcap file's numbers, by its first four octets.

@@ -2,10 +2,13 @@
 //!
 //! Begin with [`line`]: it takes any octets and who sent them, and gives the fields of the frame by the names that they have
 //! in a trace line, or the first fault where the octets are none. [`named_line`] says also what their message is.
+//! [`packet_line`] and [`named_packet_line`] are the same of octets in a [`Packet`] of a capture.
 #![tactic(auto)]
 
 mod lines;
 mod members;
+mod packet;
 
 pub use lapd_frame::Side;
 pub use lines::{line, named_line};
+pub use packet::{Packet, named_packet_line, packet_line};

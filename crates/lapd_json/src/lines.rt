@@ -2,6 +2,7 @@ ghost use Rattle.std.specs.Prelude.{◌≡◌, IfOk, OnOk, codes};
 ghost use Rattle.std.specs.String.{string_bytes};
 ghost use Rattle.serde_json.specs.View.{members_view};
 ghost use Rattle.lapd_frame.specs.Reading.{frame_at};
+ghost use Rattle.lapd_names.specs.Names.{names_text};
 ghost use Rattle.lapd_json.specs.Json.{bit, direction_text, frame_members, named_members, object_text, poll_key, role_text, with_address, with_control, with_frame, with_message, with_numbered, with_octets, with_poll, with_reading, with_text, with_unnumbered};
 
 use crate::members::Members;
@@ -41,14 +42,12 @@ pub fn named_line(alloc: Global, from: Side, octets: &[u8]) -> Result<String, Al
 {
     let mut members = Members::new(alloc);
     put_reading(alloc, &mut members, from, octets)?;
-    let mut names = String::new(alloc);
-    lapd_names::push_names(&mut names, from, octets)?;
-    put_words(&mut members, names.as_str())?;
+    put_message(alloc, &mut members, from, octets)?;
     members.into_text()
 }
 
 /// Puts who sent octets, and their frame or their first fault.
-fn put_reading(
+pub(crate) fn put_reading(
     alloc: Global,
     members: &mut Members,
     from: Side,
@@ -66,6 +65,21 @@ fn put_reading(
             put_octets(alloc, members, "octets", octets)
         }
     }
+}
+
+/// Puts what the message in octets is, where they are a frame with one.
+pub(crate) fn put_message(
+    alloc: Global,
+    members: &mut Members,
+    from: Side,
+    octets: &[u8],
+) -> Result<(), AllocError>
+    ensures { OnOk result (members_view members.new.map.entries
+        ≡ with_message (names_text from octets.now) (members_view members.old.map.entries)) }
+{
+    let mut names = String::new(alloc);
+    lapd_names::push_names(&mut names, from, octets)?;
+    put_words(members, names.as_str())
 }
 
 /// Puts the words of a message, before which a space stands.
