@@ -1,5 +1,5 @@
 -- What a side at work does, line after line.
-use Rattle.std.proofs.Common.{◌≡◌, ◌<◌, ℕ, ◌+◌, List, [], ◌∷◌, ◌++◌, get_or, length, map, take, Option, None, Some, OnOk, Result, Ok, Err, refl, sym, ap, subst, ◌∙◌, append_assoc}
+use Rattle.std.proofs.Common.{◌≡◌, ◌<◌, ℕ, ◌+◌, List, [], ◌∷◌, ◌++◌, get_or, length, map, take, Option, None, Some, OnOk, Result, Ok, Err, inl, inr, refl, sym, ap, subst, ◌∙◌, append_assoc}
 use Rattle.std.specs.Prelude.{IsSomeAnd, flat_map, option_and_then, option_map}
 use Rattle.std.proofs.lemmas.Grind.{flat_map-append}
 use Rattle.std.proofs.lemmas.List.{append-nil, map-append, take_more}
@@ -17,9 +17,10 @@ use Rattle.lapd_sides.specs.Either.{side_of, Answers, Expires, Rests}
 use Rattle.lapd_frame.specs.declared.Side.{Side}
 use Rattle.lapd_cli_script.specs.Script.{Outcome}
 use Rattle.lapd_cli_side_commands.specs.declared.side_lines.SideLine.{SideLine}
+use Rattle.lapd_cli_side_commands.specs.declared.line_style.LineStyle.{LineStyle}
 use Rattle.lapd_cli_side_commands.specs.SideTexts.{acts_text, frame_text_line, frames_text, primitive_line, primitives_text}
 use Rattle.lapd_cli_side_commands.specs.Served.{AtWork, Asks, Devices, ExpireInTurn, ExpiresAll, HasComeTo, LineDoes, LinesDo, Progress, after_line, frames_given, primitives_given, side_step, wish_list}
-use Rattle.lapd_cli_side_commands.specs.Wishes.{Clocked, Wish, clock_step, clocked, moment_after, wish_of, wish_of_line, wish_of_request}
+use Rattle.lapd_cli_side_commands.specs.Wishes.{Clocked, Wish, Read, Tick, Establish, Release, Give, Unit, Busy, AskTei, Check, clock_step, clocked, moment_after, wish_of, wish_of_line, wish_of_request}
 
 -- ---- Frames.
 
@@ -102,22 +103,22 @@ then_none now [] old mid new are rests = subst (λ (side : EitherSide). Rests no
 then_none now (acts ∷ calls) old mid new are rests = (are.0, are.1, then_none now calls are.0 mid new are.2 rests)
 
 -- so far, and what these gave is kept
-pub record ExpiresSome (now : ℕ) (side : Side) (old new : EitherSide) (kept : List (List ℕ)) (traced told : List ℕ) : Type 0 where
+pub record ExpiresSome (style : LineStyle) (now : ℕ) (side : Side) (old new : EitherSide) (kept : List (List ℕ)) (traced told : List ℕ) : Type 0 where
   pub calls : List Effects
   pub are : AreExpired now calls old new
   pub gave : kept ≡ frames_given calls
-  pub lines : traced ≡ frames_text side (frames_given calls)
-  pub says : told ≡ primitives_text (primitives_given calls)
+  pub lines : traced ≡ frames_text style side (frames_given calls)
+  pub says : told ≡ primitives_text style (primitives_given calls)
 
-pub none_yet : (now : ℕ) (side : Side) (old : EitherSide) (kept : List (List ℕ)) (traced told : List ℕ) → kept ≡ [] → traced ≡ [] → told ≡ []
-    → ExpiresSome now side old old kept traced told
-none_yet now side old kept traced told no_frames no_lines no_words = record { calls = []; are = refl; gave = no_frames; lines = no_lines; says = no_words }
+pub none_yet : (style : LineStyle) (now : ℕ) (side : Side) (old : EitherSide) (kept : List (List ℕ)) (traced told : List ℕ) → kept ≡ [] → traced ≡ [] → told ≡ []
+    → ExpiresSome style now side old old kept traced told
+none_yet style now side old kept traced told no_frames no_lines no_words = record { calls = []; are = refl; gave = no_frames; lines = no_lines; says = no_words }
 
-pub some_more : (now : ℕ) (side : Side) (old mid new : EitherSide) (acts : Effects) (before after : List (List ℕ)) (traced lines told words : List ℕ)
-    → ExpiresSome now side old mid before traced told → Expires now mid new acts
-    → after ≡ before ++ acts.frames → lines ≡ traced ++ frames_text side acts.frames → words ≡ told ++ primitives_text acts.primitives
-    → ExpiresSome now side old new after lines words
-some_more now side old mid new acts before after traced lines told words some due more and_lines and_words =
+pub some_more : (style : LineStyle) (now : ℕ) (side : Side) (old mid new : EitherSide) (acts : Effects) (before after : List (List ℕ)) (traced lines told words : List ℕ)
+    → ExpiresSome style now side old mid before traced told → Expires now mid new acts
+    → after ≡ before ++ acts.frames → lines ≡ traced ++ frames_text style side acts.frames → words ≡ told ++ primitives_text style acts.primitives
+    → ExpiresSome style now side old new after lines words
+some_more style now side old mid new acts before after traced lines told words some due more and_lines and_words =
     let frames : List (List ℕ) = frames_given some.calls in
     let primitives : List Primitive = primitives_given some.calls in
     let all_frames : frames_given (some.calls ++ acts ∷ []) ≡ frames ++ acts.frames = flat_more (λ (a : Effects). a.frames) some.calls acts in
@@ -126,27 +127,28 @@ some_more now side old mid new acts before after traced lines told words some du
       calls = some.calls ++ acts ∷ [];
       are = one_more now some.calls acts old mid new some.are due;
       gave = more ∙ ap (λ (kept : List (List ℕ)). kept ++ acts.frames) some.gave ∙ sym all_frames;
-      lines = and_lines ∙ ap (λ (text : List ℕ). text ++ frames_text side acts.frames) some.lines
-          ∙ sym (ap (frames_text side) all_frames ∙ flat_map-append (frame_text_line side) frames acts.frames);
-      says = and_words ∙ ap (λ (text : List ℕ). text ++ primitives_text acts.primitives) some.says
-          ∙ sym (ap primitives_text all_primitives ∙ flat_map-append primitive_line primitives acts.primitives);
+      lines = and_lines ∙ ap (λ (text : List ℕ). text ++ frames_text style side acts.frames) some.lines
+          ∙ sym (ap (frames_text style side) all_frames ∙ flat_map-append (frame_text_line style side) frames acts.frames);
+      says = and_words ∙ ap (λ (text : List ℕ). text ++ primitives_text style acts.primitives) some.says
+          ∙ sym (ap (primitives_text style) all_primitives ∙ flat_map-append (primitive_line style) primitives acts.primitives);
     }
 
 -- and then nothing is due, and what is kept is sent and printed
 pub all_expired : (now at : ℕ) (old mid rested new : EitherSide) (kept : List (List ℕ)) (traced told : List ℕ) (start here end : Devices) → at ≡ now
-    → ExpiresSome now (side_of old) old mid kept traced told → Rests at mid rested → new ≡ rested → here.written ≡ start.written → here.printed ≡ start.printed
+    → ExpiresSome start.style now (side_of old) old mid kept traced told → Rests at mid rested → new ≡ rested → end.style ≡ start.style → here.written ≡ start.written → here.printed ≡ start.printed
     → Appends here.written end.written (socket_text kept) → Appends here.printed end.printed (traced ++ told) → ExpiresAll now old new start end
-all_expired now at old mid rested new kept traced told start here end same some rests own port out sent printed =
-    let text : traced ++ told ≡ acts_text (side_of old) (frames_given some.calls) (primitives_given some.calls) =
-    ap (λ (front : List ℕ). front ++ told) some.lines ∙ ap (λ (back : List ℕ). frames_text (side_of old) (frames_given some.calls) ++ back) some.says in
+all_expired now at old mid rested new kept traced told start here end same some rests own style port out sent printed =
+    let text : traced ++ told ≡ acts_text start.style (side_of old) (frames_given some.calls) (primitives_given some.calls) =
+    ap (λ (front : List ℕ). front ++ told) some.lines ∙ ap (λ (back : List ℕ). frames_text start.style (side_of old) (frames_given some.calls) ++ back) some.says in
     record {
       calls = some.calls;
       in_turn = then_none now some.calls old mid new some.are
           (subst (λ (side : EitherSide). Rests now mid side) (sym own) (subst (λ (moment : ℕ). Rests moment mid rested) same rests));
       puts = record {
+        style = style;
         sent = subst (λ (w : Option (List ℕ)). Appends w end.written (socket_text (frames_given some.calls))) port
             (subst (λ (frames : List (List ℕ)). Appends here.written end.written (socket_text frames)) some.gave sent);
-        printed = subst (λ (p : Option (List ℕ)). Appends p end.printed (acts_text (side_of old) (frames_given some.calls) (primitives_given some.calls))) out
+        printed = subst (λ (p : Option (List ℕ)). Appends p end.printed (acts_text start.style (side_of old) (frames_given some.calls) (primitives_given some.calls))) out
             (subst (λ (t : List ℕ). Appends here.printed end.printed t) text printed);
       };
     }
@@ -174,6 +176,23 @@ asks_line (request.Check tei) a b asks = asks
 pub lines_more : (wishes : List Wish) (wish : Wish) (a mid b : AtWork) → LinesDo wishes a mid → LineDoes wish mid b → LinesDo (wishes ++ wish ∷ []) a b
 lines_more [] wish a mid b lines does = (b, subst (λ (at : AtWork). LineDoes wish at b) lines does, refl)
 lines_more (first ∷ wishes) wish a mid b lines does = (lines.0, lines.1, lines_more wishes wish lines.0 mid b lines.2 does)
+
+-- and lines are printed as before
+style_kept : (wish : Wish) (a b : AtWork) → LineDoes wish a b → b.around.style ≡ a.around.style
+style_kept Read a b (inl h) = h.takes.puts.style
+style_kept Read a b (inr h) = h.puts.style
+style_kept (Tick ms) a b h = h.due.puts.style
+style_kept (Establish id) a b h = h.puts.style
+style_kept (Release id) a b h = h.puts.style
+style_kept (Give id message) a b h = h.puts.style
+style_kept (Unit id octets) a b h = h.puts.style
+style_kept Busy a b h = h.puts.style
+style_kept AskTei a b h = h.puts.style
+style_kept (Check tei) a b h = h.puts.style
+
+pub styles_kept : (wishes : List Wish) (a b : AtWork) → LinesDo wishes a b → b.around.style ≡ a.around.style
+styles_kept [] a b same = ap (λ (at : AtWork). at.around.style) same
+styles_kept (wish ∷ wishes) a b h = styles_kept wishes h.0 b h.2 ∙ style_kept wish a h.0 h.1
 
 -- a side that has come so far has come one line further
 pub line_done : (s : Progress) (line : List ℕ) (asked : SideLine) (a b : AtWork) (old new : Option (List ℕ)) → HasComeTo s a

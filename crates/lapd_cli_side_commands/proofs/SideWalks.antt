@@ -15,8 +15,10 @@ use Rattle.lapd_sides.specs.User.{new_user, seeded}
 use Rattle.lapd_sides.specs.ShowsNetwork.{ShowNetwork}
 use Rattle.lapd_sides.specs.ShowsUser.{ShowUser}
 use Rattle.lapd_sides.specs.Either.{side_of}
-use Rattle.lapd_cli_side_commands.specs.Served.{AtWork, Devices, HasComeTo, HasServed, LinesDo, NetHasServed, Progress, UserHasServed, at_work, new_progress, side_step, wishes_of}
+use Rattle.lapd_cli_side_commands.specs.Served.{AtWork, Devices, HasComeTo, HasServed, LinesDo, NetHasServed, Progress, UserHasServed, at_work, devices, new_progress, side_step, wishes_of}
 use Rattle.lapd_cli_side_commands.specs.Wishes.{Clocked, SideEndsAs, Wish, clock_step, new_clock}
+use Rattle.lapd_cli_side_commands.specs.declared.line_style.LineStyle.{LineStyle}
+use Rattle.lapd_cli_side_commands.proofs.Serving.{styles_kept}
 use Rattle.lapd_cli_side_commands.proofs.SideProgress.{progress_after, same_from}
 
 -- how the walk over a script ends
@@ -35,27 +37,31 @@ ended side before None result a b q = tt
 ended side before (Some octets) result a b q = ended_so (new_progress side before) result (lines_of octets) a b refl q
 
 -- and what was done then
-served_so : (side : EitherSide) (before behind : Devices) (now : ℕ) (after : EitherSide) (result : Result ⊤ ScriptFault) (lines : List (List ℕ)) (a b : Option (List ℕ))
+served_so : (side : EitherSide) (before : Devices) (kept : LineStyle) (rest written printed : Option (List ℕ)) (now : ℕ) (after : EitherSide) (result : Result ⊤ ScriptFault) (lines : List (List ℕ)) (a b : Option (List ℕ))
     → EndsAs side_step (new_progress side before) result lines a b
-    → OnOk result (HasComeTo (state_after side_step (new_progress side before) lines) (at_work after now behind))
-    → OnOk result (HasServed side (wishes_of (side_of side) lines) before behind)
-served_so side before behind now after (Ok done) lines a b q come =
+    → OnOk result (HasComeTo (state_after side_step (new_progress side before) lines) (at_work after now (devices kept rest written printed)))
+    → OnOk result (HasServed side (wishes_of (side_of side) lines) before (devices before.style rest written printed))
+served_so side before kept rest written printed now after (Ok done) lines a b q come =
     let s : Progress = new_progress side before in
     let is = progress_after 1 s lines (sym (same_from 1 s lines) ∙ q.0) in
+    let end : AtWork = at_work after now (devices kept rest written printed) in
+    let did : LinesDo (wishes_of (side_of side) lines) (at_work side 0 before) end =
+    subst (λ (wishes : List Wish). LinesDo wishes (at_work side 0 before) end) is.wishes
+    (subst (λ (begun : AtWork). LinesDo (state_after side_step s lines).wishes begun end) is.begun come.did) in
     record {
       ended = after;
       moment = now;
-      did = subst (λ (wishes : List Wish). LinesDo wishes (at_work side 0 before) (at_work after now behind)) is.wishes
-          (subst (λ (begun : AtWork). LinesDo (state_after side_step s lines).wishes begun (at_work after now behind)) is.begun come.did);
+      did = subst (λ (style : LineStyle). LinesDo (wishes_of (side_of side) lines) (at_work side 0 before) (at_work after now (devices style rest written printed)))
+          (styles_kept (wishes_of (side_of side) lines) (at_work side 0 before) end did) did;
     }
-served_so side before behind now after (Err fault) lines a b q come = tt
+served_so side before kept rest written printed now after (Err fault) lines a b q come = tt
 
-pub served : (side : EitherSide) (before behind : Devices) (now : ℕ) (after : EitherSide) (known : Option (List ℕ)) (result : Result ⊤ ScriptFault) (a b : Option (List ℕ))
+pub served : (side : EitherSide) (before : Devices) (kept : LineStyle) (rest written printed : Option (List ℕ)) (now : ℕ) (after : EitherSide) (known : Option (List ℕ)) (result : Result ⊤ ScriptFault) (a b : Option (List ℕ))
     → IfSome known (λ octets. EndsAs side_step (new_progress side before) result (lines_of octets) a b)
-    → IfSome known (λ octets. OnOk result (HasComeTo (state_after side_step (new_progress side before) (lines_of octets)) (at_work after now behind)))
-    → IfSome known (λ octets. OnOk result (HasServed side (wishes_of (side_of side) (lines_of octets)) before behind))
-served side before behind now after None result a b q come = tt
-served side before behind now after (Some octets) result a b q come = served_so side before behind now after result (lines_of octets) a b q come
+    → IfSome known (λ octets. OnOk result (HasComeTo (state_after side_step (new_progress side before) (lines_of octets)) (at_work after now (devices kept rest written printed))))
+    → IfSome known (λ octets. OnOk result (HasServed side (wishes_of (side_of side) (lines_of octets)) before (devices before.style rest written printed)))
+served side before kept rest written printed now after None result a b q come = tt
+served side before kept rest written printed now after (Some octets) result a b q come = served_so side before kept rest written printed now after result (lines_of octets) a b q come
 
 -- ---- The commands.
 

@@ -25,18 +25,25 @@ use Rattle.lapd_sides.specs.User.{new_user, seeded}
 use Rattle.lapd_sides.specs.ShowsNetwork.{ShowNetwork}
 use Rattle.lapd_sides.specs.ShowsUser.{ShowUser}
 use Rattle.lapd_sides.specs.Either.{side_of, Takes, Answers, Expires, Rests}
+use Rattle.lapd_cli_side_commands.specs.declared.line_style.LineStyle.{LineStyle}
 use Rattle.lapd_cli_side_commands.specs.SideTexts.{acts_text, answer_text, end_line, frame_text_line}
 use Rattle.lapd_cli_side_commands.specs.Wishes.{Wish, Read, Tick, Clocked, clock_step, new_clock, wish_of_line, wish_of_request}
 
--- What is around a side: the octets that the source of its port has left, and those that the sink of its port and the writer
--- have taken, each where it tells them.
+-- What is around a side: how its lines are printed; the octets that the source of its port has left, and those that the sink of
+-- its port and the writer have taken, each where it tells them.
 pub record Devices : Type 0 where
+  pub style : LineStyle
   pub rest : Option (List ℕ)
   pub written : Option (List ℕ)
   pub printed : Option (List ℕ)
 
-abbrev pub devices : Option (List ℕ) → Option (List ℕ) → Option (List ℕ) → Devices
-devices rest written printed = record { rest = rest; written = written; printed = printed }
+abbrev pub devices : LineStyle → Option (List ℕ) → Option (List ℕ) → Option (List ℕ) → Devices
+devices style rest written printed = record {
+  style = style;
+  rest = rest;
+  written = written;
+  printed = printed;
+}
 
 -- A side at work: its clock, and what is around it.
 pub record AtWork : Type 0 where
@@ -47,8 +54,9 @@ pub record AtWork : Type 0 where
 abbrev pub at_work : EitherSide → ℕ → Devices → AtWork
 at_work side now around = record { side = side; now = now; around = around }
 
--- these frames are sent and this text is printed
+-- these frames are sent and this text is printed, and lines are printed as before
 pub record Puts (frames : List (List ℕ)) (text : List ℕ) (a b : Devices) : Type 0 where
+  pub style : b.style ≡ a.style
   pub sent : Appends a.written b.written (socket_text frames)
   pub printed : Appends a.printed b.printed text
 
@@ -65,8 +73,8 @@ primitives_given calls = flat_map (λ acts. acts.primitives) calls
 pub record TakesNow (frame : List ℕ) (now : ℕ) (old new : EitherSide) (a b : Devices) : Type 0 where
   pub acts : Effects
   pub takes : Takes frame now (Ok tt) old new acts
-  pub puts : Puts acts.frames (frame_text_line (other_side (side_of old)) frame
-      ++ acts_text (side_of old) acts.frames acts.primitives) a b
+  pub puts : Puts acts.frames (frame_text_line a.style (other_side (side_of old)) frame
+      ++ acts_text a.style (side_of old) acts.frames acts.primitives) a b
 
 -- `read`: it is the next one of the source
 pub record TakesNext (a b : AtWork) : Type 0 where
@@ -81,7 +89,7 @@ pub record FindsNone (a b : AtWork) : Type 0 where
   pub read : Consumes a.around.rest b.around.rest []
   pub side : b.side ≡ a.side
   pub clock : b.now ≡ a.now
-  pub puts : Puts [] end_line a.around b.around
+  pub puts : Puts [] (end_line a.around.style) a.around b.around
 
 -- each of these expiries was due in turn, and then nothing is
 abbrev pub ExpireInTurn : ℕ → List Effects → EitherSide → EitherSide → Type 0
@@ -94,7 +102,7 @@ pub record ExpiresAll (now : ℕ) (old new : EitherSide) (a b : Devices) : Type 
   pub calls : List Effects
   pub in_turn : ExpireInTurn now calls old new
   pub puts : Puts (frames_given calls)
-      (acts_text (side_of old) (frames_given calls) (primitives_given calls)) a b
+      (acts_text a.style (side_of old) (frames_given calls) (primitives_given calls)) a b
 
 -- `tick`: the clock goes on, all that is then due is done in turn, and nothing else
 pub record GoesOn (ms : ℕ) (a b : AtWork) : Type 0 where
@@ -111,7 +119,8 @@ pub record Asks (wish : Wish) (a b : AtWork) : Type 0 where
   pub answers : Answers request a.now result a.side b.side acts
   pub clock : b.now ≡ a.now
   pub read : Consumes a.around.rest b.around.rest []
-  pub puts : Puts acts.frames (answer_text (side_of a.side) result acts) a.around b.around
+  pub puts : Puts acts.frames (answer_text a.around.style (side_of a.side) result acts) a.around
+      b.around
 
 abbrev pub LineDoes : Wish → AtWork → AtWork → Type 0
 LineDoes Read a b = TakesNext a b ⊎ FindsNone a b

@@ -1,8 +1,9 @@
--- The lines that the commands `net` and `user` print: frames, what a side tells and refuses, in the side's own words, and that
--- no frame comes any more.
+-- The lines that the commands `net` and `user` print: frames, what a side tells and refuses, and that no frame comes any more. In
+-- words they are a frame's trace line and the side's own words; or each is a JSON object.
 use Rattle.std.specs.Prelude.{ℕ, List, [], ◌++◌, flat_map, codes, Result, Ok, Err, ⊤}
 use Rattle.lapd_frame.specs.declared.Side.{Side}
 use Rattle.lapd_trace.specs.Trace.{trace_line}
+use Rattle.lapd_json.specs.Json.{frame_members, object_text, primitive_members, text_members}
 use Rattle.lapd_cli_script.specs.Line.{text_line}
 use Rattle.lapd_tei.specs.declared.out.TeiOut.TheVariants as tei
 use Rattle.lapd_sides_links.specs.declared.primitive.Primitive.{Primitive}
@@ -11,37 +12,50 @@ use Rattle.lapd_sides_links.specs.declared.side_fault.SideFault.{SideFault}
 use Rattle.lapd_sides_links.specs.declared.side_fault.SideKind.{SideKind}
 use Rattle.lapd_sides_links.specs.Effects.{Effects}
 use Rattle.lapd_sides_links.specs.Texts.{primitive_text, kind_text}
+use Rattle.lapd_cli_side_commands.specs.declared.line_style.LineStyle.{LineStyle}
+use Rattle.lapd_cli_side_commands.specs.declared.line_style.LineStyle.TheVariants.{Text, Json}
 
 -- what is told of a link, or what became of a TEI; messages and timers of TEI management have no line
-abbrev pub primitive_line : Primitive → List ℕ
-primitive_line (Management (tei.Send message)) = []
-primitive_line (Management (tei.Start timer)) = []
-primitive_line (Management (tei.Stop timer)) = []
-primitive_line primitive = text_line (primitive_text primitive)
+abbrev pub told_text : LineStyle → Primitive → List ℕ
+told_text Text primitive = primitive_text primitive
+told_text Json primitive = object_text (primitive_members primitive)
 
-abbrev pub primitives_text : List Primitive → List ℕ
-primitives_text primitives = flat_map primitive_line primitives
+abbrev pub primitive_line : LineStyle → Primitive → List ℕ
+primitive_line style (Management (tei.Send message)) = []
+primitive_line style (Management (tei.Start timer)) = []
+primitive_line style (Management (tei.Stop timer)) = []
+primitive_line style primitive = text_line (told_text style primitive)
 
--- why a request is refused
-abbrev pub refusal_line : SideKind → List ℕ
-refusal_line kind = text_line (codes "refused " ++ kind_text kind)
+abbrev pub primitives_text : LineStyle → List Primitive → List ℕ
+primitives_text style primitives = flat_map (primitive_line style) primitives
 
--- that no frame comes any more
-abbrev pub end_line : List ℕ
-end_line = text_line (codes "refused S1 End")
+-- that something is refused, and why
+abbrev pub refused_line : LineStyle → List ℕ → List ℕ
+refused_line Text why = text_line (codes "refused " ++ why)
+refused_line Json why = text_line (object_text (text_members (codes "refused") why))
 
--- the trace line of a frame that this side sends
-abbrev pub frame_text_line : Side → List ℕ → List ℕ
-frame_text_line side octets = text_line (trace_line side octets)
+-- a request
+abbrev pub refusal_line : LineStyle → SideKind → List ℕ
+refusal_line style kind = refused_line style (kind_text kind)
 
-abbrev pub frames_text : Side → List (List ℕ) → List ℕ
-frames_text side frames = flat_map (frame_text_line side) frames
+-- or a frame, where none comes any more
+abbrev pub end_line : LineStyle → List ℕ
+end_line style = refused_line style (codes "S1 End")
+
+-- a frame that this side sends
+abbrev pub frame_text_line : LineStyle → Side → List ℕ → List ℕ
+frame_text_line Text side octets = text_line (trace_line side octets)
+frame_text_line Json side octets = text_line (object_text (frame_members side octets))
+
+abbrev pub frames_text : LineStyle → Side → List (List ℕ) → List ℕ
+frames_text style side frames = flat_map (frame_text_line style side) frames
 
 -- the frames and the primitives that a call of this side gives, the frames first
-abbrev pub acts_text : Side → List (List ℕ) → List Primitive → List ℕ
-acts_text side frames primitives = frames_text side frames ++ primitives_text primitives
+abbrev pub acts_text : LineStyle → Side → List (List ℕ) → List Primitive → List ℕ
+acts_text style side frames primitives =
+    frames_text style side frames ++ primitives_text style primitives
 
 -- or why it refuses
-abbrev pub answer_text : Side → Result ⊤ SideFault → Effects → List ℕ
-answer_text side (Ok done) acts = acts_text side acts.frames acts.primitives
-answer_text side (Err fault) acts = refusal_line fault.kind
+abbrev pub answer_text : LineStyle → Side → Result ⊤ SideFault → Effects → List ℕ
+answer_text style side (Ok done) acts = acts_text style side acts.frames acts.primitives
+answer_text style side (Err fault) acts = refusal_line style fault.kind

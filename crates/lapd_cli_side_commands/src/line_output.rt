@@ -6,6 +6,7 @@ ghost use Rattle.lapd_port.specs.SocketText.{socket_text};
 ghost use Rattle.lapd_sides_links.specs.Effects.{HasLeastOctets};
 ghost use Rattle.lapd_cli_side_commands.specs.SideTexts.{frame_text_line, frames_text, primitives_text};
 
+use crate::line_style::LineStyle;
 use crate::side_texts::push_primitives;
 use crate::traced_frame::TracedFrame;
 use lapd_cli_script::LineFault;
@@ -51,23 +52,28 @@ impl LineOutput {
         self.primitives.clear();
     }
 
-    /// Puts what a call of this side gave behind all that came before.
+    /// Puts what a call of this side gave behind all that came before, with its lines in this style.
     ///
     /// # Errors
     ///
     /// `Memory`.
-    pub(crate) fn gather(&mut self, side: Side, acts: &Acts) -> Result<(), LineFault>
+    pub(crate) fn gather(
+        &mut self,
+        style: LineStyle,
+        side: Side,
+        acts: &Acts,
+    ) -> Result<(), LineFault>
         ensures sent { OnOk result (sent_of self.new ≡ sent_of self.old ++ acts.now.frames) }
         ensures traced { OnOk result
-            (traced_of self.new ≡ traced_of self.old ++ frames_text side acts.now.frames) }
+            (traced_of self.new ≡ traced_of self.old ++ frames_text style side acts.now.frames) }
         ensures told { OnOk result
-            (told_of self.new ≡ told_of self.old ++ primitives_text acts.now.primitives) }
+            (told_of self.new ≡ told_of self.old ++ primitives_text style acts.now.primitives) }
         ensures err { IsOkUnless result LineFault.Memory }
     {
         for frame in acts.frames() {
-            self.add(side, frame.as_slice())?;
+            self.add(style, side, frame.as_slice())?;
         }
-        match push_primitives(acts.primitives(), &mut self.primitives) {
+        match push_primitives(self.alloc, style, acts.primitives(), &mut self.primitives) {
             Ok(()) => Ok(()),
             Err(_) => Err(LineFault::Memory),
         }
@@ -104,20 +110,20 @@ impl LineOutput {
         Ok(None)
     }
 
-    /// Adds a frame with its trace line.
-    fn add(&mut self, side: Side, frame: &[u8]) -> Result<(), LineFault>
+    /// Adds a frame with its line.
+    fn add(&mut self, style: LineStyle, side: Side, frame: &[u8]) -> Result<(), LineFault>
         requires least { HasLeastOctets frame.now }
         requires most { length frame.now ≤ MOST_OCTETS }
         ensures sent { OnOk result (sent_of self.new ≡ sent_of self.old ++ frame.now ∷ []) }
         ensures traced { OnOk result
-            (traced_of self.new ≡ traced_of self.old ++ frame_text_line side frame.now) }
+            (traced_of self.new ≡ traced_of self.old ++ frame_text_line style side frame.now) }
         ensures told { told_of self.new ≡ told_of self.old }
         ensures err { IsOkUnless result LineFault.Memory }
     {
         if self.count < self.frames.len() {
-            self.frames[self.count].replace(self.alloc, side, frame)?;
+            self.frames[self.count].replace(self.alloc, style, side, frame)?;
         } else {
-            let traced = TracedFrame::new(self.alloc, side, frame)?;
+            let traced = TracedFrame::new(self.alloc, style, side, frame)?;
             let Ok(()) = self.frames.push(traced) else {
                 return Err(LineFault::Memory);
             };

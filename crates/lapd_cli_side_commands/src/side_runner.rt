@@ -7,9 +7,10 @@ ghost use Rattle.lapd_cli_side_commands.specs.Wishes.{SideEndsAs, moment_at};
 ghost use Rattle.lapd_cli_side_commands.specs.Served.{HasServed, devices, wishes_of};
 
 use crate::line_output::LineOutput;
+use crate::line_style::LineStyle;
 use crate::side_lines::{SideLine, read_line};
-use crate::side_texts::{put_end, put_refusal};
-use crate::traced_frame::push_trace;
+use crate::side_texts::{put_refusal, put_refused};
+use crate::traced_frame::push_frame;
 use lapd_cli_script::{Command, LineFault, ScriptFault, walk};
 use lapd_port::{MOST_OCTETS, Port, PortFault, Sink, Source};
 use lapd_sides::{Acts, EitherSide, Request, SideKind};
@@ -24,10 +25,11 @@ const LAST_MOMENT: u64 = 1_000_000_000_000_000;
 #[derive(Drop)]
 struct SideRunner<W, S, K> {
     alloc: Global,
+    style: LineStyle,
     side: EitherSide,
     now: u64,
     acts: Acts,
-    /// The trace line of the frame that was read.
+    /// The line of the frame that was read.
     heard: String,
     output: LineOutput,
     out: W,
@@ -55,6 +57,7 @@ pub struct SideRun<W, S, K> {
 /// where the port answers another fault than the end of its input.
 pub(crate) fn run_side<R: Read, W: Write, S: Source, K: Sink>(
     alloc: Global,
+    style: LineStyle,
     side: EitherSide,
     script: &mut R,
     out: W,
@@ -64,8 +67,8 @@ pub(crate) fn run_side<R: Read, W: Write, S: Source, K: Sink>(
         SideEndsAs (side_of side) result.ended (lines_of octets)) }
     ensures served { IfSome (R.remaining script.old) (λ octets. OnOk result.ended
         (HasServed side (wishes_of (side_of side) (lines_of octets))
-        (devices (S.rest port.source) (K.written port.sink) (W.contents out))
-        (devices (S.rest result.port.source) (K.written result.port.sink)
+        (devices style (S.rest port.source) (K.written port.sink) (W.contents out))
+        (devices style (S.rest result.port.source) (K.written result.port.sink)
         (W.contents result.out)))) }
 {
     let Ok(acts) = Acts::new(alloc) else {
@@ -74,6 +77,7 @@ pub(crate) fn run_side<R: Read, W: Write, S: Source, K: Sink>(
     };
     let mut runner = SideRunner {
         alloc,
+        style,
         side,
         now: 0,
         acts,
@@ -106,7 +110,7 @@ impl<W: Write, S: Source, K: Sink> Command for SideRunner<W, S, K> {
     ghost step = { side_step };
 
     ghost stands_for = { λ runner s. HasComeTo s (at_work runner.side runner.now
-        (devices (S.rest runner.port.source) (K.written runner.port.sink)
+        (devices runner.style (S.rest runner.port.source) (K.written runner.port.sink)
         (W.contents runner.out))) };
 
     fn run<V: Write>(&mut self, line: &[u8], _out: &mut V) -> Result<(), LineFault> {
@@ -131,10 +135,12 @@ impl<W: Write, S: Source, K: Sink> SideRunner<W, S, K> {
         ensures side { side_of self.new.side ≡ side_of self.old.side }
         ensures clock { Moves (moment_after self.old.now (wish_of line)) result self.new.now }
         ensures does { OnOk result (LineDoes (wish_of line)
-            (at_work self.old.side self.old.now (devices (S.rest self.old.port.source)
-            (K.written self.old.port.sink) (W.contents self.old.out)))
-            (at_work self.new.side self.new.now (devices (S.rest self.new.port.source)
-            (K.written self.new.port.sink) (W.contents self.new.out)))) }
+            (at_work self.old.side self.old.now (devices self.old.style
+            (S.rest self.old.port.source) (K.written self.old.port.sink)
+            (W.contents self.old.out)))
+            (at_work self.new.side self.new.now (devices self.new.style
+            (S.rest self.new.port.source) (K.written self.new.port.sink)
+            (W.contents self.new.out)))) }
     {
         match line {
             SideLine::Read => self.read(),
@@ -149,15 +155,17 @@ impl<W: Write, S: Source, K: Sink> SideRunner<W, S, K> {
         ensures clock { self.new.now ≡ self.old.now }
         ensures good { IsGood result }
         ensures does { OnOk result (LineDoes Read
-            (at_work self.old.side self.old.now (devices (S.rest self.old.port.source)
-            (K.written self.old.port.sink) (W.contents self.old.out)))
-            (at_work self.new.side self.new.now (devices (S.rest self.new.port.source)
-            (K.written self.new.port.sink) (W.contents self.new.out)))) }
+            (at_work self.old.side self.old.now (devices self.old.style
+            (S.rest self.old.port.source) (K.written self.old.port.sink)
+            (W.contents self.old.out)))
+            (at_work self.new.side self.new.now (devices self.new.style
+            (S.rest self.new.port.source) (K.written self.new.port.sink)
+            (W.contents self.new.out)))) }
     {
         let mut frame = [0; MOST_OCTETS];
         match self.port.read_frame(&mut frame) {
             Ok(count) => self.hear(&frame[..count]),
-            Err(PortFault::End) => put_end(&mut self.out),
+            Err(PortFault::End) => put_refused(self.alloc, self.style, "S1 End", &mut self.out),
             Err(fault) => self.fail(fault),
         }
     }
@@ -168,22 +176,22 @@ impl<W: Write, S: Source, K: Sink> SideRunner<W, S, K> {
         ensures clock { self.new.now ≡ self.old.now }
         ensures good { IsGood result }
         ensures takes { OnOk result (TakesNow frame.now self.old.now self.old.side self.new.side
-            (devices (S.rest self.old.port.source)
+            (devices self.old.style (S.rest self.old.port.source)
             (K.written self.old.port.sink) (W.contents self.old.out))
-            (devices (S.rest self.new.port.source)
+            (devices self.new.style (S.rest self.new.port.source)
             (K.written self.new.port.sink) (W.contents self.new.out))) }
         ensures source { self.new.port.source ≡ self.old.port.source }
     {
         let side = self.side.side();
         self.heard.clear();
-        let Ok(()) = push_trace(self.alloc, &mut self.heard, side.other(), frame) else {
+        let Ok(()) = push_frame(self.alloc, &mut self.heard, self.style, side.other(), frame) else {
             return Err(LineFault::Memory);
         };
         let Ok(()) = self.side.take(frame, self.now, &mut self.acts) else {
             return Err(LineFault::Memory);
         };
         self.output.clear();
-        self.output.gather(side, &self.acts)?;
+        self.output.gather(self.style, side, &self.acts)?;
         self.out.write_all(self.heard.as_bytes())?;
         self.hand_on()
     }
@@ -193,10 +201,12 @@ impl<W: Write, S: Source, K: Sink> SideRunner<W, S, K> {
         ensures side { side_of self.new.side ≡ side_of self.old.side }
         ensures clock { Moves (moment_at (self.old.now + ms)) result self.new.now }
         ensures does { OnOk result (GoesOn ms
-            (at_work self.old.side self.old.now (devices (S.rest self.old.port.source)
-            (K.written self.old.port.sink) (W.contents self.old.out)))
-            (at_work self.new.side self.new.now (devices (S.rest self.new.port.source)
-            (K.written self.new.port.sink) (W.contents self.new.out)))) }
+            (at_work self.old.side self.old.now (devices self.old.style
+            (S.rest self.old.port.source) (K.written self.old.port.sink)
+            (W.contents self.old.out)))
+            (at_work self.new.side self.new.now (devices self.new.style
+            (S.rest self.new.port.source) (K.written self.new.port.sink)
+            (W.contents self.new.out)))) }
     {
         match moment_behind(self.now, ms) {
             Some(now) => {
@@ -214,9 +224,9 @@ impl<W: Write, S: Source, K: Sink> SideRunner<W, S, K> {
         ensures clock { self.new.now ≡ self.old.now }
         ensures good { IsGood result }
         ensures does { OnOk result (ExpiresAll self.old.now self.old.side self.new.side
-            (devices (S.rest self.old.port.source)
+            (devices self.old.style (S.rest self.old.port.source)
             (K.written self.old.port.sink) (W.contents self.old.out))
-            (devices (S.rest self.new.port.source)
+            (devices self.new.style (S.rest self.new.port.source)
             (K.written self.new.port.sink) (W.contents self.new.out))) }
         ensures source { self.new.port.source ≡ self.old.port.source }
     {
@@ -226,7 +236,7 @@ impl<W: Write, S: Source, K: Sink> SideRunner<W, S, K> {
             if !self.side.tick(self.now, &mut self.acts) {
                 return self.hand_on();
             }
-            self.output.gather(side, &self.acts)?;
+            self.output.gather(self.style, side, &self.acts)?;
         }
         Err(LineFault::Device)
     }
@@ -237,16 +247,18 @@ impl<W: Write, S: Source, K: Sink> SideRunner<W, S, K> {
         ensures clock { self.new.now ≡ self.old.now }
         ensures good { IsGood result }
         ensures does { OnOk result (Asks (wish_of_request request)
-            (at_work self.old.side self.old.now (devices (S.rest self.old.port.source)
-            (K.written self.old.port.sink) (W.contents self.old.out)))
-            (at_work self.new.side self.new.now (devices (S.rest self.new.port.source)
-            (K.written self.new.port.sink) (W.contents self.new.out)))) }
+            (at_work self.old.side self.old.now (devices self.old.style
+            (S.rest self.old.port.source) (K.written self.old.port.sink)
+            (W.contents self.old.out)))
+            (at_work self.new.side self.new.now (devices self.new.style
+            (S.rest self.new.port.source) (K.written self.new.port.sink)
+            (W.contents self.new.out)))) }
     {
         let side = self.side.side();
         match self.side.request(request, self.now, &mut self.acts) {
             Ok(()) => {
                 self.output.clear();
-                self.output.gather(side, &self.acts)?;
+                self.output.gather(self.style, side, &self.acts)?;
                 self.hand_on()
             }
             Err(fault) => self.refuse(fault.kind),
@@ -257,15 +269,18 @@ impl<W: Write, S: Source, K: Sink> SideRunner<W, S, K> {
     fn refuse(&mut self, kind: SideKind) -> Result<(), LineFault>
         ensures side { side_of self.new.side ≡ side_of self.old.side }
         ensures clock { self.new.now ≡ self.old.now }
+        ensures style { self.new.style ≡ self.old.style }
         ensures good { IsGood result }
         ensures own { self.new.side ≡ self.old.side }
         ensures port { self.new.port ≡ self.old.port }
         ensures printed { OnOk result (Appends (W.contents self.old.out) (W.contents self.new.out)
-            (refusal_line kind)) }
+            (refusal_line self.old.style kind)) }
     {
         match kind {
             SideKind::Memory => Err(LineFault::Memory),
-            SideKind::NoLink | SideKind::Link(_) => put_refusal(kind, &mut self.out),
+            SideKind::NoLink | SideKind::Link(_) => {
+                put_refusal(self.alloc, self.style, kind, &mut self.out)
+            }
         }
     }
 
@@ -273,6 +288,7 @@ impl<W: Write, S: Source, K: Sink> SideRunner<W, S, K> {
     fn hand_on(&mut self) -> Result<(), LineFault>
         ensures side { side_of self.new.side ≡ side_of self.old.side }
         ensures clock { self.new.now ≡ self.old.now }
+        ensures style { self.new.style ≡ self.old.style }
         ensures good { IsGood result }
         ensures own { self.new.side ≡ self.old.side }
         ensures sent { OnOk result (Appends (K.written self.old.port.sink)
@@ -291,6 +307,7 @@ impl<W: Write, S: Source, K: Sink> SideRunner<W, S, K> {
     fn fail(&mut self, fault: PortFault) -> Result<(), LineFault>
         ensures side { side_of self.new.side ≡ side_of self.old.side }
         ensures clock { self.new.now ≡ self.old.now }
+        ensures style { self.new.style ≡ self.old.style }
         ensures good { IsGood result }
         ensures own { self.new.side ≡ self.old.side }
         ensures port { self.new.port ≡ self.old.port }

@@ -1,15 +1,16 @@
 //! The lines of what a side tells the layers above it, and of what it refuses.
 
-ghost use Rattle.std.specs.Prelude.{◌≡◌, ◌++◌, IsOkUnless, OnOk};
+ghost use Rattle.std.specs.Prelude.{◌≡◌, ◌++◌, OnOk};
 ghost use Rattle.std.specs.String.{string_bytes};
 ghost use Rattle.std.specs.Io.KnownBytes.{Appends};
 ghost use Rattle.lapd_cli_script.specs.Line.{text_line};
-ghost use Rattle.lapd_sides_links.specs.Texts.{primitive_text};
-ghost use Rattle.lapd_cli_side_commands.specs.SideTexts.{end_line, primitive_line, primitives_text, refusal_line};
+ghost use Rattle.lapd_cli_side_commands.specs.SideTexts.{primitive_line, primitives_text, refusal_line, refused_line, told_text};
+ghost use Rattle.lapd_cli_side_commands.specs.Wishes.{IsGood};
 
-use lapd_cli_script::{LineFault, put_line};
+use crate::line_style::LineStyle;
+use lapd_cli_script::LineFault;
 use lapd_sides::{Primitive, SideKind, TeiOut};
-use std::alloc::AllocError;
+use std::alloc::{AllocError, Global};
 use std::io::Write;
 
 /// Appends what the layers above are told, a line each.
@@ -17,12 +18,17 @@ use std::io::Write;
 /// # Errors
 ///
 /// `AllocError`. A front of it may have been appended.
-pub(crate) fn push_primitives(primitives: &[Primitive], text: &mut String) -> Result<(), AllocError>
+pub(crate) fn push_primitives(
+    alloc: Global,
+    style: LineStyle,
+    primitives: &[Primitive],
+    text: &mut String,
+) -> Result<(), AllocError>
     ensures { OnOk result (string_bytes text.new
-        ≡ string_bytes text.old ++ primitives_text primitives.now) }
+        ≡ string_bytes text.old ++ primitives_text style primitives.now) }
 {
     for primitive in primitives {
-        push_primitive(primitive, text)?;
+        push_primitive(alloc, style, primitive, text)?;
     }
     Ok(())
 }
@@ -32,9 +38,14 @@ pub(crate) fn push_primitives(primitives: &[Primitive], text: &mut String) -> Re
 /// # Errors
 ///
 /// `AllocError`. A front of it may have been appended.
-pub fn push_primitive(primitive: &Primitive, text: &mut String) -> Result<(), AllocError>
+pub fn push_primitive(
+    alloc: Global,
+    style: LineStyle,
+    primitive: &Primitive,
+    text: &mut String,
+) -> Result<(), AllocError>
     ensures { OnOk result (string_bytes text.new
-        ≡ string_bytes text.old ++ primitive_line primitive.now) }
+        ≡ string_bytes text.old ++ primitive_line style primitive.now) }
 {
     match primitive {
         Primitive::Management(TeiOut::Send(_) | TeiOut::Start(_) | TeiOut::Stop(_)) => Ok(()),
@@ -47,43 +58,91 @@ pub fn push_primitive(primitive: &Primitive, text: &mut String) -> Result<(), Al
             | TeiOut::Free(_)
             | TeiOut::InUse(_)
             | TeiOut::Doubled(_),
-        ) => push_text(primitive, text),
+        ) => push_told(alloc, style, primitive, text),
     }
 }
 
 /// Appends a line of what is told.
-fn push_text(primitive: &Primitive, text: &mut String) -> Result<(), AllocError>
+fn push_told(
+    alloc: Global,
+    style: LineStyle,
+    primitive: &Primitive,
+    text: &mut String,
+) -> Result<(), AllocError>
     ensures { OnOk result (string_bytes text.new
-        ≡ string_bytes text.old ++ text_line (primitive_text primitive.now)) }
+        ≡ string_bytes text.old ++ text_line (told_text style primitive.now)) }
 {
-    writeln!(text, "{primitive}")
+    match style {
+        LineStyle::Text => writeln!(text, "{primitive}"),
+        LineStyle::Json => push_line(text, lapd_json::primitive_line(alloc, primitive)?.as_str()),
+    }
+}
+
+/// Appends that something is refused, and why.
+fn push_refused(
+    alloc: Global,
+    style: LineStyle,
+    why: &str,
+    text: &mut String,
+) -> Result<(), AllocError>
+    ensures { OnOk result (string_bytes text.new
+        ≡ string_bytes text.old ++ refused_line style why.now) }
+{
+    match style {
+        LineStyle::Text => writeln!(text, "refused {why}"),
+        LineStyle::Json => push_line(text, lapd_json::text_line(alloc, "refused", why)?.as_str()),
+    }
+}
+
+/// Prints that something is refused, and why, and hands it to the device.
+///
+/// # Errors
+///
+/// `Device`, where the writer fails, and `Memory`.
+pub(crate) fn put_refused<W: Write>(
+    alloc: Global,
+    style: LineStyle,
+    why: &str,
+    out: &mut W,
+) -> Result<(), LineFault>
+    ensures ok { OnOk result (Appends (W.contents out.old) (W.contents out.new)
+        (refused_line style why.now)) }
+    ensures good { IsGood result }
+{
+    let mut text = String::new(alloc);
+    let Ok(()) = push_refused(alloc, style, why, &mut text) else {
+        return Err(LineFault::Memory);
+    };
+    out.write_all(text.as_bytes())?;
+    out.flush()?;
+    Ok(())
 }
 
 /// Prints why a request is refused, and hands it to the device.
 ///
 /// # Errors
 ///
-/// `Device`, where the writer fails.
-pub(crate) fn put_refusal<W: Write>(kind: SideKind, out: &mut W) -> Result<(), LineFault>
+/// As [`put_refused`].
+pub(crate) fn put_refusal<W: Write>(
+    alloc: Global,
+    style: LineStyle,
+    kind: SideKind,
+    out: &mut W,
+) -> Result<(), LineFault>
     ensures ok { OnOk result (Appends (W.contents out.old) (W.contents out.new)
-        (refusal_line kind)) }
-    ensures err { IsOkUnless result LineFault.Device }
+        (refusal_line style kind)) }
+    ensures good { IsGood result }
 {
-    writeln!(out, "refused {kind}")?;
-    out.flush()?;
-    Ok(())
+    let Ok(why) = format!(in alloc; "{kind}") else {
+        return Err(LineFault::Memory);
+    };
+    put_refused(alloc, style, why.as_str(), out)
 }
 
-/// Prints that the source is at its end, and hands it to the device.
-///
-/// # Errors
-///
-/// `Device`, where the writer fails.
-pub(crate) fn put_end<W: Write>(out: &mut W) -> Result<(), LineFault>
-    ensures ok { OnOk result (Appends (W.contents out.old) (W.contents out.new) end_line) }
-    ensures err { IsOkUnless result LineFault.Device }
+/// Appends a line.
+pub(crate) fn push_line(text: &mut String, line: &str) -> Result<(), AllocError>
+    ensures { OnOk result (string_bytes text.new ≡ string_bytes text.old ++ text_line line.now) }
 {
-    put_line(b"refused S1 End", &[], out)?;
-    out.flush()?;
-    Ok(())
+    text.push_str(line)?;
+    text.push('\n')
 }

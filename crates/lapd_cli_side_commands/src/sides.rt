@@ -7,6 +7,7 @@ ghost use Rattle.lapd_cli_script.specs.Script.{lines_of};
 ghost use Rattle.lapd_cli_side_commands.specs.Wishes.{SideEndsAs};
 ghost use Rattle.lapd_cli_side_commands.specs.Served.{NetHasServed, UserHasServed, basic_access, devices, wishes_of};
 
+use crate::line_style::LineStyle;
 use crate::side_runner::{SideRun, run_side};
 use lapd_cli_script::ScriptFault;
 use lapd_port::{Port, Sink, Source};
@@ -15,7 +16,8 @@ use std::alloc::Global;
 use std::io::{Read, Write};
 
 /// Goes over a script as the network side of an interface made so, with the user side behind a port. It knows these TEIs from
-/// the start, each 0 to 126. The port and the writer are handed back.
+/// the start, each 0 to 126. Lines are printed in this style. The port and the
+/// writer are handed back.
 ///
 /// # Errors
 ///
@@ -26,6 +28,7 @@ pub fn net<R: Read, W: Write, S: Source, K: Sink>(
     script: &mut R,
     out: W,
     port: Port<S, K>,
+    style: LineStyle,
     config: Config,
     known: &[Tei],
 ) -> SideRun<W, S, K>
@@ -34,19 +37,20 @@ pub fn net<R: Read, W: Write, S: Source, K: Sink>(
         SideEndsAs side.Network result.ended (lines_of octets)) }
     ensures served { IfSome (R.remaining script.old) (λ octets. OnOk result.ended
         (NetHasServed config known.now (wishes_of side.Network (lines_of octets))
-        (devices (S.rest port.source) (K.written port.sink) (W.contents out))
-        (devices (S.rest result.port.source) (K.written result.port.sink)
+        (devices style (S.rest port.source) (K.written port.sink) (W.contents out))
+        (devices style (S.rest result.port.source) (K.written result.port.sink)
         (W.contents result.out)))) }
 {
     let Ok(side) = NetSide::new(alloc, config, known) else {
         let ended = Err(ScriptFault::Memory);
         return SideRun { ended, port, out };
     };
-    run_side(alloc, EitherSide::Network(side), script, out, port)
+    run_side(alloc, style, EitherSide::Network(side), script, out, port)
 }
 
 /// Goes over a script as the user side of an interface made so, with the network side behind a port. It has this fixed TEI, 0
-/// to 126, or none. The port and the writer are handed back.
+/// to 126, or none. Lines are printed in this style. The port and the
+/// writer are handed back.
 ///
 /// # Errors
 ///
@@ -56,6 +60,7 @@ pub fn user<R: Read, W: Write, S: Source, K: Sink>(
     script: &mut R,
     out: W,
     port: Port<S, K>,
+    style: LineStyle,
     config: Config,
     fixed: Option<Tei>,
 ) -> SideRun<W, S, K>
@@ -64,15 +69,15 @@ pub fn user<R: Read, W: Write, S: Source, K: Sink>(
         SideEndsAs side.User result.ended (lines_of octets)) }
     ensures served { IfSome (R.remaining script.old) (λ octets. OnOk result.ended
         (UserHasServed config fixed (wishes_of side.User (lines_of octets))
-        (devices (S.rest port.source) (K.written port.sink) (W.contents out))
-        (devices (S.rest result.port.source) (K.written result.port.sink)
+        (devices style (S.rest port.source) (K.written port.sink) (W.contents out))
+        (devices style (S.rest result.port.source) (K.written result.port.sink)
         (W.contents result.out)))) }
 {
     let Ok(side) = UserSide::new(alloc, config, fixed) else {
         let ended = Err(ScriptFault::Memory);
         return SideRun { ended, port, out };
     };
-    run_side(alloc, EitherSide::User(side), script, out, port)
+    run_side(alloc, style, EitherSide::User(side), script, out, port)
 }
 
 /// What a side of an interface at basic access is made with (Q.921 5.9).

@@ -5,13 +5,15 @@ ghost use Rattle.lapd_port.specs.SocketText.{frame_text};
 ghost use Rattle.lapd_sides_links.specs.Effects.{HasLeastOctets};
 ghost use Rattle.lapd_cli_side_commands.specs.SideTexts.{frame_text_line};
 
+use crate::line_style::LineStyle;
+use crate::side_texts::push_line;
 use arrayvec::ArrayVec;
 use lapd_cli_script::LineFault;
 use lapd_frame::{MOST_OCTETS, Side};
 use lapd_port::{Port, PortFault, Sink, Source};
 use std::alloc::{AllocError, Global};
 
-/// A frame that is to be sent, of at least three octets, and its trace line, with the line's end.
+/// A frame that is to be sent, of at least three octets, and its line, with the line's end.
 #[derive(Drop)]
 pub(crate) struct TracedFrame {
     octets: ArrayVec<u8, MOST_OCTETS>,
@@ -25,16 +27,21 @@ impl TracedFrame {
     /// # Errors
     ///
     /// `Memory`.
-    pub(crate) fn new(alloc: Global, side: Side, frame: &[u8]) -> Result<TracedFrame, LineFault>
+    pub(crate) fn new(
+        alloc: Global,
+        style: LineStyle,
+        side: Side,
+        frame: &[u8],
+    ) -> Result<TracedFrame, LineFault>
         requires least { HasLeastOctets frame.now }
         requires most { length frame.now ≤ MOST_OCTETS }
         ensures octets { IfOk result (λ traced. traced.octets.items ≡ frame.now) }
         ensures line { IfOk result (λ traced.
-            string_bytes traced.line ≡ frame_text_line side frame.now) }
+            string_bytes traced.line ≡ frame_text_line style side frame.now) }
         ensures err { IsOkUnless result LineFault.Memory }
     {
         let mut line = String::new(alloc);
-        let Ok(()) = push_trace(alloc, &mut line, side, frame) else {
+        let Ok(()) = push_frame(alloc, &mut line, style, side, frame) else {
             return Err(LineFault::Memory);
         };
         let mut octets = ArrayVec::new();
@@ -52,17 +59,19 @@ impl TracedFrame {
     pub(crate) fn replace(
         &mut self,
         alloc: Global,
+        style: LineStyle,
         side: Side,
         frame: &[u8],
     ) -> Result<(), LineFault>
         requires least { HasLeastOctets frame.now }
         requires most { length frame.now ≤ MOST_OCTETS }
         ensures octets { OnOk result (self.new.octets.items ≡ frame.now) }
-        ensures line { OnOk result (string_bytes self.new.line ≡ frame_text_line side frame.now) }
+        ensures line { OnOk result
+            (string_bytes self.new.line ≡ frame_text_line style side frame.now) }
         ensures err { IsOkUnless result LineFault.Memory }
     {
         self.line.clear();
-        let Ok(()) = push_trace(alloc, &mut self.line, side, frame) else {
+        let Ok(()) = push_frame(alloc, &mut self.line, style, side, frame) else {
             return Err(LineFault::Memory);
         };
         self.octets.clear();
@@ -85,11 +94,32 @@ impl TracedFrame {
         port.write_frame(self.octets.as_slice())
     }
 
-    /// The octets of the trace line.
+    /// The octets of its line.
     pub(crate) fn line(&self) -> &[u8]
         ensures { result.now ≡ string_bytes self.now.line }
     {
         self.line.as_bytes()
+    }
+}
+
+/// Appends the line of octets that this side sent, with the line's end.
+///
+/// # Errors
+///
+/// `AllocError`.
+pub(crate) fn push_frame(
+    alloc: Global,
+    text: &mut String,
+    style: LineStyle,
+    side: Side,
+    octets: &[u8],
+) -> Result<(), AllocError>
+    ensures { OnOk result (string_bytes text.new
+        ≡ string_bytes text.old ++ frame_text_line style side octets.now) }
+{
+    match style {
+        LineStyle::Text => push_trace(alloc, text, side, octets),
+        LineStyle::Json => push_line(text, lapd_json::line(alloc, side, octets)?.as_str()),
     }
 }
 
@@ -105,7 +135,7 @@ pub fn push_trace(
     octets: &[u8],
 ) -> Result<(), AllocError>
     ensures { OnOk result (string_bytes text.new
-        ≡ string_bytes text.old ++ frame_text_line side octets.now) }
+        ≡ string_bytes text.old ++ frame_text_line LineStyle.Text side octets.now) }
 {
     lapd_trace::push_line(alloc, text, side, octets)?;
     text.push('\n')

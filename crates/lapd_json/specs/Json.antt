@@ -1,4 +1,5 @@
--- Octets that a side sent as a JSON object: a frame by the names of its fields, or a fault.
+-- Octets that a side sent as a JSON object: a frame by the names of its fields, or a fault. And what a side tells the layers above
+-- it.
 use Rattle.std.specs.Prelude.{ℕ, ◌==◌, if◌then◌else◌, Bool, true, false, List, [], ◌∷◌, codes, Result, Ok, Err}
 use Rattle.hex.specs.Hex.{encode_lower}
 use Rattle.serde_json.specs.Data.{Members, number, no_members, object, put, string, unsigned}
@@ -15,7 +16,15 @@ use Rattle.lapd_frame.specs.declared.FrameFault.{FrameFault}
 use Rattle.lapd_frame.specs.Fault.{fault_name}
 use Rattle.lapd_frame.specs.Frame.{Fields}
 use Rattle.lapd_frame.specs.Reading.{frame_at}
+use Rattle.lapd_link.specs.Out.{letter_code}
 use Rattle.lapd_names.specs.Names.{names_text}
+use Rattle.lapd_table.specs.declared.link_id.LinkId.{LinkId}
+use Rattle.lapd_tei.specs.declared.out.TeiOut.{TeiOut}
+use Rattle.lapd_tei.specs.declared.out.TeiOut.TheVariants as tei
+use Rattle.lapd_sides_links.specs.declared.primitive.Primitive.{Primitive}
+use Rattle.lapd_sides_links.specs.declared.primitive.Primitive.TheVariants.{Of, Management}
+use Rattle.lapd_sides_links.specs.declared.primitive.What.{What}
+use Rattle.lapd_sides_links.specs.declared.primitive.What.TheVariants as what
 
 -- ---- Members.
 
@@ -95,6 +104,54 @@ with_message [] members = members
 with_message (first ∷ words) members =
     if first == 32 then with_text (codes "message") words members else members
 
+-- ---- What a side tells the layers above it.
+
+-- what is told, in a word
+abbrev pub with_primitive : List ℕ → Members → Members
+with_primitive word members = with_text (codes "primitive") word members
+
+-- and how many messages it is told of
+abbrev pub with_count : List ℕ → ℕ → Members → Members
+with_count word count members = with_number (codes "count") count (with_primitive word members)
+
+-- of a link
+abbrev pub with_what : What → Members → Members
+with_what (what.Up octets) members =
+    with_octets (codes "info") octets (with_primitive (codes "data") members)
+with_what (what.UnitUp octets) members =
+    with_octets (codes "info") octets (with_primitive (codes "unit") members)
+with_what what.Established members = with_primitive (codes "established") members
+with_what what.Confirmed members = with_primitive (codes "confirmed") members
+with_what what.Released members = with_primitive (codes "released") members
+with_what what.ReleaseConfirm members = with_primitive (codes "release-confirmed") members
+with_what (what.Acknowledged count) members = with_count (codes "acknowledged") count members
+with_what (what.Dropped count) members = with_count (codes "dropped") count members
+with_what (what.Report letter) members = with_text (codes "report") (letter_code letter ∷ [])
+    (with_primitive (codes "report") members)
+
+abbrev pub with_link : LinkId → Members → Members
+with_link id members =
+    with_number (codes "tei") id.tei (with_number (codes "sapi") (sapi_value id.sapi) members)
+
+-- of a TEI
+abbrev pub with_tei : List ℕ → ℕ → Members → Members
+with_tei word value members = with_number (codes "tei") value (with_primitive word members)
+
+-- what became of one; messages and timers of TEI management are not told
+abbrev pub with_outcome : TeiOut → Members → Members
+with_outcome (tei.Given value) members = with_tei (codes "tei given") value members
+with_outcome (tei.Got value) members = with_tei (codes "tei got") value members
+with_outcome (tei.Gone value) members = with_tei (codes "tei gone") value members
+with_outcome tei.Failed members = with_primitive (codes "tei failed") members
+with_outcome (tei.Free value) members = with_tei (codes "tei free") value members
+with_outcome (tei.InUse value) members = with_tei (codes "tei in-use") value members
+with_outcome (tei.Doubled value) members = with_tei (codes "tei doubled") value members
+with_outcome other members = members
+
+abbrev pub with_told : Primitive → Members → Members
+with_told (Of id w) members = with_what w (with_link id members)
+with_told (Management outcome) members = with_outcome outcome members
+
 -- ---- Objects.
 
 -- the members for octets that this side sent
@@ -109,3 +166,11 @@ named_members from octets = with_message (names_text from octets) (frame_members
 -- the text of an object
 abbrev pub object_text : Members → List ℕ
 object_text members = compact_text (object members)
+
+-- the members for what is told
+abbrev pub primitive_members : Primitive → Members
+primitive_members primitive = with_told primitive no_members
+
+-- one text
+abbrev pub text_members : List ℕ → List ℕ → Members
+text_members key text = with_text key text no_members

@@ -171,7 +171,7 @@ fn put_poll(members: &mut Members, role: Role, pf: bool) -> Result<(), AllocErro
 }
 
 /// Puts octets in lower case hexadecimal, where there are any.
-fn put_octets(
+pub(crate) fn put_octets(
     alloc: Global,
     members: &mut Members,
     key: &str,

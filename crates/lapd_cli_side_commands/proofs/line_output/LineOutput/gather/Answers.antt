@@ -10,7 +10,7 @@ loop-frame-preserved c =
       one_kept (λ frame. frame.items) frames c.loop-frame.frame-index c.frame-item.result c.as_slice.result.now
           (sent_of c.args.self.now) (sent_of c.loop-frame.self) (sent_of c.add.new.self) c.loop-frame-test.true c.frame-item.is
           c.as_slice.ensures.value c.loop-frame.invariant.0 c.in_ok-add.ensures.sent,
-      one_traced (frame_text_line c.args.side) (λ frame. frame.items) frames c.loop-frame.frame-index c.frame-item.result c.as_slice.result.now
+      one_traced (frame_text_line c.args.style c.args.side) (λ frame. frame.items) frames c.loop-frame.frame-index c.frame-item.result c.as_slice.result.now
           (traced_of c.args.self.now) (traced_of c.loop-frame.self) (traced_of c.add.new.self) c.loop-frame-test.true c.frame-item.is
           c.as_slice.ensures.value c.loop-frame.invariant.1 c.in_ok-add.ensures.traced,
       c.in_ok-add.ensures.told ∙ c.loop-frame.invariant.2,

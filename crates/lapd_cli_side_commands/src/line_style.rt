@@ -1,0 +1,8 @@
+/// How a side prints its lines.
+#[derive(Clone, Copy, Debug, PartialEq, Eq)]
+pub enum LineStyle {
+    /// In words: a frame by its trace line.
+    Text,
+    /// Each as a JSON object.
+    Json,
+}
