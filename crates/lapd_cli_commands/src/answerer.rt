@@ -12,13 +12,16 @@ use lapd_frame::{Frame, FrameFault, Sapi, Side, Tei};
 use lapd_link::{Event, Link, Outs, Params};
 use std::alloc::{AllocError, Global};
 use std::io::{Read, Write};
+use std::mem;
 
-/// A link that answers a script line by line, by [`Command::run`], with room for the outputs of one step.
+/// A link that answers a script line by line, by [`Command::run`], with room for the outputs of one step. The room of the octets
+/// that a line hands to it is kept from line to line.
 #[derive(Drop)]
 pub struct Answerer {
     alloc: Global,
     link: Link,
     outs: Outs,
+    octets: Vec<u8>,
 }
 
 /// Goes over a script as this side's end of the link of `sapi` (not management) and `tei` (not the group TEI), made with these
@@ -83,8 +86,12 @@ impl Answerer {
         ensures { IfOk result (λ answerer. IsAnswerer answerer (new_session side sapi tei params)) }
     {
         let link = Link::new(alloc, side, sapi, tei, params)?;
-        let outs = Outs::new();
-        Ok(Answerer { alloc, link, outs })
+        Ok(Answerer {
+            alloc,
+            link,
+            outs: Outs::new(),
+            octets: Vec::new(alloc),
+        })
     }
 
     /// The link as the lines so far left it.
@@ -202,7 +209,24 @@ impl Answerer {
             → LineEndsAs IsAnswerer (with_octets behind.entry (hear s)) result self.new
             (W.contents out.old) (W.contents out.new) }
     {
-        let octets = behind.octets(self.alloc)?;
+        let mut octets = mem::replace(&mut self.octets, Vec::new(self.alloc));
+        let ended = self.hear_into(behind, &mut octets, out);
+        self.octets = octets;
+        ended
+    }
+
+    /// Takes the octets behind a word, which the other side sent, in the place of these.
+    fn hear_into<W: Write>(
+        &mut self,
+        behind: Words<'_>,
+        octets: &mut Vec<u8>,
+        out: &mut W,
+    ) -> Result<(), LineFault>
+        ensures { (s : Session) → IsAnswerer self.old s
+            → LineEndsAs IsAnswerer (with_octets behind.entry (hear s)) result self.new
+            (W.contents out.old) (W.contents out.new) }
+    {
+        behind.octets_into(octets)?;
         match lapd_frame::read(octets.as_slice(), self.link.side().other()) {
             Ok(frame) => self.hear_frame(&frame, out),
             Err(fault) => self.hear_fault(&fault, out),

@@ -9,10 +9,12 @@ use lapd_frame::Side;
 use std::alloc::Global;
 use std::io::{Read, Write};
 
-/// What prints trace lines.
+/// What prints trace lines. The rooms of a line's octets and of its text are kept from line to line.
 #[derive(Drop)]
 struct Decoder {
     alloc: Global,
+    octets: Vec<u8>,
+    text: String,
 }
 
 /// Goes over a script of lines `user HEX` and `net HEX`, the octets and who sent them, and writes the trace line of each.
@@ -28,7 +30,11 @@ pub fn decode<R: Read, W: Write>(
     ensures { IfSome (R.remaining script.old) (λ octets. EndsAs decode_step tt result
         (lines_of octets) (W.contents out.old) (W.contents out.new)) }
 {
-    let mut decoder = Decoder { alloc };
+    let mut decoder = Decoder {
+        alloc,
+        octets: Vec::new(alloc),
+        text: String::new(alloc),
+    };
     walk(alloc, &mut decoder, script, out)
 }
 
@@ -51,13 +57,20 @@ impl Command for Decoder {
 
 impl Decoder {
     /// Prints the trace line of the octets behind a word, which this side sent.
-    fn trace<W: Write>(&self, from: Side, behind: Words<'_>, out: &mut W) -> Result<(), LineFault>
-        ensures { LineEndsAs (λ state none. ⊤) (trace_of from behind.entry) result self.now
+    fn trace<W: Write>(
+        &mut self,
+        from: Side,
+        behind: Words<'_>,
+        out: &mut W,
+    ) -> Result<(), LineFault>
+        ensures { LineEndsAs (λ state none. ⊤) (trace_of from behind.entry) result self.new
             (W.contents out.old) (W.contents out.new) }
     {
-        let octets = behind.octets(self.alloc)?;
-        match lapd_trace::line(self.alloc, from, octets.as_slice()) {
-            Ok(text) => put_line(text.as_bytes(), &[], out),
+        behind.octets_into(&mut self.octets)?;
+        self.text.clear();
+        let octets = self.octets.as_slice();
+        match lapd_trace::push_line(self.alloc, &mut self.text, from, octets) {
+            Ok(()) => put_line(self.text.as_bytes(), &[], out),
             Err(_) => Err(LineFault::Memory),
         }
     }

@@ -88,11 +88,18 @@ impl Noted {
     fn note(&mut self, octets: &[u8]) {
         let mut rest = octets;
         while let Some((line, left)) = first_line(rest) {
-            self.lengthen(line);
-            self.end_line();
+            self.note_end(line);
             rest = left;
         }
         self.lengthen(rest);
+    }
+
+    /// Notes the end of a line. One that came whole and is no refusal, as most do, is not kept at all.
+    fn note_end(&mut self, end: &[u8]) {
+        if !self.line.is_empty() || is_refusal(end) {
+            self.lengthen(end);
+            self.end_line();
+        }
     }
 
     /// Puts behind the front of the line as many of these octets as are noted of it, unless there is a refusal.
@@ -106,7 +113,7 @@ impl Noted {
 
     /// Ends the line, which stays where it is the first refusal.
     fn end_line(&mut self) {
-        if without_moment(self.line.as_slice()).starts_with(REFUSED) {
+        if is_refusal(self.line.as_slice()) {
             self.is_refused = true;
         } else {
             self.line.clear();
@@ -114,16 +121,25 @@ impl Noted {
     }
 }
 
-/// A line without the moment that it begins with, where it begins with one: decimal digits and a space.
-fn without_moment(line: &[u8]) -> &[u8] {
+/// Whether a line tells of a refusal. Its first octet says of most lines that they do not.
+fn is_refusal(line: &[u8]) -> bool {
+    match line {
+        [b'r', ..] => line.starts_with(REFUSED),
+        [octet, ..] => octet.is_ascii_digit() && behind_moment(line).starts_with(REFUSED),
+        [] => false,
+    }
+}
+
+/// What stands behind the decimal digits that a line begins with and a space. Nothing, where no space follows them.
+fn behind_moment(line: &[u8]) -> &[u8] {
     let Some(end) = memchr(b' ', line) else {
-        return line;
+        return &[];
     };
-    let (moment, rest) = line.split_at(end);
+    let (moment, behind) = line.split_at(end);
     if moment.iter().all(u8::is_ascii_digit) {
-        rest.strip_prefix(b" ").unwrap_or(rest)
+        &behind[1..]
     } else {
-        line
+        &[]
     }
 }
 

@@ -1,10 +1,9 @@
 //! The words of a script's line.
 
-ghost use Rattle.std.specs.Prelude.{◌≡◌, ◌∷◌, ◌++◌, ◌-◌, MatchOption, None, Some, [], if◌then◌else◌, ⊤};
+ghost use Rattle.std.specs.Prelude.{◌≡◌, ◌∷◌, ◌++◌, ◌-◌, MatchOption, None, Some, [], if◌then◌else◌, OnErr, ⊤};
 ghost use Rattle.lapd_cli_script.specs.Line.{HasNoSpace, Reads, is_digit, nothing_of, number_behind, number_said, octets_behind, octets_of, words_of};
 
 use crate::script::LineFault;
-use hex::FromHexError;
 use memchr::memchr;
 use std::alloc::Global;
 use std::marker::Model;
@@ -64,14 +63,29 @@ impl<'a> Words<'a> {
     /// # Errors
     ///
     /// `Bad` where the word writes no octets, or is not the last one, and `Memory`.
-    pub fn octets(mut self, alloc: Global) -> Result<Vec<u8>, LineFault>
+    pub fn octets(self, alloc: Global) -> Result<Vec<u8>, LineFault>
         ensures { Reads (λ v. v.items) result (octets_behind self.entry) }
     {
+        let mut octets = Vec::new(alloc);
+        self.octets_into(&mut octets)?;
+        Ok(octets)
+    }
+
+    /// As [`Words::octets`], in place of what these octets were. So one room serves for many lines.
+    ///
+    /// # Errors
+    ///
+    /// As [`Words::octets`]. There are no octets then.
+    pub fn octets_into(mut self, octets: &mut Vec<u8>) -> Result<(), LineFault>
+        ensures octets { Reads (λ done. octets.new.items) result (octets_behind self.entry) }
+        ensures empty { OnErr result (octets.new.items ≡ []) }
+    {
+        octets.clear();
         match self.next_word() {
-            None => Ok(Vec::new(alloc)),
+            None => Ok(()),
             Some(digits) => {
                 self.nothing()?;
-                octets_of(alloc, digits)
+                fill_with(octets, digits)
             }
         }
     }
@@ -116,21 +130,28 @@ fn cut_at_space(line: &[u8]) -> (&[u8], Option<&[u8]>)
     }
 }
 
-/// The octets that are written in hexadecimal digits of either case, at least two of them.
+/// Puts the octets that are written in hexadecimal digits of either case, at least two of them, in the place of none.
 ///
 /// # Errors
 ///
-/// `Bad` where they are not, and `Memory`.
-fn octets_of(alloc: Global, digits: &[u8]) -> Result<Vec<u8>, LineFault>
-    ensures { Reads (λ v. v.items) result (octets_of digits.now) }
+/// `Bad` where they are not, and `Memory`. There are none then.
+fn fill_with(octets: &mut Vec<u8>, digits: &[u8]) -> Result<(), LineFault>
+    requires { octets.old.items ≡ [] }
+    ensures octets { Reads (λ done. octets.new.items) result (octets_of digits.now) }
+    ensures empty { OnErr result (octets.new.items ≡ []) }
 {
     if digits.is_empty() {
         return Err(LineFault::Bad);
     }
-    match hex::decode(alloc, digits) {
-        Ok(octets) => Ok(octets),
-        Err(FromHexError::OutOfMemory) => Err(LineFault::Memory),
-        Err(_) => Err(LineFault::Bad),
+    if octets.resize(digits.len() / 2, 0).is_err() {
+        return Err(LineFault::Memory);
+    }
+    match hex::decode_to_slice(digits, octets.as_mut_slice()) {
+        Ok(()) => Ok(()),
+        Err(_) => {
+            octets.clear();
+            Err(LineFault::Bad)
+        }
     }
 }
 

@@ -1,6 +1,6 @@
 //! What commands print, a line at a time.
 
-ghost use Rattle.std.specs.Prelude.{◌≡◌, ◌≤◌, ◌++◌, length, OnOk, IsOkUnless};
+ghost use Rattle.std.specs.Prelude.{◌≡◌, ◌≤◌, ◌++◌, ◌∷◌, [], length, OnOk, IsOkUnless};
 ghost use Rattle.std.specs.Fmt.{decimal};
 ghost use Rattle.std.specs.Io.KnownBytes.{Appends};
 ghost use Rattle.hex.specs.Hex.{encode_lower};
@@ -55,10 +55,29 @@ pub fn put_octets<W: Write>(word: &[u8], octets: &[u8], out: &mut W) -> Result<(
         return put_line(word, &[], out);
     }
     out.write_all(word)?;
+    if octets.len() <= CHUNK {
+        put_digits(octets, out)?;
+        return Ok(());
+    }
     out.write_all(b" ")?;
     put_hex(octets, out)?;
     out.write_all(b"\n")?;
     Ok(())
+}
+
+// Writes a space, the digits of at most `CHUNK` octets and the line's end, all at once.
+fn put_digits<W: Write>(octets: &[u8], out: &mut W) -> io::Result<()>
+    requires { length octets.now ≤ 64 }
+    ensures { OnOk result (Appends (W.contents out.old) (W.contents out.new)
+        (32 ∷ encode_lower octets.now ++ 10 ∷ [])) }
+{
+    let mut text = [b' '; 2 * CHUNK + 2];
+    let end = 2 * octets.len() + 1;
+    let Ok(()) = hex::encode_to_slice(octets, &mut text[1..end]) else {
+        unreachable!()
+    };
+    text[end] = b'\n';
+    out.write_all(&text[..=end])
 }
 
 /// How many octets are printed at a time.

@@ -11,7 +11,7 @@ pub returns-in-Ok : goal.returns-in-Ok
 returns-in-Ok g c = λ s h.
     let done = c.in-Ok.ensures.ok s.end h.end in
     let next : Session = record { setup = s.setup; end = done.0.end } in
-    let stands : IsAnswerer (record { alloc = c.args.self.now.alloc; link = c.handle_into.new.self; outs = c.handle_into.new.outs }) next =
+    let stands : IsAnswerer (record { alloc = c.args.self.now.alloc; link = c.handle_into.new.self; outs = c.handle_into.new.outs; octets = c.args.self.now.octets }) next =
     record { setup = c.in-Ok.ensures.setup ∙ h.setup; end = done.3 } in
     let fits = fits_with (input_of c.args.event) c.args.handed.now s.end done.0 c.requires.handed done.1 in
     let text = text_of_step c.handle_into.new.self next c.args.handed.now c.handle_into.new.outs.items c.in-Ok.ensures.frames stands fits in
