@@ -11,13 +11,13 @@ use Rattle.lapd_cli_decode.specs.declared.capture_lines.CaptureStop.TheVariants.
 
 pub PrintsTo-more : (how : CaptureStyle) (start mid new : Reading) (found : Found) (a b d : Option (List ℕ))
     → PrintsTo how start a b mid → next_step mid ≡ Ok (record { found = found; reading = new })
-    → packet_fault how.keeping found ≡ None → Appends b d (found_text how mid.octets found)
+    → packet_fault how.keeping found ≡ None → Appends b d (found_text how new found)
     → PrintsTo how start a d new
 PrintsTo-more how start mid new found a b d p step kept grew = (
   suc p.0,
-  p.1 ++ found_text how mid.octets found,
+  p.1 ++ found_text how new found,
   (mid, found, p.1, p.2, step, kept, refl),
-  Appends-trans a b d p.1 (found_text how mid.octets found) p.3 grew,
+  Appends-trans a b d p.1 (found_text how new found) p.3 grew,
 )
 
 -- nothing is printed at the beginning

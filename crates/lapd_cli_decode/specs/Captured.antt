@@ -9,15 +9,22 @@ use Rattle.lapd_cli_script.specs.Line.{text_line}
 use Rattle.lapd_cli_decode.specs.declared.capture_lines.CaptureStop.{CaptureStop}
 use Rattle.lapd_cli_decode.specs.declared.capture_lines.CaptureStop.TheVariants.{Capture, Packet, Device, Memory}
 use Rattle.lapd_cli_decode.specs.declared.capture_lines.CaptureStyle.{CaptureStyle}
-use Rattle.lapd_cli_decode.specs.Style.{styled_text}
+use Rattle.lapd_json.specs.declared.Packet.{Packet as JsonPacket}
+use Rattle.lapd_cli_decode.specs.Style.{styled_packet}
 
--- the line of what was found: of a frame of which nobody tells who sent it, as if the sender that was chosen had
-abbrev pub found_text : CaptureStyle → List ℕ → Found → List ℕ
-found_text how octets (Frame span) = text_line (styled_text how.style
-    (unwrap_or span.from how.sender) (take (span.end - span.start) (drop span.start octets)))
-found_text how octets (Unreadable fault) = []
-found_text how octets Other = []
-found_text how octets End = []
+-- the packet that was passed last
+abbrev pub last_packet : Reading → JsonPacket
+last_packet reading = record { number = reading.packets; moment = reading.moment }
+
+-- the line of what was found, by the capture behind it: of a frame of which nobody tells who sent it, as if the sender that was
+-- chosen had
+abbrev pub found_text : CaptureStyle → Reading → Found → List ℕ
+found_text how behind (Frame span) = text_line (styled_packet how.style (last_packet behind)
+    (unwrap_or span.from how.sender)
+    (take (span.end - span.start) (drop span.start behind.octets)))
+found_text how behind (Unreadable fault) = []
+found_text how behind Other = []
+found_text how behind End = []
 
 -- a packet that can't be read, at which reading stops unless such packets are passed over
 abbrev pub packet_fault : Bool → Found → Option PacketFault
@@ -34,7 +41,7 @@ Prints how (suc n) old text new = (mid : Reading) × (found : Found)
     × (before : List ℕ) × Prints how n old before mid
     × (next_step mid ≡ Ok (record { found = found; reading = new }))
     × (packet_fault how.keeping found ≡ None)
-    × (text ≡ before ++ found_text how mid.octets found)
+    × (text ≡ before ++ found_text how new found)
 
 -- this is printed up to a place
 abbrev pub PrintsTo : CaptureStyle → Reading → Option (List ℕ) → Option (List ℕ) → Reading
@@ -72,7 +79,7 @@ abbrev pub TakesStep : CaptureStyle → Result Bool CaptureStop → Reading → 
     → Option (List ℕ) → Option (List ℕ) → Type 0
 TakesStep how (Ok false) old new a b = (found : Found)
     × (next_step old ≡ Ok (record { found = found; reading = new }))
-    × (packet_fault how.keeping found ≡ None) × Appends a b (found_text how old.octets found)
+    × (packet_fault how.keeping found ≡ None) × Appends a b (found_text how new found)
 TakesStep how (Ok true) old new a b = (next_step old ≡ Ok (record { found = End; reading = new }))
     × Appends a b []
 TakesStep how (Err (Capture fault at)) old new a b = (next_step old ≡ Err fault)

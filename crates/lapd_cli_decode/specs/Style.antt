@@ -4,6 +4,8 @@ use Rattle.lapd_frame.specs.declared.Side.{Side}
 use Rattle.lapd_trace.specs.Trace.{trace_line}
 use Rattle.lapd_names.specs.Names.{names_text}
 use Rattle.lapd_json.specs.Json.{frame_members, named_members, object_text}
+use Rattle.lapd_json.specs.declared.Packet.{Packet}
+use Rattle.lapd_json.specs.Packet.{with_packet}
 use Rattle.lapd_cli_decode.specs.declared.style.Style.{Style}
 use Rattle.lapd_cli_decode.specs.declared.style.Style.TheVariants.{Plain, Named, Json, NamedJson}
 
@@ -13,3 +15,11 @@ styled_text Plain from octets = trace_line from octets
 styled_text Named from octets = trace_line from octets ++ names_text from octets
 styled_text Json from octets = object_text (frame_members from octets)
 styled_text NamedJson from octets = object_text (named_members from octets)
+
+-- the same in a packet of a capture: an object says which, and when it was captured
+abbrev pub styled_packet : Style → Packet → Side → List ℕ → List ℕ
+styled_packet Plain packet from octets = styled_text Plain from octets
+styled_packet Named packet from octets = styled_text Named from octets
+styled_packet Json packet from octets = object_text (with_packet packet (frame_members from octets))
+styled_packet NamedJson packet from octets =
+    object_text (with_packet packet (named_members from octets))

@@ -9,6 +9,7 @@ use crate::style::Style;
 use lapd_capture::{Capture, CaptureFault, Found, PacketFault, Span};
 use lapd_cli_script::{LineFault, put_line};
 use lapd_frame::Side;
+use lapd_json::Packet;
 use std::alloc::Global;
 use std::io::Write;
 use thiserror::Error;
@@ -105,11 +106,16 @@ fn put_frame<W: Write>(
 ) -> Result<(), CaptureStop>
     requires { IsWithin (length capture.now.octets) (Found.Frame frame) }
     ensures line { OnOk result (Appends (W.contents out.old) (W.contents out.new)
-        (found_text how capture.now.octets (Found.Frame frame))) }
+        (found_text how capture.now (Found.Frame frame))) }
     ensures fault { IsOtherStop result }
 {
     let from = frame.from.unwrap_or(how.sender);
-    let Ok(text) = how.style.text(alloc, from, capture.octets_of(frame)) else {
+    let packet = Packet {
+        number: capture.packets() as u64,
+        moment: capture.moment(),
+    };
+    let octets = capture.octets_of(frame);
+    let Ok(text) = how.style.packet_text(alloc, from, octets, packet) else {
         return Err(CaptureStop::Memory);
     };
     match put_line(text.as_bytes(), &[], out) {

@@ -1,8 +1,9 @@
 ghost use Rattle.std.specs.Prelude.{◌≡◌, ◌++◌, IfOk};
 ghost use Rattle.std.specs.String.{string_bytes};
-ghost use Rattle.lapd_cli_decode.specs.Style.{styled_text};
+ghost use Rattle.lapd_cli_decode.specs.Style.{styled_packet, styled_text};
 
 use lapd_frame::Side;
+use lapd_json::Packet;
 use std::alloc::{AllocError, Global};
 
 /// How a frame is printed.
@@ -32,6 +33,28 @@ impl Style {
             Style::Named => named_line(alloc, from, octets),
             Style::Json => lapd_json::line(alloc, from, octets),
             Style::NamedJson => lapd_json::named_line(alloc, from, octets),
+        }
+    }
+
+    /// The text for octets that `from` sent, which stand in a packet of a capture.
+    ///
+    /// # Errors
+    ///
+    /// `AllocError` where there was no memory for the text.
+    pub(crate) fn packet_text(
+        self,
+        alloc: Global,
+        from: Side,
+        octets: &[u8],
+        packet: Packet,
+    ) -> Result<String, AllocError>
+        ensures { IfOk result (λ text.
+            string_bytes text ≡ styled_packet self packet from octets.now) }
+    {
+        match self {
+            Style::Plain | Style::Named => self.text(alloc, from, octets),
+            Style::Json => lapd_json::packet_line(alloc, from, octets, packet),
+            Style::NamedJson => lapd_json::named_packet_line(alloc, from, octets, packet),
         }
     }
 }
