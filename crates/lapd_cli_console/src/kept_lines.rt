@@ -1,6 +1,6 @@
 //! A reader that keeps the lines that were read last.
 
-ghost use Rattle.std.specs.Prelude.{◌≡◌, None};
+ghost use Rattle.std.specs.Prelude.{◌≡◌, ◌<◌, length, IfSome, None};
 ghost use Rattle.std.specs.Io.{ReadsAtMost};
 ghost use Rattle.std.specs.Io.KnownBytes.{ReadConsumes};
 ghost use Rattle.lapd_cli_console.specs.Fault.{Remembers};
@@ -119,13 +119,21 @@ fn lengthen(head: &mut ArrayVec<u8, HEAD>, octets: &[u8]) {
     let _ = head.try_extend_from_slice(&octets[..octets.len().min(room)]);
 }
 
-/// How many line feeds there are. All octets are looked at, so one by one is cheaper than from one feed to the next.
+/// How many line feeds there are. Going from one to the next is cheaper than looking at each octet, as soon as a line has a few.
 fn feeds_in(octets: &[u8]) -> u64 {
-    octets.iter().filter(|octet| **octet == b'\n').count() as u64
+    let mut feeds: u64 = 0;
+    let mut rest = octets;
+    while let Some(behind) = behind_feed(rest) {
+        feeds = feeds.saturating_add(1);
+        rest = behind;
+    }
+    feeds
 }
 
 /// The octets behind the first line feed.
-fn behind_feed(octets: &[u8]) -> Option<&[u8]> {
+fn behind_feed(octets: &[u8]) -> Option<&[u8]>
+    ensures { IfSome result (λ behind. length behind.now < length octets.now) }
+{
     let end = memchr(b'\n', octets)?;
     Some(&octets[end + 1..])
 }
