@@ -1,0 +1,11 @@
+use Rattle.std.proofs.Common.{rules}
+use Rattle.lapd_cli_side_commands.proofs.line_output.LineOutput.clear.Goals as goal
+
+pub returns-clause-sent : goal.returns-clause-sent
+returns-clause-sent c = search rules
+
+pub returns-clause-traced : goal.returns-clause-traced
+returns-clause-traced c = search rules
+
+pub returns-clause-told : goal.returns-clause-told
+returns-clause-told c = search rules
