@@ -175,9 +175,7 @@ uint32_t lapd_side_tick(lapd_side *side, uint64_t now, uint8_t *expired);
  * the handle owns no side. It changes with the calls that hand something in. */
 uint32_t lapd_side_deadline(lapd_side *side, uint64_t *moment);
 
-/* A moment before which lapd_side_tick has nothing to do, which costs little to find: lapd_side_deadline looks at all places for a
- * link's timers. It may come early; then lapd_side_tick finds nothing due at it, and the next one is later. Else as
- * lapd_side_deadline. */
+/* A moment before which lapd_side_tick has nothing to do: that of lapd_side_deadline. */
 uint32_t lapd_side_quiet_until(lapd_side *side, uint64_t *moment);
 
 /* How many frames lapd_side_take has discarded since the side was made; it stays at UINT64_MAX. 0 where there is no side. */

@@ -119,7 +119,7 @@ impl HeldSide {
         DONE
     }
 
-    /// A moment before which nothing is due, in milliseconds. It may come before the next deadline.
+    /// A moment before which nothing is due, in milliseconds; the last moment that there is where nothing ever is.
     pub(crate) fn quiet_until(&self, moment: &mut u64) -> u32
         ensures { TellsQuiet moment.new self.now self.now result }
     {

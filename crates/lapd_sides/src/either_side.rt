@@ -88,8 +88,8 @@ impl EitherSide {
         }
     }
 
-    /// A moment before which [`EitherSide::tick`] has nothing to do, in milliseconds. It is found without a look at each link,
-    /// and so may come before [`EitherSide::next_deadline`].
+    /// A moment before which [`EitherSide::tick`] has nothing to do, in milliseconds: that of [`EitherSide::next_deadline`], or
+    /// `u64::MAX` where no timer runs.
     pub fn quiet_until(&self) -> u64
         ensures { HasQuietUntil self.now result }
     {

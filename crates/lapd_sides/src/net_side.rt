@@ -216,9 +216,8 @@ impl NetSide {
         next_deadline(&self.served.timers, &self.served.links)
     }
 
-    /// A moment before which [`NetSide::tick`] has nothing to do, in milliseconds. It is found without a look at each link, and so may
-    /// come before [`NetSide::next_deadline`]: then `tick` answers `false` at it, and the next one is later. `u64::MAX` where no
-    /// timer runs and none has run since.
+    /// A moment before which [`NetSide::tick`] has nothing to do, in milliseconds: that of [`NetSide::next_deadline`], or `u64::MAX`
+    /// where no timer runs.
     pub fn quiet_until(&self) -> u64
         ensures { EachShown self.now (λ s. IsQuietUntil s.served result) }
     {

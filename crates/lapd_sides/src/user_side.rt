@@ -229,9 +229,8 @@ impl UserSide {
         next_deadline(&self.served.timers, &self.served.links)
     }
 
-    /// A moment before which [`UserSide::tick`] has nothing to do, in milliseconds. It is found without a look at each link, and so may
-    /// come before [`UserSide::next_deadline`]: then `tick` answers `false` at it, and the next one is later. `u64::MAX` where no
-    /// timer runs and none has run since.
+    /// A moment before which [`UserSide::tick`] has nothing to do, in milliseconds: that of [`UserSide::next_deadline`], or `u64::MAX`
+    /// where no timer runs.
     pub fn quiet_until(&self) -> u64
         ensures { EachShown self.now (λ s. IsQuietUntil s.served result) }
     {

@@ -263,32 +263,24 @@ placed_linked (Some link) (Some t) None its h is = absurd h
 placed_linked (Some link) (Some t) (Some l) its h is = ap (λ (x : Timers). Some x) h.1 ∙ is
 
 runs_in_links : (side : Side) (s : LinkSet) (links : Links) → ShowLinks side s links → (of : Option LinkId) (its : Timers) (timer : Timer) (deadline : ℕ)
-    → of_places s.link_timers.places of ≡ Some its → deadline_of timer its ≡ Some deadline → of_links links of ≡ Some its
+    → of_places s.link_timers of ≡ Some its → deadline_of timer its ≡ Some deadline → of_links links of ≡ Some its
 runs_in_links side s links shown None its timer deadline is runs = is
 runs_in_links side s links shown (Some id) its timer deadline is runs = runs_linked (link_at s.table id) (timers_at s.link_timers id) (links id) its timer deadline (shown.each id) is runs
 
 runs_in_places : (side : Side) (s : LinkSet) (links : Links) → ShowLinks side s links → (of : Option LinkId) (its : Timers)
-    → of_links links of ≡ Some its → of_places s.link_timers.places of ≡ Some its
+    → of_links links of ≡ Some its → of_places s.link_timers of ≡ Some its
 runs_in_places side s links shown None its is = is
 runs_in_places side s links shown (Some id) its is = placed_linked (link_at s.table id) (timers_at s.link_timers id) (links id) its (shown.each id) is
 
 pub first_of_links : (side : Side) (s : LinkSet) (links : Links) (now : ℕ) (first : Option Due) → ShowLinks side s links
-    → IsFirst (IsPast now (of_places s.link_timers.places)) first → IsFirst (IsPast now (of_links links)) first
-first_of_links side s links now first shown h = same_past now (of_places s.link_timers.places) (of_links links) first (runs_in_links side s links shown)
+    → IsFirst (IsPast now (of_places s.link_timers)) first → IsFirst (IsPast now (of_links links)) first
+first_of_links side s links now first shown h = same_past now (of_places s.link_timers) (of_links links) first (runs_in_links side s links shown)
     (λ of its timer deadline is runs. runs_in_places side s links shown of its is) h
 
 pub first_of_all_links : (side : Side) (s : LinkSet) (links : Links) (first : Option Due) → ShowLinks side s links
-    → IsFirst (Runs (of_places s.link_timers.places)) first → IsFirst (Runs (of_links links)) first
-first_of_all_links side s links first shown h = same_runs (of_places s.link_timers.places) (of_links links) first (runs_in_links side s links shown)
+    → IsFirst (Runs (of_places s.link_timers)) first → IsFirst (Runs (of_links links)) first
+first_of_all_links side s links first shown h = same_runs (of_places s.link_timers) (of_links links) first (runs_in_links side s links shown)
     (λ of its timer deadline is runs. runs_in_places side s links shown of its is) h
-
--- where no timer has changed, the links are as before
-pub same_timers : (side : Side) (old new : LinkSet) (links : Links) → new.table ≡ old.table → ((id : LinkId) → timers_at new.link_timers id ≡ timers_at old.link_timers id) → ShowLinks side old links → ShowLinks side new links
-same_timers side old new links table link_timers shown = record {
-  of_side = ap side_of table ∙ shown.of_side;
-  each = λ id. subst (λ (t : Option Timers). IsLinked (link_at new.table id) t (links id)) (sym (link_timers id))
-      (subst (λ (t : LinkTable). IsLinked (link_at t id) (timers_at old.link_timers id) (links id)) (sym table) (shown.each id));
-}
 
 -- the timers of a link that is there
 there_timed : (found : Option Link) (link : Link) (t : Option Timers) (l : Option Linked) → found ≡ Some link → IsLinked found t l → t ≡ option_map (λ (x : Linked). x.timers) l

@@ -1,10 +1,9 @@
--- The timers of links that run, the bound that none of them comes before, and which is due.
-use Rattle.std.proofs.Common.{◌≡◌, ◌≢◌, ℕ, ◌<◌, ◌≤◌, List, length, replicate, Bool, true, false, Option, Some, None, option_map, inl, inr, refl, sym, ap, subst, ◌∙◌, arith, rules, ◌⊎◌}
+-- The timers of links that run, what stands for them in the tournament, and which is due.
+use Rattle.std.proofs.Common.{◌≡◌, ◌≢◌, ℕ, ◌+◌, ◌<◌, ◌≤◌, List, replicate, Option, Some, None, option_map, inl, inr, refl, sym, ap, subst, ◌∙◌, arith, ◌⊎◌}
 use Rattle.std.specs.Prelude.{slice_get, IfSome, All}
-use Rattle.std.specs.Cmp.Rules.{comparing}
-use Rattle.std.proofs.lemmas.Bool.{cases_lt}
+use Rattle.std.proofs.lemmas.Bool.{cases_lt, cases_eq}
 use Rattle.std.proofs.lemmas.List.Elements.{All-get_or, All-replicate}
-use Rattle.std.proofs.lemmas.Option.{slice_get_within, get_or_from_slice_get}
+use Rattle.std.proofs.lemmas.Option.{slice_get_within, get_or_from_slice_get, same_Some}
 use Rattle.lapd_timers.specs.declared.timer.Timer.{Timer}
 use Rattle.lapd_timers.specs.declared.timer.Timer.TheVariants.{T200, T201, T202, T203}
 use Rattle.lapd_timers.specs.Durations.{Lengths}
@@ -13,139 +12,17 @@ use Rattle.lapd_timers.specs.Due as due
 use Rattle.lapd_frame.specs.declared.Sapi.{Sapi}
 use Rattle.lapd_frame.specs.declared.Sapi.TheVariants.{Call, Packet, Management}
 use Rattle.lapd_table.specs.declared.link_id.LinkId.{LinkId}
-use Rattle.lapd_table.specs.LinkId.{id_eq}
-use Rattle.lapd_table.proofs.Ids.{same_id_eq}
 use Rattle.lapd_sides_links.specs.declared.running_timer.RunningTimer.{RunningTimer}
 use Rattle.lapd_sides_links.specs.declared.timer_places.TimerPlaces.{TimerPlaces}
-use Rattle.lapd_sides_links.specs.Effects.{stopped}
 use Rattle.lapd_sides_links.specs.Links.{Served, IsOfLink, of_sapi}
-use Rattle.lapd_sides_links.specs.Expiries.{IsTimerOf, Runs, IsPast, IsNoLaterLink, IsNoLater, IsFirst, IsDue, IsNextDeadline, of_management, of_links, of_served}
-use Rattle.lapd_sides_links.specs.Places.{AreAtRest, RunsFor, RunsBelow, IsSooner, IsOneOf, IsAlike, expiry_at, own_expiry_at, expiry_or_last}
-use Rattle.lapd_sides_links.specs.TimersAtPlaces.{placed, of_places, NoneIsBefore}
-use Rattle.lapd_sides_links.proofs.Order.{no_later_self, link_no_later_self, no_later_decided, no_later_chained, same_place, earlier_deadline, joined, same_first}
+use Rattle.lapd_sides_links.specs.Expiries.{IsTimerOf, Runs, IsPast, IsNoLaterLink, IsNoLater, IsFirst, IsDue, IsNextDeadline, IsQuietUntil, of_management, of_links, of_served}
+use Rattle.lapd_sides_links.specs.Places.{AreAtRest, RunsFor, IsSooner, expiry_at, own_expiry_at, earlier}
+use Rattle.lapd_sides_links.specs.TimersAtPlaces.{placed, of_places, entry_place, RunsAt, AreEntered, RunsForPlaced}
+use Rattle.lapd_sides_links.specs.Tournament.{entry, IsEntered}
+use Rattle.lapd_sides_links.proofs.Order.{link_no_later_self, no_later_chained, earlier_deadline, joined, same_first, sooner_of, deadline, sooner_deadline}
+use Rattle.lapd_sides_links.proofs.Tournaments.{IsBehind}
 
-false_is_true : false ≡ true → ⊥
-false_is_true h = absurd (cc)
-
--- the id is its own
-id_eq_self : (a : LinkId) → id_eq a a ≡ true
-id_eq_self a = search (comparing, rules)
-
--- ---- Of the timers of a link none comes before a bound.
-
-abbrev NoneOfLinkIsBefore : RunningTimer → LinkId → Timers → Type 0
-NoneOfLinkIsBefore bound id timers = (timer : Timer) (deadline : ℕ) → IsOfLink timer → deadline_of timer timers ≡ Some deadline
-    → IsNoLater bound (expiry_at id timer deadline)
-
-at_rest_behind : (bound : RunningTimer) (id : LinkId) (durations : Lengths) → NoneOfLinkIsBefore bound id (at_rest durations)
-at_rest_behind bound id durations T200 deadline own runs = absurd (cc)
-at_rest_behind bound id durations T201 deadline own runs = absurd (cc)
-at_rest_behind bound id durations T202 deadline own runs = absurd (cc)
-at_rest_behind bound id durations T203 deadline own runs = absurd (cc)
-
--- one that runs after another was stopped ran before
-ran : (which timer : Timer) (timers : Timers) (deadline : ℕ) → deadline_of timer (stopped which timers) ≡ Some deadline → deadline_of timer timers ≡ Some deadline
-ran T200 T200 timers deadline runs = absurd (cc)
-ran T201 T201 timers deadline runs = absurd (cc)
-ran T202 T202 timers deadline runs = absurd (cc)
-ran T203 T203 timers deadline runs = absurd (cc)
-ran T200 T201 timers deadline runs = runs
-ran T200 T202 timers deadline runs = runs
-ran T200 T203 timers deadline runs = runs
-ran T201 T200 timers deadline runs = runs
-ran T201 T202 timers deadline runs = runs
-ran T201 T203 timers deadline runs = runs
-ran T202 T200 timers deadline runs = runs
-ran T202 T201 timers deadline runs = runs
-ran T202 T203 timers deadline runs = runs
-ran T203 T200 timers deadline runs = runs
-ran T203 T201 timers deadline runs = runs
-ran T203 T202 timers deadline runs = runs
-
-stopped_behind : (bound : RunningTimer) (id : LinkId) (timers : Timers) (which : Timer) → NoneOfLinkIsBefore bound id timers → NoneOfLinkIsBefore bound id (stopped which timers)
-stopped_behind bound id timers which h = λ timer deadline own runs. h timer deadline own (ran which timer timers deadline runs)
-
--- the first of a bound and of these
-lowered_behind : (bound first : RunningTimer) (id : LinkId) (found : Option Timers) (timers : Timers) → found ≡ Some timers → IsFirst (IsOneOf bound id found) (Some first) → NoneOfLinkIsBefore first id timers
-lowered_behind bound first id None timers is h = absurd (cc)
-lowered_behind bound first id (Some found) timers is h =
-    let same : found ≡ timers = cc in
-    subst (NoneOfLinkIsBefore first id) same (λ timer deadline own runs. h.1 (expiry_at id timer deadline) (inr (record { is_of = refl; own = own; until = runs })))
-
-lowered_low : (bound first : RunningTimer) (id : LinkId) (found : Option Timers) → IsFirst (IsOneOf bound id found) (Some first) → IsNoLater first bound
-lowered_low bound first id None h = h.1 bound refl
-lowered_low bound first id (Some timers) h = h.1 bound (inl refl)
-
--- ---- The same of all places.
-
-bounded : (s : TimerPlaces) (bound e : RunningTimer) → NoneIsBefore bound s → Runs (of_places s) e → IsNoLater bound e
-unfolding NoneIsBefore
-bounded s bound e h x = elim (no_later_decided bound e) [ inl low ↦ low | inr before ↦ absurd (h e x before) ]
-
-behind_at : (bound : RunningTimer) (s : TimerPlaces) (id : LinkId) (timers : Timers) → NoneIsBefore bound s → placed s id ≡ Some timers → NoneOfLinkIsBefore bound id timers
-behind_at bound s id timers h there = λ timer deadline own runs.
-    bounded s bound (expiry_at id timer deadline) h (record { its = timers; there = there; own = own; until = runs })
-
-at_place_of : (bound : RunningTimer) (s : TimerPlaces) (of : Option LinkId) (e : RunningTimer) → e.of ≡ of → ((id : LinkId) (timers : Timers) → placed s id ≡ Some timers → NoneOfLinkIsBefore bound id timers)
-    → Runs (of_places s) e → IsNoLater bound e
-at_place_of bound s None e is h x = let there : None ≡ Some x.its = sym (ap (of_places s) is) ∙ x.there in absurd (cc)
-at_place_of bound s (Some id) e is h x = subst (λ (of : Option LinkId). IsNoLater bound (record { deadline = e.deadline; timer = e.timer; of = of })) (sym is)
-    (h id x.its (sym (ap (of_places s) is) ∙ x.there) e.timer e.deadline (subst (λ (of : Option LinkId). IsTimerOf of e.timer) is x.own) x.until)
-
-none_before : (bound : RunningTimer) (s : TimerPlaces) → ((id : LinkId) (timers : Timers) → placed s id ≡ Some timers → NoneOfLinkIsBefore bound id timers) → NoneIsBefore bound s
-unfolding NoneIsBefore
-none_before bound s h = λ e x before. before (at_place_of bound s e.of e refl h x)
-
--- ---- The places of a side, of which one is changed.
-
-earlier : (early late : RunningTimer) (id : LinkId) (timers : Timers) → IsNoLater early late → NoneOfLinkIsBefore late id timers → NoneOfLinkIsBefore early id timers
-earlier early late id timers low h = λ timer deadline own runs. no_later_chained early late (expiry_at id timer deadline) low (h timer deadline own runs)
-
-changed_at : (early late : RunningTimer) (old new : TimerPlaces) (id other : LinkId) (timers : Timers) (test : Bool) → id_eq other id ≡ test → IsNoLater early late
-    → ((t : Timers) → placed new id ≡ Some t → NoneOfLinkIsBefore early id t) → ((k : LinkId) → k ≢ id → placed new k ≡ placed old k)
-    → NoneIsBefore late old → placed new other ≡ Some timers → NoneOfLinkIsBefore early other timers
-changed_at early late old new id other timers true is low own others h there =
-    let same : other ≡ id = same_id_eq other id is in
-    subst (λ (k : LinkId). NoneOfLinkIsBefore early k timers) (sym same) (own timers (subst (λ (k : LinkId). placed new k ≡ Some timers) same there))
-changed_at early late old new id other timers false is low own others h there =
-    let differ : other ≢ id = λ same. absurd (false_is_true (sym is ∙ (ap (λ (k : LinkId). id_eq k id) same ∙ id_eq_self id))) in
-    earlier early late other timers low (behind_at late old other timers h (sym (others other differ) ∙ there))
-
-changed : (early late : RunningTimer) (old new : TimerPlaces) (id : LinkId) → IsNoLater early late → ((t : Timers) → placed new id ≡ Some t → NoneOfLinkIsBefore early id t)
-    → ((k : LinkId) → k ≢ id → placed new k ≡ placed old k) → NoneIsBefore late old → NoneIsBefore early new
-changed early late old new id low own others h = none_before early new (λ other timers there. changed_at early late old new id other timers (id_eq other id) refl low own others h there)
-
-mapped : (P : Timers → Type 0) (f : Timers → Timers) (found : Option Timers) (timers : Timers) → ((t : Timers) → found ≡ Some t → P (f t)) → option_map f found ≡ Some timers → P timers
-mapped P f None timers h is = absurd (cc)
-mapped P f (Some t) timers h is = let same : f t ≡ timers = cc in subst P same (h t refl)
-
-pub timed_places : (bound first : RunningTimer) (old new : TimerPlaces) (id : LinkId) (found : Option Timers) → found ≡ placed new id → IsFirst (IsOneOf bound id found) (Some first)
-    → ((k : LinkId) → k ≢ id → placed new k ≡ placed old k) → NoneIsBefore bound old → NoneIsBefore first new
-timed_places bound first old new id found is low others h = changed first bound old new id (lowered_low bound first id found low)
-    (λ t there. lowered_behind bound first id found t (is ∙ there) low) others h
-
-pub rested_places : (bound : RunningTimer) (old new : TimerPlaces) (id : LinkId) (rest : Timers → Lengths) → placed new id ≡ option_map (λ (t : Timers). at_rest (rest t)) (placed old id)
-    → ((k : LinkId) → k ≢ id → placed new k ≡ placed old k) → NoneIsBefore bound old → NoneIsBefore bound new
-rested_places bound old new id rest is others h = changed bound bound old new id (no_later_self bound)
-    (λ t there. mapped (NoneOfLinkIsBefore bound id) (λ (u : Timers). at_rest (rest u)) (placed old id) t (λ u was. at_rest_behind bound id (rest u)) (sym is ∙ there)) others h
-
-pub stopped_places : (bound : RunningTimer) (old new : TimerPlaces) (id : LinkId) (which : Timer) → placed new id ≡ option_map (stopped which) (placed old id)
-    → ((k : LinkId) → k ≢ id → placed new k ≡ placed old k) → NoneIsBefore bound old → NoneIsBefore bound new
-stopped_places bound old new id which is others h = changed bound bound old new id (no_later_self bound)
-    (λ t there. mapped (NoneOfLinkIsBefore bound id) (stopped which) (placed old id) t (λ u was. stopped_behind bound id u which (behind_at bound old id u h was)) (sym is ∙ there)) others h
-
--- none runs
-resting_behind : (bound : RunningTimer) (id : LinkId) (found : Option Timers) (timers : Timers) → IfSome found AreAtRest → found ≡ Some timers → NoneOfLinkIsBefore bound id timers
-resting_behind bound id None timers h is = absurd (cc)
-resting_behind bound id (Some t) timers h is = λ timer deadline own runs.
-    let same : t ≡ timers = cc in
-    let still : deadline_of timer timers ≡ None = subst AreAtRest same h timer in
-    let k : None ≡ Some deadline = sym still ∙ runs in absurd (cc)
-
-pub new_places : (bound : RunningTimer) (s : TimerPlaces) → ((id : LinkId) → IfSome (placed s id) AreAtRest) → NoneIsBefore bound s
-new_places bound s h = none_before bound s (λ id timers is. resting_behind bound id (placed s id) timers (h id) is)
-
--- ---- A bound that is lowered to the timers of a link.
+-- ---- The first of the two timers of a link.
 
 -- the expiries of one timer of a link
 record RunsAsOf (id : LinkId) (timers : Timers) (timer : Timer) (e : RunningTimer) : Type 0 where
@@ -163,13 +40,6 @@ first_of_timer id timers timer (Some deadline) is = (
       inr (same, inr (ap due.place (sym x.is_timer), subst (IsNoLaterLink (Some id)) (sym x.is_of) (link_no_later_self (Some id)))),
 )
 
--- the bound, or T200
-abbrev IsBoundOrT200 : RunningTimer → LinkId → Timers → RunningTimer → Type 0
-IsBoundOrT200 bound id timers e = (e ≡ bound) ⊎ RunsAsOf id timers T200 e
-
-bound_alone : (bound : RunningTimer) → IsFirst (λ (e : RunningTimer). e ≡ bound) (Some bound)
-bound_alone bound = (refl, λ other same. subst (IsNoLater bound) (sym same) (no_later_self bound))
-
 t200_or_t203 : (id : LinkId) (timers : Timers) (timer : Timer) (e : RunningTimer) → e.timer ≡ timer → RunsFor id timers e → RunsAsOf id timers T200 e ⊎ RunsAsOf id timers T203 e
 t200_or_t203 id timers T200 e is x = inl (record { is_of = x.is_of; is_timer = is; until = subst (λ (t : Timer). deadline_of t timers ≡ Some e.deadline) is x.until })
 t200_or_t203 id timers T201 e is x = absurd (subst IsOfLink is x.own)
@@ -183,24 +53,12 @@ runs_as_of id timers timer e own x = record {
   until = subst (λ (t : Timer). deadline_of t timers ≡ Some e.deadline) (sym x.is_timer) x.until;
 }
 
-one_of_three : (bound : RunningTimer) (id : LinkId) (timers : Timers) (e : RunningTimer) → IsOneOf bound id (Some timers) e → IsBoundOrT200 bound id timers e ⊎ RunsAsOf id timers T203 e
-one_of_three bound id timers e (inl same) = inl (inl same)
-one_of_three bound id timers e (inr x) = elim (t200_or_t203 id timers e.timer e refl x) [ inl y ↦ inl (inr y) | inr y ↦ inr y ]
-
-bound_or_t200 : (bound : RunningTimer) (id : LinkId) (timers : Timers) (e : RunningTimer) → IsBoundOrT200 bound id timers e → IsOneOf bound id (Some timers) e
-bound_or_t200 bound id timers e (inl same) = inl same
-bound_or_t200 bound id timers e (inr x) = inr (runs_as_of id timers T200 e tt x)
-
-pub lowered_twice : (bound middle first : RunningTimer) (id : LinkId) (timers : Timers) → IsSooner (Some bound) (option_map (expiry_at id T200) timers.t200) (Some middle)
-    → IsSooner (Some middle) (option_map (expiry_at id T203) timers.t203) (Some first) → IsFirst (IsOneOf bound id (Some timers)) (Some first)
-lowered_twice bound middle first id timers one other = joined (IsBoundOrT200 bound id timers) (RunsAsOf id timers T203) (IsOneOf bound id (Some timers)) (Some middle) (option_map (expiry_at id T203) timers.t203) (Some first)
-    (one_of_three bound id timers) (bound_or_t200 bound id timers) (λ e x. inr (runs_as_of id timers T203 e tt x))
-    (joined (λ (e : RunningTimer). e ≡ bound) (RunsAsOf id timers T200) (IsBoundOrT200 bound id timers) (Some bound) (option_map (expiry_at id T200) timers.t200) (Some middle)
-    (λ e x. x) (λ e x. inl x) (λ e x. inr x) (bound_alone bound) (first_of_timer id timers T200 timers.t200 refl) one)
-    (first_of_timer id timers T203 timers.t203 refl) other
-
-pub not_lowered : (bound : RunningTimer) (id : LinkId) → IsFirst (IsOneOf bound id None) (Some bound)
-not_lowered bound id = bound_alone bound
+pub first_of_both : (id : LinkId) (timers : Timers) (a b first : Option RunningTimer) → a ≡ option_map (expiry_at id T200) timers.t200 → b ≡ option_map (expiry_at id T203) timers.t203 → IsSooner a b first
+    → IsFirst (RunsFor id timers) first
+first_of_both id timers a b first one other is = joined (RunsAsOf id timers T200) (RunsAsOf id timers T203) (RunsFor id timers) a b first
+    (λ e x. t200_or_t203 id timers e.timer e refl x) (λ e x. runs_as_of id timers T200 e tt x) (λ e x. runs_as_of id timers T203 e tt x)
+    (subst (IsFirst (RunsAsOf id timers T200)) (sym one) (first_of_timer id timers T200 timers.t200 refl))
+    (subst (IsFirst (RunsAsOf id timers T203)) (sym other) (first_of_timer id timers T203 timers.t203 refl)) is
 
 -- ---- Timers at rest.
 
@@ -227,124 +85,141 @@ new_rest s durations Call tei call packet = rest_among durations s.call.items te
 new_rest s durations Packet tei call packet = rest_among durations s.packet.items tei (slice_get s.packet.items tei) packet refl
 new_rest s durations Management tei call packet = tt
 
--- ---- The timers of both SAPIs.
+-- ---- At each place of the tournament.
 
-runs_at : (s : TimerPlaces) (sapi : Sapi) (tei : ℕ) (e : RunningTimer) → e.of ≡ Some (of_sapi sapi tei) → Runs (of_places s) e
-    → RunsBelow Call s.call.items (length s.call.items) e ⊎ RunsBelow Packet s.packet.items (length s.packet.items) e
+abbrev entry_place_of : LinkId → Option ℕ
+entry_place_of id = entry_place id.sapi id.tei
+
+-- the timers of a link run at its place
+record Stands (s : TimerPlaces) (e : RunningTimer) : Type 0 where
+  at : ℕ
+  there : RunsAt s at e
+
+stands_at : (s : TimerPlaces) (sapi : Sapi) (tei : ℕ) (e : RunningTimer) → e.of ≡ Some (of_sapi sapi tei) → Runs (of_places s) e → Stands s e
 unfolding placed
-runs_at s Call tei e is h =
-    let there : slice_get s.call.items tei ≡ Some h.its = sym (ap (of_places s) is) ∙ h.there in
-    inl (record { tei = tei; below = slice_get_within s.call.items tei h.its there; timers = h.its; there = there; runs = record { is_of = is; own = subst (λ (of : Option LinkId). IsTimerOf of e.timer) is h.own; until = h.until } })
-runs_at s Packet tei e is h =
-    let there : slice_get s.packet.items tei ≡ Some h.its = sym (ap (of_places s) is) ∙ h.there in
-    inr (record { tei = tei; below = slice_get_within s.packet.items tei h.its there; timers = h.its; there = there; runs = record { is_of = is; own = subst (λ (of : Option LinkId). IsTimerOf of e.timer) is h.own; until = h.until } })
-runs_at s Management tei e is h = let there : None ≡ Some h.its = sym (ap (of_places s) is) ∙ h.there in absurd (cc)
+stands_at s Call tei e is x = record { at = tei; there = record { id = of_sapi Call tei; is_of = is; stands = refl; runs = x } }
+stands_at s Packet tei e is x = record { at = 128 + tei; there = record { id = of_sapi Packet tei; is_of = is; stands = refl; runs = x } }
+stands_at s Management tei e is x = let there : None ≡ Some x.its = sym (ap (of_places s) is) ∙ x.there in absurd (cc)
 
-runs_somewhere : (s : TimerPlaces) (of : Option LinkId) (e : RunningTimer) → e.of ≡ of → Runs (of_places s) e
-    → RunsBelow Call s.call.items (length s.call.items) e ⊎ RunsBelow Packet s.packet.items (length s.packet.items) e
-runs_somewhere s None e is h = let there : None ≡ Some h.its = sym (ap (of_places s) is) ∙ h.there in absurd (cc)
-runs_somewhere s (Some id) e is h = runs_at s id.sapi id.tei e is h
+stands : (s : TimerPlaces) (of : Option LinkId) (e : RunningTimer) → e.of ≡ of → Runs (of_places s) e → Stands s e
+stands s None e is x = let there : None ≡ Some x.its = sym (ap (of_places s) is) ∙ x.there in absurd (cc)
+stands s (Some id) e is x = stands_at s id.sapi id.tei e is x
 
-runs_call : (s : TimerPlaces) (n : ℕ) (e : RunningTimer) → RunsBelow Call s.call.items n e → Runs (of_places s) e
-unfolding placed
-runs_call s n e h = record {
-  its = h.timers;
-  there = ap (of_places s) h.runs.is_of ∙ h.there;
-  own = subst (λ (of : Option LinkId). IsTimerOf of e.timer) (sym h.runs.is_of) h.runs.own;
-  until = h.runs.until;
-}
+entry_behind : (A : RunningTimer → Type 0) (found : Option RunningTimer) (e : RunningTimer) → IsFirst A found → A e → IsBehind found e
+entry_behind A None e h x = absurd (h e x)
+entry_behind A (Some f) e h x = record { first = f; there = refl; low = h.1 e x }
 
-runs_packet : (s : TimerPlaces) (n : ℕ) (e : RunningTimer) → RunsBelow Packet s.packet.items n e → Runs (of_places s) e
-unfolding placed
-runs_packet s n e h = record {
-  its = h.timers;
-  there = ap (of_places s) h.runs.is_of ∙ h.there;
-  own = subst (λ (of : Option LinkId). IsTimerOf of e.timer) (sym h.runs.is_of) h.runs.own;
-  until = h.runs.until;
-}
+behind_entered : (s : TimerPlaces) (entries : List (Option RunningTimer)) (e : RunningTimer) (x : Stands s e) → AreEntered s entries → IsBehind (entry entries x.at) e
+behind_entered s entries e x h = entry_behind (RunsAt s x.at) (entry entries x.at) e (h x.at) x.there
 
-pub first_of_places : (s : TimerPlaces) (call packet first : Option RunningTimer) → IsFirst (RunsBelow Call s.call.items (length s.call.items)) call
-    → IsFirst (RunsBelow Packet s.packet.items (length s.packet.items)) packet → IsSooner call packet first → IsFirst (Runs (of_places s)) first
-first_of_places s call packet first h k sooner = joined _ _ (Runs (of_places s)) call packet first
-    (λ e x. runs_somewhere s e.of e refl x) (λ e x. runs_call s _ e x) (λ e x. runs_packet s _ e x) h k sooner
-
--- ---- From the place of a bound on.
-
--- two that are the same timer as the bound with the same deadline come in the order of their links
-alike_by_link : (A B : RunningTimer → Type 0) (bound a b : RunningTimer) → IsAlike bound A a → IsAlike bound B b → IsNoLaterLink a.of b.of → IsNoLater a b
-alike_by_link A B bound a b x y link = inr (x.deadline ∙ sym y.deadline, inr (ap due.place (x.timer ∙ sym y.timer), link))
-
-alike_over : (A B : RunningTimer → Type 0) (bound e : RunningTimer) → (A e → B e) → IsAlike bound A e → IsAlike bound B e
-alike_over A B bound e over x = record { among = over x.among; deadline = x.deadline; timer = x.timer; link = x.link }
-
-call_before_packet : (m n : ℕ) → IsNoLaterLink (Some (of_sapi Call m)) (Some (of_sapi Packet n))
-call_before_packet m n = inl (omega arith)
-
-call_before : (a b : RunningTimer) (m n : ℕ) → a.of ≡ Some (of_sapi Call m) → b.of ≡ Some (of_sapi Packet n) → IsNoLaterLink a.of b.of
-call_before a b m n call packet = subst (λ (of : Option LinkId). IsNoLaterLink of b.of) (sym call) (subst (IsNoLaterLink (Some (of_sapi Call m))) (sym packet) (call_before_packet m n))
-
-pub alike_of_call : (s : TimerPlaces) (bound a : RunningTimer) → IsFirst (IsAlike bound (RunsBelow Call s.call.items (length s.call.items))) (Some a) → IsFirst (IsAlike bound (Runs (of_places s))) (Some a)
-alike_of_call s bound a h = (
-  alike_over _ _ bound a (runs_call s _ a) h.0,
-  λ e x. elim (runs_somewhere s e.of e refl x.among) [
-    | inl y ↦ h.1 e (alike_over _ _ bound e (λ _. y) x)
-    | inr y ↦ alike_by_link _ _ bound a e h.0 x (call_before a e h.0.among.tei y.tei h.0.among.runs.is_of y.runs.is_of)
-  ],
+-- the first of all that are entered is the first of all that run
+pub first_of_entries : (s : TimerPlaces) (entries : List (Option RunningTimer)) (first : Option RunningTimer) → AreEntered s entries → IsFirst (IsEntered entries) first → IsFirst (Runs (of_places s)) first
+first_of_entries s entries None h k = λ e x.
+    let place = stands s e.of e refl x in
+    let behind = behind_entered s entries e place h in
+    k behind.first (record { at = place.at; there = behind.there })
+first_of_entries s entries (Some a) h k = (
+  (subst (IsFirst (RunsAt s k.0.at)) k.0.there (h k.0.at)).0.runs,
+  λ e x.
+      let place = stands s e.of e refl x in
+      let behind = behind_entered s entries e place h in
+      no_later_chained a behind.first e (k.1 behind.first (record { at = place.at; there = behind.there })) behind.low,
 )
 
-alike_somewhere : (s : TimerPlaces) (bound e : RunningTimer) → IsAlike bound (Runs (of_places s)) e
-    → IsAlike bound (RunsBelow Call s.call.items (length s.call.items)) e ⊎ IsAlike bound (RunsBelow Packet s.packet.items (length s.packet.items)) e
-alike_somewhere s bound e x = elim (runs_somewhere s e.of e refl x.among) [
-  | inl y ↦ inl (alike_over _ _ bound e (λ _. y) x)
-  | inr y ↦ inr (alike_over _ _ bound e (λ _. y) x)
+-- ---- The places of a side, of which one is changed.
+
+within_at : (s : TimerPlaces) (sapi : Sapi) (tei : ℕ) (timers : Timers) → placed s (of_sapi sapi tei) ≡ Some timers → tei < 127
+unfolding placed
+within_at s Call tei timers is = omega (arith, slice_get_within s.call.items tei timers is, s.room.call_places)
+within_at s Packet tei timers is = omega (arith, slice_get_within s.packet.items tei timers is, s.room.packet_places)
+within_at s Management tei timers is = absurd (cc)
+
+same_link_at : (a b : Sapi) (m n at : ℕ) → entry_place a m ≡ Some at → entry_place b n ≡ Some at → m < 127 → n ≤ 127 → of_sapi a m ≡ of_sapi b n
+same_link_at Call Call m n at p q low high = ap (of_sapi Call) (same_Some m at p ∙ sym (same_Some n at q))
+same_link_at Packet Packet m n at p q low high = ap (of_sapi Packet) (omega (arith, same_Some (128 + m) at p, same_Some (128 + n) at q))
+same_link_at Call Packet m n at p q low high = absurd (omega (arith, same_Some m at p, same_Some (128 + n) at q, low))
+same_link_at Packet Call m n at p q low high = absurd (omega (arith, same_Some (128 + m) at p, same_Some n at q, high))
+same_link_at Management b m n at p q low high = absurd (cc)
+same_link_at Call Management m n at p q low high = absurd (cc)
+same_link_at Packet Management m n at p q low high = absurd (cc)
+
+runs_there : (s : TimerPlaces) (id : LinkId) (at : ℕ) (found : Option Timers) (e : RunningTimer) → placed s id ≡ found → entry_place_of id ≡ Some at → RunsForPlaced id found e → RunsAt s at e
+runs_there s id at None e is stands h = absurd h
+runs_there s id at (Some timers) e is stands h = record {
+  id = id;
+  is_of = h.is_of;
+  stands = stands;
+  runs = record {
+    its = timers;
+    there = ap (of_places s) h.is_of ∙ is;
+    own = subst (λ (of : Option LinkId). IsTimerOf of e.timer) (sym h.is_of) h.own;
+    until = h.until;
+  };
+}
+
+placed_there : (s : TimerPlaces) (at : ℕ) (e : RunningTimer) → (x : RunsAt s at e) → placed s x.id ≡ Some x.runs.its
+placed_there s at e x = sym (ap (of_places s) x.is_of) ∙ x.runs.there
+
+runs_back : (s : TimerPlaces) (id : LinkId) (at : ℕ) (e : RunningTimer) → id.tei ≤ 127 → entry_place_of id ≡ Some at → RunsAt s at e → RunsForPlaced id (placed s id) e
+runs_back s id at e tei stands x =
+    let there = placed_there s at e x in
+    let same : x.id ≡ id = same_link_at x.id.sapi id.sapi x.id.tei id.tei at x.stands stands (within_at s x.id.sapi x.id.tei x.runs.its there) tei in
+    let runs : RunsFor x.id x.runs.its e = record { is_of = x.is_of; own = subst (λ (of : Option LinkId). IsTimerOf of e.timer) x.is_of x.runs.own; until = x.runs.until } in
+    subst (λ (k : LinkId). RunsForPlaced k (placed s k) e) same (subst (λ (o : Option Timers). RunsForPlaced x.id o e) (sym there) runs)
+
+runs_over_places : (a b : TimerPlaces) (at : ℕ) (e : RunningTimer) → (x : RunsAt a at e) → placed b x.id ≡ placed a x.id → RunsAt b at e
+runs_over_places a b at e x same = record {
+  id = x.id;
+  is_of = x.is_of;
+  stands = x.stands;
+  runs = record { its = x.runs.its; there = ap (of_places b) x.is_of ∙ (same ∙ placed_there a at e x); own = x.runs.own; until = x.runs.until };
+}
+
+is_or_not : (o : Option ℕ) (at : ℕ) → (o ≡ Some at) ⊎ (o ≢ Some at)
+is_or_not None at = inr (λ q. absurd (cc))
+is_or_not (Some n) at = elim (cases_eq n at) [
+  | inl same ↦ inl (ap (λ (m : ℕ). Some m) same)
+  | inr differ ↦ inr (λ q. differ (same_Some n at q))
 ]
 
-pub alike_of_packet : (s : TimerPlaces) (bound : RunningTimer) (first : Option RunningTimer) → IsFirst (IsAlike bound (RunsBelow Call s.call.items (length s.call.items))) None
-    → IsFirst (IsAlike bound (RunsBelow Packet s.packet.items (length s.packet.items))) first → IsFirst (IsAlike bound (Runs (of_places s))) first
-alike_of_packet s bound first h k = joined _ _ (IsAlike bound (Runs (of_places s))) None first first (alike_somewhere s bound)
-    (λ e x. alike_over _ _ bound e (runs_call s _ e) x) (λ e x. alike_over _ _ bound e (runs_packet s _ e) x) h k refl
+elsewhere : (s : TimerPlaces) (id : LinkId) (at : ℕ) (e : RunningTimer) → (x : RunsAt s at e) → entry_place_of id ≢ Some at → x.id ≢ id
+elsewhere s id at e x other = λ same. other (sym (ap (λ (k : LinkId). entry_place k.sapi k.tei) same) ∙ x.stands)
 
-own_of_link : (s : TimerPlaces) (of : Option LinkId) (e : RunningTimer) → e.of ≡ of → Runs (of_places s) e → IsOfLink e.timer
-own_of_link s None e is x = let there : None ≡ Some x.its = sym (ap (of_places s) is) ∙ x.there in absurd (cc)
-own_of_link s (Some id) e is x = subst (λ (of : Option LinkId). IsTimerOf of e.timer) is x.own
-
--- what no link has is no timer of a link
-pub none_alike : (s : TimerPlaces) (bound : RunningTimer) → (IsOfLink bound.timer → ⊥) → IsFirst (IsAlike bound (Runs (of_places s))) None
-none_alike s bound none = λ e x. none (subst IsOfLink x.timer (own_of_link s e.of e refl x.among))
-
--- what comes no earlier than the bound comes behind the first that is alike
-behind_alike : (A : RunningTimer → Type 0) (bound a e : RunningTimer) → IsAlike bound A a → IsNoLater bound e → (IsAlike bound A e → IsNoLater a e) → A e → IsNoLater a e
-behind_alike A bound a e x (inl less) rest y = inl (omega (arith, x.deadline, less))
-behind_alike A bound a e x (inr same) rest y = elim (same.1) [
-  | inl less ↦ inr (x.deadline ∙ same.0, inl (subst (λ (t : Timer). due.place t < due.place e.timer) (sym x.timer) less))
-  | inr link ↦ rest (record { among = y; deadline = sym same.0; timer = same_place e.timer bound.timer (sym link.0); link = link.1 })
+pub entered_anew : (old new : TimerPlaces) (before after : List (Option RunningTimer)) (id : LinkId) (found : Option Timers) → found ≡ placed new id → id.tei ≤ 127
+    → ((at : ℕ) → entry_place id.sapi id.tei ≡ Some at → IsFirst (RunsForPlaced id found) (entry after at))
+    → ((at : ℕ) → entry_place id.sapi id.tei ≢ Some at → entry after at ≡ entry before at)
+    → ((k : LinkId) → k ≢ id → placed new k ≡ placed old k) → AreEntered old before → AreEntered new after
+entered_anew old new before after id found is tei own others places h = λ at. elim (is_or_not (entry_place id.sapi id.tei) at) [
+  | inl stands ↦ same_first (RunsForPlaced id found) (RunsAt new at) (entry after at)
+      (λ e x. runs_there new id at found e (sym is) stands x)
+      (λ e x. subst (λ (o : Option Timers). RunsForPlaced id o e) (sym is) (runs_back new id at e tei stands x)) (own at stands)
+  | inr other ↦ same_first (RunsAt old at) (RunsAt new at) (entry after at)
+      (λ e x. runs_over_places old new at e x (places x.id (elsewhere old id at e x other)))
+      (λ e x. runs_over_places new old at e x (sym (places x.id (elsewhere new id at e x other))))
+      (subst (IsFirst (RunsAt old at)) (sym (others at other)) (h at))
 ]
 
-pub alike_is_first : (s : TimerPlaces) (bound a : RunningTimer) → NoneIsBefore bound s → IsFirst (IsAlike bound (Runs (of_places s))) (Some a) → IsFirst (Runs (of_places s)) (Some a)
-alike_is_first s bound a h k = (k.0.among, λ e x. behind_alike (Runs (of_places s)) bound a e k.0 (bounded s bound e h x) (k.1 e) x)
+resting : (found : Option Timers) (its : Timers) (timer : Timer) (deadline : ℕ) → IfSome found AreAtRest → found ≡ Some its → deadline_of timer its ≡ Some deadline → ⊥
+resting None its timer deadline h is runs = absurd (cc)
+resting (Some t) its timer deadline h is runs =
+    let same : t ≡ its = cc in
+    let k : None ≡ Some deadline = sym (subst AreAtRest same h timer) ∙ runs in absurd (cc)
 
--- ---- The bound, and what is due.
+-- none runs, and none is entered
+pub none_entered_yet : (s : TimerPlaces) (entries : List (Option RunningTimer)) → ((id : LinkId) → IfSome (placed s id) AreAtRest) → ((at : ℕ) → entry entries at ≡ None) → AreEntered s entries
+none_entered_yet s entries rest none = λ at. subst (IsFirst (RunsAt s at)) (sym (none at))
+    (λ e x. resting (placed s x.id) x.runs.its e.timer e.deadline (rest x.id) (placed_there s at e x) x.runs.until)
 
-earliest : (A : RunningTimer → Type 0) (first : Option RunningTimer) → IsFirst A first → (e : RunningTimer) → A e → (expiry_or_last first).deadline ≤ e.deadline
-earliest A None h e x = absurd (h e x)
-earliest A (Some a) h e x = earlier_deadline a e (h.1 e x)
+-- ---- What is due of those that run.
 
--- the first that runs is a bound
-pub first_is_bound : (s : TimerPlaces) (first : Option RunningTimer) → IsFirst (Runs (of_places s)) first → NoneIsBefore (expiry_or_last first) s
-unfolding NoneIsBefore
-first_is_bound s None h = λ e x before. h e x
-first_is_bound s (Some a) h = λ e x before. before (h.1 e x)
+pub none_runs : (now : ℕ) (timers : Option LinkId → Option Timers) → IsFirst (Runs timers) None → IsFirst (IsPast now timers) None
+none_runs now timers h = λ e x. h e x.runs
 
--- before the deadline of the bound none is due
-pub none_due_before : (s : TimerPlaces) (bound : RunningTimer) (now : ℕ) → NoneIsBefore bound s → now < bound.deadline → IsFirst (IsPast now (of_places s)) None
-none_due_before s bound now h early e x = omega (arith, x.is_past, early, earlier_deadline bound e (bounded s bound e h x.runs))
+pub first_is_past : (now : ℕ) (timers : Option LinkId → Option Timers) (a : RunningTimer) → IsFirst (Runs timers) (Some a) → a.deadline ≤ now → IsFirst (IsPast now timers) (Some a)
+first_is_past now timers a h past = (record { runs = h.0; is_past = past }, λ e x. h.1 e x.runs)
 
-pub first_is_past : (now : ℕ) (timers : Option LinkId → Option Timers) (first : Option RunningTimer) → IsFirst (Runs timers) first → (expiry_or_last first).deadline ≤ now → IsFirst (IsPast now timers) first
-first_is_past now timers None h past = λ e x. h e x.runs
-first_is_past now timers (Some a) h past = (record { runs = h.0; is_past = past }, λ e x. h.1 e x.runs)
-
-pub none_is_past : (now : ℕ) (timers : Option LinkId → Option Timers) (first : Option RunningTimer) → IsFirst (Runs timers) first → now < (expiry_or_last first).deadline → IsFirst (IsPast now timers) None
-none_is_past now timers first h later = λ e x. omega (arith, x.is_past, earliest (Runs timers) first h e x.runs)
+pub first_is_later : (now : ℕ) (timers : Option LinkId → Option Timers) (a : RunningTimer) → IsFirst (Runs timers) (Some a) → now < a.deadline → IsFirst (IsPast now timers) None
+first_is_later now timers a h later = λ e x. omega (arith, x.is_past, later, earlier_deadline a e (h.1 e x.runs))
 
 pub own_timer : (now : ℕ) (timers : Option LinkId → Option Timers) (first : Option RunningTimer) → IsFirst (IsPast now timers) first → IfSome first (λ e. IsTimerOf e.of e.timer)
 own_timer now timers None h = tt
@@ -417,9 +292,12 @@ deadline_of_first s (Some a) h = record {
   due = (record { runs = h.0; is_past = omega arith }, λ e x. h.1 e x.runs);
 }
 
-pub next_of_served : (s : Served) (own link first : Option RunningTimer) (deadline : Option ℕ) → IsFirst (Runs (of_management s.timers)) own → IsFirst (Runs (of_links s.links)) link
-    → IsSooner own link first → deadline ≡ option_map (λ (e : RunningTimer). e.deadline) first → IsNextDeadline s deadline
-next_of_served s own link first deadline h k sooner is = subst (IsNextDeadline s) (sym is) (deadline_of_first s first (first_that_runs s own link first h k sooner))
+-- before the next moment nothing is due, nor ever where there is none
+pub quiet_before : (s : Served) (moment : ℕ) → IsNextDeadline s (Some moment) → IsQuietUntil s moment
+quiet_before s moment h = h.before
+
+pub quiet_ever : (s : Served) (moment : ℕ) → IsNextDeadline s None → IsQuietUntil s moment
+quiet_ever s moment h = λ now early. h now
 
 -- ---- TEI management alone.
 
@@ -475,12 +353,42 @@ runs_one_of_four timers None e is h =
     one_of_four timers e.timer e refl is (subst (λ (t : Timers). deadline_of e.timer t ≡ Some e.deadline) same h.until)
 runs_one_of_four timers (Some id) e is h = let there : None ≡ Some h.its = sym (ap (of_management timers) is) ∙ h.there in absurd (cc)
 
-pub first_of_own : (timers : Timers) (t200 t201 t202 t203 early late first : Option RunningTimer)
+first_of_own : (timers : Timers) (t200 t201 t202 t203 early late first : Option RunningTimer)
     → t200 ≡ option_map (own_expiry_at T200) timers.t200 → t201 ≡ option_map (own_expiry_at T201) timers.t201 → t202 ≡ option_map (own_expiry_at T202) timers.t202 → t203 ≡ option_map (own_expiry_at T203) timers.t203
     → IsSooner t200 t201 early → IsSooner t202 t203 late → IsSooner early late first → IsFirst (Runs (of_management timers)) first
 first_of_own timers t200 t201 t202 t203 early late first a b c d one other both = joined (RunsAsEither timers T200 T201) (RunsAsEither timers T202 T203) (Runs (of_management timers)) early late first
     (λ e x. runs_one_of_four timers e.of e refl x) (runs_as_either timers T200 T201) (runs_as_either timers T202 T203)
     (first_of_two timers T200 T201 t200 t201 early a b one) (first_of_two timers T202 T203 t202 t203 late c d other) both
+
+own_deadline : (timer : Timer) (at : Option ℕ) → deadline (option_map (own_expiry_at timer) at) ≡ at
+own_deadline timer None = refl
+own_deadline timer (Some at) = refl
+
+record FirstOfOwn (timers : Timers) : Type 0 where
+  first : Option RunningTimer
+  is_first : IsFirst (Runs (of_management timers)) first
+  is_least : deadline first ≡ earlier (earlier timers.t200 timers.t201) (earlier timers.t202 timers.t203)
+
+least_of_own : (timers : Timers) → FirstOfOwn timers
+least_of_own timers =
+    let early = sooner_of (option_map (own_expiry_at T200) timers.t200) (option_map (own_expiry_at T201) timers.t201) in
+    let late = sooner_of (option_map (own_expiry_at T202) timers.t202) (option_map (own_expiry_at T203) timers.t203) in
+    let both = sooner_of early.first late.first in
+    let one : deadline early.first ≡ earlier timers.t200 timers.t201 = sooner_deadline _ _ _ early.is ∙ ap (λ (x : Option ℕ). earlier x (deadline (option_map (own_expiry_at T201) timers.t201))) (own_deadline T200 timers.t200) ∙ ap (earlier timers.t200) (own_deadline T201 timers.t201) in
+    let other : deadline late.first ≡ earlier timers.t202 timers.t203 = sooner_deadline _ _ _ late.is ∙ ap (λ (x : Option ℕ). earlier x (deadline (option_map (own_expiry_at T203) timers.t203))) (own_deadline T202 timers.t202) ∙ ap (earlier timers.t202) (own_deadline T203 timers.t203) in
+    record {
+      first = both.first;
+      is_first = first_of_own timers _ _ _ _ early.first late.first both.first refl refl refl refl early.is late.is both.is;
+      is_least = sooner_deadline _ _ _ both.is ∙ ap (λ (x : Option ℕ). earlier x (deadline late.first)) one ∙ ap (earlier (earlier timers.t200 timers.t201)) other;
+    }
+
+pub next_of_served : (s : Served) (link : Option RunningTimer) (next : Option ℕ) → IsFirst (Runs (of_links s.links)) link
+    → next ≡ earlier (earlier (earlier s.timers.t200 s.timers.t201) (earlier s.timers.t202 s.timers.t203)) (deadline link) → IsNextDeadline s next
+next_of_served s link next h is =
+    let own = least_of_own s.timers in
+    let first = sooner_of own.first link in
+    let same : deadline first.first ≡ next = sooner_deadline _ _ _ first.is ∙ ap (λ (x : Option ℕ). earlier x (deadline link)) own.is_least ∙ sym is in
+    subst (IsNextDeadline s) same (deadline_of_first s first.first (first_that_runs s own.first link first.first own.is_first h first.is))
 
 expired_at : (now : ℕ) (timers : Timers) (of : Option LinkId) (e : RunningTimer) → e.of ≡ of → IsPast now (of_management timers) e → deadline_of e.timer timers ≡ Some e.deadline
 expired_at now timers None e is h =

@@ -5,3 +5,4 @@ pub mod Units
 pub mod Order
 pub mod Dues
 pub mod Outcomes
+pub mod Tournaments

@@ -1,18 +1,17 @@
--- The order of expiries, the first of several, and those that are the same timer with the same deadline.
-use Rattle.std.proofs.Common.{◌≡◌, ℕ, zero, suc, ◌+◌, ◌<◌, ◌≤◌, List, length, Option, Some, None, inl, inr, refl, sym, ap, subst, ◌∙◌, arith, ◌⊎◌}
+-- The order of expiries, and the first of several.
+use Rattle.std.proofs.Common.{◌≡◌, ℕ, zero, suc, ◌<◌, ◌≤◌, Option, Some, None, option_map, inl, inr, refl, sym, ap, subst, ◌∙◌, arith, ◌⊎◌}
 use Rattle.std.proofs.lemmas.Bool.{cases_lt}
-use Rattle.std.proofs.lemmas.Option.{slice_get_within}
-use Rattle.std.specs.Prelude.{slice_get}
 use Rattle.lapd_timers.specs.declared.timer.Timer.{Timer}
 use Rattle.lapd_timers.specs.declared.timer.Timer.TheVariants.{T200, T201, T202, T203}
-use Rattle.lapd_timers.specs.Due.{Timers, deadline_of, place}
+use Rattle.lapd_timers.specs.Due.{place}
 use Rattle.lapd_frame.specs.declared.Sapi.{Sapi}
+use Rattle.lapd_frame.specs.declared.Sapi.TheVariants.{Call, Packet, Management}
 use Rattle.lapd_frame.specs.Address.{sapi_value}
 use Rattle.lapd_table.specs.declared.link_id.LinkId.{LinkId}
 use Rattle.lapd_sides_links.specs.declared.running_timer.RunningTimer.{RunningTimer}
-use Rattle.lapd_sides_links.specs.Links.{IsOfLink, of_sapi}
+use Rattle.lapd_sides_links.specs.Links.{of_sapi}
 use Rattle.lapd_sides_links.specs.Expiries.{IsNoLaterLink, IsNoLater, IsFirst}
-use Rattle.lapd_sides_links.specs.Places.{RunsFor, RunsBelow, IsAlike, IsSooner, expiry_at}
+use Rattle.lapd_sides_links.specs.Places.{IsSooner, earlier}
 
 -- ---- The order.
 
@@ -46,52 +45,34 @@ link_no_later_self (Some a) = inr (refl, omega arith)
 pub no_later_self : (a : RunningTimer) → IsNoLater a a
 no_later_self a = inr (refl, inr (refl, link_no_later_self a.of))
 
--- of two it is settled whether the one comes no later
-abbrev IsSettled : Type 0 → Type 0
-IsSettled P = P ⊎ (P → ⊥)
-
-settled_behind : (m n : ℕ) (Then : Type 0) → n ≤ m → IsSettled Then → IsSettled (Lexicographic m n Then)
-settled_behind m n Then low (inr none) = inr (λ h. elim h [ inl less ↦ omega (arith, low, less) | inr same ↦ none same.1 ])
-settled_behind m n Then low (inl rest) = elim (cases_lt n m) [
-  | inl more ↦ inr (λ h. elim h [ inl less ↦ omega (arith, more, less) | inr same ↦ omega (arith, more, same.0) ])
-  | inr other ↦ inl (inr (omega (arith, low, other), rest))
+-- of two the one comes no later, or the other
+either_tail : (m n : ℕ) (Then Else : Type 0) → n ≤ m → Then ⊎ Else → Lexicographic m n Then ⊎ Lexicographic n m Else
+either_tail m n Then Else low rest = elim (cases_lt n m) [
+  | inl more ↦ inr (inl more)
+  | inr other ↦
+      let same : m ≡ n = omega (arith, low, other) in
+      elim rest [ inl a ↦ inl (inr (same, a)) | inr b ↦ inr (inr (sym same, b)) ]
 ]
 
-settled : (m n : ℕ) (Then : Type 0) → IsSettled Then → IsSettled (Lexicographic m n Then)
-settled m n Then h = elim (cases_lt m n) [
+either_first : (m n : ℕ) (Then Else : Type 0) → Then ⊎ Else → Lexicographic m n Then ⊎ Lexicographic n m Else
+either_first m n Then Else rest = elim (cases_lt m n) [
   | inl less ↦ inl (inl less)
-  | inr low ↦ settled_behind m n Then low h
+  | inr low ↦ either_tail m n Then Else low rest
 ]
 
-tei_settled : (a b : ℕ) → IsSettled (a ≤ b)
-tei_settled a b = elim (cases_lt b a) [
-  | inl less ↦ inr (λ h. omega (arith, less, h))
+either_tei : (a b : ℕ) → (a ≤ b) ⊎ (b ≤ a)
+either_tei a b = elim (cases_lt b a) [
+  | inl less ↦ inr (omega (arith, less))
   | inr low ↦ inl low
 ]
 
-link_settled : (x y : Option LinkId) → IsSettled (IsNoLaterLink x y)
-link_settled None y = inl tt
-link_settled (Some x) None = inr (λ h. h)
-link_settled (Some x) (Some y) = settled (sapi_value x.sapi) (sapi_value y.sapi) (x.tei ≤ y.tei) (tei_settled x.tei y.tei)
+either_link : (x y : Option LinkId) → IsNoLaterLink x y ⊎ IsNoLaterLink y x
+either_link None y = inl tt
+either_link (Some x) None = inr tt
+either_link (Some x) (Some y) = either_first (sapi_value x.sapi) (sapi_value y.sapi) _ _ (either_tei x.tei y.tei)
 
-pub no_later_decided : (a b : RunningTimer) → IsSettled (IsNoLater a b)
-no_later_decided a b = settled a.deadline b.deadline _ (settled (place a.timer) (place b.timer) _ (link_settled a.of b.of))
-
-timer_at : ℕ → Timer
-timer_at zero = T200
-timer_at (suc zero) = T201
-timer_at (suc (suc zero)) = T202
-timer_at (suc (suc (suc n))) = T203
-
-timer_again : (t : Timer) → timer_at (place t) ≡ t
-unfolding timer_at
-timer_again T200 = refl
-timer_again T201 = refl
-timer_again T202 = refl
-timer_again T203 = refl
-
-pub same_place : (a b : Timer) → place a ≡ place b → a ≡ b
-same_place a b same = sym (timer_again a) ∙ (ap timer_at same ∙ timer_again b)
+either_no_later : (a b : RunningTimer) → IsNoLater a b ⊎ IsNoLater b a
+either_no_later a b = either_first a.deadline b.deadline _ _ (either_first (place a.timer) (place b.timer) _ _ (either_link a.of b.of))
 
 pub earlier_deadline : (a b : RunningTimer) → IsNoLater a b → a.deadline ≤ b.deadline
 earlier_deadline a b (inl less) = omega arith
@@ -112,75 +93,81 @@ pub same_first : (A B : RunningTimer → Type 0) (a : Option RunningTimer) → (
 same_first A B None there back h = λ e x. h e (back e x)
 same_first A B (Some a) there back h = (there a h.0, λ e x. h.1 e (back e x))
 
--- ---- All links of a SAPI, one after another.
+-- ---- The sooner of two is there, and its deadline is the earlier.
 
-at_place : (sapi : Sapi) (places : List Timers) (n : ℕ) (timers : Timers) → slice_get places n ≡ Some timers → (e : RunningTimer) → (h : RunsBelow sapi places (n + 1) e) → h.tei ≡ n → RunsFor (of_sapi sapi n) timers e
-at_place sapi places n timers is e h same =
-    let k : Some h.timers ≡ Some timers = sym h.there ∙ (ap (slice_get places) same ∙ is) in
-    let t : h.timers ≡ timers = cc in
-    subst (λ (x : Timers). RunsFor (of_sapi sapi n) x e) t (subst (λ (m : ℕ). RunsFor (of_sapi sapi m) h.timers e) same h.runs)
+pub record HasSooner (a b : Option RunningTimer) : Type 0 where
+  pub first : Option RunningTimer
+  pub is : IsSooner a b first
 
-pub one_place_more : (sapi : Sapi) (places : List Timers) (n : ℕ) (timers : Timers) (a b c : Option RunningTimer) → slice_get places n ≡ Some timers
-    → IsFirst (RunsBelow sapi places n) a → IsFirst (RunsFor (of_sapi sapi n) timers) b → IsSooner a b c → IsFirst (RunsBelow sapi places (n + 1)) c
-one_place_more sapi places n timers a b c is h k sooner = joined (RunsBelow sapi places n) (RunsFor (of_sapi sapi n) timers) (RunsBelow sapi places (n + 1)) a b c
-    (λ e x. elim (cases_lt x.tei n) [
-      | inl below ↦ inl (record { tei = x.tei; below = below; timers = x.timers; there = x.there; runs = x.runs })
-      | inr other ↦ inr (at_place sapi places n timers is e x (omega (arith, x.below)))
-    ])
-    (λ e x. record { tei = x.tei; below = omega (arith, x.below); timers = x.timers; there = x.there; runs = x.runs })
-    (λ e x. record { tei = n; below = omega arith; timers = timers; there = is; runs = x })
-    h k sooner
-
--- ---- Those of a SAPI that are the same timer as a bound with the same deadline, from its link on.
-
--- below the least TEI that does not come before the link of the bound there is none
-pub none_alike_below : (bound : RunningTimer) (sapi : Sapi) (places : List Timers) (least : ℕ) → length places ≤ 128
-    → ((tei : ℕ) → tei < 128 → IsNoLaterLink bound.of (Some (of_sapi sapi tei)) → least ≤ tei) → IsFirst (IsAlike bound (RunsBelow sapi places least)) None
-none_alike_below bound sapi places least room all = λ e x.
-    let within = slice_get_within places x.among.tei x.among.timers x.among.there in
-    let low = all x.among.tei (omega (arith, room, within)) (subst (IsNoLaterLink bound.of) x.among.runs.is_of x.link) in
-    omega (arith, low, x.among.below)
-
-among_fewer : (bound : RunningTimer) (sapi : Sapi) (places : List Timers) (m n : ℕ) (e : RunningTimer) → (x : IsAlike bound (RunsBelow sapi places m) e) → x.among.tei < n → IsAlike bound (RunsBelow sapi places n) e
-among_fewer bound sapi places m n e x less = record {
-  among = record { tei = x.among.tei; below = less; timers = x.among.timers; there = x.among.there; runs = x.among.runs };
-  deadline = x.deadline;
-  timer = x.timer;
-  link = x.link;
-}
-
-pub none_alike_among_fewer : (bound : RunningTimer) (sapi : Sapi) (places : List Timers) (m n : ℕ) → m ≤ n → IsFirst (IsAlike bound (RunsBelow sapi places n)) None → IsFirst (IsAlike bound (RunsBelow sapi places m)) None
-none_alike_among_fewer bound sapi places m n few h = λ e x. h e (among_fewer bound sapi places m n e x (omega (arith, few, x.among.below)))
-
--- at this place runs the same timer with the same deadline
-abbrev RunsAlike : RunningTimer → Timers → Type 0
-RunsAlike bound timers = deadline_of bound.timer timers ≡ Some bound.deadline
-
-alike_at_place : (bound : RunningTimer) (sapi : Sapi) (places : List Timers) (n : ℕ) (timers : Timers) → slice_get places n ≡ Some timers → (e : RunningTimer) → (x : IsAlike bound (RunsBelow sapi places (n + 1)) e)
-    → x.among.tei ≡ n → RunsAlike bound timers
-alike_at_place bound sapi places n timers is e x same =
-    let runs = at_place sapi places n timers is e x.among same in
-    ap (λ (t : Timer). deadline_of t timers) (sym x.timer) ∙ (runs.until ∙ ap (λ (d : ℕ). Some d) x.deadline)
-
-pub none_alike_more : (bound : RunningTimer) (sapi : Sapi) (places : List Timers) (n : ℕ) (timers : Timers) → slice_get places n ≡ Some timers → (RunsAlike bound timers → ⊥)
-    → IsFirst (IsAlike bound (RunsBelow sapi places n)) None → IsFirst (IsAlike bound (RunsBelow sapi places (n + 1))) None
-none_alike_more bound sapi places n timers is none h = λ e x. elim (cases_lt x.among.tei n) [
-  | inl less ↦ h e (among_fewer bound sapi places (n + 1) n e x less)
-  | inr low ↦ none (alike_at_place bound sapi places n timers is e x (omega (arith, low, x.among.below)))
+pub sooner_of : (a b : Option RunningTimer) → HasSooner a b
+sooner_of None b = record { first = b; is = refl }
+sooner_of (Some a) None = record { first = Some a; is = refl }
+sooner_of (Some a) (Some b) = elim (either_no_later a b) [
+  | inl low ↦ record { first = Some a; is = inl (refl, low) }
+  | inr high ↦ record { first = Some b; is = inr (refl, high) }
 ]
 
-pub alike_found : (bound : RunningTimer) (sapi : Sapi) (places : List Timers) (n : ℕ) (timers : Timers) → slice_get places n ≡ Some timers → IsOfLink bound.timer → RunsAlike bound timers
-    → IsNoLaterLink bound.of (Some (of_sapi sapi n)) → IsFirst (IsAlike bound (RunsBelow sapi places n)) None
-    → IsFirst (IsAlike bound (RunsBelow sapi places (length places))) (Some (expiry_at (of_sapi sapi n) bound.timer bound.deadline))
-alike_found bound sapi places n timers is own runs link h = (
-  record {
-    among = record { tei = n; below = slice_get_within places n timers is; timers = timers; there = is; runs = record { is_of = refl; own = own; until = runs } };
-    deadline = refl;
-    timer = refl;
-    link = link;
-  },
-  λ e x. elim (cases_lt x.among.tei n) [
-    | inl less ↦ absurd (h e (among_fewer bound sapi places (length places) n e x less))
-    | inr low ↦ inr (sym x.deadline, inr (ap place (sym x.timer), subst (IsNoLaterLink (Some (of_sapi sapi n))) (sym x.among.runs.is_of) (inr (refl, low))))
-  ],
-)
+abbrev pub deadline : Option RunningTimer → Option ℕ
+deadline first = option_map (λ (e : RunningTimer). e.deadline) first
+
+pub sooner_deadline : (a b c : Option RunningTimer) → IsSooner a b c → deadline c ≡ earlier (deadline a) (deadline b)
+sooner_deadline None b c is = ap deadline is
+sooner_deadline (Some a) None c is = ap deadline is
+sooner_deadline (Some a) (Some b) c (inl is) = ap deadline is.0 ∙ ap (λ (d : ℕ). Some d) (omega (arith, earlier_deadline a b is.1))
+sooner_deadline (Some a) (Some b) c (inr is) = ap deadline is.0 ∙ ap (λ (d : ℕ). Some d) (omega (arith, earlier_deadline b a is.1))
+
+-- ---- Two of which neither is later are the same.
+
+both_no_later : (m n : ℕ) (Then Else : Type 0) → Lexicographic m n Then → Lexicographic n m Else → (m ≡ n) × (Then × Else)
+both_no_later m n Then Else (inl a) (inl b) = absurd (omega (arith, a, b))
+both_no_later m n Then Else (inl a) (inr b) = absurd (omega (arith, a, b.0))
+both_no_later m n Then Else (inr a) (inl b) = absurd (omega (arith, a.0, b))
+both_no_later m n Then Else (inr a) (inr b) = (a.0, (a.1, b.1))
+
+timer_at : ℕ → Timer
+timer_at zero = T200
+timer_at (suc zero) = T201
+timer_at (suc (suc zero)) = T202
+timer_at (suc (suc (suc n))) = T203
+
+timer_again : (t : Timer) → timer_at (place t) ≡ t
+unfolding timer_at
+timer_again T200 = refl
+timer_again T201 = refl
+timer_again T202 = refl
+timer_again T203 = refl
+
+same_place : (a b : Timer) → place a ≡ place b → a ≡ b
+same_place a b same = sym (timer_again a) ∙ (ap timer_at same ∙ timer_again b)
+
+same_sapi : (a b : Sapi) → sapi_value a ≡ sapi_value b → a ≡ b
+same_sapi Call Call q = refl
+same_sapi Call Packet q = absurd (omega (arith, q))
+same_sapi Call Management q = absurd (omega (arith, q))
+same_sapi Packet Call q = absurd (omega (arith, q))
+same_sapi Packet Packet q = refl
+same_sapi Packet Management q = absurd (omega (arith, q))
+same_sapi Management Call q = absurd (omega (arith, q))
+same_sapi Management Packet q = absurd (omega (arith, q))
+same_sapi Management Management q = refl
+
+same_link : (x y : Option LinkId) → IsNoLaterLink x y → IsNoLaterLink y x → x ≡ y
+same_link None None h k = refl
+same_link None (Some y) h k = absurd k
+same_link (Some x) None h k = absurd h
+same_link (Some x) (Some y) h k =
+    let both = both_no_later (sapi_value x.sapi) (sapi_value y.sapi) (x.tei ≤ y.tei) (y.tei ≤ x.tei) h k in
+    let sapi : x.sapi ≡ y.sapi = same_sapi x.sapi y.sapi both.0 in
+    let tei : x.tei ≡ y.tei = omega (arith, both.1.0, both.1.1) in
+    ap (λ (s : Sapi). Some (of_sapi s x.tei)) sapi ∙ ap (λ (n : ℕ). Some (of_sapi y.sapi n)) tei
+
+expiry_of : ℕ → Timer → Option LinkId → RunningTimer
+expiry_of deadline timer of = record { deadline = deadline; timer = timer; of = of }
+
+pub same_expiry : (a b : RunningTimer) → IsNoLater a b → IsNoLater b a → a ≡ b
+unfolding expiry_of
+same_expiry a b h k =
+    let both = both_no_later a.deadline b.deadline _ _ h k in
+    let rest = both_no_later (place a.timer) (place b.timer) (IsNoLaterLink a.of b.of) (IsNoLaterLink b.of a.of) both.1.0 both.1.1 in
+    ap (λ (d : ℕ). expiry_of d a.timer a.of) both.0 ∙ (ap (λ (t : Timer). expiry_of b.deadline t a.of) (same_place a.timer b.timer rest.0)
+    ∙ ap (expiry_of b.deadline b.timer) (same_link a.of b.of rest.1.0 rest.1.1))

@@ -11,7 +11,7 @@ use Rattle.lapd_link_rows.specs.End.{End}
 use Rattle.lapd_table.specs.declared.link_id.LinkId.{LinkId}
 use Rattle.lapd_table.specs.LinkTable.{side_of, link_at}
 use Rattle.lapd_sides_links.specs.declared.links.LinkSet.{LinkSet}
-use Rattle.lapd_sides_links.specs.declared.link_timers.LinkTimers.{LinkTimers}
+use Rattle.lapd_sides_links.specs.declared.timer_places.TimerPlaces.{TimerPlaces}
 use Rattle.lapd_sides_links.specs.declared.side_fault.SideKind.{SideKind}
 use Rattle.lapd_sides_links.specs.Effects.{Effects, and_then}
 use Rattle.lapd_sides_links.specs.Links.{Links, Linked, Reaction}
@@ -19,8 +19,8 @@ use Rattle.lapd_sides_links.specs.Places.{AreAtRest}
 use Rattle.lapd_sides_links.specs.TimersAtPlaces.{placed}
 
 -- the timers at the place of a link, be it there or not
-abbrev pub timers_at : LinkTimers → LinkId → Option Timers
-timers_at s id = placed s.places id
+abbrev pub timers_at : TimerPlaces → LinkId → Option Timers
+timers_at s id = placed s id
 
 -- the octets that are made of an output of this link, after a step that ended in `e`
 abbrev pub made_by : Setup → End → List ℕ → Out → Option (List ℕ)

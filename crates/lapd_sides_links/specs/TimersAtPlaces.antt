@@ -1,14 +1,14 @@
 -- The timers that stand at the places of links.
-use Rattle.std.specs.Prelude.{ℕ, List, Option, Some, None, slice_get}
-use Rattle.std.specs.Coded.{Π_prop, →_prop}
+use Rattle.std.specs.Prelude.{◌≡◌, ℕ, ◌+◌, List, Option, Some, None, slice_get}
 use Rattle.lapd_timers.specs.Due.{Timers}
 use Rattle.lapd_frame.specs.declared.Sapi.{Sapi}
 use Rattle.lapd_frame.specs.declared.Sapi.TheVariants.{Call, Packet, Management}
 use Rattle.lapd_table.specs.declared.link_id.LinkId.{LinkId}
 use Rattle.lapd_sides_links.specs.declared.timer_places.TimerPlaces.{TimerPlaces}
 use Rattle.lapd_sides_links.specs.declared.running_timer.RunningTimer.{RunningTimer}
-use Rattle.lapd_sides_links.specs.Expiries.{Runs}
-use Rattle.lapd_sides_links.specs.Places.{IsBefore}
+use Rattle.lapd_sides_links.specs.Expiries.{Runs, IsFirst}
+use Rattle.lapd_sides_links.specs.Places.{RunsFor}
+use Rattle.lapd_sides_links.specs.Tournament.{entry}
 
 -- those at the place of a link, be it there or not; management has no links
 abbrev pub timers_among : List Timers → List Timers → Sapi → ℕ → Option Timers
@@ -24,13 +24,26 @@ abbrev pub of_places : TimerPlaces → Option LinkId → Option Timers
 of_places s None = None
 of_places s (Some id) = placed s id
 
--- no timer that runs at these places comes before this bound
-unfoldable pub NoneIsBefore : RunningTimer → TimerPlaces → Type 0
-NoneIsBefore bound s = (e : RunningTimer) → Runs (of_places s) e → IsBefore e bound → ⊥
+-- ---- The tournament of the timers at these places.
 
-⊥_prop : IsProp ⊥
-⊥_prop a b = absurd a
+-- where the expiry of a link stands in it: by TEI those of SAPI 0, and behind them those of SAPI 16
+abbrev pub entry_place : Sapi → ℕ → Option ℕ
+entry_place Call tei = Some tei
+entry_place Packet tei = Some (128 + tei)
+entry_place Management tei = None
 
-pub NoneIsBefore-prop : (bound : RunningTimer) (s : TimerPlaces) → IsProp (NoneIsBefore bound s)
-unfolding NoneIsBefore
-NoneIsBefore-prop bound s = Π_prop (λ e. →_prop (→_prop ⊥_prop))
+-- a timer of a link that stands there runs
+pub record RunsAt (s : TimerPlaces) (at : ℕ) (e : RunningTimer) : Type 0 where
+  pub id : LinkId
+  pub is_of : e.of ≡ Some id
+  pub stands : entry_place id.sapi id.tei ≡ Some at
+  pub runs : Runs (of_places s) e
+
+-- at each of its places stands the first of T200 and T203 of the link there
+abbrev pub AreEntered : TimerPlaces → List (Option RunningTimer) → Type 0
+AreEntered s entries = (at : ℕ) → IsFirst (RunsAt s at) (entry entries at)
+
+-- the timer of this link that expires first, where there is a place for its timers
+abbrev pub RunsForPlaced : LinkId → Option Timers → RunningTimer → Type 0
+RunsForPlaced id None e = ⊥
+RunsForPlaced id (Some timers) e = RunsFor id timers e

@@ -1,15 +1,13 @@
 //! Which timer of a side is due, and when the next one is.
 
-ghost use Rattle.std.specs.Prelude.{◌≡◌, ℕ, ◌<◌, Some, None, IfSome, option_map};
-ghost use Rattle.lapd_timers.specs.Due.{deadline_of};
+ghost use Rattle.std.specs.Prelude.{◌≡◌, IfSome, option_map};
 ghost use Rattle.lapd_frame.specs.declared.Side.{Side};
-ghost use Rattle.lapd_sides_links.specs.Expiries.{IsDue, IsFirst, IsNextDeadline, IsPast, IsQuietUntil, IsTimerOf, Runs, of_management};
+ghost use Rattle.lapd_sides_links.specs.Expiries.{IsDue, IsFirst, IsNextDeadline, IsPast, IsQuietUntil, IsTimerOf, of_management};
 ghost use Rattle.lapd_sides_links.specs.Links.{Links};
-ghost use Rattle.lapd_sides_links.specs.Places.{own_expiry_at};
+ghost use Rattle.lapd_sides_links.specs.Places.{earlier};
 ghost use Rattle.lapd_sides_links.specs.Shown.{ShowLinks};
 
 use crate::RunningTimer;
-use crate::link_timers::expiry_or_last;
 use crate::links::LinkSet;
 use crate::running_timer::sooner;
 use lapd_timers::{Timer, TimerSet};
@@ -30,34 +28,28 @@ pub fn due(management: &TimerSet, links: &mut LinkSet, now: u64) -> Option<Runni
 
 /// The next moment at which a timer of a side is due, in milliseconds: one of TEI management, whose timers are handed in,
 /// or one of a link. `None` where none runs.
+#[inline(always)]
 pub fn next_deadline(management: &TimerSet, links: &LinkSet) -> Option<u64>
     ensures { (side : Side) (shown : Links) → ShowLinks side links.now shown
         → IsNextDeadline (record { links = shown; timers = management.now }) result }
 {
-    let own = first_of_management(management);
-    let of_link = links.first();
-    deadline_of(sooner(own, of_link))
+    earlier(least_deadline(management), deadline_of(links.first()))
 }
 
-/// A moment before which no timer of a side is due, in milliseconds: of TEI management, whose timers are handed in, or of a
-/// link. It is found without a look at each link, and so may come before [`next_deadline`].
+/// A moment before which no timer of a side is due, in milliseconds: that of [`next_deadline`], or `u64::MAX` where none runs.
+#[inline(always)]
 pub fn quiet_until(management: &TimerSet, links: &LinkSet) -> u64
     ensures { (side : Side) (shown : Links) → ShowLinks side links.now shown
         → IsQuietUntil (record { links = shown; timers = management.now }) result }
 {
-    let own = own_quiet_until(management);
-    let of_links = links.quiet_until();
-    if own < of_links { own } else { of_links }
-}
-
-/// The moment before which none of TEI management is due.
-fn own_quiet_until(timers: &TimerSet) -> u64
-    ensures { (now : ℕ) → now < result → IsFirst (IsPast now (of_management timers.now)) None }
-{
-    expiry_or_last(first_of_management(timers)).deadline
+    match next_deadline(management, links) {
+        Some(moment) => moment,
+        None => u64::MAX,
+    }
 }
 
 /// The deadline of a timer that may run.
+#[inline(always)]
 fn deadline_of(expiry: Option<RunningTimer>) -> Option<u64>
     ensures { result ≡ option_map (λ e. e.deadline) expiry }
 {
@@ -67,33 +59,27 @@ fn deadline_of(expiry: Option<RunningTimer>) -> Option<u64>
     }
 }
 
-/// The first of the timers of TEI management that run.
-fn first_of_management(timers: &TimerSet) -> Option<RunningTimer>
-    ensures { IsFirst (Runs (of_management timers.now)) result }
+/// The least deadline of these timers that run.
+#[inline(always)]
+fn least_deadline(timers: &TimerSet) -> Option<u64>
+    ensures { result ≡ earlier (earlier timers.now.t200 timers.now.t201)
+        (earlier timers.now.t202 timers.now.t203) }
 {
-    let early = sooner(
-        own_expiry(Timer::T200, timers),
-        own_expiry(Timer::T201, timers),
-    );
-    let late = sooner(
-        own_expiry(Timer::T202, timers),
-        own_expiry(Timer::T203, timers),
-    );
-    sooner(early, late)
+    earlier(
+        earlier(timers.deadline(Timer::T200), timers.deadline(Timer::T201)),
+        earlier(timers.deadline(Timer::T202), timers.deadline(Timer::T203)),
+    )
 }
 
-/// The expiry of a timer of TEI management, where it runs.
+/// The earlier of two moments that may be there.
 #[inline(always)]
-fn own_expiry(timer: Timer, timers: &TimerSet) -> Option<RunningTimer>
-    ensures { result ≡ option_map (own_expiry_at timer) (deadline_of timer timers.now) }
+fn earlier(one: Option<u64>, other: Option<u64>) -> Option<u64>
+    ensures { result ≡ earlier one other }
 {
-    match timers.deadline(timer) {
-        Some(deadline) => Some(RunningTimer {
-            deadline,
-            timer,
-            of: None,
-        }),
-        None => None,
+    match (one, other) {
+        (None, other) => other,
+        (one, None) => one,
+        (Some(one), Some(other)) => Some(one.min(other)),
     }
 }
 

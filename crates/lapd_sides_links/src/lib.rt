@@ -8,7 +8,6 @@ mod acts;
 mod backlog;
 mod config;
 mod deadlines;
-mod firsts;
 mod link_timers;
 mod links;
 mod octets;
@@ -17,6 +16,7 @@ mod running_timer;
 mod side_fault;
 mod telling;
 mod timer_places;
+mod tournament;
 
 pub use acts::Acts;
 pub use backlog::Backlog;

@@ -1,6 +1,6 @@
 //! The links of a side with their timers.
 
-ghost use Rattle.std.specs.Prelude.{◌≡◌, ◌≢◌, ℕ, ◌≤◌, ◌<◌, ◌+◌, ◌++◌, length, map, option_map, [], Some, None, IfSome, option_copied, IfOk, IfErr, OnOk, OnErr};
+ghost use Rattle.std.specs.Prelude.{◌≡◌, ◌≢◌, ◌≤◌, ◌<◌, ◌+◌, ◌++◌, length, map, option_map, [], Some, None, IfSome, option_copied, IfOk, IfErr, OnOk, OnErr};
 ghost use Rattle.std.specs.List.{filter_map};
 ghost use Rattle.lapd_frame.specs.declared.Side.{Side};
 ghost use Rattle.lapd_link.specs.Link.{LinkStandsFor};
@@ -177,6 +177,7 @@ impl LinkSet {
     }
 
     /// The first of the timers of links that run.
+    #[inline(always)]
     pub fn first(&self) -> Option<RunningTimer>
         ensures { (side : Side) (links : Links) → ShowLinks side self.now links
             → IsFirst (Runs (of_links links)) result }
@@ -184,20 +185,11 @@ impl LinkSet {
         self.link_timers.first()
     }
 
-    /// A moment before which none of the timers of links is due, in milliseconds. None need be due at it.
-    pub fn quiet_until(&self) -> u64
-        ensures { (side : Side) (links : Links) → ShowLinks side self.now links
-            → (now : ℕ) → now < result → IsFirst (IsPast now (of_links links)) None }
-    {
-        self.link_timers.quiet_until()
-    }
-
-    /// The first of the timers of links that are due at the moment `now`. The links stay as they are.
-    pub fn due(&mut self, now: u64) -> Option<RunningTimer>
-        ensures first { (side : Side) (links : Links) → ShowLinks side self.old links
+    /// The first of the timers of links that are due at the moment `now`.
+    pub fn due(&self, now: u64) -> Option<RunningTimer>
+        ensures first { (side : Side) (links : Links) → ShowLinks side self.now links
             → IsFirst (IsPast now (of_links links)) result }
         ensures own { IfSome result (λ e. IsTimerOf e.of e.timer) }
-        ensures shown { ShowsAsBefore self.old self.new }
     {
         self.link_timers.due(now)
     }

@@ -4,13 +4,8 @@ ghost use Rattle.std.specs.Prelude.{◌≡◌, ◌≢◌, ◌<◌, Some, option_
 ghost use Rattle.lapd_timers.specs.Due.{at_rest};
 ghost use Rattle.lapd_table.specs.declared.link_id.LinkId.{LinkId};
 ghost use Rattle.lapd_sides_links.specs.Effects.{timed, stopped};
-ghost use Rattle.lapd_sides_links.specs.Expiries.{IsFirst, Runs};
-ghost use Rattle.lapd_sides_links.specs.Links.{IsOfLink};
-ghost use Rattle.lapd_sides_links.specs.Places.{HasPlaces, AreAtRest, IsAlike};
+ghost use Rattle.lapd_sides_links.specs.Places.{HasPlaces, AreAtRest};
 
-use crate::RunningTimer;
-use crate::firsts::{first_alike_in, first_in};
-use crate::running_timer::sooner;
 use crate::telling::apply_outputs;
 use lapd_link::{Out, Sapi};
 use lapd_table::LinkId;
@@ -27,7 +22,7 @@ pub struct TimerPlaces {
 
 #[tactic(auto, unfolding(crate::specs::TimersAtPlaces::placed))]
 impl TimerPlaces {
-    ghost use Rattle.lapd_sides_links.specs.TimersAtPlaces.{placed, of_places, NoneIsBefore};
+    ghost use Rattle.lapd_sides_links.specs.TimersAtPlaces.{placed};
 
     /// No timer runs. The room for all is taken here. How long they run is said for each link by [`TimerPlaces::reset`].
     ///
@@ -118,49 +113,6 @@ impl TimerPlaces {
             Sapi::Call if tei < self.call.len() => self.call[tei].stop(timer),
             Sapi::Packet if tei < self.packet.len() => self.packet[tei].stop(timer),
             _ => {}
-        }
-    }
-
-    /// The first of all T200 and T203 that run.
-    pub fn first(&self) -> Option<RunningTimer>
-        ensures { IsFirst (Runs (of_places self.now)) result }
-    {
-        let call = first_in(Sapi::Call, &self.call);
-        let packet = first_in(Sapi::Packet, &self.packet);
-        sooner(call, packet)
-    }
-
-    /// The first of all T200 and T203 that run, where none of them comes before this bound. It is looked for from the place of
-    /// the bound on, and then among all.
-    pub fn first_from(&self, bound: &RunningTimer) -> Option<RunningTimer>
-        requires { NoneIsBefore bound.now self.now }
-        ensures { IsFirst (Runs (of_places self.now)) result }
-    {
-        match self.first_alike(bound) {
-            Some(found) => Some(found),
-            None => self.first(),
-        }
-    }
-
-    /// The first that is the same timer as the bound with the same deadline, of its link or of one behind it. What is no
-    /// timer of a link has none.
-    fn first_alike(&self, bound: &RunningTimer) -> Option<RunningTimer>
-        ensures { IsFirst (IsAlike bound.now (Runs (of_places self.now))) result }
-    {
-        match bound.timer {
-            Timer::T200 | Timer::T203 => self.first_alike_of_links(bound),
-            Timer::T201 | Timer::T202 => None,
-        }
-    }
-
-    /// The same, of a bound that is T200 or T203.
-    fn first_alike_of_links(&self, bound: &RunningTimer) -> Option<RunningTimer>
-        requires { IsOfLink bound.now.timer }
-        ensures { IsFirst (IsAlike bound.now (Runs (of_places self.now))) result }
-    {
-        match first_alike_in(Sapi::Call, &self.call, bound) {
-            Some(found) => Some(found),
-            None => first_alike_in(Sapi::Packet, &self.packet, bound),
         }
     }
 }

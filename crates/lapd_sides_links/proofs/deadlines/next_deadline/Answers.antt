@@ -1,6 +1,9 @@
+use Rattle.std.proofs.Common.{ℕ, Option, ap, ◌∙◌}
+use Rattle.lapd_sides_links.specs.Places.{earlier}
 use Rattle.lapd_sides_links.proofs.Dues.{next_of_served}
 use Rattle.lapd_sides_links.proofs.deadlines.next_deadline.Goals as goal
 
 pub returns : goal.returns
-returns c = λ side shown shows. next_of_served (record { links = shown; timers = c.args.management.now }) c.first_of_management-own.result c.first-of_link.result c.sooner.result c.deadline_of.result
-    c.first_of_management-own.ensures (c.first-of_link.ensures side shown shows) c.sooner.ensures c.deadline_of.ensures
+returns c = λ side shown shows. next_of_served (record { links = shown; timers = c.args.management.now }) c.first.result c.earlier.result (c.first.ensures side shown shows)
+    (c.earlier.ensures ∙ (ap (λ (own : Option ℕ). earlier own c.deadline_of.result) c.least_deadline.ensures
+    ∙ ap (earlier (earlier (earlier c.args.management.now.t200 c.args.management.now.t201) (earlier c.args.management.now.t202 c.args.management.now.t203))) c.deadline_of.ensures))

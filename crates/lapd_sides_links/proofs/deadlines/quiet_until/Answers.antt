@@ -1,15 +1,12 @@
-use Rattle.std.proofs.Common.{◌<◌, None, refl, arith}
-use Rattle.lapd_sides_links.proofs.Dues.{first_of_served}
+use Rattle.std.proofs.Common.{ℕ, Option, subst}
+use Rattle.lapd_sides_links.specs.Expiries.{IsNextDeadline}
+use Rattle.lapd_sides_links.proofs.Dues.{quiet_before, quiet_ever}
 use Rattle.lapd_sides_links.proofs.deadlines.quiet_until.Goals as goal
 
-pub returns-then-own-of_links : goal.returns-then-own-of_links
-returns-then-own-of_links c = λ side shown shows now sooner.
-    let later : now < c.quiet_until-of_links.result = omega (arith, sooner, c.if-own-of_links.true) in
-    first_of_served now (record { links = shown; timers = c.args.management.now }) None None None
-    (c.own_quiet_until-own.ensures now sooner) (c.quiet_until-of_links.ensures side shown shows now later) refl
+pub returns-in-Some : goal.returns-in-Some
+returns-in-Some c = λ side shown shows. quiet_before (record { links = shown; timers = c.args.management.now }) c.in-Some.moment
+    (subst (λ (next : Option ℕ). IsNextDeadline (record { links = shown; timers = c.args.management.now }) next) c.in-Some.is (c.next_deadline.ensures side shown shows))
 
-pub returns-else-own-of_links : goal.returns-else-own-of_links
-returns-else-own-of_links c = λ side shown shows now sooner.
-    let later : now < c.own_quiet_until-own.result = omega (arith, sooner, c.if-own-of_links.false) in
-    first_of_served now (record { links = shown; timers = c.args.management.now }) None None None
-    (c.own_quiet_until-own.ensures now later) (c.quiet_until-of_links.ensures side shown shows now sooner) refl
+pub returns-in-None : goal.returns-in-None
+returns-in-None c = λ side shown shows. quiet_ever (record { links = shown; timers = c.args.management.now }) 18446744073709551615
+    (subst (λ (next : Option ℕ). IsNextDeadline (record { links = shown; timers = c.args.management.now }) next) c.in-None.is (c.next_deadline.ensures side shown shows))

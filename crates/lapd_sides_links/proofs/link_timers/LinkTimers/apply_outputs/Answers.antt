@@ -1,15 +1,7 @@
-use Rattle.std.proofs.Common.{option_copied, rules}
-use Rattle.lapd_sides_links.proofs.Dues.{timed_places}
+use Rattle.std.proofs.Common.{option_copied}
+use Rattle.lapd_sides_links.proofs.Dues.{entered_anew}
 use Rattle.lapd_sides_links.proofs.link_timers.LinkTimers.apply_outputs.Goals as goal
 
 pub invariant_of-self : goal.invariant_of-self
-invariant_of-self c = record {
-  bounded = timed_places c.args.self.now.bound c.lower.new.bound c.args.self.now.places c.apply_outputs.new.self c.args.id.now
-      (option_copied c.get.result) c.get.ensures c.lower.ensures c.apply_outputs.ensures.others c.args.self.now.bounded;
-}
-
-pub returns-clause-own : goal.returns-clause-own
-returns-clause-own c = search rules
-
-pub returns-clause-others : goal.returns-clause-others
-returns-clause-others c = search rules
+invariant_of-self c = entered_anew c.self.inside.places c.apply_outputs.new.self c.self.inside.expiries c.enter.new.expiries c.args.id.now (option_copied c.get.result)
+    c.get.ensures c.enter.ensures.tei c.enter.ensures.own c.enter.ensures.others c.apply_outputs.ensures.others c.self.invariant

@@ -1,0 +1,179 @@
+-- At node 1 stands the first of all that are entered, and a node that is won anew leaves the one above it.
+use Rattle.std.proofs.Common.{◌≡◌, ◌≢◌, ℕ, zero, suc, ◌+◌, ◌*◌, ◌/◌, ◌-◌, ◌<◌, ◌≤◌, List, length, replicate, drop, set, get_or, Option, Some, None, inl, inr, refl, sym, ap, subst, ◌∙◌, arith, ◌⊎◌}
+use Rattle.std.proofs.lemmas.Bool.{cases_lt, cases_eq}
+use Rattle.std.proofs.lemmas.List.{get_or-drop, get_or_read, get_or-replicate, length-replicate, get_or_past, get_or-set_same, get_or-set_other, length-set}
+use Rattle.lapd_sides_links.specs.declared.running_timer.RunningTimer.{RunningTimer}
+use Rattle.lapd_sides_links.specs.Expiries.{IsNoLater, IsFirst}
+use Rattle.lapd_sides_links.specs.Places.{IsSooner}
+use Rattle.lapd_sides_links.specs.Tournament.{entry, IsEntered, IsWonAt, IsWonBut}
+use Rattle.lapd_sides_links.proofs.Order.{no_later_self, no_later_chained}
+
+-- ---- The one of two that goes on.
+
+-- one stands there that comes no later
+pub record IsBehind (found : Option RunningTimer) (e : RunningTimer) : Type 0 where
+  pub first : RunningTimer
+  pub there : found ≡ Some first
+  pub low : IsNoLater first e
+
+over_left : (a : RunningTimer) (b c : Option RunningTimer) → IsSooner (Some a) b c → IsBehind c a
+over_left a None c is = record { first = a; there = is; low = no_later_self a }
+over_left a (Some b) c (inl is) = record { first = a; there = is.0; low = no_later_self a }
+over_left a (Some b) c (inr is) = record { first = b; there = is.0; low = is.1 }
+
+over_right : (a : Option RunningTimer) (b : RunningTimer) (c : Option RunningTimer) → IsSooner a (Some b) c → IsBehind c b
+over_right None b c is = record { first = b; there = is; low = no_later_self b }
+over_right (Some a) b c (inl is) = record { first = a; there = is.0; low = is.1 }
+over_right (Some a) b c (inr is) = record { first = b; there = is.0; low = no_later_self b }
+
+one_of_two : (a b c : Option RunningTimer) (e : RunningTimer) → IsSooner a b c → c ≡ Some e → (a ≡ Some e) ⊎ (b ≡ Some e)
+one_of_two None b c e is there = inr (sym is ∙ there)
+one_of_two (Some a) None c e is there = inl (sym is ∙ there)
+one_of_two (Some a) (Some b) c e (inl is) there = inl (sym is.0 ∙ there)
+one_of_two (Some a) (Some b) c e (inr is) there = inr (sym is.0 ∙ there)
+
+same_sooner : (a b c x y z : Option RunningTimer) → x ≡ a → y ≡ b → z ≡ c → IsSooner a b c → IsSooner x y z
+same_sooner a b c x y z p q r h = subst (λ (o : Option RunningTimer). IsSooner x y o) (sym r)
+    (subst (λ (o : Option RunningTimer). IsSooner x o c) (sym q) (subst (λ (o : Option RunningTimer). IsSooner o b c) (sym p) h))
+
+-- ---- From a node to the first.
+
+above : (nodes : List (Option RunningTimer)) (n : ℕ) (e : RunningTimer) → IsWonBut 0 nodes → 2 ≤ n → n < 512 → entry nodes n ≡ Some e → IsBehind (entry nodes (n / 2)) e
+above nodes n e h low high there =
+    let won = h.won (n / 2) (λ q. omega (arith, q)) (omega arith) (omega arith) in
+    elim (cases_eq n (2 * (n / 2))) [
+      | inl even ↦ over_left e _ _ (subst (λ (o : Option RunningTimer). IsSooner o (entry nodes (2 * (n / 2) + 1)) (entry nodes (n / 2))) (sym (ap (entry nodes) even) ∙ there) won)
+      | inr other ↦
+          let odd : n ≡ 2 * (n / 2) + 1 = omega (arith, other) in
+          over_right _ e _ (subst (λ (o : Option RunningTimer). IsSooner (entry nodes (2 * (n / 2))) o (entry nodes (n / 2))) (sym (ap (entry nodes) odd) ∙ there) won)
+    ]
+
+behind_first : (nodes : List (Option RunningTimer)) (k n : ℕ) (e : RunningTimer) → IsWonBut 0 nodes → n ≤ k → 1 ≤ n → n < 512 → entry nodes n ≡ Some e → IsBehind (entry nodes 1) e
+behind_first nodes zero n e h few low high there = absurd (omega (arith, few, low))
+behind_first nodes (suc k) n e h few low high there = elim (cases_lt 1 n) [
+  | inl more ↦
+      let up = above nodes n e h (omega (arith, more)) high there in
+      let top = behind_first nodes k (n / 2) up.first h (omega (arith, few, more)) (omega (arith, more)) (omega (arith, high)) up.there in
+      record { first = top.first; there = top.there; low = no_later_chained top.first up.first e top.low up.low }
+  | inr one ↦
+      let same : n ≡ 1 = omega (arith, one, low) in
+      record { first = e; there = sym (ap (entry nodes) same) ∙ there; low = no_later_self e }
+]
+
+at_a_place : (nodes : List (Option RunningTimer)) (n : ℕ) (e : RunningTimer) → 256 ≤ n → entry nodes n ≡ Some e → IsEntered (drop 256 nodes) e
+at_a_place nodes n e low there =
+    let same : 256 + (n - 256) ≡ n = omega (arith, low) in
+    record { at = n - 256; there = get_or-drop 256 nodes (n - 256) None ∙ (ap (entry nodes) same ∙ there) }
+
+entered : (nodes : List (Option RunningTimer)) (k n : ℕ) (e : RunningTimer) → IsWonBut 0 nodes → 256 ≤ n + k → 1 ≤ n → entry nodes n ≡ Some e → IsEntered (drop 256 nodes) e
+entered nodes zero n e h room low there = at_a_place nodes n e (omega (arith, room)) there
+entered nodes (suc k) n e h room low there = elim (cases_lt n 256) [
+  | inl inner ↦ elim (one_of_two _ _ _ e (h.won n (λ q. omega (arith, low, q)) low inner) there) [
+    | inl x ↦ entered nodes k (2 * n) e h (omega (arith, room, low)) (omega (arith, low)) x
+    | inr x ↦ entered nodes k (2 * n + 1) e h (omega (arith, room, low)) (omega (arith, low)) x
+  ]
+  | inr place ↦ at_a_place nodes n e place there
+]
+
+entered_behind : (nodes : List (Option RunningTimer)) (e : RunningTimer) → IsWonBut 0 nodes → IsEntered (drop 256 nodes) e → IsBehind (entry nodes 1) e
+entered_behind nodes e h x =
+    let there : entry nodes (256 + x.at) ≡ Some e = sym (get_or-drop 256 nodes x.at None) ∙ x.there in
+    elim (cases_lt (256 + x.at) 512) [
+      | inl within ↦ behind_first nodes 512 (256 + x.at) e h (omega (arith, within)) (omega arith) within there
+      | inr past ↦
+          let none : entry nodes (256 + x.at) ≡ None = get_or_past nodes (256 + x.at) None (omega (arith, past, h.size)) in
+          let k : None ≡ Some e = sym none ∙ there in absurd (cc)
+    ]
+
+first_at : (nodes : List (Option RunningTimer)) (first : Option RunningTimer) → entry nodes 1 ≡ first → IsWonBut 0 nodes → IsFirst (IsEntered (drop 256 nodes)) first
+first_at nodes None is h = λ e x.
+    let behind = entered_behind nodes e h x in
+    let k : None ≡ Some behind.first = sym is ∙ behind.there in absurd (cc)
+first_at nodes (Some a) is h = (
+  entered nodes 256 1 a h (omega arith) (omega arith) is,
+  λ e x.
+      let behind = entered_behind nodes e h x in
+      let k : Some a ≡ Some behind.first = sym is ∙ behind.there in
+      let same : behind.first ≡ a = cc in
+      subst (λ (f : RunningTimer). IsNoLater f e) same behind.low,
+)
+
+pub first_of_entered : (nodes : List (Option RunningTimer)) (first : Option RunningTimer) → first ≡ entry nodes 1 → IsWonBut 0 nodes → IsFirst (IsEntered (drop 256 nodes)) first
+first_of_entered nodes first is h = first_at nodes first (sym is) h
+
+-- ---- A node that is written.
+
+unchanged_node : (nodes : List (Option RunningTimer)) (at n : ℕ) (first : Option RunningTimer) → n ≢ at → 2 * n ≢ at → 2 * n + 1 ≢ at → IsWonAt nodes n → IsWonAt (set nodes at first) n
+unchanged_node nodes at n first own left right h = same_sooner _ _ _ _ _ _
+    (get_or-set_other nodes at (2 * n) first None left) (get_or-set_other nodes at (2 * n + 1) first None right) (get_or-set_other nodes at n first None own) h
+
+-- a node that is won anew, with those above it still to come
+pub won_anew : (nodes : List (Option RunningTimer)) (at : ℕ) (first : Option RunningTimer) → IsWonBut at nodes → 1 ≤ at → at < 256 → IsSooner (entry nodes (2 * at)) (entry nodes (2 * at + 1)) first
+    → IsWonBut (at / 2) (set nodes at first)
+won_anew nodes at first h low high is = record {
+  size = length-set nodes at first ∙ h.size;
+  won = λ n other least most. elim (cases_eq n at) [
+    | inl same ↦ subst (λ (m : ℕ). IsWonAt (set nodes at first) m) (sym same)
+        (same_sooner _ _ _ _ _ _ (get_or-set_other nodes at (2 * at) first None (λ q. omega (arith, q, low)))
+        (get_or-set_other nodes at (2 * at + 1) first None (λ q. omega (arith, q, low)))
+        (get_or-set_same nodes at first None (omega (arith, h.size, high))) is)
+    | inr differ ↦ unchanged_node nodes at n first differ (λ q. other (omega (arith, q))) (λ q. other (omega (arith, q))) (h.won n differ least most)
+  ];
+}
+
+-- a node that is read
+pub read_entry : (nodes : List (Option RunningTimer)) (n : ℕ) (found : Option RunningTimer) → n < length nodes → found ≡ get_or nodes n found → entry nodes n ≡ found
+read_entry nodes n found within is = sym (get_or_read nodes n found within is None)
+
+pub sooner_of_two : (nodes : List (Option RunningTimer)) (at : ℕ) (left right first : Option RunningTimer) → length nodes ≡ 512 → at < 256
+    → left ≡ get_or nodes (2 * at) left → right ≡ get_or nodes (2 * at + 1) right → IsSooner left right first → IsSooner (entry nodes (2 * at)) (entry nodes (2 * at + 1)) first
+sooner_of_two nodes at left right first size high one other is = same_sooner left right first _ _ first
+    (read_entry nodes (2 * at) left (omega (arith, size, high)) one) (read_entry nodes (2 * at + 1) right (omega (arith, size, high)) other) refl is
+
+-- one that stays as it is
+pub won_before : (nodes : List (Option RunningTimer)) (at : ℕ) (first : Option RunningTimer) → IsWonBut at nodes → IsSooner (entry nodes (2 * at)) (entry nodes (2 * at + 1)) first
+    → entry nodes at ≡ first → IsWonBut 0 nodes
+won_before nodes at first h is same = record {
+  size = h.size;
+  won = λ n other least most. elim (cases_eq n at) [
+    | inl own ↦ subst (λ (m : ℕ). IsWonAt nodes m) (sym own) (subst (IsSooner (entry nodes (2 * at)) (entry nodes (2 * at + 1))) (sym same) is)
+    | inr differ ↦ h.won n differ least most
+  ];
+}
+
+-- a place that is written
+pub place_entered : (nodes : List (Option RunningTimer)) (at : ℕ) (expiry : Option RunningTimer) → IsWonBut 0 nodes → 256 ≤ at → IsWonBut (at / 2) (set nodes at expiry)
+place_entered nodes at expiry h low = record {
+  size = length-set nodes at expiry ∙ h.size;
+  won = λ n other least most. unchanged_node nodes at n expiry (λ q. omega (arith, q, low, most)) (λ q. other (omega (arith, q))) (λ q. other (omega (arith, q)))
+      (h.won n (λ q. omega (arith, q, least)) least most);
+}
+
+-- ---- As it is made.
+
+none_at : (nodes : List (Option RunningTimer)) (n : ℕ) → nodes ≡ replicate 512 None → entry nodes n ≡ None
+none_at nodes n all = elim (cases_lt n 512) [
+  | inl within ↦ ap (λ (xs : List (Option RunningTimer)). entry xs n) all ∙ get_or-replicate 512 n None None within
+  | inr past ↦ get_or_past nodes n None (omega (arith, past, ap length all, length-replicate {A = Option RunningTimer} 512 None))
+]
+
+pub new_tournament : (nodes : List (Option RunningTimer)) → nodes ≡ replicate 512 None → IsWonBut 0 nodes
+new_tournament nodes all = record {
+  size = ap length all ∙ length-replicate {A = Option RunningTimer} 512 None;
+  won = λ n other least most. same_sooner None None None _ _ _ (none_at nodes (2 * n) all) (none_at nodes (2 * n + 1) all) (none_at nodes n all) refl;
+}
+
+pub none_entered : (nodes : List (Option RunningTimer)) → nodes ≡ replicate 512 None → (at : ℕ) → entry (drop 256 nodes) at ≡ None
+none_entered nodes all at = get_or-drop 256 nodes at None ∙ none_at nodes (256 + at) all
+
+-- ---- What is entered at a place.
+
+pub own_entry : (nodes settled : List (Option RunningTimer)) (place : ℕ) (expiry : Option RunningTimer) → place < 256 → length nodes ≡ 512
+    → ((n : ℕ) → 256 ≤ n → entry settled n ≡ entry (set nodes (256 + place) expiry) n) → entry (drop 256 settled) place ≡ expiry
+own_entry nodes settled place expiry within size same = get_or-drop 256 settled place None ∙ (same (256 + place) (omega arith)
+    ∙ get_or-set_same nodes (256 + place) expiry None (omega (arith, size, within)))
+
+pub other_entry : (nodes settled : List (Option RunningTimer)) (place other : ℕ) (expiry : Option RunningTimer) → other ≢ place
+    → ((n : ℕ) → 256 ≤ n → entry settled n ≡ entry (set nodes (256 + place) expiry) n) → entry (drop 256 settled) other ≡ entry (drop 256 nodes) other
+other_entry nodes settled place other expiry differ same = get_or-drop 256 settled other None ∙ (same (256 + other) (omega arith)
+    ∙ (get_or-set_other nodes (256 + place) (256 + other) expiry None (λ q. differ (omega (arith, q))) ∙ sym (get_or-drop 256 nodes other None)))

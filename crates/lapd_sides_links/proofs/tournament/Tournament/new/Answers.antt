@@ -1,0 +1,8 @@
+use Rattle.lapd_sides_links.proofs.Tournaments.{new_tournament, none_entered}
+use Rattle.lapd_sides_links.proofs.tournament.Tournament.new.Goals as goal
+
+pub invariant_of-result : goal.invariant_of-result
+invariant_of-result c = new_tournament c.in_ok-from_array.field-0.items c.in_ok-from_array.ensures.items
+
+pub returns : goal.returns
+returns c = none_entered c.in_ok-from_array.field-0.items c.in_ok-from_array.ensures.items

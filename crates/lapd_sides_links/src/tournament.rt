@@ -1,0 +1,100 @@
+//! Which of the timers of links expires first.
+
+ghost use Rattle.std.specs.Prelude.{◌≡◌, ◌≢◌, ◌≤◌, ◌<◌, ℕ, ◌/◌, None, IfOk, true};
+ghost use Rattle.lapd_sides_links.specs.Expiries.{IsFirst};
+ghost use Rattle.lapd_sides_links.specs.Tournament.{entry, IsEntered, IsWonBut};
+
+use crate::RunningTimer;
+use crate::running_timer::{is_no_later, sooner};
+use std::alloc::{AllocError, Global};
+use std::marker::Model;
+
+/// How many places there are.
+pub const PLACES: usize = 256;
+
+/// A tournament of expiries, one or none at each of 256 places: of two the one that comes first goes on, up to the first of all. A
+/// change of one place is told to the eight above it alone.
+#[derive(Drop)]
+pub struct Tournament {
+    /// Node 1 is the first of all. Under node n stand 2n and 2n + 1, down to 256 to 511, the places.
+    nodes: Vec<Option<RunningTimer>>,
+}
+
+impl Model for Tournament {
+    ghost use Rattle.std.specs.Prelude.{List, Option, drop};
+    ghost use Rattle.lapd_sides_links.specs.declared.running_timer.RunningTimer.{RunningTimer};
+    ghost use Rattle.lapd_sides_links.specs.Tournament.{IsWonBut};
+
+    ghost Value = { List (Option RunningTimer) };
+
+    ghost view = { λ t. drop 256 t.nodes.items };
+
+    ghost invariant = { λ t. IsWonBut 0 t.nodes.items };
+}
+
+impl Tournament {
+    /// No expiry at any place.
+    ///
+    /// # Errors
+    ///
+    /// `AllocError` where memory was refused.
+    pub fn new(alloc: Global) -> Result<Tournament, AllocError>
+        ensures { IfOk result (λ t. (at : ℕ) → entry t at ≡ None) }
+    {
+        Ok(Tournament {
+            nodes: Vec::from_array(alloc, [None; 2 * PLACES])?,
+        })
+    }
+
+    /// The first of all.
+    pub fn first(&self) -> Option<RunningTimer>
+        ensures { IsFirst (IsEntered self.now) result }
+    {
+        self.nodes[1]
+    }
+
+    /// Puts an expiry, or none, at a place, for what was there.
+    pub fn enter(&mut self, place: usize, expiry: Option<RunningTimer>)
+        requires { place < PLACES }
+        ensures own { entry self.new place ≡ expiry }
+        ensures others { (other : ℕ) → other ≢ place → entry self.new other ≡ entry self.old other }
+    {
+        if is_same(&self.nodes[PLACES + place], &expiry) {
+            return;
+        }
+        let nodes = self.nodes.as_mut_slice();
+        nodes[PLACES + place] = expiry;
+        settle(nodes, PLACES + place);
+    }
+}
+
+/// Lets the nodes above a place be won anew, from below, up to one that stays as it is.
+fn settle(nodes: &mut [Option<RunningTimer>], place: usize)
+    requires open { IsWonBut (place / 2) nodes.old }
+    requires low { 256 ≤ place }
+    requires high { place < 512 }
+    ensures won { IsWonBut 0 nodes.new }
+    ensures places { (n : ℕ) → 256 ≤ n → entry nodes.new n ≡ entry nodes.old n }
+{
+    let mut at = place;
+    while at > 1 {
+        at /= 2;
+        let first = sooner(nodes[2 * at], nodes[2 * at + 1]);
+        if is_same(&nodes[at], &first) {
+            return;
+        }
+        nodes[at] = first;
+    }
+}
+
+/// Whether two expiries that may be there are the same.
+#[inline(always)]
+fn is_same(one: &Option<RunningTimer>, other: &Option<RunningTimer>) -> bool
+    ensures { result ≡ true → one.now ≡ other.now }
+{
+    match (one, other) {
+        (None, None) => true,
+        (Some(one), Some(other)) => is_no_later(one, other) && is_no_later(other, one),
+        _ => false,
+    }
+}
