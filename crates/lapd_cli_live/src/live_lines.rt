@@ -12,7 +12,7 @@ use std::io::Write;
 
 impl<O: Outside, W: Write> LiveSide<O, W> {
     /// Does what a line asks for, which comes without its line feed and is not empty and no comment. What is due by then is
-    /// done before it. What it prints is handed to the device before the side waits, and else stays with the printer.
+    /// done before it.
     ///
     /// # Errors
     ///
@@ -21,7 +21,10 @@ impl<O: Outside, W: Write> LiveSide<O, W> {
     pub fn obey(&mut self, line: &[u8]) -> Result<(), LiveFault> {
         let side = self.side().side();
         let line = read_live_line(self.alloc(), side, self.own_tei(), line)?;
-        self.do_line(line)
+        let done = self.do_line(line);
+        let flushed = self.printer().flush();
+        done?;
+        flushed
     }
 
     /// Does what is asked for.

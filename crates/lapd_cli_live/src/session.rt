@@ -142,7 +142,7 @@ pub(crate) fn typed_deed(line: &[u8]) -> TypedDeed
 }
 
 /// Whether a line is empty, or begins with `#`.
-pub(crate) fn is_passed_over(line: &[u8]) -> bool
+fn is_passed_over(line: &[u8]) -> bool
     ensures { result ≡ passed_over line.now }
 {
     matches!(line, [] | [b'#', ..])
@@ -161,8 +161,8 @@ fn obey_typed<E: Write, O: Outside, W: Write>(
             let _ = writeln!(errors, "not done: {reason}");
             Ok(())
         }
-        Ok(()) | Err(LiveFault::Unmet) => live.printer().flush(),
-        failed => failed,
+        Err(LiveFault::Unmet) => Ok(()),
+        obeyed => obeyed,
     }
 }
 
