@@ -702,6 +702,8 @@ With --json a line is an object with these members, in the order of their names:
   info             \"HEX\", if it has octets
   message          with --names, the same words as above
   fault, octets    in place of all but direction: \"F1 TooShort\" and \"HEX\"
+  packet           with --pcap, the number of the packet, from 1
+  time             with --pcap, of a pcap file: \"SECONDS\" since 1970, with six digits behind a point
 As {\"direction\":\"U>N\",\"frame\":\"SABME\",\"p\":1,\"role\":\"command\",\"sapi\":0,\"tei\":64}
 
 Example. A line of the script stands behind <, and what is printed for it stands behind >.
