@@ -1,17 +1,17 @@
 -- What a side does while it is served, put together.
-use Rattle.std.proofs.Common.{◌≡◌, ℕ, List, [], ◌∷◌, ◌++◌, map, take, Option, None, Some, Result, Ok, Err, OnOk, refl, sym, ap, subst, ◌∙◌, append_assoc, inl, inr}
-use Rattle.std.specs.Prelude.{flat_map, ◌⊎◌, ⊤}
+use Rattle.std.proofs.Common.{◌≡◌, ℕ, List, [], ◌∷◌, ◌++◌, Option, Result, Ok, Err, OnOk, refl, sym, ap, subst, ◌∙◌, append_assoc, inl, inr}
+use Rattle.std.specs.Prelude.{flat_map, ⊤}
 use Rattle.std.proofs.lemmas.List.{append-nil, map-append}
 use Rattle.lapd_sides_links.specs.Effects.{Effects}
 use Rattle.lapd_sides_links.specs.declared.side_fault.SideFault.{SideFault}
 use Rattle.lapd_sides.specs.declared.request.Request.{Request}
 use Rattle.lapd_sides.specs.declared.either_side.EitherSide.{EitherSide}
-use Rattle.lapd_sides.specs.Either.{Answers, Expires, HasNextDeadline, Rests, Takes}
+use Rattle.lapd_sides.specs.Either.{Answers, Expires, HasNextDeadline, Rests}
 use Rattle.lapd_cli_side_commands.specs.Served.{frames_given}
 use Rattle.lapd_cli_side_commands.proofs.Serving.{AreExpired, one_more, then_none}
 use Rattle.lapd_cli_live.specs.Deeds.{Adds, Comes, Deed, Does, Sends, Waits, all_sent}
-use Rattle.lapd_cli_live.specs.Turns.{AreTurns, DoesDue, HasCome, Hears, IsAsked, IsServed, Turn, WaitsAndHears, WaitsInVain, WaitsOnce, all_deeds, sooner}
-use Rattle.lapd_cli_live.proofs.Deeds.{adds_both, adds_none, adds_same}
+use Rattle.lapd_cli_live.specs.Turns.{AreTurns, DoesDue, HasCome, Hears, IsAsked, IsServed, Turn, WaitsOnce, all_deeds, sooner}
+use Rattle.lapd_cli_live.proofs.Deeds.{adds_both, adds_none}
 
 flat_more : {X Y : Type 0} (f : X → List Y) (xs : List X) (x : X) → flat_map f (xs ++ x ∷ []) ≡ flat_map f xs ++ f x
 flat_more f [] x = append-nil (f x)

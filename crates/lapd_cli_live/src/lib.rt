@@ -8,6 +8,7 @@
 #![tactic(auto)]
 
 mod fault;
+mod line_objects;
 mod link_text;
 mod live_forms;
 mod live_lines;
@@ -22,6 +23,7 @@ mod typed_lines;
 mod words;
 
 pub use fault::LiveFault;
+pub use lapd_cli_side_commands::LineStyle;
 pub use live_forms::{LiveForm, LiveReason};
 pub use live_side::{Came, LiveSide};
 pub use outside::{Outside, Woken};

@@ -56,7 +56,7 @@ impl<O: Outside, W: Write> LiveSide<O, W> {
     fn read(&mut self, ms: Option<u64>) -> Result<(), LiveFault> {
         let end = self.end_after(ms)?;
         match self.serve(end, true)? {
-            Came::Closed => self.printer().put_text("refused S1 End"),
+            Came::Closed => self.printer().put_named("refused", "S1 End"),
             Came::End => self.printer().put_text("nothing"),
             Came::Frame | Came::Line | Came::Due => Ok(()),
         }
@@ -79,11 +79,10 @@ impl<O: Outside, W: Write> LiveSide<O, W> {
             return Ok(());
         }
         let mut text = String::new(self.alloc());
-        text.push_str("expected ")?;
         for octet in front {
             text.push(char::from(*octet))?;
         }
-        self.printer().put_text(text.as_str())?;
+        self.printer().put_named("expected", text.as_str())?;
         Err(LiveFault::Unmet)
     }
 

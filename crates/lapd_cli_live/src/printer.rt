@@ -1,9 +1,10 @@
 //! The lines that a side prints while it is served.
 
 use crate::fault::LiveFault;
+use crate::line_objects::words_object;
 use crate::stats::Stats;
 use lapd_cli_script::LineFault;
-use lapd_cli_side_commands::{push_primitive, push_trace};
+use lapd_cli_side_commands::{LineStyle, push_primitive, push_trace};
 use lapd_frame::Side;
 use lapd_sides::{Primitive, SideKind};
 use std::alloc::Global;
@@ -12,10 +13,12 @@ use std::io::Write;
 /// Which lines are printed, and how.
 #[derive(Clone, Copy, Debug, PartialEq, Eq)]
 pub struct Style {
-    /// Whether each line begins with the moment, in milliseconds since the start.
+    /// Whether each line begins with the moment, in milliseconds since the start. Of an object it is the last member, `time`.
     pub time: bool,
-    /// Whether the trace lines of frames are left out.
+    /// Whether the lines of frames are left out.
     pub quiet: bool,
+    /// Whether lines are words or JSON objects.
+    pub lines: LineStyle,
 }
 
 /// A writer of lines, which looks out for a line.
@@ -26,8 +29,10 @@ pub struct Printer<W> {
     style: Style,
     /// The moment that lines begin with.
     moment: u64,
-    /// Room for a line, which is used again.
+    /// Room for a line in words, which is used again.
     line: String,
+    /// The object of that line, where objects are printed.
+    object: String,
     /// What a line is to begin with that is looked out for. It is empty where none is.
     awaited: Vec<u8>,
     is_found: bool,
@@ -43,6 +48,7 @@ impl<W: Write> Printer<W> {
             style,
             moment: 0,
             line: String::new(alloc),
+            object: String::new(alloc),
             awaited: Vec::new(alloc),
             is_found: false,
             stats: Stats::new(),
@@ -78,7 +84,7 @@ impl<W: Write> Printer<W> {
         self.is_found
     }
 
-    /// A frame goes over the line that this side, or the other one, sent: it is counted, and its trace line printed. Each
+    /// A frame goes over the line that this side, or the other one, sent: it is counted, and its line printed. Each
     /// frame that comes or goes passes here, at the moment that is set.
     ///
     /// # Errors
@@ -95,6 +101,9 @@ impl<W: Write> Printer<W> {
         }
         self.line.clear();
         push_trace(self.alloc, &mut self.line, from, frame)?;
+        if self.style.lines == LineStyle::Json {
+            self.object = lapd_json::line(self.alloc, from, frame)?;
+        }
         self.put()
     }
 
@@ -106,9 +115,12 @@ impl<W: Write> Printer<W> {
     pub(crate) fn tell(&mut self, primitive: &Primitive) -> Result<(), LiveFault> {
         self.stats.count_told(primitive);
         self.line.clear();
-        push_primitive(primitive, &mut self.line)?;
+        push_primitive(self.alloc, LineStyle::Text, primitive, &mut self.line)?;
         if self.line.is_empty() {
             return Ok(());
+        }
+        if self.style.lines == LineStyle::Json {
+            self.object = lapd_json::primitive_line(self.alloc, primitive)?;
         }
         self.put()
     }
@@ -122,12 +134,25 @@ impl<W: Write> Printer<W> {
         if kind == SideKind::Memory {
             return Err(LiveFault::Line(LineFault::Memory));
         }
+        let why = format!(in self.alloc; "{kind}")?;
+        self.put_named("refused", why.as_str())
+    }
+
+    /// Prints a word and the text that it says something of. An object has this text as the member of that name.
+    ///
+    /// # Errors
+    ///
+    /// `Device` and `Memory`.
+    pub(crate) fn put_named(&mut self, name: &str, text: &str) -> Result<(), LiveFault> {
         self.line.clear();
-        writeln!(self.line, "refused {kind}")?;
+        writeln!(self.line, "{name} {text}")?;
+        if self.style.lines == LineStyle::Json {
+            self.object = lapd_json::text_line(self.alloc, name, text)?;
+        }
         self.put()
     }
 
-    /// Prints a line.
+    /// Prints a line of words and of numbers with their names.
     ///
     /// # Errors
     ///
@@ -135,6 +160,9 @@ impl<W: Write> Printer<W> {
     pub(crate) fn put_text(&mut self, text: &str) -> Result<(), LiveFault> {
         self.line.clear();
         writeln!(self.line, "{text}")?;
+        if self.style.lines == LineStyle::Json {
+            self.object = words_object(self.alloc, text)?;
+        }
         self.put()
     }
 
@@ -165,16 +193,32 @@ impl<W: Write> Printer<W> {
         Ok(())
     }
 
-    /// Prints the line that stands in the room for it.
+    /// Prints the line that stands in the room for it, or its object. What is looked out for are its words in both cases.
     fn put(&mut self) -> Result<(), LiveFault> {
         let line = self.line.as_bytes();
         if !self.awaited.is_empty() && line.starts_with(self.awaited.as_slice()) {
             self.is_found = true;
         }
+        if self.style.lines == LineStyle::Json {
+            return self.put_object();
+        }
         if self.style.time {
             write!(self.out, "{} ", self.moment)?;
         }
         self.out.write_all(line)?;
+        Ok(())
+    }
+
+    /// Prints the object of a line.
+    fn put_object(&mut self) -> Result<(), LiveFault> {
+        let object = self.object.as_str();
+        let moment = self.moment;
+        match object.strip_suffix("}") {
+            Some(members) if self.style.time => {
+                writeln!(self.out, "{members},\"time\":{moment}}}")?;
+            }
+            _ => writeln!(self.out, "{object}")?,
+        }
         Ok(())
     }
 }
