@@ -8,8 +8,19 @@ use lapd_cli_console::Script;
 use lapd_cli_decode::{LineForm, Style, decode_good_lines, decode_lines};
 use lapd_cli_options::{Clock, DecodeOptions, Interface, Job, LinkEnd, Params, Side};
 use lapd_cli_script::ScriptFault;
-use lapd_cli_side_commands::{Config, FromRead, FromWrite, Port, SideRun, net, user};
+use lapd_cli_side_commands::{Config, FromRead, FromWrite, LineStyle, Port, SideRun, net, user};
 use std::io::{Read, Write};
+
+/// What `net` or `user` is made with, and how it prints.
+#[derive(Clone, Copy)]
+pub struct SideSetup<'a> {
+    /// The interface.
+    pub interface: &'a Interface,
+    /// The address that it listens on or connects to.
+    pub address: &'a str,
+    /// How its lines are printed.
+    pub lines: LineStyle,
+}
 
 /// The command whose script this is.
 pub fn script_of(job: &Job) -> Script {
@@ -24,7 +35,7 @@ pub fn script_of(job: &Job) -> Script {
     }
 }
 
-/// Does a script, of `net` or `user` with this clock and this address.
+/// Does a script, of `net` or `user` with this clock and this address, and with such lines.
 ///
 /// # Errors
 ///
@@ -34,6 +45,7 @@ pub fn do_job<R: Read, W: Write>(
     job: Job,
     clock: &Clock<'_>,
     address: &str,
+    lines: LineStyle,
     script: &mut R,
     out: &mut W,
 ) -> Result<(), Stop> {
@@ -43,19 +55,25 @@ pub fn do_job<R: Read, W: Write>(
         Job::Pair { user, network } => pair(rt.alloc(), script, out, user, network),
         Job::Loop { user, network } => return do_loop(rt, script, out, user, network),
         Job::Net(interface) => {
+            let setup = SideSetup {
+                interface: &interface,
+                address,
+                lines,
+            };
             return match clock {
-                Clock::Script => do_net(rt, script, out, address, &interface),
-                Clock::Real(options) => {
-                    do_live(rt, Side::Network, &interface, address, options, script, out)
-                }
+                Clock::Script => do_net(rt, script, out, &setup),
+                Clock::Real(options) => do_live(rt, Side::Network, &setup, options, script, out),
             };
         }
         Job::User(interface) => {
+            let setup = SideSetup {
+                interface: &interface,
+                address,
+                lines,
+            };
             return match clock {
-                Clock::Script => do_user(rt, script, out, address, &interface),
-                Clock::Real(options) => {
-                    do_live(rt, Side::User, &interface, address, options, script, out)
-                }
+                Clock::Script => do_user(rt, script, out, &setup),
+                Clock::Real(options) => do_live(rt, Side::User, &setup, options, script, out),
             };
         }
         Job::Decode(options) => do_decode(rt, script, out, options),
@@ -129,45 +147,45 @@ fn do_loop<R: Read, W: Write>(
     ended.map_err(Stop::Script)
 }
 
-// Does a script of the network side, with the user side behind the first connection to this address.
+// Does a script of the network side, with the user side behind the first connection to its address.
 fn do_net<R: Read, W: Write>(
     rt: &HostRuntime,
     script: &mut R,
     out: &mut W,
-    listen: &str,
-    interface: &Interface,
+    setup: &SideSetup<'_>,
 ) -> Result<(), Stop> {
-    let stream = connection::accepted(rt, listen).map_err(Stop::NoConnection)?;
+    let stream = connection::accepted(rt, setup.address).map_err(Stop::NoConnection)?;
     let port = Port::new(FromRead::new(&stream), FromWrite::new(&stream));
     let SideRun { ended, .. } = net(
         rt.alloc(),
         script,
         out,
         port,
-        config_of(interface),
-        interface.teis.as_slice(),
+        setup.lines,
+        config_of(setup.interface),
+        setup.interface.teis.as_slice(),
     );
     connection::tell_closed(rt, &stream);
     ended.map_err(Stop::Script)
 }
 
-// Does a script of the user side, with the network side behind a connection to this address.
+// Does a script of the user side, with the network side behind a connection to its address.
 fn do_user<R: Read, W: Write>(
     rt: &HostRuntime,
     script: &mut R,
     out: &mut W,
-    connect: &str,
-    interface: &Interface,
+    setup: &SideSetup<'_>,
 ) -> Result<(), Stop> {
-    let stream = connection::made(rt, connect).map_err(Stop::NoConnection)?;
+    let stream = connection::made(rt, setup.address).map_err(Stop::NoConnection)?;
     let port = Port::new(FromRead::new(&stream), FromWrite::new(&stream));
     let SideRun { ended, .. } = user(
         rt.alloc(),
         script,
         out,
         port,
-        config_of(interface),
-        interface.fixed(),
+        setup.lines,
+        config_of(setup.interface),
+        setup.interface.fixed(),
     );
     connection::tell_closed(rt, &stream);
     ended.map_err(Stop::Script)

@@ -3,7 +3,7 @@
 use crate::connection;
 use crate::connections::Connections;
 use crate::ending::Stop;
-use crate::job::config_of;
+use crate::job::{SideSetup, config_of};
 use crate::taps::Taps;
 use lapd_cli_live::{LiveSide, LiveStop, Printer, Style, Tapped, live_script, live_session};
 use lapd_cli_options::{Interface, LiveOptions};
@@ -22,16 +22,15 @@ use std::io::{self, IsTerminal, Read, Write};
 pub fn do_live<R: Read, W: Write>(
     rt: &HostRuntime,
     side: Side,
-    interface: &Interface,
-    address: &str,
+    setup: &SideSetup<'_>,
     options: &LiveOptions<'_>,
     script: &mut R,
     out: &mut W,
 ) -> Result<(), Stop> {
     let taps = Taps::open(rt, side, options.pcap, options.gsmtap).map_err(Stop::NoTaps)?;
     let connections = match side {
-        Side::Network => accepted(rt, address, options.terminals),
-        Side::User => made(rt, address),
+        Side::Network => accepted(rt, setup.address, options.terminals),
+        Side::User => made(rt, setup.address),
     };
     let mut connections = connections.map_err(Stop::NoConnection)?;
     let is_typed = rt.stdin().is_terminal();
@@ -39,12 +38,13 @@ pub fn do_live<R: Read, W: Write>(
         connections.hear_typed().map_err(Stop::NoConnection)?;
     }
     let line = Tapped::new(side, connections, taps);
-    let Ok((side, acts)) = made_side(rt, side, interface) else {
+    let Ok((side, acts)) = made_side(rt, side, setup.interface) else {
         return Err(Stop::Script(ScriptFault::Memory));
     };
     let style = Style {
         time: options.time,
         quiet: options.quiet,
+        lines: setup.lines,
     };
     let printer = Printer::new(rt.alloc(), out, style);
     let live = LiveSide::new(rt.alloc(), side, acts, line, printer);

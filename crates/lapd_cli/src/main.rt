@@ -26,6 +26,7 @@ use job::{do_job, script_of};
 use lapd_cli_console::{KeptLines, Refusals, Session, Watched};
 use lapd_cli_options::{Clock, Invocation, Job, parse_words, words};
 use lapd_cli_script::ScriptFault;
+use lapd_cli_side_commands::LineStyle;
 use std::io::{BufWriter, IsTerminal, Read};
 use std::process::ExitCode;
 
@@ -41,11 +42,19 @@ fn main(rt: HostRuntime) -> ExitCode {
                 address,
                 pcap,
                 clock,
+                json,
                 strict,
             },
         ) => match (job, pcap) {
             (Job::Decode(options), Some(file)) => do_capture(&rt, file, options),
-            (job, _) => do_invocation(&rt, job, &clock, address.unwrap_or(""), strict),
+            (job, _) => do_invocation(
+                &rt,
+                job,
+                &clock,
+                address.unwrap_or(""),
+                style_of_lines(json),
+                strict,
+            ),
         },
         Err(unchosen) => say_no_invocation(&rt, &unchosen),
     }
@@ -57,14 +66,24 @@ fn do_invocation(
     job: Job,
     clock: &Clock<'_>,
     address: &str,
+    lines: LineStyle,
     strict: bool,
 ) -> ExitCode {
     if rt.stdin().is_terminal() && has_forms(&job, clock) {
         let session = Session::new(rt.alloc(), script_of(&job), rt.reader(), rt.stderr());
-        let lines = Greeting::new(session, rt.stderr());
-        do_script(rt, job, clock, address, strict, lines)
+        let typed = Greeting::new(session, rt.stderr());
+        do_script(rt, job, clock, address, lines, strict, typed)
     } else {
-        do_script(rt, job, clock, address, strict, rt.stdin())
+        do_script(rt, job, clock, address, lines, strict, rt.stdin())
+    }
+}
+
+// How `net` and `user` print their lines.
+fn style_of_lines(json: bool) -> LineStyle {
+    if json {
+        LineStyle::Json
+    } else {
+        LineStyle::Text
     }
 }
 
@@ -82,21 +101,22 @@ fn do_script<R: Read + Drop>(
     job: Job,
     clock: &Clock<'_>,
     address: &str,
+    lines: LineStyle,
     strict: bool,
     reader: R,
 ) -> ExitCode {
     let script = script_of(&job);
-    let mut lines = KeptLines::new(reader);
+    let mut kept = KeptLines::new(reader);
     let watched = Watched::new(Refusals::new(rt.stdout()));
     let Ok(mut out) = BufWriter::new(rt.alloc(), watched) else {
         return say_memory(rt);
     };
-    let ended = do_job(rt, job, clock, address, &mut lines, &mut out);
+    let ended = do_job(rt, job, clock, address, lines, &mut kept, &mut out);
     // What a device that failed did not take is given up.
     let (watched, _left) = out.into_parts();
     let output = watched.fault();
     let refusals = watched.into_inner();
-    let line = bad_line(&lines, &ended);
+    let line = bad_line(&kept, &ended);
     let refusal = refusals.first().unwrap_or(&[]);
     let ending = Ending {
         script,
@@ -105,7 +125,7 @@ fn do_script<R: Read + Drop>(
         strict,
         line,
         refusal,
-        input: lines.fault(),
+        input: kept.fault(),
         output,
     };
     say_ending(rt, &ending, &ended)

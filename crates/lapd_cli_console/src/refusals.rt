@@ -9,10 +9,14 @@ use std::io::{self, Write};
 /// What a line begins with that tells of a refusal.
 const REFUSED: &[u8] = b"refused ";
 
+/// What an object begins with that does.
+const REFUSED_OBJECT: &[u8] = b"{\"refused\":";
+
 /// How many octets are noted of a line.
 const NOTED: usize = 256;
 
-/// A writer that hands on to another writer, and notes the first line that begins with `refused `, or with a moment and that.
+/// A writer that hands on to another writer, and notes the first line that begins with `refused `, or with a moment and that, and
+/// the first object of which the first member is `refused`.
 #[derive(Drop)]
 pub struct Refusals<W> {
     writer: W,
@@ -30,8 +34,8 @@ impl<W: Write> Refusals<W> {
         }
     }
 
-    /// The first line that was written whole and begins with `refused `, or with a moment and that, without its line feed and cut
-    /// to 256 octets.
+    /// The first line that was written whole and begins with `refused `, or with a moment and that, or is an object that begins
+    /// with `refused`, without its line feed and cut to 256 octets.
     pub fn first(&self) -> Option<&[u8]> {
         self.noted.refusal()
     }
@@ -125,6 +129,7 @@ impl Noted {
 fn is_refusal(line: &[u8]) -> bool {
     match line {
         [b'r', ..] => line.starts_with(REFUSED),
+        [b'{', ..] => line.starts_with(REFUSED_OBJECT),
         [octet, ..] => octet.is_ascii_digit() && behind_moment(line).starts_with(REFUSED),
         [] => false,
     }

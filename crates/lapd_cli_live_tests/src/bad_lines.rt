@@ -3,7 +3,7 @@
 use crate::made::Made;
 use crate::played::{Who, play};
 use crate::wants::wants;
-use lapd_cli_live::{LiveStop, Style};
+use lapd_cli_live::{LineStyle, LiveStop, Style};
 use lapd_cli_script::ScriptFault;
 use std::alloc::Global;
 use std::test::Fail;
@@ -84,6 +84,7 @@ const GOOD_OF_USER: &[&str] = &[
 const STYLE: Style = Style {
     time: false,
     quiet: false,
+    lines: LineStyle::Text,
 };
 
 /// Whether each of these lines is bad, or each is good.

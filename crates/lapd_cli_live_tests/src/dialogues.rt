@@ -1,17 +1,25 @@
 //! Dialogues in time: what is printed, and when.
 
 use crate::played::{Row, Who, check_row};
-use lapd_cli_live::{LiveStop, Style};
+use lapd_cli_live::{LineStyle, LiveStop, Style};
 use std::test::Fail;
 
 const TIMED: Style = Style {
     time: true,
     quiet: false,
+    lines: LineStyle::Text,
 };
 
 const QUIET: Style = Style {
     time: true,
     quiet: true,
+    lines: LineStyle::Text,
+};
+
+const OBJECTS: Style = Style {
+    time: true,
+    quiet: false,
+    lines: LineStyle::Json,
 };
 
 const ROWS: &[Row] = &[
@@ -119,6 +127,28 @@ const ROWS: &[Row] = &[
             70 sent frames=4 octets=23 I=2 SABME=1 UI=1 again=1\n\
             70 received frames=4 octets=19 RR=1 REJ=1 UA=1 UI=1 discarded=0\n\
             70 reports\n",
+    },
+    Row {
+        name: "objects, of which one is expected by its words",
+        who: Who::Net,
+        coming: "7 00817f\n9 0081000008\n",
+        script: "expect 0 64 data 500\nread 10\nstate 0 64\nestablish 0 65\nstats\nexpect 0 64 rep 20\n",
+        style: OBJECTS,
+        ended: Err(LiveStop::Unmet),
+        printed: r#"{"direction":"U>N","frame":"SABME","p":1,"role":"command","sapi":0,"tei":64,"time":7}
+{"direction":"N>U","f":1,"frame":"UA","role":"response","sapi":0,"tei":64,"time":7}
+{"primitive":"established","sapi":0,"tei":64,"time":7}
+{"direction":"U>N","frame":"I","info":"08","nr":0,"ns":0,"p":0,"role":"command","sapi":0,"tei":64,"time":9}
+{"direction":"N>U","f":0,"frame":"RR","nr":1,"role":"response","sapi":0,"tei":64,"time":9}
+{"info":"08","primitive":"data","sapi":0,"tei":64,"time":9}
+{"line":"nothing","time":19}
+{"RC":0,"T203":9990,"V(A)":0,"V(R)":1,"V(S)":0,"line":"state 7","queue":0,"sapi":0,"tei":64,"time":19}
+{"refused":"B1 NoLink","time":19}
+{"RR":1,"UA":1,"again":0,"frames":2,"line":"sent","octets":7,"time":19}
+{"I":1,"SABME":1,"discarded":0,"frames":2,"line":"received","octets":8,"time":19}
+{"line":"reports","time":19}
+{"expected":"0 64 rep","time":39}
+"#,
     },
 ];
 

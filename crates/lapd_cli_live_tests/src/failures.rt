@@ -3,7 +3,7 @@
 use crate::made::Made;
 use crate::played::{Who, play};
 use crate::wants::wants;
-use lapd_cli_live::{LiveStop, Style};
+use lapd_cli_live::{LineStyle, LiveStop, Style};
 use lapd_cli_script::ScriptFault;
 use lapd_port::PortFault;
 use std::alloc::Global;
@@ -16,6 +16,7 @@ const SCRIPT: &str = "read\nrun 20\ngive 0 64 0902\nexpect 0 64 report 20000\nst
 const STYLE: Style = Style {
     time: true,
     quiet: false,
+    lines: LineStyle::Text,
 };
 
 /// How often it is called where none fails, and how the script ends where this one fails.

@@ -3,7 +3,7 @@
 use crate::made::Made;
 use crate::played::{Who, made_live};
 use crate::wants::{are_same, wants};
-use lapd_cli_live::{LiveStop, Style, live_session};
+use lapd_cli_live::{LineStyle, LiveStop, Style, live_session};
 use std::alloc::{AllocError, Global};
 use std::io::{self, Read};
 use std::test::Fail;
@@ -117,6 +117,7 @@ struct Held {
 const TIMED: Style = Style {
     time: true,
     quiet: false,
+    lines: LineStyle::Text,
 };
 
 /// Holds a session.

@@ -30,4 +30,5 @@ pub record IsDefault (chosen : Invocation) : Type 0 where
   pub address : chosen.address ≡ None
   pub pcap : chosen.pcap ≡ None
   pub clock : chosen.clock ≡ Script
+  pub json : chosen.json ≡ false
   pub strict : chosen.strict ≡ false

@@ -75,6 +75,14 @@ pub(crate) fn pcap_of<'a>(name: &str, given: &ArgMatches<'a>) -> Option<&'a str>
     }
 }
 
+/// Whether the command of this name prints each line of a side as a JSON object.
+pub(crate) fn prints_json(name: &str, given: &ArgMatches<'_>) -> bool {
+    match name {
+        "net" | "user" => given.get_flag("json"),
+        _ => false,
+    }
+}
+
 // What the user side and the network side of `pair` or `loop` are made with.
 fn ends_of<'a>(given: &ArgMatches<'a>) -> Result<(Params, Params), NoInvocation<'a>> {
     match params_of(given) {

@@ -64,6 +64,9 @@ pub const KEEP_GOING: &str = "Tells a bad line or packet on standard error, and 
 
 pub const PCAP: &str = "Prints the frames of this pcap or pcapng file in place of a script";
 
+/// What the option of a side's lines is for.
+pub const SIDE_JSON: &str = "Prints each line as a JSON object";
+
 /// What the options of the clock are for.
 pub const CLOCK: &str =
     "The clock: that of the script, which goes on by tick alone, or the real one";
@@ -500,6 +503,12 @@ then what the layers above are told:
 What is refused changes nothing. Octets with one of F1 to F3, and what is for no link, are printed and
 discarded. Octets with one of F4 to F7 are printed, and their link reports them.
 
+With --json each line is an object, with its members in the order of their names. A frame has those that
+`lapd decode --help` names. What is told has primitive, one of the words above, as \"established\" or
+\"tei given\"; sapi and tei, where it is of a link or a TEI; info, count or report, where octets, a number
+or a letter stand behind the word. What is refused has refused, as \"B1 NoLink\". With --strict it counts
+as ever.
+
 On the connection the octets of a frame stand behind their length, a number of two octets, the high one
 first. A connection that fails ends the script: `port`, its fault and exit status 3. The faults are
 S2 BadLength (a length that is not from 3 to 264), S3 Cut (the end inside a frame), S4 Device,
@@ -552,6 +561,9 @@ goes to all of them, and takes effect where its TEI is; give each `lapd user` a 
 closes, breaks the framing or does not take what it is sent is let go of, which is told on standard error,
 and the others go on. The script begins once the first one is there; `run` alone does not end then.
 T200 has to be longer than the way there and back, or frames are sent again that were on their way.
+With --json and --time the moment is the last member, time. expect goes by the words that are printed
+without --json; one that does not come is \"expected\". nothing, state and stats have the words in line,
+and sapi, tei and each NAME=NUMBER as members of their own.
 
 Example, with the real clock:
   $ printf 'expect 0 64 established 60000\ngive 0 64 0807\nexpect 0 64 acknowledged 5000\nstate\n' |
@@ -604,6 +616,12 @@ then what the layers above are told:
 What is refused changes nothing. Octets with one of F1 to F3, and what is for no link, are printed and
 discarded. Octets with one of F4 to F7 are printed, and their link reports them.
 
+With --json each line is an object, with its members in the order of their names. A frame has those that
+`lapd decode --help` names. What is told has primitive, one of the words above, as \"established\" or
+\"tei given\"; sapi and tei, where it is of a link or a TEI; info, count or report, where octets, a number
+or a letter stand behind the word. What is refused has refused, as \"B1 NoLink\". With --strict it counts
+as ever.
+
 On the connection the octets of a frame stand behind their length, a number of two octets, the high one
 first. A connection that fails ends the script: `port`, its fault and exit status 3. The faults are
 S2 BadLength (a length that is not from 3 to 264), S3 Cut (the end inside a frame), S4 Device,
@@ -648,6 +666,9 @@ file or a pipe goes on line by line, and its lines say where the side is served:
   state [SAPI], stats   as `lapd net --help` tells
 `tick` is no line then. T200 has to be longer than the way there and back, or frames are sent again that
 were on their way.
+With --json and --time the moment is the last member, time. expect goes by the words that are printed
+without --json; one that does not come is \"expected\". nothing, state and stats have the words in line,
+and sapi, tei and each NAME=NUMBER as members of their own.
 
 Example, with the real clock and the `lapd net` of the example of `lapd net --help` on the other side:
   $ printf 'establish 0\nexpect 0 64 confirmed 5000\nread 1000\n' |

@@ -13,6 +13,8 @@ pub struct Invocation<'a> {
     pub pcap: Option<&'a str>,
     /// By which clock `net` or `user` goes.
     pub clock: Clock<'a>,
+    /// Whether `net` or `user` prints each line as a JSON object. `decode` has its own.
+    pub json: bool,
     /// Whether the exit status is to tell that a line of the script was refused.
     pub strict: bool,
 }
@@ -91,6 +93,7 @@ impl Invocation<'_> {
             address: None,
             pcap: None,
             clock: Clock::Script,
+            json: false,
             strict: false,
         }
     }

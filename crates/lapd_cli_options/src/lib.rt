@@ -17,7 +17,7 @@ mod program_words;
 
 use clap::{ArgMatches, Command};
 use clock_options::clock_of;
-use command_options::{address_of, job_of, pcap_of};
+use command_options::{address_of, job_of, pcap_of, prints_json};
 pub use invocation::{Clock, DecodeOptions, Invocation, Job, LiveOptions};
 pub use lapd_cli_values::{
     Durations, Interface, LinkEnd, NoAddress, OutOfRange, Params, Recovery, Sapi, Side, Tei,
@@ -81,6 +81,7 @@ fn invocation_by<'a>(
                 address,
                 pcap: pcap_of(name, given),
                 clock,
+                json: prints_json(name, given),
                 strict: is_strict(given),
             })
         }

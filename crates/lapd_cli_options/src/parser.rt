@@ -200,8 +200,9 @@ fn user_command<'a>(alloc: Global) -> Result<Command<'a>, AllocError> {
     with_clock(alloc, command)
 }
 
-// The options of the clock, and of what goes with the real one.
+// The option of what is printed, those of the clock, and of what goes with the real one.
 fn with_clock<'a>(alloc: Global, command: Command<'a>) -> Result<Command<'a>, AllocError> {
+    let command = with_arg(command, flag(alloc, "json", help::SIDE_JSON))?;
     let command = with_arg(command, clock_option(alloc))?;
     let command = with_arg(command, flag(alloc, "time", help::TIME))?;
     let command = with_arg(command, flag(alloc, "quiet", help::QUIET))?;

@@ -350,6 +350,29 @@ fn clocks_are_chosen(rt: HostRuntime) -> Result<(), Fail> {
     Ok(())
 }
 
+// Words, and whether they choose objects for the lines of a side.
+const OBJECTS: &[(&[&str], bool)] = &[
+    (&["lapd", "net", "--listen=a:1"], false),
+    (&["lapd", "net", "--listen=a:1", "--json"], true),
+    (
+        &["lapd", "user", "--json", "--connect=a:1", "--clock=real"],
+        true,
+    ),
+    (&["lapd", "decode", "--json"], false),
+];
+
+#[test]
+fn objects_are_chosen(rt: HostRuntime) -> Result<(), Fail> {
+    for (words, wanted) in OBJECTS {
+        let chosen = match &parse_words(rt.alloc(), words) {
+            Ok(chosen) => chosen.json == *wanted,
+            Err(_) => false,
+        };
+        wants(chosen, "objects", "another choice")?;
+    }
+    Ok(())
+}
+
 // Words that the parser does not take.
 const FAULTS: &[&[&str]] = &[
     &["lapd", "--side", "user"],

@@ -4,7 +4,7 @@ use crate::devices::{Devices, MemoryPort, Paper, SOUND, port_of};
 use crate::port::devices::calls_of;
 use crate::wants::{are_same, wants};
 use lapd_cli_script::ScriptFault;
-use lapd_cli_side_commands::{Port, SideRun, Sink, Source, basic_access, net, user};
+use lapd_cli_side_commands::{LineStyle, Port, SideRun, Sink, Source, basic_access, net, user};
 use std::alloc::Global;
 use std::io::Write;
 use std::test::Fail;
@@ -57,9 +57,26 @@ pub(crate) fn go_over<W: Write, S: Source, K: Sink>(
     printed: W,
     port: Port<S, K>,
 ) -> SideRun<W, S, K> {
+    let style = LineStyle::Text;
     match who {
-        Who::Net => net(alloc, &mut script, printed, port, basic_access(), &[]),
-        Who::User => user(alloc, &mut script, printed, port, basic_access(), None),
+        Who::Net => net(
+            alloc,
+            &mut script,
+            printed,
+            port,
+            style,
+            basic_access(),
+            &[],
+        ),
+        Who::User => user(
+            alloc,
+            &mut script,
+            printed,
+            port,
+            style,
+            basic_access(),
+            None,
+        ),
     }
 }
 
@@ -398,4 +415,34 @@ fn each_frame_is_one_write(rt: HostRuntime) -> Result<(), Fail> {
         wants(same, row.name, "another number of calls")?;
     }
     Ok(())
+}
+
+/// What the network side prints as objects, where a request is refused, and then as in `WORKED_NET`.
+const OBJECTS: &str = r#"{"refused":"B1 NoLink"}
+{"direction":"U>N","frame":"UI","info":"0f123401ff","p":0,"role":"command","sapi":63,"tei":127}
+{"direction":"N>U","frame":"UI","info":"0f12340281","p":0,"role":"command","sapi":63,"tei":127}
+{"primitive":"tei given","tei":64}
+{"direction":"U>N","frame":"SABME","p":1,"role":"command","sapi":0,"tei":64}
+{"direction":"N>U","f":1,"frame":"UA","role":"response","sapi":0,"tei":64}
+{"primitive":"established","sapi":0,"tei":64}
+{"direction":"N>U","frame":"RR","nr":0,"p":1,"role":"command","sapi":0,"tei":64}
+{"refused":"S1 End"}
+"#;
+
+#[test]
+fn lines_are_objects(rt: HostRuntime) -> Result<(), Fail> {
+    let mut octets = [0; MOST];
+    let port = port_of(octets_of(WORKED_NET.coming, &mut octets)?, SOUND);
+    let mut script = b"give 0 65 01\nread\nread\ntick 10000\nread\n".as_slice();
+    let run = net(
+        rt.alloc(),
+        &mut script,
+        Paper::with_room(2048),
+        port,
+        LineStyle::Json,
+        basic_access(),
+        &[],
+    );
+    let printed = are_same(run.out.text.as_slice(), OBJECTS.as_bytes());
+    wants(printed && run.ended == Ok(()), "objects", "what is printed")
 }

@@ -7,7 +7,7 @@ use crate::wants::{are_same, wants};
 use lapd_cli_commands::{Params, answer};
 use lapd_cli_options::{Interface, Job, LinkEnd, NoInvocation, parse_words};
 use lapd_cli_script::ScriptFault;
-use lapd_cli_side_commands::{Config, net, user};
+use lapd_cli_side_commands::{Config, LineStyle, net, user};
 use lapd_frame::{Sapi, Side, Tei};
 use lapd_link::Recovery;
 use lapd_timers::{Durations, Timer};
@@ -221,10 +221,19 @@ fn goes_over(
             &mut script,
             paper,
             port,
+            LineStyle::Text,
             primary_rate(),
             &[Tei::new(0).unwrap()],
         ),
-        Side::User => user(alloc, &mut script, paper, port, primary_rate(), Tei::new(0)),
+        Side::User => user(
+            alloc,
+            &mut script,
+            paper,
+            port,
+            LineStyle::Text,
+            primary_rate(),
+            Tei::new(0),
+        ),
     };
     let is_printed = are_same(run.out.text.as_slice(), printed.as_bytes());
     is_printed && run.ended == Ok(()) && are_same(run.port.sink().taken.as_slice(), going)

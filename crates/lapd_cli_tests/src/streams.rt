@@ -219,6 +219,8 @@ fn first_refusals(_rt: HostRuntime) -> Result<(), Fail> {
         b"state 4\ndata refused \nrefuse d\nrefused\n5x refused L1\n7 8 refused L1\n\nrefused L1".as_slice();
     let behind = b"1566 refused B1 NoLink".as_slice();
     let timed = b"12 0 64 established\n1566 refused B1 NoLink\nrefused L2 QueueFull\n".as_slice();
+    let object = br#"{"refused":"B1 NoLink","time":1566}"#.as_slice();
+    let objects = b"{\"line\":\"refused\"}\n{\"refused\":\"B1 NoLink\",\"time\":1566}\n".as_slice();
     for most in 1..70 {
         wants(
             refuses(text, most, Some(first)),
@@ -229,6 +231,11 @@ fn first_refusals(_rt: HostRuntime) -> Result<(), Fail> {
         wants(
             refuses(timed, most, Some(behind)),
             "a refusal behind its moment",
+            "another is noted",
+        )?;
+        wants(
+            refuses(objects, most, Some(object)),
+            "an object of a refusal",
             "another is noted",
         )?;
     }
