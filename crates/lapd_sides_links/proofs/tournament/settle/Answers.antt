@@ -1,6 +1,7 @@
-use Rattle.std.proofs.Common.{◌/◌, ◌∙◌, arith}
+use Rattle.std.proofs.Common.{◌≡◌, ℕ, ◌/◌, ◌∙◌, subst, arith}
 use Rattle.std.specs.Prelude.{None}
 use Rattle.std.proofs.lemmas.List.{get_or-set_other}
+use Rattle.lapd_sides_links.specs.Tournament.{IsWonBut}
 use Rattle.lapd_sides_links.proofs.Tournaments.{won_anew, won_before, read_entry, sooner_of_two}
 use Rattle.lapd_sides_links.proofs.tournament.settle.Goals as goal
 
@@ -26,3 +27,8 @@ loop-at-preserved c = (
     ),
   ),
 )
+
+pub returns-clause-won : goal.returns-clause-won
+returns-clause-won c =
+    let top : c.loop-at.at / 2 ≡ 0 = omega (arith, c.loop-at-test.false) in
+    subst (λ (n : ℕ). IsWonBut n c.loop-at.nodes) top c.loop-at.invariant.0
