@@ -175,7 +175,7 @@ uint32_t lapd_side_tick(lapd_side *side, uint64_t now, uint8_t *expired);
  * the handle owns no side. It changes with the calls that hand something in. */
 uint32_t lapd_side_deadline(lapd_side *side, uint64_t *moment);
 
-/* A moment before which lapd_side_tick has nothing to do: that of lapd_side_deadline. */
+/* The moment of lapd_side_deadline. */
 uint32_t lapd_side_quiet_until(lapd_side *side, uint64_t *moment);
 
 /* How many frames lapd_side_take has discarded since the side was made; it stays at UINT64_MAX. 0 where there is no side. */

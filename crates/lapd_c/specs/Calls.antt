@@ -10,6 +10,7 @@ use Rattle.lapd_sides_links.specs.declared.side_fault.SideKind.TheVariants.{NoLi
 use Rattle.lapd_sides_links.specs.declared.primitive.Primitive.{Primitive}
 use Rattle.lapd_sides_links.specs.declared.side_fault.SideFault.{SideFault}
 use Rattle.lapd_sides_links.specs.Effects.{Effects, and_then, no_effects}
+use Rattle.lapd_sides_links.specs.Expiries.{or_last}
 use Rattle.lapd_sides.specs.declared.either_side.EitherSide.{EitherSide}
 use Rattle.lapd_sides.specs.Either.{Expires, Rests, HasNextDeadline, HasQuietUntil, HasDiscarded, HasTable}
 use Rattle.lapd_c.specs.declared.flat_primitive.FlatPrimitive.{FlatPrimitive}
@@ -83,17 +84,12 @@ pub record Ticks (now expired : ℕ) (old new : HeldSide) (code : ℕ) : Type 0 
 
 -- ---- Calls that read.
 
--- the next moment at which something is due; the last that there is where nothing ever is
-abbrev pub moment_or_last : Option ℕ → ℕ
-moment_or_last (Some moment) = moment
-moment_or_last None = 18446744073709551615
-
 pub record TellsDeadline (moment : ℕ) (old new : HeldSide) (code : ℕ) : Type 0 where
   pub done : code ≡ done
   pub same : new ≡ old
   pub deadline : Option ℕ
   pub next : HasNextDeadline old.side deadline
-  pub is : moment ≡ moment_or_last deadline
+  pub is : moment ≡ or_last deadline
 
 pub record TellsQuiet (moment : ℕ) (old new : HeldSide) (code : ℕ) : Type 0 where
   pub done : code ≡ done

@@ -3,7 +3,8 @@
 ghost use Rattle.std.specs.Prelude.{◌≡◌, ◌<◌, ◌≤◌, length, slice_get, option_copied, IfOk, OnOk, OnErr, false};
 ghost use Rattle.lapd_sides_links.specs.Effects.{no_effects};
 ghost use Rattle.lapd_sides.specs.Either.{Takes, Answers};
-ghost use Rattle.lapd_c.specs.Calls.{waiting, gives_nothing, is_full, without_first_frame, without_first_primitive, Asks, Ticks, TellsDeadline, TellsQuiet, TellsDiscarded, TellsState, FetchesFrame, FetchesPrimitive, moment_or_last, overwritten};
+ghost use Rattle.lapd_c.specs.Calls.{waiting, gives_nothing, is_full, without_first_frame, without_first_primitive, Asks, Ticks, TellsDeadline, TellsQuiet, TellsDiscarded, TellsState, FetchesFrame, FetchesPrimitive, overwritten};
+ghost use Rattle.lapd_sides_links.specs.Expiries.{or_last};
 
 use crate::codes::{DONE, MEMORY, NO_LINK, OUT_OF_RANGE, PENDING, code_of};
 use crate::flat_primitive::{FlatPrimitive, octets_of};
@@ -119,7 +120,7 @@ impl HeldSide {
         DONE
     }
 
-    /// A moment before which nothing is due, in milliseconds; the last moment that there is where nothing ever is.
+    /// The same moment.
     pub(crate) fn quiet_until(&self, moment: &mut u64) -> u32
         ensures { TellsQuiet moment.new self.now self.now result }
     {
@@ -242,7 +243,7 @@ impl HeldSide {
 
 /// The moment, or the last that there is where there is none.
 fn moment_or_last(moment: Option<u64>) -> u64
-    ensures { result ≡ moment_or_last moment }
+    ensures { result ≡ or_last moment }
 {
     match moment {
         Some(moment) => moment,

@@ -286,8 +286,7 @@ pub extern "C" fn lapd_side_deadline(handle: &mut Handle, moment: &mut u64, allo
     code
 }
 
-/// A moment before which [`lapd_side_tick`] has nothing to do: that of [`lapd_side_deadline`]. It is the last moment that there is
-/// where the handle owns no side.
+/// The moment of [`lapd_side_deadline`], and the last moment that there is where the handle owns no side.
 #[unsafe(no_mangle)]
 pub extern "C" fn lapd_side_quiet_until(handle: &mut Handle, moment: &mut u64, alloc: Global) -> u32
     ensures { Through (λ old new. TellsQuiet moment.new old new result)

@@ -26,7 +26,7 @@ use Rattle.lapd_sides.specs.declared.net_side.NetSide.{NetSide}
 use Rattle.lapd_sides.specs.declared.served.LinksAndTimer.{LinksAndTimer}
 use Rattle.lapd_sides_links.specs.declared.side_fault.SideKind.{SideKind}
 use Rattle.lapd_sides_links.specs.Effects.{Effects, no_effects}
-use Rattle.lapd_sides_links.specs.Expiries.{IsDue, IsNextDeadline}
+use Rattle.lapd_sides_links.specs.Expiries.{IsDue, IsNextDeadline, IsQuietUntil}
 use Rattle.lapd_sides_links.specs.Links.{Links, Reaction, is_served}
 use Rattle.lapd_sides.specs.Management.{carries_message, links_with, manages, one_more}
 use Rattle.lapd_sides_links.specs.Links.{Served}
@@ -149,6 +149,9 @@ due_so now s timers result e same is due = subst (λ (t : Timers). IsDue now (re
 
 pub next_so : (s : Served) (timers : Timers) (deadline : Option ℕ) → timers ≡ s.timers → IsNextDeadline (record { links = s.links; timers = timers }) deadline → IsNextDeadline s deadline
 next_so s timers deadline same next = subst (λ (t : Timers). IsNextDeadline (record { links = s.links; timers = t }) deadline) same next
+
+pub quiet_so : (s : Served) (timers : Timers) (moment : ℕ) → timers ≡ s.timers → IsQuietUntil (record { links = s.links; timers = timers }) moment → IsQuietUntil s moment
+quiet_so s timers moment same quiet = subst (λ (t : Timers). IsQuietUntil (record { links = s.links; timers = t }) moment) same quiet
 
 pub expired_so : (code : NetSide) (config : Config) (acts : Effects) (now : ℕ) (s : Network) (e : RunningTimer) (of : Option LinkId) → IsDue now s.served (Some e) → e.of ≡ of → HasDone code config acts (network_expires config now e.timer of s) → HasExpired code config acts now s
 expired_so code config acts now s e of due is done = record {

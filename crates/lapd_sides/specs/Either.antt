@@ -62,7 +62,7 @@ HasNextDeadline (either.Network code) deadline =
 HasNextDeadline (either.User code) deadline =
     user.EachShown code (λ s. IsNextDeadline s.served deadline)
 
--- a moment before which nothing is due
+-- or the last of all where nothing ever is
 abbrev pub HasQuietUntil : EitherSide → ℕ → Type 0
 HasQuietUntil (either.Network code) moment =
     network.EachShown code (λ s. IsQuietUntil s.served moment)

@@ -88,8 +88,7 @@ impl EitherSide {
         }
     }
 
-    /// A moment before which [`EitherSide::tick`] has nothing to do, in milliseconds: that of [`EitherSide::next_deadline`], or
-    /// `u64::MAX` where no timer runs.
+    /// The moment of [`EitherSide::next_deadline`], in milliseconds, or `u64::MAX` where no timer runs.
     pub fn quiet_until(&self) -> u64
         ensures { HasQuietUntil self.now result }
     {

@@ -216,8 +216,7 @@ impl NetSide {
         next_deadline(&self.served.timers, &self.served.links)
     }
 
-    /// A moment before which [`NetSide::tick`] has nothing to do, in milliseconds: that of [`NetSide::next_deadline`], or `u64::MAX`
-    /// where no timer runs.
+    /// The moment of [`NetSide::next_deadline`], in milliseconds, or `u64::MAX` where no timer runs.
     pub fn quiet_until(&self) -> u64
         ensures { EachShown self.now (λ s. IsQuietUntil s.served result) }
     {

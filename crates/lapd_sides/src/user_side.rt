@@ -229,8 +229,7 @@ impl UserSide {
         next_deadline(&self.served.timers, &self.served.links)
     }
 
-    /// A moment before which [`UserSide::tick`] has nothing to do, in milliseconds: that of [`UserSide::next_deadline`], or `u64::MAX`
-    /// where no timer runs.
+    /// The moment of [`UserSide::next_deadline`], in milliseconds, or `u64::MAX` where no timer runs.
     pub fn quiet_until(&self) -> u64
         ensures { EachShown self.now (λ s. IsQuietUntil s.served result) }
     {

@@ -15,7 +15,7 @@ use Rattle.lapd_table.specs.declared.link_id.LinkId.{LinkId}
 use Rattle.lapd_sides_links.specs.declared.running_timer.RunningTimer.{RunningTimer}
 use Rattle.lapd_sides_links.specs.declared.timer_places.TimerPlaces.{TimerPlaces}
 use Rattle.lapd_sides_links.specs.Links.{Served, IsOfLink, of_sapi}
-use Rattle.lapd_sides_links.specs.Expiries.{IsTimerOf, Runs, IsPast, IsNoLaterLink, IsNoLater, IsFirst, IsDue, IsNextDeadline, IsQuietUntil, of_management, of_links, of_served}
+use Rattle.lapd_sides_links.specs.Expiries.{IsTimerOf, Runs, IsPast, IsNoLaterLink, IsNoLater, IsFirst, IsDue, IsNextDeadline, of_management, of_links, of_served}
 use Rattle.lapd_sides_links.specs.Places.{AreAtRest, RunsFor, IsSooner, expiry_at, own_expiry_at, earlier}
 use Rattle.lapd_sides_links.specs.TimersAtPlaces.{placed, of_places, entry_place, RunsAt, AreEntered, RunsForPlaced}
 use Rattle.lapd_sides_links.specs.Tournament.{entry, IsEntered}
@@ -291,13 +291,6 @@ deadline_of_first s (Some a) h = record {
   expiry = a;
   due = (record { runs = h.0; is_past = omega arith }, λ e x. h.1 e x.runs);
 }
-
--- before the next moment nothing is due, nor ever where there is none
-pub quiet_before : (s : Served) (moment : ℕ) → IsNextDeadline s (Some moment) → IsQuietUntil s moment
-quiet_before s moment h = h.before
-
-pub quiet_ever : (s : Served) (moment : ℕ) → IsNextDeadline s None → IsQuietUntil s moment
-quiet_ever s moment h = λ now early. h now
 
 -- ---- TEI management alone.
 

@@ -68,12 +68,12 @@ abbrev pub IsDue : ℕ → Served → Option RunningTimer → Type 0
 IsDue now s = IsFirst (IsPast now (of_served s))
 
 -- before this moment nothing is due on a side
-abbrev pub IsQuietUntil : Served → ℕ → Type 0
-IsQuietUntil s moment = (now : ℕ) → now < moment → IsDue now s None
+abbrev pub IsQuietBefore : Served → ℕ → Type 0
+IsQuietBefore s moment = (now : ℕ) → now < moment → IsDue now s None
 
 -- before this moment nothing is due on a side, and at it something is
 pub record IsNextMoment (s : Served) (moment : ℕ) : Type 0 where
-  pub before : IsQuietUntil s moment
+  pub before : IsQuietBefore s moment
   pub expiry : RunningTimer
   pub due : IsDue moment s (Some expiry)
 
@@ -81,3 +81,12 @@ pub record IsNextMoment (s : Served) (moment : ℕ) : Type 0 where
 abbrev pub IsNextDeadline : Served → Option ℕ → Type 0
 IsNextDeadline s None = (now : ℕ) → IsDue now s None
 IsNextDeadline s (Some moment) = IsNextMoment s moment
+
+-- a moment that may be none as a number: the greatest where there is none
+abbrev pub or_last : Option ℕ → ℕ
+or_last None = 18446744073709551615
+or_last (Some moment) = moment
+
+-- so the next moment at which something is due
+abbrev pub IsQuietUntil : Served → ℕ → Type 0
+IsQuietUntil s moment = (next : Option ℕ) × IsNextDeadline s next × (moment ≡ or_last next)

@@ -36,7 +36,7 @@ pub fn next_deadline(management: &TimerSet, links: &LinkSet) -> Option<u64>
     earlier(least_deadline(management), deadline_of(links.first()))
 }
 
-/// A moment before which no timer of a side is due, in milliseconds: that of [`next_deadline`], or `u64::MAX` where none runs.
+/// The moment of [`next_deadline`], in milliseconds, or `u64::MAX` where no timer runs.
 #[inline(always)]
 pub fn quiet_until(management: &TimerSet, links: &LinkSet) -> u64
     ensures { (side : Side) (shown : Links) → ShowLinks side links.now shown
