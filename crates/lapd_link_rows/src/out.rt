@@ -3,7 +3,6 @@ ghost use Rattle.lapd_link_rows.specs.Out.{letter_code};
 
 use lapd_frame::{Control, Role};
 use lapd_timers::Timer;
-use std::fmt;
 
 /// What an event calls for (Q.921 4.1 and Annex B).
 #[derive(Clone, Copy, Debug, Default, PartialEq, Eq)]
@@ -37,28 +36,6 @@ pub enum Out {
     Stop(Timer),
     /// An error is reported to management (MDL-ERROR indication, Q.921 Appendix II).
     Report(Letter),
-}
-
-/// For a person, as in `send Answer Ua { f: true }`, `acknowledged 3` or `start T200`.
-impl fmt::Display for Out {
-    fn fmt<W: fmt::Write>(&self, f: &mut fmt::Formatter<W>) -> fmt::Result {
-        match self {
-            Out::Send(role, control) => write!(f, "send {role:?} {control:?}"),
-            Out::SendMessage(place, control) => write!(f, "send {control:?} with message {place}"),
-            Out::SendUnit => f.write_str("send unit data"),
-            Out::Up => f.write_str("data"),
-            Out::UnitUp => f.write_str("unit data"),
-            Out::Established => f.write_str("established"),
-            Out::Confirmed => f.write_str("confirmed"),
-            Out::Released => f.write_str("released"),
-            Out::ReleaseConfirm => f.write_str("release confirmed"),
-            Out::Acknowledged(count) => write!(f, "acknowledged {count}"),
-            Out::Dropped(count) => write!(f, "dropped {count}"),
-            Out::Start(timer) => write!(f, "start {timer}"),
-            Out::Stop(timer) => write!(f, "stop {timer}"),
-            Out::Report(letter) => write!(f, "report {letter:?}"),
-        }
-    }
 }
 
 /// The letter of an error report (Q.921 Appendix II).
