@@ -50,7 +50,7 @@ typedef struct lapd_side {
 enum lapd_code {
 	LAPD_DONE = 0,
 	LAPD_NO_SIDE = 1,              /* the handle owns no side */
-	LAPD_PENDING = 2,              /* 1024 frames or 1024 primitives, or more, wait to be fetched */
+	LAPD_PENDING = 2,              /* most_waiting frames or primitives, or more, wait to be fetched */
 	LAPD_OUT_OF_RANGE = 3,         /* a number is out of its range, or the buffer is too small */
 	LAPD_NO_LINK = 11,             /* B1: there is no link of this SAPI and TEI */
 	LAPD_NO_MEMORY = 13,           /* B3: memory was refused; the call may be made again, or after all is fetched */
@@ -90,6 +90,7 @@ typedef struct lapd_settings {
 	uint32_t t202;   /* ms, 1 to 3600000: user side, an identity request */
 	uint32_t t203;   /* ms, 1 to 3600000: how long a link may be silent before the peer is asked */
 	uint16_t room;   /* messages that wait in the queue of a link, 1 to 1024 */
+	uint16_t most_waiting; /* 1 to 65535: a call is refused while so many frames, or primitives, wait to be fetched */
 	uint8_t n200;    /* how often a frame is sent again, 1 to 100 */
 	uint8_t k0;      /* the window of SAPI 0, 1 to 127 */
 	uint8_t k16;     /* the window of SAPI 16, 1 to 127 */
@@ -97,8 +98,8 @@ typedef struct lapd_settings {
 } lapd_settings;
 
 /* Q.921 5.9 for basic access and for primary rate, as in `lapd_settings settings = LAPD_BASIC;`. */
-#define LAPD_BASIC   { 0, 1000, 1000, 2000, 10000, 512, 3, 1, 3, 0 }
-#define LAPD_PRIMARY { 0, 1000, 1000, 2000, 10000, 512, 3, 7, 7, 0 }
+#define LAPD_BASIC   { 0, 1000, 1000, 2000, 10000, 512, 1024, 3, 1, 3, 0 }
+#define LAPD_PRIMARY { 0, 1000, 1000, 2000, 10000, 512, 1024, 3, 7, 7, 0 }
 
 typedef struct lapd_primitive {
 	uint8_t kind;    /* enum lapd_kind */

@@ -83,6 +83,7 @@ static void ranges(lapd_side *side)
 	s = basic, s.t203 = UINT32_MAX, not_made(side, &s);
 	s = basic, s.room = 0, not_made(side, &s);
 	s = basic, s.room = 1025, not_made(side, &s);
+	s = basic, s.most_waiting = 0, not_made(side, &s);
 	s = basic, s.n200 = 0, not_made(side, &s);
 	s = basic, s.n200 = 101, not_made(side, &s);
 	s = basic, s.k0 = 0, not_made(side, &s);
@@ -177,20 +178,21 @@ static void wants_unit(lapd_side *side, unsigned number)
 	WANT(length == 5 && buffer[3] == number >> 8 && buffer[4] == (number & 255));
 }
 
-/* What several calls give waits in order, and as much as there is room for. */
-static void a_pile(lapd_side *side)
+/* What several calls give waits in order, and as much as the side was made for. */
+static void a_pile(lapd_side *side, uint16_t most)
 {
-	const lapd_settings basic = LAPD_BASIC;
+	lapd_settings settings = LAPD_BASIC;
 	unsigned given, fetched = 0;
 	size_t length = 1;
 
-	DONE(lapd_side_network(side, &basic, message, 0));
-	for (given = 0; given < 1024; given++)
+	settings.most_waiting = most;
+	DONE(lapd_side_network(side, &settings, message, 0));
+	for (given = 0; given < most; given++)
 		a_unit(side, given);
 	all_return(side, LAPD_PENDING);
-	for (; fetched < 100; fetched++)
+	for (; fetched < (most + 1) / 2u; fetched++)
 		wants_unit(side, fetched);
-	for (; given < 1124; given++)
+	for (; given < most + fetched; given++)
 		a_unit(side, given);
 	all_return(side, LAPD_PENDING);
 	for (; fetched < given; fetched++)
@@ -221,7 +223,9 @@ int main(void)
 	ranges(&side);
 	no_side(&side);
 	a_link(&side);
-	a_pile(&side);
+	a_pile(&side, 1024);
+	a_pile(&side, 1);
+	a_pile(&side, 2000);
 	lapd_side_free(&side);
 	lapd_side_free(&side);
 	no_side(&side);

@@ -16,10 +16,11 @@ AT(lapd_settings, t201, 12, 4);
 AT(lapd_settings, t202, 16, 4);
 AT(lapd_settings, t203, 20, 4);
 AT(lapd_settings, room, 24, 2);
-AT(lapd_settings, n200, 26, 1);
-AT(lapd_settings, k0, 27, 1);
-AT(lapd_settings, k16, 28, 1);
-AT(lapd_settings, sapi16, 29, 1);
+AT(lapd_settings, most_waiting, 26, 2);
+AT(lapd_settings, n200, 28, 1);
+AT(lapd_settings, k0, 29, 1);
+AT(lapd_settings, k16, 30, 1);
+AT(lapd_settings, sapi16, 31, 1);
 
 SIZE(lapd_primitive, 16);
 AT(lapd_primitive, kind, 0, 1);

@@ -64,16 +64,16 @@ AsksLinkWith call octets code old new (Some id) =
     IsWithoutMemory code old new ⊎ AsksWithMessage (call id) octets code old new
 
 -- a side is made
-pub record HasMade (config : Config) (IsMade : Config → EitherSide → Type 0) (code : ℕ)
+pub record HasMade (config : Config) (IsMade : Config → EitherSide → Type 0) (most code : ℕ)
     (new : Held) : Type 0 where
   pub done : code ≡ done
   pub held : HeldSide
   pub owned : new ≡ Some held
-  pub is_new : IsNew config IsMade held
+  pub is_new : IsNew config IsMade most held
 
 -- A side is made with what the settings come to, or memory is refused; where a number is out of its
 -- range, none is made. Where none is made, the handle owns what it owned.
-abbrev pub Makes : (Config → EitherSide → Type 0) → ℕ → Held → Held → Option Config → Type 0
-Makes IsMade code old new None = (code ≡ out_of_range) × (new ≡ old)
-Makes IsMade code old new (Some config) =
-    IsWithoutMemory code old new ⊎ HasMade config IsMade code new
+abbrev pub Makes : (Config → EitherSide → Type 0) → ℕ → ℕ → Held → Held → Option Config → Type 0
+Makes IsMade most code old new None = (code ≡ out_of_range) × (new ≡ old)
+Makes IsMade most code old new (Some config) =
+    IsWithoutMemory code old new ⊎ HasMade config IsMade most code new

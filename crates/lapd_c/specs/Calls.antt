@@ -30,13 +30,10 @@ waiting held = and_then held.backlog held.acts
 abbrev pub gives_nothing : Effects → Bool
 gives_nothing e = nat_eq (length e.frames) 0 && nat_eq (length e.primitives) 0
 
--- so many frames or primitives wait that no call may give more
-abbrev pub most_waiting : ℕ
-most_waiting = 1024
-
+-- as many frames or primitives wait as it was made for, or more, so that no call may give more
 abbrev pub is_full : HeldSide → Bool
-is_full held = nat_le most_waiting (length (waiting held).frames)
-    || nat_le most_waiting (length (waiting held).primitives)
+is_full held = nat_le held.most_waiting (length (waiting held).frames)
+    || nat_le held.most_waiting (length (waiting held).primitives)
 
 -- ---- Calls that may give more.
 
@@ -51,6 +48,7 @@ pub record HasCalled (call : Call) (old new : HeldSide) (code : ℕ) : Type 0 wh
   pub given : Effects
   pub called : call result old.side new.side given
   pub waits : waiting new ≡ and_then (waiting old) given
+  pub most : new.most_waiting ≡ old.most_waiting
 
 -- it finds no memory for what the last call gave and waits still
 pub record HasNoMemory (old new : HeldSide) (code : ℕ) : Type 0 where
@@ -71,6 +69,7 @@ pub record HasTicked (now expired : ℕ) (old new : HeldSide) (code : ℕ) : Typ
   pub due : expired ≡ 1 → Expires now old.side new.side given
   pub none : expired ≡ 0 → Rests now old.side new.side × (given ≡ no_effects)
   pub waits : waiting new ≡ and_then (waiting old) given
+  pub most : new.most_waiting ≡ old.most_waiting
 
 -- none has, and nothing changes
 pub record HasNotTicked (expired : ℕ) (old new : HeldSide) : Type 0 where
@@ -144,6 +143,7 @@ pub record HasFetched (octets : List ℕ) (left : Effects) (old new : HeldSide) 
   pub written : buffer.after ≡ overwritten octets buffer.before
   pub waits : waiting new ≡ left
   pub side : new.side ≡ old.side
+  pub most : new.most_waiting ≡ old.most_waiting
 
 -- these octets are handed out where the buffer has room, and stay else
 pub record Fetches (octets : List ℕ) (left : Effects) (old new : HeldSide) (code : ℕ)

@@ -30,8 +30,10 @@ config_with s None params16 durations = None
 config_with s (Some params0) None durations = None
 config_with s (Some params0) (Some params16) None = None
 
+-- one frame or primitive at least may wait
 abbrev pub config_of : Settings → Option Config
-config_of s = config_with s (parameters_of s.k0 s.n200 s.room) (parameters_of s.k16 s.n200 s.room)
+config_of s = if s.most_waiting == 0 then None
+    else config_with s (parameters_of s.k0 s.n200 s.room) (parameters_of s.k16 s.n200 s.room)
     (lengths_of s.t200 s.t201 s.t202 s.t203)
 
 -- the TEI of one terminal, 0 to 126
@@ -62,8 +64,9 @@ IsNewUser tei config (either.Network side) = ⊥
 IsNewUser tei config (either.User side) =
     ShowUser side config (new_user config (fixed_tei tei) (seeded config.seed))
 
--- it has given nothing yet
-pub record IsNew (config : Config) (IsMade : Config → EitherSide → Type 0) (held : HeldSide) :
-    Type 0 where
+-- it has given nothing yet, and so much may wait
+pub record IsNew (config : Config) (IsMade : Config → EitherSide → Type 0) (most : ℕ)
+    (held : HeldSide) : Type 0 where
   pub side : IsMade config held.side
   pub waits : waiting held ≡ no_effects
+  pub limit : held.most_waiting ≡ most

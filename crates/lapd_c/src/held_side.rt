@@ -13,30 +13,35 @@ use lapd_sides::{Acts, EitherSide, LinkId, Primitive, Request};
 use lapd_sides_links::Backlog;
 use std::alloc::{AllocError, Global};
 
-/// How many frames, or how many primitives, may wait until a call that could give more is refused.
-const MOST_WAITING: usize = 1_024;
-
 /// A side, and what its calls gave that C has not fetched: the last in `acts`, and those before it in `backlog`.
 #[derive(Drop)]
 pub struct HeldSide {
     side: EitherSide,
     acts: Acts,
     backlog: Backlog,
+    /// How many frames, or how many primitives, may wait until a call that could give more is refused.
+    most_waiting: u16,
 }
 
 impl HeldSide {
-    /// A side that has given nothing yet.
-    pub(crate) fn new(alloc: Global, side: EitherSide) -> Result<HeldSide, AllocError>
+    /// A side that has given nothing yet, of which so many frames and so many primitives may wait.
+    pub(crate) fn new(
+        alloc: Global,
+        side: EitherSide,
+        most_waiting: u16,
+    ) -> Result<HeldSide, AllocError>
         ensures { IfOk result (λ held. held ≡ record {
           side = side;
           acts = no_effects;
           backlog = no_effects;
+          most_waiting = most_waiting;
         }) }
     {
         Ok(HeldSide {
             side,
             acts: Acts::new(alloc)?,
             backlog: Backlog::new(alloc),
+            most_waiting,
         })
     }
 
@@ -44,8 +49,9 @@ impl HeldSide {
     fn is_full(&self) -> bool
         ensures { result ≡ is_full self.now }
     {
-        MOST_WAITING <= self.backlog.frames().len() + self.acts.frames().len()
-            || MOST_WAITING <= self.backlog.primitives().len() + self.acts.primitives().len()
+        let most = usize::from(self.most_waiting);
+        most <= self.backlog.frames().len() + self.acts.frames().len()
+            || most <= self.backlog.primitives().len() + self.acts.primitives().len()
     }
 
     /// Puts what the last call gave behind what waits.
@@ -180,6 +186,7 @@ impl HeldSide {
         requires { 0 < length (waiting self.old).frames }
         ensures waits { waiting self.new ≡ without_first_frame (waiting self.old) }
         ensures side { self.new.side ≡ self.old.side }
+        ensures most { self.new.most_waiting ≡ self.old.most_waiting }
     {
         if self.backlog.frames().is_empty() {
             self.acts.remove_frame();
@@ -193,6 +200,7 @@ impl HeldSide {
         requires { 0 < length (waiting self.old).primitives }
         ensures waits { waiting self.new ≡ without_first_primitive (waiting self.old) }
         ensures side { self.new.side ≡ self.old.side }
+        ensures most { self.new.most_waiting ≡ self.old.most_waiting }
     {
         if self.backlog.primitives().is_empty() {
             self.acts.remove_primitive();

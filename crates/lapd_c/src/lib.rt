@@ -54,13 +54,13 @@ pub extern "C" fn lapd_side_network(
     known: &[u8],
     alloc: Global,
 ) -> u32
-    ensures { Makes (IsNewNetwork known.now) result handle.old.held handle.new.held
-        (network_config settings.now known.now) }
+    ensures { Makes (IsNewNetwork known.now) settings.now.most_waiting result handle.old.held
+        handle.new.held (network_config settings.now known.now) }
 {
     let Some(config) = settings.network_config(known) else {
         return OUT_OF_RANGE;
     };
-    match make_network(alloc, config, known) {
+    match make_network(alloc, config, settings.most_waiting, known) {
         Ok(side) => put(handle, side, alloc),
         Err(_) => MEMORY,
     }
@@ -75,13 +75,13 @@ pub extern "C" fn lapd_side_user(
     fixed: u8,
     alloc: Global,
 ) -> u32
-    ensures { Makes (IsNewUser fixed) result handle.old.held handle.new.held
-        (user_config settings.now fixed) }
+    ensures { Makes (IsNewUser fixed) settings.now.most_waiting result handle.old.held
+        handle.new.held (user_config settings.now fixed) }
 {
     let Some(config) = settings.user_config(fixed) else {
         return OUT_OF_RANGE;
     };
-    match make_user(alloc, config, fixed) {
+    match make_user(alloc, config, settings.most_waiting, fixed) {
         Ok(side) => put(handle, side, alloc),
         Err(_) => MEMORY,
     }

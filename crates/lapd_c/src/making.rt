@@ -18,14 +18,15 @@ use std::alloc::{AllocError, Global};
 pub(crate) fn make_network(
     alloc: Global,
     config: Config,
+    most_waiting: u16,
     known: &[u8],
 ) -> Result<Box<HeldSide>, AllocError>
     requires { list_all is_own_tei known.now ≡ true }
-    ensures { IfOk result (λ held. IsNew config (IsNewNetwork known.now) held.value) }
+    ensures { IfOk result (λ held. IsNew config (IsNewNetwork known.now) most_waiting held.value) }
 {
     let known = known_teis(alloc, known)?;
     let side = NetSide::new(alloc, config, &known)?;
-    boxed(alloc, EitherSide::Network(side))
+    boxed(alloc, EitherSide::Network(side), most_waiting)
 }
 
 /// A user side with a fixed TEI, or with none for 255.
@@ -36,24 +37,30 @@ pub(crate) fn make_network(
 pub(crate) fn make_user(
     alloc: Global,
     config: Config,
+    most_waiting: u16,
     fixed: u8,
 ) -> Result<Box<HeldSide>, AllocError>
     requires { is_fixed_tei fixed ≡ true }
-    ensures { IfOk result (λ held. IsNew config (IsNewUser fixed) held.value) }
+    ensures { IfOk result (λ held. IsNew config (IsNewUser fixed) most_waiting held.value) }
 {
     let side = UserSide::new(alloc, config, fixed_tei(fixed))?;
-    boxed(alloc, EitherSide::User(side))
+    boxed(alloc, EitherSide::User(side), most_waiting)
 }
 
 /// A side on the heap, which has given nothing yet.
-fn boxed(alloc: Global, side: EitherSide) -> Result<Box<HeldSide>, AllocError>
+fn boxed(
+    alloc: Global,
+    side: EitherSide,
+    most_waiting: u16,
+) -> Result<Box<HeldSide>, AllocError>
     ensures { IfOk result (λ held. held.value ≡ record {
       side = side;
       acts = no_effects;
       backlog = no_effects;
+      most_waiting = most_waiting;
     }) }
 {
-    match Box::new(alloc, HeldSide::new(alloc, side)?) {
+    match Box::new(alloc, HeldSide::new(alloc, side, most_waiting)?) {
         Ok(held) => Ok(held),
         Err(_) => Err(AllocError),
     }

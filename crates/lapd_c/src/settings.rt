@@ -23,6 +23,8 @@ pub struct Settings {
     pub t203: u32,
     /// Room for so many messages in a link's queue, 1 to 1,024.
     pub room: u16,
+    /// How many frames, or how many primitives, may wait until a call that could give more is refused, 1 to 65,535.
+    pub most_waiting: u16,
     /// N200, 1 to 100.
     pub n200: u8,
     /// The window of SAPI 0, 1 to 127.
@@ -60,6 +62,9 @@ impl Settings {
     fn config(&self) -> Option<Config>
         ensures { result ≡ config_of self.now }
     {
+        if self.most_waiting == 0 {
+            return None;
+        }
         let params0 = Params::new(self.k0, self.n200, self.room)?;
         let params16 = Params::new(self.k16, self.n200, self.room)?;
         let durations = Durations::new(self.t200, self.t201, self.t202, self.t203)?;

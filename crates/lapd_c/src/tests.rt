@@ -19,6 +19,7 @@ fn basic() -> Settings {
         t202: 2_000,
         t203: 10_000,
         room: 512,
+        most_waiting: 1_024,
         n200: 3,
         k0: 1,
         k16: 3,
