@@ -1,7 +1,8 @@
-ghost use Rattle.std.specs.Prelude.{◌≡◌, ◌≤◌, ◌++◌, length, IfOk, OnOk, IsOkUnless};
+ghost use Rattle.std.specs.Prelude.{◌≡◌, ◌≤◌, ◌++◌, ◌↔◌, length, Err, IfOk, IfErr, OnOk, IsOkUnless, IsTrue};
 ghost use Rattle.std.specs.String.{string_bytes};
 ghost use Rattle.std.specs.Io.KnownBytes.{Appends};
 ghost use Rattle.lapd_port.specs.SocketText.{frame_text};
+ghost use Rattle.lapd_port.specs.Port.{CountsAsDevice, IsApartFromInput};
 ghost use Rattle.lapd_sides_links.specs.Effects.{HasLeastOctets};
 ghost use Rattle.lapd_cli_side_commands.specs.SideTexts.{frame_text_line};
 
@@ -89,6 +90,10 @@ impl TracedFrame {
     pub(crate) fn send<S: Source, K: Sink>(&self, port: &mut Port<S, K>) -> Result<(), PortFault>
         ensures text { OnOk result (Appends (K.written port.old.sink) (K.written port.new.sink)
             (frame_text self.now.octets.items)) }
+        ensures faults { IfErr result IsApartFromInput }
+        ensures device { CountsAsDevice result (K.failure_count port.old.sink)
+            (K.failure_count port.new.sink) }
+        ensures failed { (result ≡ Err PortFault.Failed) ↔ IsTrue port.old.failed }
         ensures source { port.new.source ≡ port.old.source }
     {
         port.write_frame(self.octets.as_slice())
