@@ -11,3 +11,5 @@ pub mod Outputs
 pub mod Pair
 pub mod StandsForWorld
 pub mod Session
+pub mod Told
+pub mod ToldValues

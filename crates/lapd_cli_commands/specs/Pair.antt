@@ -9,9 +9,7 @@ use Rattle.lapd_frame.specs.declared.Side.TheVariants.{Network, User}
 use Rattle.lapd_frame.specs.Frame.{Fields, spelling}
 use Rattle.lapd_mod128.specs.Counting.{Tagged}
 use Rattle.lapd_link_rows.specs.declared.out.Out.{Out}
-use Rattle.lapd_link_rows.specs.declared.out.Out.TheVariants as out
 use Rattle.lapd_link_rows.specs.State.{state_number}
-use Rattle.lapd_link.specs.SentFrame.{sent_frame}
 use Rattle.lapd_pair.specs.Histories.{octets_and_establishment}
 use Rattle.lapd_pair.specs.Settles.{settled}
 use Rattle.lapd_pair.specs.Setup.{setup_for}
@@ -25,7 +23,8 @@ use Rattle.lapd_pair_world.specs.World.{Happened, World, happens, view_of}
 use Rattle.lapd_cli_commands.specs.declared.mover.Figures.{Figures}
 use Rattle.lapd_cli_commands.specs.Answer.{messages_of}
 use Rattle.lapd_cli_commands.specs.Moves.{move_of_line}
-use Rattle.lapd_cli_commands.specs.Outputs.{primitive_line, refusal_line}
+use Rattle.lapd_cli_commands.specs.Outputs.{refusal_line}
+use Rattle.lapd_cli_commands.specs.Told.{Spoken, Told, Sent, Primitive, told}
 
 -- ---- What one side puts out in a move.
 
@@ -41,36 +40,30 @@ last_octets all = get_or all (length all - 1) []
 abbrev pub last_message : List (List ℕ × ℕ) → List ℕ
 last_message all = (get_or all (length all - 1) ([], 0)).0
 
--- the octets that an output speaks of: the message or the unit data last received, or the unit data that is sent
-abbrev pub octets_for : History → List ℕ → Out → List ℕ
-octets_for h unit out.Up = last_message (map octets_and_establishment h.received)
-octets_for h unit out.UnitUp = last_octets h.units
-octets_for h unit output = unit
+-- the octets that the outputs of a side speak of that has this history after the move: the message and the unit data last
+-- received, and the unit data that are sent
+abbrev pub spoken_of : History → List ℕ → Spoken
+spoken_of h unit = record {
+  message = last_message (map octets_and_establishment h.received);
+  unit = last_octets h.units;
+  sent = unit;
+}
 
--- a primitive or a report, behind the name of its side; timers are not printed
-abbrev pub side_line : Side → List ℕ → Out → List ℕ
-side_line side octets (out.Send role control) = []
-side_line side octets (out.SendMessage place control) = []
-side_line side octets out.SendUnit = []
-side_line side octets (out.Start timer) = []
-side_line side octets (out.Stop timer) = []
-side_line side octets output = side_name side ++ (32 ∷ primitive_line octets output)
+-- a frame that goes on the line, by this way to write it as text, or a primitive or a report behind the name of its side;
+-- timers are not printed
+abbrev pub side_line : (Fields → List ℕ) → Side → Told → List ℕ
+side_line written side (Sent frame) = text_line (written frame)
+side_line written side (Primitive line) = side_name side ++ (32 ∷ line)
+side_line written side other = []
 
--- a frame that goes on the line, as a trace line, or what else is put out
-abbrev pub frame_or_side_line : Side → Option Fields → List ℕ → Out → List ℕ
-frame_or_side_line side (Some frame) octets output =
-    text_line (trace_line side (spelling side frame))
-frame_or_side_line side None octets output = side_line side octets output
+-- a frame is written as the trace line of its octets
+abbrev pub told_line : Side → Told → List ℕ
+told_line side told = side_line (λ frame. trace_line side (spelling side frame)) side told
 
--- an output of a side that stands so after the move, where `unit` is the unit data to be sent
-abbrev pub told_line : Side → Station → List ℕ → Out → List ℕ
-told_line side s unit output =
-    frame_or_side_line side
-    (sent_frame (setup_for side) (messages_of s.end) (octets_for s.history unit output) output)
-    (octets_for s.history unit output) output
-
+-- the outputs of a side that stands so after the move, where `unit` is the unit data to be sent
 abbrev pub told_lines : Side → Station → List ℕ → List Out → List ℕ
-told_lines side s unit outs = flat_map (told_line side s unit) outs
+told_lines side s unit outs = flat_map (λ output. told_line side
+    (told (setup_for side) (messages_of s.end) (spoken_of s.history unit) output)) outs
 
 -- ---- What a move comes to.
 

@@ -4,10 +4,11 @@ use Rattle.lapd_frame.specs.Frame.{n201}
 use Rattle.lapd_link.specs.declared.Out.{Out}
 use Rattle.lapd_link.specs.Input.{Input, UnitData}
 use Rattle.lapd_link.specs.Link.{Setup}
-use Rattle.lapd_link.specs.SentFrame.{made_frame}
 use Rattle.lapd_cli_commands.specs.declared.answerer.Answerer.{Answerer}
 use Rattle.lapd_cli_commands.specs.Answer.{Session, IsSession}
-use Rattle.lapd_cli_commands.specs.Outputs.{frame_or_primitive}
+use Rattle.lapd_cli_commands.specs.Outputs.{handed_in, out_line}
+use Rattle.lapd_cli_commands.specs.Told.{Spoken}
+use Rattle.lapd_cli_commands.specs.ToldValues.{made_told}
 
 abbrev pub IsAnswerer : Answerer → Session → Type 0
 IsAnswerer answerer s = IsSession answerer.link s
@@ -18,9 +19,8 @@ IsHandedWith (UnitData len) octets = len ≡ length octets
 IsHandedWith input octets = length octets ≤ n201
 
 -- the line of an output, by the frame that is made of it
-abbrev pub made_line : Setup → List (List ℕ) → List ℕ → Out → List ℕ
-made_line setup messages handed output =
-    frame_or_primitive setup.side (made_frame setup messages handed output) handed output
+abbrev pub made_line : Setup → List (List ℕ) → Spoken → Out → List ℕ
+made_line setup messages s output = out_line setup.side (made_told setup messages s output)
 
 abbrev pub made_text : Setup → List (List ℕ) → List ℕ → List Out → List ℕ
-made_text setup messages handed outs = flat_map (made_line setup messages handed) outs
+made_text setup messages handed outs = flat_map (made_line setup messages (handed_in handed)) outs

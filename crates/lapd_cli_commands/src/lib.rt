@@ -22,6 +22,7 @@ mod mover;
 mod moves;
 mod outputs;
 mod settler;
+mod told;
 mod words;
 
 pub use answerer::{Answerer, answer};

@@ -1,15 +1,17 @@
 //! The lines of what the moves of two ends give.
 
-ghost use Rattle.std.specs.Prelude.{◌≡◌, ◌∷◌, ◌++◌, IsOkUnless, OnOk};
-ghost use Rattle.lapd_cli_commands.specs.Outputs.{primitive_line};
-ghost use Rattle.lapd_cli_commands.specs.Pair.{octets_for, side_line, side_name as name_of};
-ghost use Rattle.lapd_cli_commands.specs.StandsForWorld.{made_told_line, made_told_lines};
+ghost use Rattle.std.specs.Prelude.{◌≡◌, ◌∷◌, ◌++◌, map, IsOkUnless, OnOk};
+ghost use Rattle.lapd_cli_commands.specs.Answer.{messages_of};
+ghost use Rattle.lapd_cli_commands.specs.Pair.{last_message as message_of, last_octets, side_name as name_of, spoken_of};
+ghost use Rattle.lapd_cli_commands.specs.StandsForWorld.{made_side_line, made_side_lines};
+ghost use Rattle.lapd_cli_commands.specs.ToldValues.{phrase_line};
+ghost use Rattle.lapd_pair.specs.Histories.{octets_and_establishment};
 ghost use Rattle.lapd_pair.specs.Runs.{PairStandsFor};
 ghost use Rattle.lapd_cli_script.specs.Line.{text_line};
 ghost use Rattle.lapd_trace.specs.Trace.{frame_line};
 ghost use Rattle.lapd_pair_world.specs.World.{World, view_of};
 
-use crate::outputs::put_primitive;
+use crate::told::{Phrase, Spoken, Told, put_phrase};
 use lapd_cli_script::{LineFault, put_line};
 use lapd_frame::{Frame, Side};
 use lapd_link::Out;
@@ -31,52 +33,61 @@ pub(crate) fn write_lines(
     text: &mut Vec<u8>,
 ) -> Result<(), LineFault>
     ensures ok { (w : World) → PairStandsFor pair.now w → OnOk result
-        (text.new.items ≡ made_told_lines side (view_of side w).station unit.now outs.now) }
+        (text.new.items ≡ made_side_lines side (view_of side w).station unit.now outs.now) }
     ensures err { IsOkUnless result LineFault.Memory }
 {
     text.clear();
+    let spoken = Spoken {
+        message: last_message(pair, side),
+        unit: last_unit(pair, side),
+        sent: unit,
+    };
     for given in outs {
-        push_line(alloc, pair, side, unit, given, text)?;
+        push_line(alloc, pair, side, &spoken, given, text)?;
     }
     Ok(())
 }
 
-/// Adds the line of an output of this side, where it has one.
+/// The message that a side last received.
+fn last_message(pair: &Pair, side: Side) -> &[u8]
+    ensures { (w : World) → PairStandsFor pair.now w → result.now
+        ≡ message_of (map octets_and_establishment (view_of side w).station.history.received) }
+{
+    match pair.received(side).last() {
+        Some(message) => message.octets.as_slice(),
+        None => &[],
+    }
+}
+
+/// The unit data that a side last received.
+fn last_unit(pair: &Pair, side: Side) -> &[u8]
+    ensures { (w : World) → PairStandsFor pair.now w
+        → result.now ≡ last_octets (view_of side w).station.history.units }
+{
+    match pair.units(side).last() {
+        Some(octets) => octets.as_slice(),
+        None => &[],
+    }
+}
+
+/// Adds the line of an output of this side, where it has one. Timers are not told.
 fn push_line(
     alloc: Global,
     pair: &Pair,
     side: Side,
-    unit: &[u8],
+    spoken: &Spoken<'_>,
     given: &Out,
     text: &mut Vec<u8>,
 ) -> Result<(), LineFault>
-    ensures ok { (w : World) → PairStandsFor pair.now w → OnOk result
-        (text.new.items
-        ≡ text.old.items ++ made_told_line side (view_of side w).station unit.now given.now) }
+    ensures ok { (w : World) → PairStandsFor pair.now w → OnOk result (text.new.items
+        ≡ text.old.items ++ made_side_line side (messages_of (view_of side w).station.end)
+        spoken.now given.now) }
     ensures err { IsOkUnless result LineFault.Memory }
 {
-    let octets = octets_for(pair, side, unit, given);
-    match pair.link(side).frame(given, octets) {
-        Some(frame) => push_frame(alloc, side, &frame, text),
-        None => push_side_line(side, octets, given, text),
-    }
-}
-
-/// The octets that an output speaks of: those last received, or the unit data that is sent.
-fn octets_for<'a>(pair: &'a Pair, side: Side, unit: &'a [u8], given: &Out) -> &'a [u8]
-    ensures { (w : World) → PairStandsFor pair.now w
-        → result.now ≡ octets_for (view_of side w).station.history unit.now given.now }
-{
-    match given {
-        Out::Up => match pair.received(side).last() {
-            Some(message) => message.octets.as_slice(),
-            None => &[],
-        },
-        Out::UnitUp => match pair.units(side).last() {
-            Some(octets) => octets.as_slice(),
-            None => &[],
-        },
-        _ => unit,
+    match Told::of(pair.link(side), spoken, given) {
+        Told::Sent(frame) => push_frame(alloc, side, &frame, text),
+        Told::Primitive(phrase) => push_phrase(side, &phrase, text),
+        Told::Timer(_) | Told::Nothing => Ok(()),
     }
 }
 
@@ -100,43 +111,10 @@ fn push_frame(
     Ok(())
 }
 
-/// Adds a primitive or a report of this side. Timers are not told.
-fn push_side_line(
-    side: Side,
-    octets: &[u8],
-    given: &Out,
-    text: &mut Vec<u8>,
-) -> Result<(), LineFault>
+/// Adds the name of the side, a space and what it is told.
+fn push_phrase(side: Side, phrase: &Phrase<'_>, text: &mut Vec<u8>) -> Result<(), LineFault>
     ensures ok { OnOk result
-        (text.new.items ≡ text.old.items ++ side_line side octets.now given.now) }
-    ensures err { IsOkUnless result LineFault.Memory }
-{
-    match given {
-        Out::Send(..) | Out::SendMessage(..) | Out::SendUnit | Out::Start(_) | Out::Stop(_) => Ok(
-            (),
-        ),
-        Out::Up
-        | Out::UnitUp
-        | Out::Established
-        | Out::Confirmed
-        | Out::Released
-        | Out::ReleaseConfirm
-        | Out::Acknowledged(_)
-        | Out::Dropped(_)
-        | Out::Report(_) => push_primitive(side, octets, given, text),
-    }
-}
-
-/// Adds the name of the side, a space and the primitive or report.
-fn push_primitive(
-    side: Side,
-    octets: &[u8],
-    given: &Out,
-    text: &mut Vec<u8>,
-) -> Result<(), LineFault>
-    ensures ok { OnOk result
-        (text.new.items
-        ≡ text.old.items ++ name_of side ++ (32 ∷ primitive_line octets.now given.now)) }
+        (text.new.items ≡ text.old.items ++ name_of side ++ (32 ∷ phrase_line phrase.now)) }
     ensures err { IsOkUnless result LineFault.Memory }
 {
     let front = match side {
@@ -146,7 +124,7 @@ fn push_primitive(
     let Ok(()) = text.extend_from_slice(front) else {
         return Err(LineFault::Memory);
     };
-    let Ok(()) = put_primitive(octets, given, text) else {
+    let Ok(()) = put_phrase(phrase, text) else {
         return Err(LineFault::Memory);
     };
     Ok(())
