@@ -29,6 +29,7 @@ use Rattle.lapd_link_rows.specs.Input as input
 use Rattle.lapd_link_rows.specs.Input.{Input}
 use Rattle.lapd_link_rows.specs.Table.{step}
 use Rattle.lapd_cli_script.specs.Line.{text_line}
+use Rattle.lapd_sides_links.specs.declared.primitive.What.{What}
 use Rattle.lapd_trace.specs.Trace.{frame_line}
 use Rattle.lapd_trace.proofs.FrameLines.{line_of_spelling}
 use Rattle.lapd_pair_world.specs.Kept.{IsKeptWorld}
@@ -39,7 +40,7 @@ use Rattle.lapd_cli_commands.specs.Outputs.{handed_in, out_line, outs_text}
 use Rattle.lapd_cli_commands.specs.Pair.{move_made, move_told, side_line, spoken_of, told_line, told_lines, unit_of}
 use Rattle.lapd_cli_commands.specs.StandsForWorld.{made_side_line, made_side_lines}
 use Rattle.lapd_cli_commands.specs.Session.{IsHandedWith, made_line, made_text}
-use Rattle.lapd_cli_commands.specs.Told.{Spoken, told, told_unsent, told_with}
+use Rattle.lapd_cli_commands.specs.Told.{Spoken, told, told_as, told_with, what_told}
 
 -- the frame that is made of an output is the one that is sent
 abbrev IsSent : Setup → List (List ℕ) → List ℕ → Out → Type 0
@@ -91,22 +92,14 @@ made_has_content setup messages handed out.SendUnit = frame_has_content (link_ad
 made_has_content setup messages handed output = tt
 
 -- its line is that of its octets
-line_of_unsent : (side : Side) (s : Spoken) (output : Out) → side_line (frame_line side) side (told_unsent s output) ≡ told_line side (told_unsent s output)
-line_of_unsent side s out.Up = refl
-line_of_unsent side s out.UnitUp = refl
-line_of_unsent side s out.Established = refl
-line_of_unsent side s out.Confirmed = refl
-line_of_unsent side s out.Released = refl
-line_of_unsent side s out.ReleaseConfirm = refl
-line_of_unsent side s (out.Acknowledged n) = refl
-line_of_unsent side s (out.Dropped n) = refl
-line_of_unsent side s (out.Report letter) = refl
-line_of_unsent side s (out.Start timer) = refl
-line_of_unsent side s (out.Stop timer) = refl
-line_of_unsent side s output = refl
+line_of_unsent : (side : Side) (what : Option What) (output : Out) → side_line (frame_line side) side (told_as what output) ≡ told_line side (told_as what output)
+line_of_unsent side (Some what) output = refl
+line_of_unsent side None (out.Start timer) = refl
+line_of_unsent side None (out.Stop timer) = refl
+line_of_unsent side None output = refl
 
 line_of_made : (side : Side) (made : Option Fields) (s : Spoken) (output : Out) → HasContent made → side_line (frame_line side) side (told_with made s output) ≡ told_line side (told_with made s output)
-line_of_made side None s output h = line_of_unsent side s output
+line_of_made side None s output h = line_of_unsent side (what_told s output) output
 line_of_made side (Some f) s output h = ap (λ (t : List ℕ). text_line t) (sym (line_of_spelling side f h))
 
 -- ---- A pair.

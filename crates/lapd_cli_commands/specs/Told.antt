@@ -1,14 +1,15 @@
 -- What the outputs of a link come to for a reader.
-use Rattle.std.specs.Prelude.{ℕ, List, [], ◌∷◌, ◌++◌, codes, Option, Some, None}
-use Rattle.std.specs.Fmt.{decimal}
+use Rattle.std.specs.Prelude.{ℕ, List, ◌++◌, codes, Option, Some, None}
 use Rattle.lapd_frame.specs.Frame.{Fields}
 use Rattle.lapd_link.specs.Link.{Setup}
-use Rattle.lapd_link.specs.Out.{letter_code}
 use Rattle.lapd_link.specs.SentFrame.{sent_frame}
 use Rattle.lapd_link.specs.Timer.{timer_name}
 use Rattle.lapd_link.specs.declared.Out.{Out}
 use Rattle.lapd_link.specs.declared.Out.TheVariants as out
-use Rattle.lapd_cli_script.specs.Line.{text_line, digits_of}
+use Rattle.lapd_sides_links.specs.Effects.{what_of}
+use Rattle.lapd_sides_links.specs.Texts.{what_text}
+use Rattle.lapd_sides_links.specs.declared.primitive.What.{What}
+use Rattle.lapd_cli_script.specs.Line.{text_line}
 
 -- the octets that outputs speak of: a message and unit data that came, and unit data that are sent
 pub record Spoken : Type 0 where
@@ -24,21 +25,20 @@ pub data Told : Type 0 where
   Timer : (line : List ℕ) → Told
   Nothing : Told
 
--- an output that has no frame
+-- what a side would tell of an output
+abbrev pub what_told : Spoken → Out → Option What
+what_told s out.UnitUp = what_of s.unit out.UnitUp
+what_told s output = what_of s.message output
+
+-- an output that has no frame: what a side tells is said in its words
+abbrev pub told_as : Option What → Out → Told
+told_as (Some what) output = Primitive (text_line (what_text what))
+told_as None (out.Start timer) = Timer (text_line (codes "start " ++ timer_name timer))
+told_as None (out.Stop timer) = Timer (text_line (codes "stop " ++ timer_name timer))
+told_as None other = Nothing
+
 abbrev pub told_unsent : Spoken → Out → Told
-told_unsent s out.Up = Primitive (text_line (codes "data" ++ digits_of s.message))
-told_unsent s out.UnitUp = Primitive (text_line (codes "unit" ++ digits_of s.unit))
-told_unsent s out.Established = Primitive (text_line (codes "established"))
-told_unsent s out.Confirmed = Primitive (text_line (codes "confirmed"))
-told_unsent s out.Released = Primitive (text_line (codes "released"))
-told_unsent s out.ReleaseConfirm = Primitive (text_line (codes "release-confirmed"))
-told_unsent s (out.Acknowledged n) = Primitive (text_line (codes "acknowledged " ++ decimal n))
-told_unsent s (out.Dropped n) = Primitive (text_line (codes "dropped " ++ decimal n))
-told_unsent s (out.Report letter) =
-    Primitive (text_line (codes "report " ++ letter_code letter ∷ []))
-told_unsent s (out.Start timer) = Timer (text_line (codes "start " ++ timer_name timer))
-told_unsent s (out.Stop timer) = Timer (text_line (codes "stop " ++ timer_name timer))
-told_unsent s other = Nothing
+told_unsent s output = told_as (what_told s output) output
 
 -- an output with its frame, where it has one
 abbrev pub told_with : Option Fields → Spoken → Out → Told
