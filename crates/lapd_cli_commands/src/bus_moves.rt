@@ -1,9 +1,10 @@
 //! The moves that a script's lines are.
 
-ghost use Rattle.std.specs.Prelude.{◌≡◌, ◌<◌, IfSome};
-ghost use Rattle.lapd_cli_script.specs.Line.{words_of};
-ghost use Rattle.lapd_cli_commands.specs.BusMoves.{move_of, move_by, hear, alone, nothing_behind, terminal_and_reference, number_of, digit_behind, tei_of_word, reference_of, digit_value};
+ghost use Rattle.std.specs.Prelude.{◌≡◌, ◌<◌, ◌-◌, if◌then◌else◌, IfSome, None, Some};
+ghost use Rattle.lapd_cli_script.specs.Line.{is_digit, number_behind, number_said, words_of};
+ghost use Rattle.lapd_cli_commands.specs.BusMoves.{move_of, move_by, hear, nothing_behind, terminal_and_reference, tei_at, tei_behind, reference_of, digit_value};
 
+use crate::words::is;
 use lapd_cli_script::Words;
 use lapd_tei::{BusMove, Tei};
 
@@ -20,25 +21,25 @@ pub fn move_of(line: &[u8]) -> Option<BusMove>
 fn move_by(word: &[u8], behind: Words<'_>) -> Option<BusMove>
     ensures { result ≡ move_by word.now behind.entry }
 {
-    if word == b"ask".as_slice() {
+    if is(word, b"ask") {
         let (t, ri) = terminal_and_reference(behind)?;
         Some(BusMove::Ask(t, ri))
-    } else if word == b"t202".as_slice() {
+    } else if is(word, b"t202") {
         let (t, ri) = terminal_and_reference(behind)?;
         Some(BusMove::T202(t, ri))
-    } else if word == b"hear".as_slice() {
+    } else if is(word, b"hear") {
         hear(behind)
-    } else if word == b"drop".as_slice() {
+    } else if is(word, b"drop") {
         Some(BusMove::Drop(place_alone(behind)?))
-    } else if word == b"hear-up".as_slice() {
+    } else if is(word, b"hear-up") {
         Some(BusMove::HearUp(place_alone(behind)?))
-    } else if word == b"drop-up".as_slice() {
+    } else if is(word, b"drop-up") {
         Some(BusMove::DropUp(place_alone(behind)?))
-    } else if word == b"check".as_slice() {
+    } else if is(word, b"check") {
         Some(BusMove::Check(tei_alone(behind)?))
-    } else if word == b"t201".as_slice() {
+    } else if is(word, b"t201") {
         t201(behind)
-    } else if word == b"leave".as_slice() {
+    } else if is(word, b"leave") {
         Some(BusMove::Leave(place_alone(behind)?))
     } else {
         None
@@ -78,7 +79,7 @@ fn terminal_and_reference(mut behind: Words<'_>) -> Option<(usize, u16)>
 
 /// The place of a message or of a terminal, and nothing behind it.
 fn place_alone(mut behind: Words<'_>) -> Option<usize>
-    ensures { result ≡ alone number_of behind.entry }
+    ensures { result ≡ number_behind behind.entry }
 {
     let word = behind.next_word()?;
     match behind.next_word() {
@@ -88,21 +89,16 @@ fn place_alone(mut behind: Words<'_>) -> Option<usize>
 }
 
 /// A TEI, and nothing behind it.
-fn tei_alone(mut behind: Words<'_>) -> Option<Tei>
-    ensures { result ≡ alone tei_of_word behind.entry }
+fn tei_alone(behind: Words<'_>) -> Option<Tei>
+    ensures { result ≡ tei_behind behind.entry }
 {
-    let word = behind.next_word()?;
-    match behind.next_word() {
-        Some(_) => None,
-        None => tei_of(word),
-    }
+    tei_at(place_alone(behind)?)
 }
 
-/// The TEI that a word writes in decimal digits, 0 to 127.
-fn tei_of(word: &[u8]) -> Option<Tei>
-    ensures { result ≡ tei_of_word word.now }
+/// The TEI of this value, 0 to 127.
+fn tei_at(number: usize) -> Option<Tei>
+    ensures { result ≡ tei_at number }
 {
-    let number = place_of(word)?;
     if number <= 127 {
         Tei::new(number as u8)
     } else {
@@ -110,29 +106,26 @@ fn tei_of(word: &[u8]) -> Option<Tei>
     }
 }
 
-/// The number of sixty-four bits at most that a word writes in decimal digits alone.
-#[tactic(auto, using(crate::proofs::Digits::at_stop, crate::proofs::Digits::at_digit, crate::proofs::Digits::at_end, crate::proofs::Digits::at_start))]
+/// The number below 2^64 that a word writes in decimal digits alone.
 fn place_of(word: &[u8]) -> Option<usize>
-    ensures { result ≡ number_of word.now }
+    ensures { result ≡ number_said word.now }
 {
     if word.is_empty() {
         return None;
     }
-    let mut number = 0;
-    for octet in word {
-        number = digit_behind(number, *octet)?;
+    let mut number: usize = 0;
+    for digit in word {
+        number = number.checked_mul(10)?.checked_add(digit_of(*digit)?)?;
     }
     Some(number)
 }
 
-/// The number with one decimal digit more behind it, where it fits.
-fn digit_behind(number: usize, octet: u8) -> Option<usize>
-    ensures { result ≡ digit_behind number octet }
+/// What a decimal digit counts.
+fn digit_of(octet: u8) -> Option<usize>
+    ensures { result ≡ (if is_digit octet then Some (octet - 48) else None) }
 {
     if octet.is_ascii_digit() {
-        number
-            .checked_mul(10)?
-            .checked_add(usize::from(octet - b'0'))
+        Some(usize::from(octet - b'0'))
     } else {
         None
     }
