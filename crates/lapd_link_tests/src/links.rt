@@ -1,17 +1,10 @@
 //! A link that is made and led on by its own calls, what it is made with, and how its refusals read.
 
-use crate::wants::wants;
+use crate::wants::{none_is_wrong, prints};
 use lapd_frame::{Control, Role, Sapi, Side, Tei};
 use lapd_link::{Event, Link, LinkFault, Out, Params, Timer};
 use std::alloc::Global;
 use std::test::Fail;
-
-/// A link for packet communication and TEI 126, with room for so many messages.
-fn packet_link(alloc: Global, side: Side, room: u16) -> Result<Link, Fail> {
-    let params = Params::new(7, 3, room).ok_or("a number is out of range")?;
-    let tei = Tei::new(126).ok_or("126 is a TEI")?;
-    Ok(Link::new(alloc, side, Sapi::Packet, tei, params)?)
-}
 
 /// Whether a link shows what it was made with.
 fn is_made_so(link: &Link, side: Side, room: u16) -> bool {
@@ -34,14 +27,13 @@ fn runs(link: &Link) -> bool {
         || link.running(Timer::T203)
 }
 
-#[test]
-fn links_of_every_room(rt: HostRuntime) -> Result<(), Fail> {
-    for room in [1, 2, 512, 1024] {
-        let link = packet_link(rt.alloc(), Side::Network, room)?;
-        let made = is_made_so(&link, Side::Network, room) && is_new(&link);
-        wants(made, "a new link", "side, SAPI, TEI, room or state")?;
+/// A new link is as it was made.
+fn wrong_when_new(link: &Link, side: Side, room: u16) -> Option<&'static str> {
+    if is_made_so(link, side, room) && is_new(link) {
+        None
+    } else {
+        Some("a new link: side, SAPI, TEI, room or state")
     }
-    Ok(())
 }
 
 /// Whether layer 3's request for establishment gives a SABME with P=1 and starts T200.
@@ -54,50 +46,51 @@ fn establishes(link: &mut Link) -> bool {
 }
 
 /// Whether a message is handed back for this fault.
-fn hands_back(alloc: Global, link: &mut Link, fault: LinkFault) -> Result<bool, Fail> {
-    match link.give(b"early".to_vec(alloc)?) {
-        Ok(_) => Ok(false),
-        Err(refused) => Ok(
-            refused.fault == fault && refused.message.as_slice() == b"early".as_slice(),
-        ),
+fn hands_back(alloc: Global, link: &mut Link, fault: LinkFault) -> bool {
+    match b"early".to_vec(alloc) {
+        Ok(message) => match link.give(message) {
+            Ok(_) => false,
+            Err(back) => back.fault == fault && back.message.as_slice() == b"early".as_slice(),
+        },
+        Err(_) => false,
     }
 }
 
 /// A new link establishes and is released, and hands back a message that comes early.
-fn is_led_on(alloc: Global, link: &mut Link) -> Result<(), Fail> {
-    let early = hands_back(alloc, link, LinkFault::NotEstablished)?;
-    wants(early, "state 4", "a message is not handed back")?;
-    wants(establishes(link), "state 4", "no SABME")?;
-    let early = hands_back(alloc, link, LinkFault::LayerThreeEstablishing)?;
-    wants(early, "state 5", "a message is not handed back")?;
-    wants(link.handle(Event::Release).is_ok(), "state 5", "refused")?;
-    let again = link.handle(Event::Establish).err();
-    wants(
-        again == Some(LinkFault::Releasing),
-        "state 5",
-        "not refused",
-    )
-}
-
-#[test]
-fn a_link_that_is_led_on(rt: HostRuntime) -> Result<(), Fail> {
-    let mut link = packet_link(rt.alloc(), Side::User, 2)?;
-    is_led_on(rt.alloc(), &mut link)
-}
-
-/// The peer's SABME comes.
-fn hears_sabme(link: &mut Link) -> Result<(), Fail> {
-    let sabme = lapd_frame::read(b"\x40\xfd\x7f", Side::User).map_err(|_| "a SABME")?;
-    if link.side() != Side::Network || !link.is_for(&sabme.address()) {
-        return Err(Fail::new("not for the link"));
+fn wrong_when_led_on(alloc: Global, link: &mut Link) -> Option<&'static str> {
+    if !hands_back(alloc, link, LinkFault::NotEstablished) {
+        Some("state 4: a message is not handed back")
+    } else if !establishes(link) {
+        Some("state 4: no SABME")
+    } else if !hands_back(alloc, link, LinkFault::LayerThreeEstablishing) {
+        Some("state 5: a message is not handed back")
+    } else if link.handle(Event::Release).is_err() {
+        Some("state 5: refused")
+    } else if link.handle(Event::Establish).err() != Some(LinkFault::Releasing) {
+        Some("state 5: not refused")
+    } else {
+        None
     }
-    let _ = link.handle(Event::Heard(&sabme)).map_err(|_| "refused")?;
-    Ok(())
+}
+
+/// Whether the peer's SABME comes.
+fn hears_sabme(link: &mut Link) -> bool {
+    match lapd_frame::read(b"\x40\xfd\x7f", Side::User) {
+        Ok(sabme) => {
+            link.side() == Side::Network
+                && link.is_for(&sabme.address())
+                && link.handle(Event::Heard(&sabme)).is_ok()
+        }
+        Err(_) => false,
+    }
 }
 
 /// Whether the link takes a message.
-fn takes(alloc: Global, link: &mut Link, message: &[u8]) -> Result<bool, Fail> {
-    Ok(link.give(message.to_vec(alloc)?).is_ok())
+fn takes(alloc: Global, link: &mut Link, message: &[u8]) -> bool {
+    match message.to_vec(alloc) {
+        Ok(message) => link.give(message).is_ok(),
+        Err(_) => false,
+    }
 }
 
 /// Whether the two first messages are sent, and wait with others to be acknowledged.
@@ -107,37 +100,84 @@ fn holds(link: &Link, first: &[u8], second: &[u8]) -> bool {
 }
 
 /// Once the peer has established, two messages go out and stay in the queue.
-fn takes_two(alloc: Global, link: &mut Link) -> Result<(), Fail> {
-    hears_sabme(link)?;
-    wants(link.state() == 7, "a SABME came", "not established")?;
-    for message in [[8, 1], [8, 2]] {
-        let taken = takes(alloc, link, &message)?;
-        wants(taken, "a message", "refused")?;
+fn wrong_with_messages(alloc: Global, link: &mut Link) -> Option<&'static str> {
+    if !hears_sabme(link) {
+        Some("a SABME comes: not for the link, or refused")
+    } else if link.state() != 7 {
+        Some("a SABME came: not established")
+    } else if !takes(alloc, link, &[8, 1]) || !takes(alloc, link, &[8, 2]) {
+        Some("a message: refused")
+    } else if !holds(link, &[8, 1], &[8, 2]) {
+        Some("two messages: not sent")
+    } else if !link.running(Timer::T200) {
+        Some("two messages: no T200")
+    } else {
+        None
     }
-    wants(holds(link, &[8, 1], &[8, 2]), "two messages", "not sent")?;
-    wants(link.running(Timer::T200), "two messages", "no T200")
+}
+
+/// What is done with a new link.
+#[derive(Clone, Copy)]
+enum Deeds {
+    Show,
+    LeadOn,
+    TakeMessages,
+}
+
+/// Links for packet communication and TEI 126 by their side and room, and what is done with them.
+const LINKS: &[(Side, u16, Deeds)] = &[
+    (Side::Network, 1, Deeds::Show),
+    (Side::Network, 2, Deeds::Show),
+    (Side::Network, 512, Deeds::Show),
+    (Side::Network, 1024, Deeds::Show),
+    (Side::User, 2, Deeds::LeadOn),
+    (Side::Network, 512, Deeds::TakeMessages),
+];
+
+/// What is wrong of a new link where this is done with it.
+fn wrong_of(
+    alloc: Global,
+    link: &mut Link,
+    (side, room, deeds): (Side, u16, Deeds),
+) -> Option<&'static str> {
+    match deeds {
+        Deeds::Show => wrong_when_new(link, side, room),
+        Deeds::LeadOn => wrong_when_led_on(alloc, link),
+        Deeds::TakeMessages => wrong_with_messages(alloc, link),
+    }
+}
+
+/// Makes a link, and does this with it.
+fn does(alloc: Global, row: (Side, u16, Deeds)) -> Result<(), Fail> {
+    let (side, room, _) = row;
+    let params = Params::new(7, 3, room).ok_or("a number is out of range")?;
+    let tei = Tei::new(126).ok_or("126 is a TEI")?;
+    let mut link = Link::new(alloc, side, Sapi::Packet, tei, params)?;
+    none_is_wrong(&[wrong_of(alloc, &mut link, row)])
 }
 
 #[test]
-fn messages_stand_in_the_queue(rt: HostRuntime) -> Result<(), Fail> {
-    let mut link = packet_link(rt.alloc(), Side::Network, 512)?;
-    takes_two(rt.alloc(), &mut link)
+fn links(rt: HostRuntime) -> Result<(), Fail> {
+    for row in LINKS {
+        does(rt.alloc(), *row)?;
+    }
+    Ok(())
 }
 
 /// k, N200 and room, and whether they are in range.
-const RANGES: &[(u8, u8, u16, bool)] = &[
-    (1, 1, 1, true),
-    (127, 100, 1024, true),
-    (7, 3, 512, true),
-    (0, 3, 512, false),
-    (128, 3, 512, false),
-    (255, 3, 512, false),
-    (7, 0, 512, false),
-    (7, 101, 512, false),
-    (7, 255, 512, false),
-    (7, 3, 0, false),
-    (7, 3, 1025, false),
-    (7, 3, 65535, false),
+const RANGES: &[(&str, u8, u8, u16, bool)] = &[
+    ("k=1 N200=1 room=1", 1, 1, 1, true),
+    ("k=127 N200=100 room=1024", 127, 100, 1024, true),
+    ("k=7 N200=3 room=512", 7, 3, 512, true),
+    ("k=0 N200=3 room=512", 0, 3, 512, false),
+    ("k=128 N200=3 room=512", 128, 3, 512, false),
+    ("k=255 N200=3 room=512", 255, 3, 512, false),
+    ("k=7 N200=0 room=512", 7, 0, 512, false),
+    ("k=7 N200=101 room=512", 7, 101, 512, false),
+    ("k=7 N200=255 room=512", 7, 255, 512, false),
+    ("k=7 N200=3 room=0", 7, 3, 0, false),
+    ("k=7 N200=3 room=1025", 7, 3, 1025, false),
+    ("k=7 N200=3 room=65535", 7, 3, 65535, false),
 ];
 
 /// Whether parameters are these.
@@ -145,31 +185,33 @@ fn are(params: Params, k: u8, n200: u8, room: u16) -> bool {
     params.k() == k && params.n200() == n200 && params.room() == room
 }
 
-#[test]
-fn ranges_of_parameters() -> Result<(), Fail> {
-    for (k, n200, room, good) in RANGES {
+/// Ranges of parameters.
+fn wrong_range() -> Option<&'static str> {
+    for (row, k, n200, room, good) in RANGES {
         let made = match Params::new(*k, *n200, *room) {
             Some(params) => are(params, *k, *n200, *room),
             None => false,
         };
-        wants(made == *good, "k, N200 and room", "in range or not")?;
+        if made != *good {
+            return Some(row);
+        }
     }
-    Ok(())
+    None
 }
 
-#[test]
-fn parameters_of_basic_access_and_primary_rate() -> Result<(), Fail> {
-    let call = are(Params::basic(Sapi::Call), 1, 3, 512);
-    wants(call, "basic access, call control", "other numbers")?;
-    let packet = are(Params::basic(Sapi::Packet), 3, 3, 512);
-    wants(packet, "basic access, packets", "other numbers")?;
-    let management = are(Params::basic(Sapi::Management), 1, 3, 512);
-    wants(management, "basic access, management", "other numbers")?;
-    wants(
-        are(Params::primary(), 7, 3, 512),
-        "primary rate",
-        "other numbers",
-    )
+/// Parameters of basic access and primary rate.
+fn wrong_standard() -> Option<&'static str> {
+    if !are(Params::basic(Sapi::Call), 1, 3, 512) {
+        Some("basic access, call control: other numbers")
+    } else if !are(Params::basic(Sapi::Packet), 3, 3, 512) {
+        Some("basic access, packets: other numbers")
+    } else if !are(Params::basic(Sapi::Management), 1, 3, 512) {
+        Some("basic access, management: other numbers")
+    } else if !are(Params::primary(), 7, 3, 512) {
+        Some("primary rate: other numbers")
+    } else {
+        None
+    }
 }
 
 /// The refusals.
@@ -184,15 +226,17 @@ const REFUSALS: &[(LinkFault, &str)] = &[
     ),
 ];
 
-/// Whether a refusal reads so.
-fn reads_so(alloc: Global, fault: LinkFault, name: &str) -> Result<bool, Fail> {
-    Ok(fault.name() == name && fault.to_string(alloc)?.as_str() == name)
+/// Names of refusals.
+fn wrong_refusal(alloc: Global) -> Option<&'static str> {
+    for (fault, name) in REFUSALS {
+        if fault.name() != *name || !prints(alloc, *fault, name) {
+            return Some(name);
+        }
+    }
+    None
 }
 
 #[test]
-fn names_of_refusals(rt: HostRuntime) -> Result<(), Fail> {
-    for (fault, name) in REFUSALS {
-        wants(reads_so(rt.alloc(), *fault, name)?, name, "reads otherwise")?;
-    }
-    Ok(())
+fn parameters_and_refusals(rt: HostRuntime) -> Result<(), Fail> {
+    none_is_wrong(&[wrong_range(), wrong_standard(), wrong_refusal(rt.alloc())])
 }

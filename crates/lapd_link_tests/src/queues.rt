@@ -1,6 +1,6 @@
 //! The I queue (Q.921 5.5, 5.6).
 
-use crate::wants::all_hold;
+use crate::wants::none_is_wrong;
 use lapd_queue::IQueue;
 use std::alloc::Global;
 use std::test::Fail;
@@ -60,59 +60,6 @@ fn holds(queue: &IQueue, place: u16, octets: &[u8]) -> bool {
     place < queue.len() && queue.at(place) == octets && queue.get(place) == Some(octets)
 }
 
-/// Two messages fill a queue with room for two, and go out of it.
-fn fills_two_places(alloc: Global, queue: &mut IQueue) -> Result<(), Fail> {
-    all_hold(&[
-        (queue.room() == 2, "a new queue", "its room"),
-        (counts(queue, 0, 0), "a new queue", "not empty"),
-        (puts(alloc, queue, b"a"), "a", "not taken"),
-        (puts(alloc, queue, b"b"), "b", "not taken"),
-        (hands_back(alloc, queue, b"c"), "c", "not handed back"),
-        (counts(queue, 2, 0), "a, b", "how many wait"),
-        (sends(queue), "a, b", "none is unsent"),
-        (acknowledges(queue, 1), "a", "not sent"),
-        (counts(queue, 1, 0), "b", "how many wait"),
-        (holds(queue, 0, b"b"), "b", "not the first"),
-        (queue.get(1).is_none(), "b", "not the last"),
-        (queue.discard() == 1, "b", "not discarded"),
-        (counts(queue, 0, 0), "discarded", "not empty"),
-    ])
-}
-
-#[test]
-fn the_third_of_two_is_handed_back(rt: HostRuntime) -> Result<(), Fail> {
-    let mut queue = IQueue::new(rt.alloc(), 2)?;
-    fills_two_places(rt.alloc(), &mut queue)
-}
-
-/// Three messages are taken, and two of them sent.
-fn sends_two_of_three(alloc: Global, queue: &mut IQueue) -> Result<(), Fail> {
-    all_hold(&[
-        (puts_each(alloc, queue, &[1, 2, 3]), "1, 2, 3", "not taken"),
-        (sends(queue), "1 sent", "none is unsent"),
-        (counts(queue, 3, 1), "1 sent", "how many wait"),
-        (sends(queue), "2 sent", "none is unsent"),
-    ])
-}
-
-/// Three messages are taken and two sent, and then all are unsent again.
-fn goes_back(alloc: Global, queue: &mut IQueue) -> Result<(), Fail> {
-    sends_two_of_three(alloc, queue)?;
-    queue.go_back();
-    all_hold(&[
-        (counts(queue, 3, 0), "gone back", "how many wait"),
-        (holds(queue, 0, &[1]), "gone back", "another order"),
-        (holds(queue, 1, &[2]), "gone back", "another order"),
-        (holds(queue, 2, &[3]), "gone back", "another order"),
-    ])
-}
-
-#[test]
-fn messages_are_sent_again_from_the_front(rt: HostRuntime) -> Result<(), Fail> {
-    let mut queue = IQueue::new(rt.alloc(), 3)?;
-    goes_back(rt.alloc(), &mut queue)
-}
-
 /// Puts each of these octets at the end, as a message of its own, and tells whether all were taken.
 fn puts_each(alloc: Global, queue: &mut IQueue, octets: &[u8]) -> bool {
     for octet in octets {
@@ -123,63 +70,111 @@ fn puts_each(alloc: Global, queue: &mut IQueue, octets: &[u8]) -> bool {
     true
 }
 
-/// Two messages go out of a queue with room for three, and two more come.
-fn goes_round(alloc: Global, queue: &mut IQueue) -> Result<(), Fail> {
-    all_hold(&[
-        (puts_each(alloc, queue, b"abc"), "a, b, c", "not taken"),
-        (sends(queue), "a", "none is unsent"),
-        (sends(queue), "b", "none is unsent"),
-        (acknowledges(queue, 2), "a, b", "not sent"),
-        (puts_each(alloc, queue, b"de"), "d, e", "not taken"),
-        (counts(queue, 3, 0), "c, d, e", "how many wait"),
-        (holds(queue, 0, b"c"), "c, d, e", "the first"),
-        (holds(queue, 1, b"d"), "c, d, e", "the second"),
-        (holds(queue, 2, b"e"), "c, d, e", "the third"),
-        (hands_back(alloc, queue, b"f"), "f", "not handed back"),
-        (holds(queue, 0, b"c"), "f", "the first is another"),
-        (holds(queue, 2, b"e"), "f", "the last is another"),
-    ])
+/// Two messages fill a queue with room for two, and go out of it: the third of two is handed back.
+fn wrong_of_two(alloc: Global, queue: &mut IQueue) -> Option<&'static str> {
+    if queue.room() != 2 {
+        Some("a new queue: its room")
+    } else if !counts(queue, 0, 0) {
+        Some("a new queue: not empty")
+    } else if !puts_each(alloc, queue, b"ab") {
+        Some("a, b: not taken")
+    } else if !hands_back(alloc, queue, b"c") {
+        Some("c: not handed back")
+    } else if !counts(queue, 2, 0) {
+        Some("a, b: how many wait")
+    } else if !sends(queue) {
+        Some("a, b: none is unsent")
+    } else if !acknowledges(queue, 1) {
+        Some("a: not sent")
+    } else if !counts(queue, 1, 0) {
+        Some("b: how many wait")
+    } else if !holds(queue, 0, b"b") {
+        Some("b: not the first")
+    } else if queue.get(1).is_some() {
+        Some("b: not the last")
+    } else if queue.discard() != 1 {
+        Some("b: not discarded")
+    } else if !counts(queue, 0, 0) {
+        Some("discarded: not empty")
+    } else {
+        None
+    }
 }
 
-#[test]
-fn the_fourth_and_fifth_take_the_places_of_the_first(rt: HostRuntime) -> Result<(), Fail> {
-    let mut queue = IQueue::new(rt.alloc(), 3)?;
-    goes_round(rt.alloc(), &mut queue)
+/// Three messages are taken and two sent, and then all are unsent again, in their order.
+fn wrong_gone_back(alloc: Global, queue: &mut IQueue) -> Option<&'static str> {
+    if !puts_each(alloc, queue, &[1, 2, 3]) {
+        return Some("1, 2, 3: not taken");
+    }
+    if !sends(queue) || !counts(queue, 3, 1) {
+        return Some("1 sent: none is unsent, or how many wait");
+    }
+    if !sends(queue) {
+        return Some("2 sent: none is unsent");
+    }
+    queue.go_back();
+    if !counts(queue, 3, 0) {
+        Some("gone back: how many wait")
+    } else if !holds(queue, 0, &[1]) || !holds(queue, 1, &[2]) || !holds(queue, 2, &[3]) {
+        Some("gone back: another order")
+    } else {
+        None
+    }
 }
 
-/// One message goes through the queue.
-fn passes(alloc: Global, queue: &mut IQueue, octets: &[u8]) -> Result<(), Fail> {
-    all_hold(&[
-        (puts(alloc, queue, octets), "a message", "not taken"),
-        (holds(queue, 0, octets), "a message", "not the first"),
-        (counts(queue, 1, 0), "a message", "how many wait"),
-        (sends(queue), "a message", "not unsent"),
-        (counts(queue, 1, 1), "a message sent", "how many wait"),
-        (acknowledges(queue, 1), "a message sent", "not sent"),
-    ])
+/// Two messages go out of a queue with room for three, and two more take their places.
+fn wrong_gone_round(alloc: Global, queue: &mut IQueue) -> Option<&'static str> {
+    if !puts_each(alloc, queue, b"abc") {
+        Some("a, b, c: not taken")
+    } else if !sends(queue) {
+        Some("a: none is unsent")
+    } else if !sends(queue) {
+        Some("b: none is unsent")
+    } else if !acknowledges(queue, 2) {
+        Some("a, b: not sent")
+    } else if !puts_each(alloc, queue, b"de") {
+        Some("d, e: not taken")
+    } else if !counts(queue, 3, 0) {
+        Some("c, d, e: how many wait")
+    } else if !holds(queue, 0, b"c") {
+        Some("c, d, e: the first")
+    } else if !holds(queue, 1, b"d") {
+        Some("c, d, e: the second")
+    } else if !holds(queue, 2, b"e") {
+        Some("c, d, e: the third")
+    } else if !hands_back(alloc, queue, b"f") {
+        Some("f: not handed back")
+    } else if !holds(queue, 0, b"c") {
+        Some("f: the first is another")
+    } else if !holds(queue, 2, b"e") {
+        Some("f: the last is another")
+    } else {
+        None
+    }
+}
+
+/// Whether one message goes through the queue.
+fn passes(alloc: Global, queue: &mut IQueue, octets: &[u8]) -> bool {
+    puts(alloc, queue, octets)
+        && holds(queue, 0, octets)
+        && counts(queue, 1, 0)
+        && sends(queue)
+        && counts(queue, 1, 1)
+        && acknowledges(queue, 1)
 }
 
 /// A thousand messages go through the queue.
-fn passes_all(alloc: Global, queue: &mut IQueue) -> Result<(), Fail> {
+fn wrong_of_a_thousand(alloc: Global, queue: &mut IQueue) -> Option<&'static str> {
     for number in 0..1000u32 {
-        passes(alloc, queue, &number.to_be_bytes())?;
+        if !passes(alloc, queue, &number.to_be_bytes()) {
+            return Some("one of a thousand messages: it does not go through");
+        }
     }
-    all_hold(&[(counts(queue, 0, 0), "all acknowledged", "not empty")])
-}
-
-#[test]
-fn a_thousand_messages_go_through_three_places(rt: HostRuntime) -> Result<(), Fail> {
-    let mut queue = IQueue::new(rt.alloc(), 3)?;
-    passes_all(rt.alloc(), &mut queue)
-}
-
-/// The queue takes 1,024 messages, and hands one more back.
-fn takes_most(alloc: Global, queue: &mut IQueue) -> Result<(), Fail> {
-    all_hold(&[
-        (puts_each_empty(alloc, queue), "1,024", "not taken"),
-        (hands_back(alloc, queue, &[]), "one more", "taken"),
-        (queue.discard() == 1024, "1,024", "not discarded"),
-    ])
+    if counts(queue, 0, 0) {
+        None
+    } else {
+        Some("all acknowledged: not empty")
+    }
 }
 
 /// Puts 1,024 messages without octets at the end, and tells whether all were taken.
@@ -192,8 +187,62 @@ fn puts_each_empty(alloc: Global, queue: &mut IQueue) -> bool {
     true
 }
 
+/// The largest queue takes 1,024 messages, and hands one more back.
+fn wrong_of_the_largest(alloc: Global, queue: &mut IQueue) -> Option<&'static str> {
+    if !puts_each_empty(alloc, queue) {
+        Some("1,024: not taken")
+    } else if !hands_back(alloc, queue, &[]) {
+        Some("one more: taken")
+    } else if queue.discard() != 1024 {
+        Some("1,024: not discarded")
+    } else {
+        None
+    }
+}
+
+/// What is done with a new queue.
+#[derive(Clone, Copy)]
+enum Deeds {
+    Fill,
+    GoBack,
+    GoRound,
+    PassAThousand,
+    TakeMost,
+}
+
+/// Each queue by its room, and what is done with it.
+const QUEUES: &[(u16, Deeds)] = &[
+    (2, Deeds::Fill),
+    (3, Deeds::GoBack),
+    (3, Deeds::GoRound),
+    (3, Deeds::PassAThousand),
+    (1024, Deeds::TakeMost),
+];
+
+/// What is wrong of a new queue where this is done with it.
+fn wrong_of(alloc: Global, queue: &mut IQueue, deeds: Deeds) -> Option<&'static str> {
+    match deeds {
+        Deeds::Fill => wrong_of_two(alloc, queue),
+        Deeds::GoBack => wrong_gone_back(alloc, queue),
+        Deeds::GoRound => wrong_gone_round(alloc, queue),
+        Deeds::PassAThousand => wrong_of_a_thousand(alloc, queue),
+        Deeds::TakeMost => wrong_of_the_largest(alloc, queue),
+    }
+}
+
+/// Makes a queue, and does this with it.
+fn does(alloc: Global, room: u16, deeds: Deeds) -> Result<(), Fail> {
+    if room == 0 || room > 1024 {
+        return Err(Fail::new("a queue has room for 1 to 1,024 messages"));
+    }
+    let mut queue = IQueue::new(alloc, room)?;
+    none_is_wrong(&[wrong_of(alloc, &mut queue, deeds)])
+}
+
 #[test]
-fn the_largest_queue_takes_1024_messages(rt: HostRuntime) -> Result<(), Fail> {
-    let mut queue = IQueue::new(rt.alloc(), 1024)?;
-    takes_most(rt.alloc(), &mut queue)
+fn queues(rt: HostRuntime) -> Result<(), Fail> {
+    for (room, deeds) in QUEUES {
+        does(rt.alloc(), *room, *deeds)?;
+    }
+    Ok(())
 }

@@ -1,82 +1,50 @@
-//! What is told of faults and timers: their names, and what a frame reject says (Q.921 3.6.11, Figure 6).
+//! What is told of faults, timers and fields: their names, and what a frame reject says (Q.921 3.6.11, Figure 6).
 
-use crate::wants::wants;
-use lapd_frame::{FaultKind, FieldFault, FrameFault, FrmrInfo, Number};
+use crate::wants::{none_is_wrong, numbers, prints};
+use lapd_frame::{FaultKind, FieldFault, FrameFault, FrmrInfo, Number, Sapi, Side, Tei};
 use lapd_timers::Timer;
 use std::alloc::Global;
-use std::fmt::Display;
 use std::test::Fail;
 
-fn number(value: u8) -> Result<Number, Fail> {
-    Ok(Number::new(value).ok_or("seven bits")?)
-}
-
-/// The numbers 0, 1, 2 and 127.
-fn numbers() -> Result<[Number; 4], Fail> {
-    Ok([number(0)?, number(1)?, number(2)?, number(127)?])
-}
-
-/// Each row is a name, the information of a frame reject, and what it says.
-fn all_reject(rows: &[(&str, [u8; 5], FrmrInfo)]) -> Result<(), Fail> {
-    for (row, info, frmr) in rows {
-        wants(FrmrInfo::read(info) == *frmr, row, "something else is read")?;
+/// Frame rejects as octets, and what they say, with these numbers.
+fn wrong_reject(zero: Number, one: Number, two: Number, last: Number) -> Option<&'static str> {
+    let sabme = FrmrInfo {
+        rejected: [0x7f, 0x00],
+        vs: one,
+        vr: two,
+        cr: false,
+        w: true,
+        x: false,
+        y: false,
+        z: false,
+    };
+    let response = FrmrInfo {
+        rejected: [0x01, 0x14],
+        vs: last,
+        vr: zero,
+        cr: true,
+        w: false,
+        z: true,
+        ..sabme
+    };
+    let other_bits = FrmrInfo {
+        rejected: [0x00, 0x02],
+        vs: zero,
+        vr: last,
+        w: false,
+        x: true,
+        y: true,
+        ..sabme
+    };
+    if FrmrInfo::read(&[0x7f, 0x00, 0x02, 0x04, 0x01]) != sabme {
+        Some("a SABME with an undefined control field: something else is read")
+    } else if FrmrInfo::read(&[0x01, 0x14, 0xfe, 0x01, 0x08]) != response {
+        Some("a response with an N(R) that is not valid: something else is read")
+    } else if FrmrInfo::read(&[0x00, 0x02, 0x01, 0xfe, 0xf6]) != other_bits {
+        Some("other bits are not looked at: something else is read")
+    } else {
+        None
     }
-    Ok(())
-}
-
-#[test]
-fn information_of_a_frame_reject() -> Result<(), Fail> {
-    let [zero, one, two, last] = numbers()?;
-    all_reject(&[
-        (
-            "a SABME with an undefined control field",
-            [0x7f, 0x00, 0x02, 0x04, 0x01],
-            FrmrInfo {
-                rejected: [0x7f, 0x00],
-                vs: one,
-                vr: two,
-                cr: false,
-                w: true,
-                x: false,
-                y: false,
-                z: false,
-            },
-        ),
-        (
-            "a response with an N(R) that is not valid",
-            [0x01, 0x14, 0xfe, 0x01, 0x08],
-            FrmrInfo {
-                rejected: [0x01, 0x14],
-                vs: last,
-                vr: zero,
-                cr: true,
-                w: false,
-                x: false,
-                y: false,
-                z: true,
-            },
-        ),
-        (
-            "other bits are not looked at",
-            [0x00, 0x02, 0x01, 0xfe, 0xf6],
-            FrmrInfo {
-                rejected: [0x00, 0x02],
-                vs: zero,
-                vr: last,
-                cr: false,
-                w: false,
-                x: true,
-                y: true,
-                z: false,
-            },
-        ),
-    ])
-}
-
-/// The value prints as this text.
-fn prints(alloc: Global, value: impl Display + Drop, text: &str) -> Result<(), Fail> {
-    let printed = format!(in alloc; "{value}")?;
-    wants(printed.as_str() == text, text, "other text is printed")
 }
 
 const FAULTS: &[(FaultKind, &str)] = &[
@@ -89,34 +57,41 @@ const FAULTS: &[(FaultKind, &str)] = &[
     (FaultKind::InfoTooLong, "F7 InfoTooLong"),
 ];
 
-#[test]
-fn names_of_the_faults(rt: HostRuntime) -> Result<(), Fail> {
+/// Names of the faults.
+fn wrong_fault(alloc: Global) -> Option<&'static str> {
     for (kind, name) in FAULTS {
-        wants(kind.name() == *name, name, "its name")?;
         let (kind, address) = (*kind, None);
-        prints(rt.alloc(), kind, name)?;
-        prints(rt.alloc(), FrameFault { kind, address }, name)?;
+        let named = kind.name() == *name && prints(alloc, kind, name);
+        if !named || !prints(alloc, FrameFault { kind, address }, name) {
+            return Some(name);
+        }
     }
-    Ok(())
+    None
 }
 
-const FAULTS_OF_FIELDS: &[(FieldFault, FaultKind)] = &[
-    (FieldFault::TooShort, FaultKind::TooShort),
-    (FieldFault::BadAddress, FaultKind::BadAddress),
-    (FieldFault::SapiNotServed, FaultKind::SapiNotServed),
-    (FieldFault::Undefined, FaultKind::Undefined),
+const FAULTS_OF_FIELDS: &[(FieldFault, FaultKind, &str)] = &[
+    (FieldFault::TooShort, FaultKind::TooShort, "F1 TooShort"),
+    (
+        FieldFault::BadAddress,
+        FaultKind::BadAddress,
+        "F2 BadAddress",
+    ),
+    (
+        FieldFault::SapiNotServed,
+        FaultKind::SapiNotServed,
+        "F3 SapiNotServed",
+    ),
+    (FieldFault::Undefined, FaultKind::Undefined, "F4 Undefined"),
 ];
 
-#[test]
-fn faults_of_fields_are_those_of_frames() -> Result<(), Fail> {
-    for (fault, kind) in FAULTS_OF_FIELDS {
-        wants(
-            FaultKind::from(*fault) == *kind,
-            kind.name(),
-            "from a field",
-        )?;
+/// Faults of fields are those of frames, and print as they do.
+fn wrong_fault_of_a_field(alloc: Global) -> Option<&'static str> {
+    for (fault, kind, name) in FAULTS_OF_FIELDS {
+        if FaultKind::from(*fault) != *kind || !prints(alloc, *fault, name) {
+            return Some(name);
+        }
     }
-    Ok(())
+    None
 }
 
 const TIMERS: &[(Timer, &str)] = &[
@@ -126,11 +101,44 @@ const TIMERS: &[(Timer, &str)] = &[
     (Timer::T203, "T203"),
 ];
 
-#[test]
-fn names_of_the_timers(rt: HostRuntime) -> Result<(), Fail> {
+/// Names of the timers.
+fn wrong_timer(alloc: Global) -> Option<&'static str> {
     for (timer, name) in TIMERS {
-        wants(timer.name() == *name, name, "its name")?;
-        prints(rt.alloc(), *timer, name)?;
+        if timer.name() != *name || !prints(alloc, *timer, name) {
+            return Some(name);
+        }
     }
-    Ok(())
+    None
+}
+
+/// Fields as text, with these numbers.
+fn wrong_field(alloc: Global, tei: Tei, number: Number) -> Option<&'static str> {
+    if !prints(alloc, tei, "64") {
+        Some("TEI 64: other text is printed")
+    } else if !prints(alloc, number, "127") {
+        Some("number 127: other text is printed")
+    } else if !prints(alloc, Sapi::Management, "63") {
+        Some("SAPI 63: other text is printed")
+    } else if !prints(alloc, Side::Network, "network") {
+        Some("network: other text is printed")
+    } else if !prints(alloc, Side::User.other(), "network") {
+        Some("the other of the user: other text is printed")
+    } else if !prints(alloc, Side::Network.other(), "user") {
+        Some("the other of the network: other text is printed")
+    } else {
+        None
+    }
+}
+
+#[test]
+fn reports(rt: HostRuntime) -> Result<(), Fail> {
+    let [zero, one, two, last] = numbers()?;
+    let tei = Tei::new(64).ok_or("a TEI")?;
+    none_is_wrong(&[
+        wrong_reject(zero, one, two, last),
+        wrong_fault(rt.alloc()),
+        wrong_fault_of_a_field(rt.alloc()),
+        wrong_timer(rt.alloc()),
+        wrong_field(rt.alloc(), tei, last),
+    ])
 }

@@ -10,164 +10,172 @@ mod every_state;
 mod scripts;
 mod sent_frames;
 mod tei_assigned;
+mod text;
 mod timer_recovery;
 mod transfer;
 
+use crate::rows::text::{Text, text_of, three_of};
 use crate::wants::wants;
 use lapd_cli_commands::Answerer;
 use lapd_cli_script::Command;
 use lapd_frame::Side;
-use lapd_link::{Link, Params, Timer, Window};
+use lapd_link::{IQueue, Link, Params, Recovery, Timer, Window};
 use std::alloc::Global;
 use std::test::Fail;
 
-/// A new link of this side, with a window of `k` frames, this N200 and room for so many messages.
-fn new_link(alloc: Global, side: Side, k: u8, n200: u8, room: u16) -> Result<Answerer, Fail> {
-    let params = Params::new(k, n200, room).ok_or("a number is out of range")?;
-    Ok(Answerer::new(alloc, side, params)?)
+/// A link that lines lead on, and what it printed for the last one.
+#[derive(Drop)]
+struct Driven {
+    link: Answerer,
+    printed: Vec<u8>,
 }
 
-/// Does the lines of a script, `; ` between them, or `-` for none, whatever they call for.
-fn lead(alloc: Global, link: &mut Answerer, script: &str) -> Result<(), Fail> {
-    if script == "-" {
-        return Ok(());
+impl Driven {
+    /// A new link of this side, with a window of `k` frames, this N200 and room for so many messages, and this recovery.
+    fn new(
+        alloc: Global,
+        side: Side,
+        (k, n200, room): (u8, u8, u16),
+        recovery: Recovery,
+    ) -> Result<Driven, Fail> {
+        let params = Params::new(k, n200, room).ok_or("a number is out of range")?;
+        let link = Answerer::new(alloc, side, params.with_recovery(recovery))?;
+        Ok(Driven {
+            link,
+            printed: Vec::new(alloc),
+        })
     }
-    for line in script.split("; ") {
-        let _ = called_for(alloc, link, line)?;
+
+    /// The link.
+    fn link(&self) -> &Link {
+        self.link.link()
     }
-    Ok(())
-}
 
-/// Does a line, and tells what it calls for: what is printed, with `; ` for each line's end but the last, or `-`.
-fn called_for(alloc: Global, link: &mut Answerer, line: &str) -> Result<String, Fail> {
-    let line = written_out(alloc, line)?;
-    let text = printed_for(alloc, link, line.as_bytes())?;
-    joined(alloc, text.as_str())
-}
-
-/// Does a line, and tells what is printed.
-fn printed_for(alloc: Global, link: &mut Answerer, line: &[u8]) -> Result<String, Fail> {
-    let mut printed = Vec::new(alloc);
-    if link.run(line, &mut printed).is_err() {
-        return Err(Fail::new("a bad line"));
+    /// Does a line, and tells whether it is one.
+    fn does(&mut self, line: &[u8]) -> bool {
+        self.printed.clear();
+        self.link.run(line, &mut self.printed).is_ok()
     }
-    Ok(String::from_utf8(printed).map_err(|_| "text")?)
-}
 
-/// Printed lines with `; ` between them, or `-` for none.
-fn joined(alloc: Global, text: &str) -> Result<String, Fail> {
-    match text.strip_suffix("\n") {
-        Some(lines) => Ok(lines.replace(alloc, "\n", "; ")?),
-        None => Ok("-".to_string(alloc)?),
+    /// Whether this was printed for the last line.
+    fn has_printed(&self, text: &Text) -> bool {
+        self.printed.as_slice() == text.octets()
+    }
+
+    /// Does the lines of a script, `; ` between them, or `-` for none, whatever they call for.
+    fn lead(&mut self, script: &str) -> bool {
+        for line in script.split("; ") {
+            if line != "-" && !self.does(written_out(line).octets()) {
+                return false;
+            }
+        }
+        true
+    }
+
+    /// Whether a line calls for these outputs, `; ` between them, or `-` for none.
+    fn gives(&mut self, line: &str, outs: &str) -> bool {
+        self.does(written_out(line).octets()) && self.has_printed(&lines_of(outs))
+    }
+
+    /// Whether it is in this condition.
+    fn is_in(&self, condition: &str) -> bool {
+        condition_of(self.link()).octets() == written_out(condition).octets()
+    }
+
+    /// Whether a row holds in the condition before.
+    fn keeps_to(&mut self, before: &str, row: &str) -> bool {
+        match row.split_once(" | ") {
+            Some((_, rest)) => match three_of(rest) {
+                Some((event, outs, "=")) => self.gives(event, outs) && self.is_in(before),
+                Some((event, outs, after)) => self.gives(event, outs) && self.is_in(after),
+                None => false,
+            },
+            None => false,
+        }
+    }
+
+    /// Whether a row holds at the place to which this leads a new link.
+    fn keeps_to_at(&mut self, place: &str, row: &str) -> bool {
+        match place.split_once(" | ") {
+            Some((script, condition)) => {
+                self.lead(script) && self.is_in(condition) && self.keeps_to(condition, row)
+            }
+            None => false,
+        }
+    }
+
+    /// Fails the test where this does not hold, at this row, and tells what was printed and the condition.
+    fn wants(&self, holds: bool, row: &str) -> Result<(), Fail> {
+        let mut reached = condition_of(self.link());
+        reached.text(" after ");
+        reached.put(self.printed.as_slice());
+        wants(holds, row, text_of(reached.octets()))
     }
 }
 
-// Octets that stand many times, as rows write them, the octet and how often it stands.
-const RUNS: &[(&str, &str, usize)] = &[
-    ("260*aa", "aa", 260),
-    ("261*aa", "aa", 261),
-    ("261*03", "03", 261),
-];
-
-/// A row's text with each octet written out, and no `+` between parts.
-fn written_out(alloc: Global, text: &str) -> Result<String, Fail> {
-    let mut whole = text.replace(alloc, "+", "")?;
-    for run in RUNS {
-        whole = with_run(alloc, whole.as_str(), run)?;
-    }
-    Ok(whole)
+/// A row's text with each octet written out, and no `+` between parts. `260*aa` is `aa` 260 times.
+fn written_out(text: &str) -> Text {
+    let mut whole = Text::new();
+    put_written_out(&mut whole, text);
+    whole
 }
 
-/// A row's text with these octets written out.
-fn with_run(alloc: Global, text: &str, run: &(&str, &str, usize)) -> Result<String, Fail> {
-    let (short, octet, count) = *run;
-    let octets = octet.repeat(alloc, count)?;
-    Ok(text.replace(alloc, short, octets.as_str())?)
+/// Puts a row's text behind, with each octet written out.
+fn put_written_out(whole: &mut Text, text: &str) {
+    for part in text.split("+") {
+        match part.split_once("*") {
+            Some((count, octet)) => whole.run(octet, if count == "260" { 260 } else { 261 }),
+            None => whole.text(part),
+        }
+    }
+}
+
+/// Outputs as the lines that are printed for them.
+fn lines_of(outs: &str) -> Text {
+    let mut lines = Text::new();
+    for out in outs.split("; ") {
+        if out != "-" {
+            put_written_out(&mut lines, out);
+            lines.text("\n");
+        }
+    }
+    lines
 }
 
 /// The state and all that is not 0, not false and not empty, as in `7 V(S)=1 T200 sent 01 unsent 02`.
-fn condition(alloc: Global, link: &Link) -> Result<String, Fail> {
-    let mut text = String::new(alloc);
-    push_condition(alloc, &mut text, link)?;
-    Ok(text)
+fn condition_of(link: &Link) -> Text {
+    let mut text = Text::new();
+    text.named("", u16::from(link.state()), "");
+    text.mark(" L3I", link.layer3_initiated());
+    text.mark(" RP", link.release_pending());
+    text.named(" RC=", u16::from(link.rc()), "");
+    put_window(&mut text, &link.window());
+    text.mark(" T200", link.running(Timer::T200));
+    text.mark(" T203", link.running(Timer::T203));
+    put_queue(&mut text, link.queue());
+    text
 }
 
-/// The state, its marks, the window, the timers and the messages.
-fn push_condition(alloc: Global, text: &mut String, link: &Link) -> Result<(), Fail> {
-    let (layer3, release) = (link.layer3_initiated(), link.release_pending());
-    push_numbers(text, &[("", link.state())])?;
-    push_marks(text, &[(" L3I", layer3), (" RP", release)])?;
-    push_numbers(text, &[(" RC=", link.rc())])?;
-    push_window(text, &link.window())?;
-    let (t200, t203) = (link.running(Timer::T200), link.running(Timer::T203));
-    push_marks(text, &[(" T200", t200), (" T203", t203)])?;
-    push_queue(alloc, text, link)
-}
-
-/// V(S), V(A), V(R) and the marks.
-fn push_window(text: &mut String, window: &Window) -> Result<(), Fail> {
-    push_numbers(
-        text,
-        &[
-            (" V(S)=", window.vs().value()),
-            (" V(A)=", window.va().value()),
-            (" V(R)=", window.vr().value()),
-        ],
-    )?;
-    push_marks(
-        text,
-        &[
-            (" peer-busy", window.peer_busy()),
-            (" own-busy", window.own_busy()),
-            (" rejecting", window.rejecting()),
-            (" ack-pending", window.ack_pending()),
-        ],
-    )
+/// V(S), V(A) and V(R) and the marks.
+fn put_window(text: &mut Text, window: &Window) {
+    text.named(" V(S)=", u16::from(window.vs().value()), "");
+    text.named(" V(A)=", u16::from(window.va().value()), "");
+    text.named(" V(R)=", u16::from(window.vr().value()), "");
+    text.mark(" peer-busy", window.peer_busy());
+    text.mark(" own-busy", window.own_busy());
+    text.mark(" rejecting", window.rejecting());
+    text.mark(" ack-pending", window.ack_pending());
 }
 
 /// The messages, those sent first.
-fn push_queue(alloc: Global, text: &mut String, link: &Link) -> Result<(), Fail> {
-    let queue = link.queue();
+fn put_queue(text: &mut Text, queue: &IQueue) {
     let sent = queue.sent();
     for place in 0..queue.len() {
-        push_mark(text, " sent", place == 0 && sent > 0)?;
-        push_mark(text, " unsent", place == sent)?;
-        push_message(alloc, text, queue.at(place))?;
+        text.mark(" sent", place == 0 && sent > 0);
+        text.mark(" unsent", place == sent);
+        text.text(" ");
+        text.hex(queue.at(place));
     }
-    Ok(())
-}
-
-/// A message's octets in hexadecimal, behind a space.
-fn push_message(alloc: Global, text: &mut String, message: &[u8]) -> Result<(), Fail> {
-    let octets = hex::encode(alloc, message)?;
-    text.push_str(" ")?;
-    Ok(text.push_str(octets.as_str())?)
-}
-
-/// A word where the mark is set.
-fn push_mark(text: &mut String, word: &str, set: bool) -> Result<(), Fail> {
-    if set {
-        text.push_str(word)?;
-    }
-    Ok(())
-}
-
-/// Each word whose mark is set.
-fn push_marks(text: &mut String, marks: &[(&str, bool)]) -> Result<(), Fail> {
-    for (word, set) in marks {
-        push_mark(text, word, *set)?;
-    }
-    Ok(())
-}
-
-/// Each word with its number, where that is not 0.
-fn push_numbers(text: &mut String, numbers: &[(&str, u8)]) -> Result<(), Fail> {
-    for (word, number) in numbers {
-        if *number != 0 {
-            write!(text, "{word}{number}")?;
-        }
-    }
-    Ok(())
 }
 
 /// Checks a table: a line `at script | condition` leads to a place, and the lines up to the next one are rows that hold
@@ -194,99 +202,17 @@ fn check_places(alloc: Global, places: &str, rows: &str) -> Result<(), Fail> {
 /// condition before. For each one a new network link, with a window of two frames, N200 of 2 and room for three
 /// messages, is led to the place, `script | condition`. Empty lines and those that begin with `#` are no rows.
 fn check_rows(alloc: Global, place: &str, rows: &str) -> Result<(), Fail> {
-    let mut wrong = String::new(alloc);
-    push_wrong(alloc, place, rows, &mut wrong)?;
-    wants(wrong.as_str().is_empty(), place, wrong.as_str())
-}
-
-/// Adds to `wrong` what is otherwise than the rows say.
-fn push_wrong(alloc: Global, place: &str, rows: &str, wrong: &mut String) -> Result<(), Fail> {
     for row in rows.lines() {
         if !row.is_empty() && !row.starts_with("#") {
-            let mut link = new_link(alloc, Side::Network, 2, 2, 3)?;
-            check_at(alloc, &mut link, place, row, wrong)?;
+            check_row(alloc, place, row)?;
         }
     }
     Ok(())
 }
 
-/// Leads a new link to the place, and checks the row there.
-fn check_at(
-    alloc: Global,
-    link: &mut Answerer,
-    place: &str,
-    row: &str,
-    wrong: &mut String,
-) -> Result<(), Fail> {
-    let (script, condition) = place.split_once(" | ").ok_or("a place has a condition")?;
-    lead(alloc, link, script)?;
-    is_in(alloc, link, condition)?;
-    check_row(alloc, link, condition, row, wrong)
-}
-
-/// Adds to `wrong` what is otherwise than the row says.
-fn check_row(
-    alloc: Global,
-    link: &mut Answerer,
-    before: &str,
-    row: &str,
-    wrong: &mut String,
-) -> Result<(), Fail> {
-    let (name, rest) = row.split_once(" | ").ok_or("a row has a name")?;
-    let (event, rest) = rest.split_once(" | ").ok_or("a row has an event")?;
-    let (outs, after) = rest.split_once(" | ").ok_or("a row has outputs")?;
-    let wanted = if after == "=" { before } else { after };
-    check_given(alloc, link, name, event, outs, wrong)?;
-    let reached = condition(alloc, link.link())?;
-    push_other(alloc, name, reached.as_str(), wanted, wrong)
-}
-
-/// Does the event of the row of this name, and adds to `wrong` what it calls for where the row says otherwise.
-fn check_given(
-    alloc: Global,
-    link: &mut Answerer,
-    name: &str,
-    event: &str,
-    outs: &str,
-    wrong: &mut String,
-) -> Result<(), Fail> {
-    let given = called_for(alloc, link, event)?;
-    push_other(alloc, name, given.as_str(), outs, wrong)
-}
-
-/// Adds to `wrong` a text that is not the one that the row of this name writes so.
-fn push_other(
-    alloc: Global,
-    name: &str,
-    text: &str,
-    row: &str,
-    wrong: &mut String,
-) -> Result<(), Fail> {
-    if !reads(alloc, text, row)? {
-        write!(wrong, "\n{name} | {text}")?;
-    }
-    Ok(())
-}
-
-/// Whether a text is the one that a row writes so.
-fn reads(alloc: Global, text: &str, row: &str) -> Result<bool, Fail> {
-    Ok(text == written_out(alloc, row)?.as_str())
-}
-
-/// Checks the condition of a link.
-fn is_in(alloc: Global, link: &Answerer, wanted: &str) -> Result<(), Fail> {
-    let reached = condition(alloc, link.link())?;
-    is_text(alloc, wanted, reached.as_str(), wanted)
-}
-
-/// Checks a text, which this row writes so.
-fn is_text(alloc: Global, row: &str, text: &str, wanted: &str) -> Result<(), Fail> {
-    let same = reads(alloc, text, wanted)?;
-    wants(same, row, text)
-}
-
-/// Checks that a link gives for a line these outputs.
-fn gives(alloc: Global, link: &mut Answerer, line: &str, outs: &str) -> Result<(), Fail> {
-    let given = called_for(alloc, link, line)?;
-    is_text(alloc, line, given.as_str(), outs)
+/// Checks a row at the place to which this leads a new link.
+fn check_row(alloc: Global, place: &str, row: &str) -> Result<(), Fail> {
+    let mut link = Driven::new(alloc, Side::Network, (2, 2, 3), Recovery::Enquiry)?;
+    let holds = link.keeps_to_at(place, row);
+    link.wants(holds, row)
 }

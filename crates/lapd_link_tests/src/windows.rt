@@ -1,6 +1,6 @@
 //! The state variables and conditions of one end (Q.921 5.6, 5.8).
 
-use crate::wants::all_hold;
+use crate::wants::none_is_wrong;
 use lapd_frame::{Control, Number};
 use lapd_supervision::{Advance, Window};
 use std::test::Fail;
@@ -115,128 +115,161 @@ fn goes_back(window: &Window, nr: u8, vs: u8, va: u8, vr: u8) -> bool {
     }
 }
 
-/// One I frame goes out and is acknowledged.
-fn sends_one(window: Window) -> Result<Window, Fail> {
+/// One I frame goes out and is acknowledged. (Where N(R) = V(S) is not valid, V(A) stays.)
+fn sends_one(window: Window) -> Window {
     let (window, _) = window.send();
     match taken(&window, window.vs().value()) {
-        Some((after, _)) => Ok(after),
-        None => Err(Fail::new("N(R) = V(S) is valid")),
+        Some((after, _)) => after,
+        None => window,
     }
 }
 
 /// 126 I frames went out and were acknowledged one by one, then four more went out.
-fn with_four_outstanding() -> Result<Window, Fail> {
+fn with_four_outstanding() -> Window {
     let mut window = Window::new();
     for _ in 0..126 {
-        window = sends_one(window)?;
+        window = sends_one(window);
     }
     for _ in 0..4 {
         window = window.send().0;
     }
-    Ok(window)
+    window
 }
 
-#[test]
-fn begins_at_0_with_no_condition() -> Result<(), Fail> {
-    let window = Window::new();
-    all_hold(&[
-        (counts(&window, 0, 0, 0), "a new window", "not all 0"),
-        (!is_marked(&window), "a new window", "a mark"),
-        (window == Window::default(), "a new window", "no default"),
-    ])
+/// A window begins at 0 with no condition.
+fn wrong_at_first(window: Window) -> Option<&'static str> {
+    if !counts(&window, 0, 0, 0) {
+        Some("a new window: not all 0")
+    } else if is_marked(&window) {
+        Some("a new window: a mark")
+    } else if window != Window::default() {
+        Some("a new window: no default")
+    } else {
+        None
+    }
 }
 
-#[test]
-fn an_nr_is_valid_from_va_to_vs() -> Result<(), Fail> {
-    let window = with_four_outstanding()?;
-    all_hold(&[
-        (counts(&window, 2, 126, 0), "four outstanding", "counters"),
-        (takes(&window, 1, 3, false), "N(R)=1", "not three"),
-        (takes(&window, 2, 4, true), "N(R)=2", "not all four"),
-        (taken(&window, 3).is_none(), "N(R)=3", "valid"),
-        (taken(&window, 125).is_none(), "N(R)=125", "valid"),
-    ])
+/// An N(R) is valid from V(A) to V(S).
+fn wrong_nr(window: Window) -> Option<&'static str> {
+    if !counts(&window, 2, 126, 0) {
+        Some("four outstanding: counters")
+    } else if !takes(&window, 1, 3, false) {
+        Some("N(R)=1: not three")
+    } else if !takes(&window, 2, 4, true) {
+        Some("N(R)=2: not all four")
+    } else if taken(&window, 3).is_some() {
+        Some("N(R)=3: valid")
+    } else if taken(&window, 125).is_some() {
+        Some("N(R)=125: valid")
+    } else {
+        None
+    }
 }
 
-#[test]
-fn the_first_gap_is_rejected_and_no_other() -> Result<(), Fail> {
-    let mut window = Window::new();
-    let first = hears(&mut window, (5, true), false, rej(0, true));
-    let rejecting = window.rejecting();
-    let again = hears(&mut window, (5, true), false, rr(0, true));
-    let unasked = hears(&mut window, (5, false), false, None);
-    let next = hears(&mut window, (0, false), true, None);
-    let after = window;
-    let acknowledged = acknowledges(&mut window, rr(1, false));
-    all_hold(&[
-        (first, "I N(S)=5 P=1", "no REJ"),
-        (rejecting, "I N(S)=5 P=1", "not rejecting"),
-        (again, "I N(S)=5 P=1 again", "no RR"),
-        (unasked, "I N(S)=5 P=0 again", "an answer"),
-        (next, "I N(S)=0 P=0", "not accepted"),
-        (counts(&after, 0, 0, 1), "I N(S)=0 P=0", "V(R) is not 1"),
-        (!after.rejecting(), "I N(S)=0 P=0", "still rejecting"),
-        (after.ack_pending(), "I N(S)=0 P=0", "nothing pending"),
-        (acknowledged, "acknowledgement", "no RR"),
-        (!is_marked(&window), "acknowledgement", "still pending"),
-    ])
+/// The first gap is rejected and no other.
+fn wrong_gap(mut window: Window) -> Option<&'static str> {
+    if !hears(&mut window, (5, true), false, rej(0, true)) {
+        Some("I N(S)=5 P=1: no REJ")
+    } else if !window.rejecting() {
+        Some("I N(S)=5 P=1: not rejecting")
+    } else if !hears(&mut window, (5, true), false, rr(0, true)) {
+        Some("I N(S)=5 P=1 again: no RR")
+    } else if !hears(&mut window, (5, false), false, None) {
+        Some("I N(S)=5 P=0 again: an answer")
+    } else if !hears(&mut window, (0, false), true, None) {
+        Some("I N(S)=0 P=0: not accepted")
+    } else if !counts(&window, 0, 0, 1) {
+        Some("I N(S)=0 P=0: V(R) is not 1")
+    } else if window.rejecting() {
+        Some("I N(S)=0 P=0: still rejecting")
+    } else if !window.ack_pending() {
+        Some("I N(S)=0 P=0: nothing pending")
+    } else if !acknowledges(&mut window, rr(1, false)) {
+        Some("acknowledgement: no RR")
+    } else if is_marked(&window) {
+        Some("acknowledgement: still pending")
+    } else {
+        None
+    }
 }
 
-#[test]
-fn a_busy_end_discards_and_says_so() -> Result<(), Fail> {
-    let mut window = Window::new();
-    let told = own_busy(&mut window, true, rnr(0, false));
-    let busy = window.own_busy();
-    let polled = hears(&mut window, (0, true), false, rnr(0, true));
-    let status = has_status(&window, rnr(0, true));
-    let told_again = own_busy(&mut window, false, rr(0, false));
-    all_hold(&[
-        (told, "own busy", "no RNR"),
-        (busy, "own busy", "not busy"),
-        (polled, "I N(S)=0 P=1", "no RNR"),
-        (status, "own busy", "status"),
-        (told_again, "no longer busy", "no RR"),
-        (has_status(&window, rr(0, true)), "no longer busy", "status"),
-    ])
+/// A busy end discards and says so.
+fn wrong_while_busy(mut window: Window) -> Option<&'static str> {
+    if !own_busy(&mut window, true, rnr(0, false)) {
+        Some("own busy: no RNR")
+    } else if !window.own_busy() {
+        Some("own busy: not busy")
+    } else if !hears(&mut window, (0, true), false, rnr(0, true)) {
+        Some("I N(S)=0 P=1: no RNR")
+    } else if !has_status(&window, rnr(0, true)) {
+        Some("own busy: status")
+    } else if !own_busy(&mut window, false, rr(0, false)) {
+        Some("no longer busy: no RR")
+    } else if !has_status(&window, rr(0, true)) {
+        Some("no longer busy: status")
+    } else {
+        None
+    }
 }
 
-#[test]
-fn messages_go_out_while_the_window_is_open() -> Result<(), Fail> {
-    let mut window = with_four_outstanding()?;
-    let before = window;
-    let heard = hears(&mut window, (0, false), true, None);
-    let sent = sends(&mut window, 2, 1);
-    all_hold(&[
-        (before.may_send(5), "four of 5 outstanding", "closed"),
-        (!before.may_send(4), "four of 4 outstanding", "open"),
-        (!before.peer(true).may_send(5), "a busy peer", "open"),
-        (before.peer(true).peer_busy(), "a busy peer", "not busy"),
-        (heard, "I N(S)=0 P=0", "not accepted"),
-        (sent, "I N(S)=2 N(R)=1", "another"),
-        (counts(&window, 3, 126, 1), "I N(S)=2 N(R)=1", "counters"),
-        (!window.ack_pending(), "I N(S)=2 N(R)=1", "still pending"),
-        (
-            goes_back(&window, 126, 126, 126, 1),
-            "gone back",
-            "counters",
-        ),
-    ])
+/// Messages go out while the window is open.
+fn wrong_message(mut window: Window) -> Option<&'static str> {
+    if !window.may_send(5) {
+        Some("four of 5 outstanding: closed")
+    } else if window.may_send(4) {
+        Some("four of 4 outstanding: open")
+    } else if window.peer(true).may_send(5) {
+        Some("a busy peer: open")
+    } else if !window.peer(true).peer_busy() {
+        Some("a busy peer: not busy")
+    } else if !hears(&mut window, (0, false), true, None) {
+        Some("I N(S)=0 P=0: not accepted")
+    } else if !sends(&mut window, 2, 1) {
+        Some("I N(S)=2 N(R)=1: another")
+    } else if !counts(&window, 3, 126, 1) {
+        Some("I N(S)=2 N(R)=1: counters")
+    } else if window.ack_pending() {
+        Some("I N(S)=2 N(R)=1: still pending")
+    } else if !goes_back(&window, 126, 126, 126, 1) {
+        Some("gone back: counters")
+    } else {
+        None
+    }
 }
 
-#[test]
-fn establishment_clears_and_zeroes() -> Result<(), Fail> {
-    let mut window = with_four_outstanding()?;
-    let heard = hears(&mut window, (0, false), true, None);
-    let gap = hears(&mut window, (7, false), false, rej(1, false));
+/// Establishment clears and zeroes.
+fn wrong_when_cleared(mut window: Window) -> Option<&'static str> {
+    if !hears(&mut window, (0, false), true, None) {
+        return Some("I N(S)=0 P=0: not accepted");
+    }
+    if !hears(&mut window, (7, false), false, rej(1, false)) {
+        return Some("I N(S)=7 P=0: no REJ");
+    }
     let mut window = window.peer(true);
-    let told = own_busy(&mut window, true, rnr(1, false));
+    if !own_busy(&mut window, true, rnr(1, false)) {
+        return Some("own busy: no RNR");
+    }
     let cleared = window.clear();
-    all_hold(&[
-        (heard, "I N(S)=0 P=0", "not accepted"),
-        (gap, "I N(S)=7 P=0", "no REJ"),
-        (told, "own busy", "no RNR"),
-        (counts(&cleared, 2, 126, 1), "cleared", "counters"),
-        (!is_marked(&cleared), "cleared", "a mark"),
-        (cleared.zero() == Window::new(), "zeroed", "not new"),
+    if !counts(&cleared, 2, 126, 1) {
+        Some("cleared: counters")
+    } else if is_marked(&cleared) {
+        Some("cleared: a mark")
+    } else if cleared.zero() != Window::new() {
+        Some("zeroed: not new")
+    } else {
+        None
+    }
+}
+
+#[test]
+fn state_variables_and_conditions() -> Result<(), Fail> {
+    let four = with_four_outstanding();
+    none_is_wrong(&[
+        wrong_at_first(Window::new()),
+        wrong_nr(four),
+        wrong_gap(Window::new()),
+        wrong_while_busy(Window::new()),
+        wrong_message(four),
+        wrong_when_cleared(four),
     ])
 }

@@ -1,59 +1,75 @@
 //! The address and control fields, octet by octet (Q.921 3.3 to 3.6).
 
-use crate::wants::wants;
+use crate::wants::{none_is_wrong, numbers};
 use lapd_frame::Control::{Disc, Dm, Frmr, I, Rej, Rnr, Rr, Sabme, Ua, Ui, Xid};
 use lapd_frame::FieldFault::{BadAddress, SapiNotServed, TooShort, Undefined};
 use lapd_frame::Role::{Answer, Command};
 use lapd_frame::Side::{Network, User};
 use lapd_frame::{Address, Control, FieldFault, Number, Role, Sapi, Side, Tei};
-use std::alloc::Global;
-use std::fmt::Display;
 use std::test::Fail;
 
 // ---- Numbers.
 
-fn tei(value: u8) -> Result<Tei, Fail> {
-    Ok(Tei::new(value).ok_or("a TEI")?)
+/// Whether a value is one of seven bits, as a TEI and as a sequence number.
+fn has_seven_bits(value: u8) -> bool {
+    match (Tei::new(value), Number::new(value)) {
+        (Some(tei), Some(number)) => tei.value() == value && number.value() == value,
+        _ => false,
+    }
 }
 
-fn number(value: u8) -> Result<Number, Fail> {
-    Ok(Number::new(value).ok_or("seven bits")?)
+/// Whether a value is neither a TEI nor a sequence number.
+fn has_more_bits(value: u8) -> bool {
+    Tei::new(value).is_none() && Number::new(value).is_none()
 }
 
-/// A value of seven bits, as a TEI and as a sequence number.
-fn seven_bits(value: u8) -> Result<(), Fail> {
-    wants(tei(value)?.value() == value, "a TEI", "its value")?;
-    wants(number(value)?.value() == value, "a number", "its value")
+/// Numbers at their edges.
+fn wrong_number() -> Option<&'static str> {
+    if !has_seven_bits(0) || !has_seven_bits(1) {
+        Some("0, 1: a TEI and a number")
+    } else if !has_seven_bits(63) || !has_seven_bits(64) {
+        Some("63, 64: a TEI and a number")
+    } else if !has_seven_bits(126) || !has_seven_bits(127) {
+        Some("126, 127: a TEI and a number")
+    } else if !has_more_bits(128) || !has_more_bits(255) {
+        Some("128, 255: more than seven bits")
+    } else if Tei::group().value() != 127 {
+        Some("the group TEI: its value")
+    } else {
+        None
+    }
 }
 
-#[test]
-fn numbers_at_their_edges() -> Result<(), Fail> {
-    for value in [0, 1, 63, 64, 126, 127] {
-        seven_bits(value)?;
-    }
-    for value in [128, 255] {
-        wants(Tei::new(value).is_none(), "a TEI", "more than seven bits")?;
-        wants(
-            Number::new(value).is_none(),
-            "a number",
-            "more than seven bits",
-        )?;
-    }
-    wants(Tei::group().value() == 127, "the group TEI", "its value")
+/// Values, and the service access point of each that is served.
+const SAPIS: &[(&str, u8, Option<Sapi>)] = &[
+    ("SAPI 0", 0, Some(Sapi::Call)),
+    ("SAPI 16", 16, Some(Sapi::Packet)),
+    ("SAPI 63", 63, Some(Sapi::Management)),
+    ("SAPI 1", 1, None),
+    ("SAPI 15", 15, None),
+    ("SAPI 17", 17, None),
+    ("SAPI 62", 62, None),
+    ("SAPI 64", 64, None),
+    ("SAPI 255", 255, None),
+];
+
+/// Whether this is the service access point of a value, if any.
+fn is_sapi(value: u8, sapi: Option<Sapi>) -> bool {
+    Sapi::new(value) == sapi
+        && match sapi {
+            Some(sapi) => sapi.value() == value,
+            None => true,
+        }
 }
 
-const SERVED: &[(u8, Sapi)] = &[(0, Sapi::Call), (16, Sapi::Packet), (63, Sapi::Management)];
-
-#[test]
-fn service_access_points_that_are_served() -> Result<(), Fail> {
-    for (value, sapi) in SERVED {
-        wants(Sapi::new(*value) == Some(*sapi), "a SAPI", "of this value")?;
-        wants(sapi.value() == *value, "a SAPI", "its value")?;
+/// Service access points that are served.
+fn wrong_sapi() -> Option<&'static str> {
+    for (row, value, sapi) in SAPIS {
+        if !is_sapi(*value, *sapi) {
+            return Some(row);
+        }
     }
-    for value in [1, 15, 17, 62, 64, 255] {
-        wants(Sapi::new(value).is_none(), "a SAPI", "not served")?;
-    }
-    Ok(())
+    None
 }
 
 // ---- Control fields.
@@ -71,50 +87,53 @@ fn is_written(field: &Control, octets: &[u8]) -> bool {
     field.write().as_slice() == octets
 }
 
-/// A field of two octets, read alone and with an octet behind it, and written.
-fn two_octets(row: &str, octets: [u8; 2], field: &Control) -> Result<(), Fail> {
-    let [first, second] = octets;
-    wants(begins_with(&octets, field, 2), row, "alone")?;
-    wants(
-        begins_with(&[first, second, 0x7f], field, 2),
-        row,
-        "an octet behind",
-    )?;
-    wants(is_written(field, &octets), row, "as written")
+/// Whether these octets, and also longer ones that begin with them, begin with this field, which is written as them.
+fn is_field(octets: &[u8], longer: &[u8], field: &Control) -> bool {
+    let length = octets.len();
+    begins_with(octets, field, length)
+        && begins_with(longer, field, length)
+        && is_written(field, octets)
 }
 
-/// The fields of two octets with this second one.
-fn with_second(second: u8, nr: Number, pf: bool) -> Result<(), Fail> {
-    let ns = number(0)?;
-    two_octets("I N(S)=0", [0x00, second], &I { ns, nr, p: pf })?;
-    let ns = number(1)?;
-    two_octets("I N(S)=1", [0x02, second], &I { ns, nr, p: pf })?;
-    let ns = number(127)?;
-    two_octets("I N(S)=127", [0xfe, second], &I { ns, nr, p: pf })?;
-    two_octets("RR", [0x01, second], &Rr { nr, pf })?;
-    two_octets("RNR", [0x05, second], &Rnr { nr, pf })?;
-    two_octets("REJ", [0x09, second], &Rej { nr, pf })
+/// Whether these two octets are this field, alone and with an octet behind them.
+fn is_of_two(first: u8, second: u8, field: &Control) -> bool {
+    is_field(&[first, second], &[first, second, 0x7f], field)
 }
 
-#[test]
-fn control_fields_of_two_octets() -> Result<(), Fail> {
-    with_second(0x00, number(0)?, false)?;
-    with_second(0x01, number(0)?, true)?;
-    with_second(0x02, number(1)?, false)?;
-    with_second(0x03, number(1)?, true)?;
-    with_second(0xfe, number(127)?, false)?;
-    with_second(0xff, number(127)?, true)
-}
-
-/// A field of one octet, read alone and with octets behind it, and written.
-fn one_octet(row: &str, octet: u8, field: &Control) -> Result<(), Fail> {
-    wants(begins_with(&[octet], field, 1), row, "alone")?;
-    wants(
-        begins_with(&[octet, 0x01, 0x00], field, 1),
-        row,
-        "octets behind",
-    )?;
-    wants(is_written(field, &[octet]), row, "as written")
+/// Fields of two octets with this second one, and the N(S) of three I frames.
+fn wrong_with(second: u8, nr: Number, pf: bool, three: &[Number; 3]) -> Option<&'static str> {
+    let [zero, one, last] = *three;
+    if !is_of_two(
+        0x00,
+        second,
+        &I {
+            ns: zero,
+            nr,
+            p: pf,
+        },
+    ) {
+        Some("I N(S)=0")
+    } else if !is_of_two(0x02, second, &I { ns: one, nr, p: pf }) {
+        Some("I N(S)=1")
+    } else if !is_of_two(
+        0xfe,
+        second,
+        &I {
+            ns: last,
+            nr,
+            p: pf,
+        },
+    ) {
+        Some("I N(S)=127")
+    } else if !is_of_two(0x01, second, &Rr { nr, pf }) {
+        Some("RR")
+    } else if !is_of_two(0x05, second, &Rnr { nr, pf }) {
+        Some("RNR")
+    } else if !is_of_two(0x09, second, &Rej { nr, pf }) {
+        Some("REJ")
+    } else {
+        None
+    }
 }
 
 const OF_ONE_OCTET: [(&str, u8, Control); 14] = [
@@ -134,12 +153,14 @@ const OF_ONE_OCTET: [(&str, u8, Control); 14] = [
     ("XID P/F=1", 0xbf, Xid { pf: true }),
 ];
 
-#[test]
-fn control_fields_of_one_octet() -> Result<(), Fail> {
+/// Control fields of one octet.
+fn wrong_of_one_octet() -> Option<&'static str> {
     for (row, octet, field) in OF_ONE_OCTET {
-        one_octet(row, octet, &field)?;
+        if !is_field(&[octet], &[octet, 0x01, 0x00], &field) {
+            return Some(row);
+        }
     }
-    Ok(())
+    None
 }
 
 /// Whether these octets begin with no control field, for this fault.
@@ -147,58 +168,101 @@ fn is_no_control(octets: &[u8], fault: FieldFault) -> bool {
     Control::read(octets).err() == Some(fault)
 }
 
-#[test]
-fn faults_of_control_fields() -> Result<(), Fail> {
-    wants(is_no_control(&[], TooShort), "no octet", "F1")?;
-    // The first octet of an I field, of the S fields, and of two that would be none.
-    for octet in [0x00, 0x02, 0xfe, 0x01, 0x05, 0x09, 0x0d, 0x11] {
-        wants(is_no_control(&[octet], TooShort), "half a field", "F1")?;
+/// The first octet of an I field, of the S fields, and of two that would be none.
+const HALVES: &[u8] = &[0x00, 0x02, 0xfe, 0x01, 0x05, 0x09, 0x0d, 0x11];
+
+/// No such S field, then reserved bits of RR, RNR and REJ.
+const NO_S_FIELDS: &[u8] = &[0x0d, 0x11, 0x21, 0x41, 0x81, 0x15, 0x19, 0xf1];
+
+const NO_U_FIELDS: &[u8] = &[0x07, 0x0b, 0x23, 0x2f, 0x47, 0x6b, 0x83, 0xe3, 0xff];
+
+/// Whether each of these octets begins no control field, for this fault, alone or with an octet behind it.
+fn are_no_controls(octets: &[u8], behind: bool, fault: FieldFault) -> bool {
+    for octet in octets {
+        let none = if behind {
+            is_no_control(&[*octet, 0], fault)
+        } else {
+            is_no_control(&[*octet], fault)
+        };
+        if !none {
+            return false;
+        }
     }
-    // No such S field, then reserved bits of RR, RNR and REJ.
-    for octet in [0x0d, 0x11, 0x21, 0x41, 0x81, 0x15, 0x19, 0xf1] {
-        wants(is_no_control(&[octet, 0], Undefined), "no S field", "F4")?;
+    true
+}
+
+/// Faults of control fields.
+fn wrong_fault_of_control() -> Option<&'static str> {
+    if !is_no_control(&[], TooShort) {
+        Some("no octet: F1")
+    } else if !are_no_controls(HALVES, false, TooShort) {
+        Some("half a field: F1")
+    } else if !are_no_controls(NO_S_FIELDS, true, Undefined) {
+        Some("no S field: F4")
+    } else if !are_no_controls(NO_U_FIELDS, false, Undefined) {
+        Some("no U field: F4")
+    } else if !are_no_controls(NO_U_FIELDS, true, Undefined) {
+        Some("no U field, and an octet: F4")
+    } else {
+        None
     }
-    for octet in [0x07, 0x0b, 0x23, 0x2f, 0x47, 0x6b, 0x83, 0xe3, 0xff] {
-        wants(is_no_control(&[octet], Undefined), "no U field", "F4")?;
-        wants(is_no_control(&[octet, 0], Undefined), "no U field", "F4")?;
-    }
-    Ok(())
 }
 
 // ---- Addresses.
 
-/// The address of these parts is read from the octets, and written as them.
-fn address_both_ways(row: &str, octets: [u8; 2], from: Side, address: Address) -> Result<(), Fail> {
-    wants(
-        Address::read(octets, from) == Ok(address),
-        row,
-        "another address is read",
-    )?;
-    wants(
-        address.write(from) == octets,
-        row,
-        "other octets are written",
-    )
+/// Whether the address of these parts is read from the octets, and written as them.
+fn is_address(octets: [u8; 2], from: Side, sapi: Sapi, tei: u8, role: Role) -> bool {
+    match Tei::new(tei) {
+        Some(tei) => {
+            let address = Address { sapi, tei, role };
+            Address::read(octets, from) == Ok(address) && address.write(from) == octets
+        }
+        None => false,
+    }
 }
 
-const COMMANDS_AND_RESPONSES: &[(&str, [u8; 2], Side, Sapi, Role)] = &[
-    ("SAPI 0 C/R=1", [0x02, 0x81], Network, Sapi::Call, Command),
-    ("SAPI 0 C/R=0", [0x00, 0x81], User, Sapi::Call, Command),
-    ("SAPI 0 C/R=0", [0x00, 0x81], Network, Sapi::Call, Answer),
-    ("SAPI 0 C/R=1", [0x02, 0x81], User, Sapi::Call, Answer),
+/// Octets of a side, and the SAPI, TEI and role that they are: commands and responses, then the least and the greatest TEIs.
+const ADDRESSES: &[(&str, [u8; 2], Side, Sapi, u8, Role)] = &[
+    (
+        "SAPI 0 C/R=1",
+        [0x02, 0x81],
+        Network,
+        Sapi::Call,
+        64,
+        Command,
+    ),
+    ("SAPI 0 C/R=0", [0x00, 0x81], User, Sapi::Call, 64, Command),
+    (
+        "SAPI 0 C/R=0",
+        [0x00, 0x81],
+        Network,
+        Sapi::Call,
+        64,
+        Answer,
+    ),
+    ("SAPI 0 C/R=1", [0x02, 0x81], User, Sapi::Call, 64, Answer),
     (
         "SAPI 16 C/R=1",
         [0x42, 0x81],
         Network,
         Sapi::Packet,
+        64,
         Command,
     ),
-    ("SAPI 16 C/R=1", [0x42, 0x81], User, Sapi::Packet, Answer),
+    (
+        "SAPI 16 C/R=1",
+        [0x42, 0x81],
+        User,
+        Sapi::Packet,
+        64,
+        Answer,
+    ),
     (
         "SAPI 63 C/R=0",
         [0xfc, 0x81],
         Network,
         Sapi::Management,
+        64,
         Answer,
     ),
     (
@@ -206,31 +270,22 @@ const COMMANDS_AND_RESPONSES: &[(&str, [u8; 2], Side, Sapi, Role)] = &[
         [0xfc, 0x81],
         User,
         Sapi::Management,
+        64,
         Command,
     ),
+    ("TEI 0", [0x00, 0x01], User, Sapi::Call, 0, Command),
+    ("TEI 1", [0x00, 0x03], User, Sapi::Call, 1, Command),
+    ("TEI 127", [0x00, 0xff], User, Sapi::Call, 127, Command),
 ];
 
-#[test]
-fn command_or_response_by_sender() -> Result<(), Fail> {
-    let tei = tei(64)?;
-    for (row, octets, from, sapi, role) in COMMANDS_AND_RESPONSES {
-        let (sapi, role) = (*sapi, *role);
-        address_both_ways(row, *octets, *from, Address { sapi, tei, role })?;
+/// Addresses both ways.
+fn wrong_address() -> Option<&'static str> {
+    for (row, octets, from, sapi, tei, role) in ADDRESSES {
+        if !is_address(*octets, *from, *sapi, *tei, *role) {
+            return Some(row);
+        }
     }
-    Ok(())
-}
-
-/// The user's command of SAPI 0 with this TEI has this second octet.
-fn tei_in_an_address(row: &str, second: u8, tei: Tei) -> Result<(), Fail> {
-    let (sapi, role) = (Sapi::Call, Command);
-    address_both_ways(row, [0x00, second], User, Address { sapi, tei, role })
-}
-
-#[test]
-fn teis_in_addresses() -> Result<(), Fail> {
-    tei_in_an_address("TEI 0", 0x01, tei(0)?)?;
-    tei_in_an_address("TEI 1", 0x03, tei(1)?)?;
-    tei_in_an_address("TEI 127", 0xff, tei(127)?)
+    None
 }
 
 const NO_ADDRESSES: &[(&str, [u8; 2], FieldFault)] = &[
@@ -250,45 +305,32 @@ fn is_no_address(octets: [u8; 2], from: Side, fault: FieldFault) -> bool {
     Address::read(octets, from).err() == Some(fault)
 }
 
-#[test]
-fn faults_of_addresses() -> Result<(), Fail> {
+/// Faults of addresses.
+fn wrong_fault_of_address() -> Option<&'static str> {
     for (row, octets, fault) in NO_ADDRESSES {
-        wants(is_no_address(*octets, Network, *fault), row, "network")?;
-        wants(is_no_address(*octets, User, *fault), row, "user")?;
+        if !is_no_address(*octets, Network, *fault) || !is_no_address(*octets, User, *fault) {
+            return Some(row);
+        }
     }
-    Ok(())
-}
-
-// ---- What is printed.
-
-/// The value prints as this text.
-fn prints(alloc: Global, value: impl Display + Drop, text: &str) -> Result<(), Fail> {
-    let printed = format!(in alloc; "{value}")?;
-    wants(printed.as_str() == text, text, "other text is printed")
+    None
 }
 
 #[test]
-fn fields_as_text(rt: HostRuntime) -> Result<(), Fail> {
-    let alloc = rt.alloc();
-    prints(alloc, tei(64)?, "64")?;
-    prints(alloc, number(127)?, "127")?;
-    prints(alloc, Sapi::Management, "63")?;
-    prints(alloc, Network, "network")?;
-    prints(alloc, User.other(), "network")?;
-    prints(alloc, Network.other(), "user")
-}
-
-const FAULTS: &[(FieldFault, &str)] = &[
-    (TooShort, "F1 TooShort"),
-    (BadAddress, "F2 BadAddress"),
-    (SapiNotServed, "F3 SapiNotServed"),
-    (Undefined, "F4 Undefined"),
-];
-
-#[test]
-fn faults_of_fields_as_text(rt: HostRuntime) -> Result<(), Fail> {
-    for (fault, text) in FAULTS {
-        prints(rt.alloc(), *fault, text)?;
-    }
-    Ok(())
+fn address_and_control_fields() -> Result<(), Fail> {
+    let [zero, one, _, last] = numbers()?;
+    let three = [zero, one, last];
+    none_is_wrong(&[
+        wrong_number(),
+        wrong_sapi(),
+        wrong_with(0x00, zero, false, &three),
+        wrong_with(0x01, zero, true, &three),
+        wrong_with(0x02, one, false, &three),
+        wrong_with(0x03, one, true, &three),
+        wrong_with(0xfe, last, false, &three),
+        wrong_with(0xff, last, true, &three),
+        wrong_of_one_octet(),
+        wrong_fault_of_control(),
+        wrong_address(),
+        wrong_fault_of_address(),
+    ])
 }

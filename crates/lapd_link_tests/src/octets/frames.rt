@@ -1,6 +1,6 @@
 //! Frames both ways, and the first fault of octets that are none (Q.921 2.9, 3.6, Table 5).
 
-use crate::wants::wants;
+use crate::wants::{none_is_wrong, numbers, wants};
 use lapd_frame::Control::{Disc, Dm, Frmr, I, Rej, Rnr, Rr, Sabme, Ua, Ui, Xid};
 use lapd_frame::FaultKind::{
     BadAddress, InfoNotPermitted, InfoTooLong, SapiNotServed, TooShort, Undefined, WrongSize,
@@ -11,85 +11,62 @@ use lapd_frame::{
     Address, Control, FaultKind, Frame, FrameFault, MOST_OCTETS, N201, Number, Role, Sapi, Side,
     Tei, one_frame, one_spelling, read, read_as_spelled, write,
 };
-use std::alloc::Global;
 use std::test::Fail;
 
-/// The address of SAPI 0 and TEI 64.
-fn address(role: Role) -> Result<Address, Fail> {
-    let tei = Tei::new(64).ok_or("a TEI")?;
-    let sapi = Sapi::Call;
-    Ok(Address { sapi, tei, role })
-}
-
-fn number(value: u8) -> Result<Number, Fail> {
-    Ok(Number::new(value).ok_or("seven bits")?)
+/// The address of SAPI 0 and TEI 64. (Were 64 no TEI, no row would hold.)
+fn address(role: Role) -> Address {
+    Address {
+        sapi: Sapi::Call,
+        tei: Tei::new(64).unwrap_or(Tei::group()),
+        role,
+    }
 }
 
 // ---- Frames.
 
-/// A frame and the side that sends it.
-#[derive(Drop)]
-struct Sent<'a> {
-    from: Side,
-    address: Address,
-    control: Control,
-    info: &'a [u8],
-}
-
 /// Whether the frame has these parts.
-fn has_parts(frame: &Frame<'_>, sent: &Sent<'_>) -> bool {
-    frame.address() == sent.address && frame.control() == sent.control && frame.info() == sent.info
+fn has_parts(frame: &Frame<'_>, address: Address, control: Control, info: &[u8]) -> bool {
+    frame.address() == address && frame.control() == control && frame.info() == info
 }
 
 /// Whether the frame is written as these octets, with nothing changed behind them.
 fn is_written(frame: &Frame<'_>, from: Side, octets: &[u8]) -> bool {
-    let mut out = [0x5a; MOST_OCTETS];
+    let untouched = [0x5a; MOST_OCTETS];
+    let mut out = untouched;
     let length = write(frame, from, &mut out);
     if length != octets.len() || length > MOST_OCTETS {
         return false;
     }
-    &out[..length] == octets && out[length..].iter().all(|octet| *octet == 0x5a)
+    &out[..length] == octets && out[length..] == untouched[length..]
 }
 
-/// These octets are the frame, and the frame is written as them.
-fn both_ways(row: &str, octets: &[u8], sent: &Sent<'_>) -> Result<(), Fail> {
-    let frame = read(octets, sent.from)?;
-    wants(has_parts(&frame, sent), row, "another frame is read")?;
-    let written = is_written(&frame, sent.from, octets);
-    wants(written, row, "other octets are written")
+/// Whether these octets are the frame of these parts, with this head before the information, and the frame is written as them.
+fn is_frame(octets: &[u8], head: usize, from: Side, address: Address, control: Control) -> bool {
+    match (read(octets, from), octets.get(head..)) {
+        (Ok(frame), Some(info)) => {
+            has_parts(&frame, address, control, info) && is_written(&frame, from, octets)
+        }
+        _ => false,
+    }
 }
 
-/// Both ways, for a frame of SAPI 0 and TEI 64 whose information begins at this octet.
-fn reads_and_writes(
-    row: &str,
-    octets: &[u8],
-    info_at: usize,
-    from: Side,
-    role: Role,
-    control: Control,
-) -> Result<(), Fail> {
-    let address = address(role)?;
-    let info = octets.get(info_at..).ok_or("octets of a frame")?;
-    let sent = Sent {
-        from,
-        address,
-        control,
-        info,
-    };
-    both_ways(row, octets, &sent)
-}
-
-/// Frames of SAPI 0 and TEI 64 with a control field of one octet, in hexadecimal.
-const UNNUMBERED: [(&str, &str, Side, Role, Control); 7] = [
-    ("SABME", "00817f", User, Command, Sabme { p: true }),
-    ("SABME", "02817f", Network, Command, Sabme { p: true }),
-    ("DISC", "008153", User, Command, Disc { p: true }),
-    ("UA", "008173", Network, Answer, Ua { f: true }),
-    ("DM", "00811f", Network, Answer, Dm { f: true }),
-    ("XID", "0281bf", User, Answer, Xid { pf: true }),
+/// Frames of SAPI 0 and TEI 64 with a control field of one octet.
+const UNNUMBERED: [(&str, &[u8], Side, Role, Control); 7] = [
+    ("SABME", b"\x00\x81\x7f", User, Command, Sabme { p: true }),
+    (
+        "SABME",
+        b"\x02\x81\x7f",
+        Network,
+        Command,
+        Sabme { p: true },
+    ),
+    ("DISC", b"\x00\x81\x53", User, Command, Disc { p: true }),
+    ("UA", b"\x00\x81\x73", Network, Answer, Ua { f: true }),
+    ("DM", b"\x00\x81\x1f", Network, Answer, Dm { f: true }),
+    ("XID", b"\x02\x81\xbf", User, Answer, Xid { pf: true }),
     (
         "FRMR",
-        "0081977f00020401",
+        b"\x00\x81\x97\x7f\x00\x02\x04\x01",
         Network,
         Answer,
         Frmr { f: true },
@@ -104,59 +81,57 @@ fn is_made(address: Address, control: Control, info: &[u8]) -> bool {
     }
 }
 
-/// Both ways, for a frame with a control field of one octet, which is also made of its parts.
-fn unnumbered(
-    row: &str,
-    octets: &[u8],
-    from: Side,
-    role: Role,
-    control: Control,
-) -> Result<(), Fail> {
-    let field = control;
-    reads_and_writes(row, octets, 3, from, role, field)?;
-    let info = octets.get(3..).ok_or("octets of a frame")?;
-    wants(is_made(address(role)?, control, info), row, "is not made")
-}
-
-#[test]
-fn unnumbered_frames_both_ways(rt: HostRuntime) -> Result<(), Fail> {
+/// Frames with a control field of one octet both ways, which are also made of their parts.
+fn wrong_unnumbered() -> Option<&'static str> {
     for (row, octets, from, role, control) in UNNUMBERED {
-        let octets = hex::decode(rt.alloc(), octets)?;
-        unnumbered(row, octets.as_slice(), from, role, control)?;
+        let info = octets.get(3..).unwrap_or(&[]);
+        let field = control;
+        let made = is_made(address(role), field, info);
+        if !made || !is_frame(octets, 3, from, address(role), control) {
+            return Some(row);
+        }
     }
-    Ok(())
+    None
 }
 
-#[test]
-fn numbered_frames_both_ways() -> Result<(), Fail> {
-    let nr = number(0)?;
-    let (ns, p) = (number(0)?, false);
-    let rr = [0x02, 0x81, 0x01, 0x01];
-    reads_and_writes("RR", &rr, 4, Network, Command, Rr { nr, pf: true })?;
-    reads_and_writes("RR", &rr, 4, User, Answer, Rr { nr, pf: true })?;
-    let rnr = [0x00, 0x81, 0x05, 0x00];
-    reads_and_writes("RNR", &rnr, 4, Network, Answer, Rnr { nr, pf: false })?;
-    let rej = [0x00, 0x81, 0x09, 0x00];
-    reads_and_writes("REJ", &rej, 4, Network, Answer, Rej { nr, pf: false })?;
-    let i = [0x00, 0x81, 0x00, 0x00, 0x08, 0x01];
-    reads_and_writes("I", &i, 4, User, Command, I { ns, nr, p })
+/// Whether these octets with a control field of two octets are the frame of SAPI 0 and TEI 64.
+fn is_numbered(octets: &[u8], from: Side, role: Role, control: Control) -> bool {
+    is_frame(octets, 4, from, address(role), control)
 }
 
-#[test]
-fn management_frame_to_the_group() -> Result<(), Fail> {
-    let octets = [0xfc, 0xff, 0x03, 0x0f, 0x12, 0x34, 0x01, 0xff];
+/// Frames with a control field of two octets both ways, with this number in both places.
+fn wrong_numbered(zero: Number) -> Option<&'static str> {
+    let (nr, ns) = (zero, zero);
+    let rr = b"\x02\x81\x01\x01";
+    let i = b"\x00\x81\x00\x00\x08\x01";
+    if !is_numbered(rr, Network, Command, Rr { nr, pf: true }) {
+        Some("RR command")
+    } else if !is_numbered(rr, User, Answer, Rr { nr, pf: true }) {
+        Some("RR response")
+    } else if !is_numbered(b"\x00\x81\x05\x00", Network, Answer, Rnr { nr, pf: false }) {
+        Some("RNR")
+    } else if !is_numbered(b"\x00\x81\x09\x00", Network, Answer, Rej { nr, pf: false }) {
+        Some("REJ")
+    } else if !is_numbered(i, User, Command, I { ns, nr, p: false }) {
+        Some("I")
+    } else {
+        None
+    }
+}
+
+/// A management frame to the group.
+fn wrong_to_the_group() -> Option<&'static str> {
+    let octets = b"\xfc\xff\x03\x0f\x12\x34\x01\xff";
     let address = Address {
         sapi: Sapi::Management,
         tei: Tei::group(),
         role: Command,
     };
-    let request = Sent {
-        from: User,
-        address,
-        control: Ui { p: false },
-        info: &octets[3..],
-    };
-    both_ways("identity request", &octets, &request)
+    if is_frame(octets, 3, User, address, Ui { p: false }) {
+        None
+    } else {
+        Some("identity request")
+    }
 }
 
 // ---- Octets that are no frame.
@@ -166,100 +141,139 @@ fn is_no_frame(octets: &[u8], from: Side, kind: FaultKind, address: Option<Addre
     read(octets, from).err() == Some(FrameFault { kind, address })
 }
 
-/// Octets of the user in hexadecimal, which are for no link, and their fault.
-const FOR_NO_LINK: &[(&str, &str, FaultKind)] = &[
-    ("no octet", "", TooShort),
-    ("one octet", "00", TooShort),
-    ("an address alone", "0081", TooShort),
-    ("two octets with wrong EA bits", "0180", TooShort),
-    ("EA=1 in the first octet", "01817f", BadAddress),
-    ("EA=0 in the second octet", "00807f", BadAddress),
-    ("EA=1 in the first octet, SAPI 1", "05817f", BadAddress),
-    ("SAPI 1", "04817f", SapiNotServed),
+/// Octets of the user, which are for no link, and their fault.
+const FOR_NO_LINK: &[(&str, &[u8], FaultKind)] = &[
+    ("no octet", b"", TooShort),
+    ("one octet", b"\x00", TooShort),
+    ("an address alone", b"\x00\x81", TooShort),
+    ("two octets with wrong EA bits", b"\x01\x80", TooShort),
+    ("EA=1 in the first octet", b"\x01\x81\x7f", BadAddress),
+    ("EA=0 in the second octet", b"\x00\x80\x7f", BadAddress),
+    (
+        "EA=1 in the first octet, SAPI 1",
+        b"\x05\x81\x7f",
+        BadAddress,
+    ),
+    ("SAPI 1", b"\x04\x81\x7f", SapiNotServed),
     // A short I or S field: after the extension bits, before the service access point.
-    ("half an RR", "008101", TooShort),
-    ("half an S field that is none", "00810d", TooShort),
-    ("half an S field with a reserved bit", "008111", TooShort),
-    ("half an I field", "028100", TooShort),
-    ("half an I field, SAPI 1", "048100", TooShort),
+    ("half an RR", b"\x00\x81\x01", TooShort),
+    ("half an S field that is none", b"\x00\x81\x0d", TooShort),
+    (
+        "half an S field with a reserved bit",
+        b"\x00\x81\x11",
+        TooShort,
+    ),
+    ("half an I field", b"\x02\x81\x00", TooShort),
+    ("half an I field, SAPI 1", b"\x04\x81\x00", TooShort),
     (
         "half an I field, EA=1 in the first octet",
-        "058100",
+        b"\x05\x81\x00",
         BadAddress,
     ),
     // The service access point before the control field and the information.
-    ("a reserved bit, SAPI 1", "04811100", SapiNotServed),
-    ("SABME and an octet, SAPI 1", "04817f00", SapiNotServed),
+    ("a reserved bit, SAPI 1", b"\x04\x81\x11\x00", SapiNotServed),
+    (
+        "SABME and an octet, SAPI 1",
+        b"\x04\x81\x7f\x00",
+        SapiNotServed,
+    ),
 ];
 
-#[test]
-fn octets_for_no_link(rt: HostRuntime) -> Result<(), Fail> {
+fn wrong_for_no_link() -> Option<&'static str> {
     for (row, octets, kind) in FOR_NO_LINK {
-        let octets = hex::decode(rt.alloc(), *octets)?;
-        let found = is_no_frame(octets.as_slice(), User, *kind, None);
-        wants(found, row, "another fault")?;
+        if !is_no_frame(octets, User, *kind, None) {
+            return Some(row);
+        }
     }
-    Ok(())
+    None
 }
 
-/// Octets in hexadecimal for the link of SAPI 0 and TEI 64, who sent them and as what, and their fault.
-const FOR_A_LINK: &[(&str, &str, Side, Role, FaultKind)] = &[
-    ("a reserved bit", "00811100", User, Command, Undefined),
-    ("no such S frame", "00810d00", User, Command, Undefined),
-    ("no such U frame", "00816b", User, Command, Undefined),
+/// Octets for the link of SAPI 0 and TEI 64, who sent them and as what, and their fault.
+const FOR_A_LINK: &[(&str, &[u8], Side, Role, FaultKind)] = &[
+    (
+        "a reserved bit",
+        b"\x00\x81\x11\x00",
+        User,
+        Command,
+        Undefined,
+    ),
+    (
+        "no such S frame",
+        b"\x00\x81\x0d\x00",
+        User,
+        Command,
+        Undefined,
+    ),
+    ("no such U frame", b"\x00\x81\x6b", User, Command, Undefined),
     // Commands sent as responses, then responses sent as commands.
-    ("SABME", "02817f", User, Answer, Undefined),
-    ("SABME", "00817f", Network, Answer, Undefined),
-    ("I", "02810000", User, Answer, Undefined),
-    ("UI", "028103", User, Answer, Undefined),
-    ("DISC", "02815300", User, Answer, Undefined),
-    ("UA", "008173", User, Command, Undefined),
-    ("DM", "02811f00", Network, Command, Undefined),
-    ("FRMR", "02819700", Network, Command, Undefined),
+    ("SABME", b"\x02\x81\x7f", User, Answer, Undefined),
+    ("SABME", b"\x00\x81\x7f", Network, Answer, Undefined),
+    ("I", b"\x02\x81\x00\x00", User, Answer, Undefined),
+    ("UI", b"\x02\x81\x03", User, Answer, Undefined),
+    ("DISC", b"\x02\x81\x53\x00", User, Answer, Undefined),
+    ("UA", b"\x00\x81\x73", User, Command, Undefined),
+    ("DM", b"\x02\x81\x1f\x00", Network, Command, Undefined),
+    ("FRMR", b"\x02\x81\x97\x00", Network, Command, Undefined),
     // Information in SABME, DISC, DM and UA.
-    ("SABME", "00817f00", User, Command, InfoNotPermitted),
-    ("DISC", "00814300", User, Command, InfoNotPermitted),
-    ("DM", "02811f00", User, Answer, InfoNotPermitted),
-    ("UA", "00817300", Network, Answer, InfoNotPermitted),
+    (
+        "SABME",
+        b"\x00\x81\x7f\x00",
+        User,
+        Command,
+        InfoNotPermitted,
+    ),
+    ("DISC", b"\x00\x81\x43\x00", User, Command, InfoNotPermitted),
+    ("DM", b"\x02\x81\x1f\x00", User, Answer, InfoNotPermitted),
+    ("UA", b"\x00\x81\x73\x00", Network, Answer, InfoNotPermitted),
     // An S frame of five octets; a frame reject with one, none and six octets of information.
-    ("RR of five octets", "0081010000", User, Command, WrongSize),
+    (
+        "RR of five octets",
+        b"\x00\x81\x01\x00\x00",
+        User,
+        Command,
+        WrongSize,
+    ),
     (
         "FRMR with one octet",
-        "00819700",
+        b"\x00\x81\x97\x00",
         Network,
         Answer,
         WrongSize,
     ),
-    ("FRMR with none", "008187", Network, Answer, WrongSize),
+    (
+        "FRMR with none",
+        b"\x00\x81\x87",
+        Network,
+        Answer,
+        WrongSize,
+    ),
     (
         "FRMR with six",
-        "008197010203040506",
+        b"\x00\x81\x97\x01\x02\x03\x04\x05\x06",
         Network,
         Answer,
         WrongSize,
     ),
 ];
 
-#[test]
-fn octets_at_fault_for_a_link(rt: HostRuntime) -> Result<(), Fail> {
+fn wrong_for_a_link() -> Option<&'static str> {
     for (row, octets, from, role, kind) in FOR_A_LINK {
-        let octets = hex::decode(rt.alloc(), *octets)?;
-        let link = Some(address(*role)?);
-        let found = is_no_frame(octets.as_slice(), *from, *kind, link);
-        wants(found, row, "another fault")?;
+        if !is_no_frame(octets, *from, *kind, Some(address(*role))) {
+            return Some(row);
+        }
     }
-    Ok(())
+    None
 }
 
 // ---- N201 octets of information, and one more.
 
-/// The octets of a frame: this head, and so many octets of information, `aa` each.
-fn with_information(alloc: Global, head: &str, octets: usize) -> Result<Vec<u8>, Fail> {
-    let mut frame = hex::decode(alloc, head)?;
-    for _ in 0..octets {
-        frame.push(0xaa)?;
+/// This head, and octets of information behind it, `aa` each.
+fn with_information(head: &[u8]) -> [u8; 265] {
+    let mut frame = [0xaa; 265];
+    for (octet, place) in head.iter().zip(frame.iter_mut()) {
+        *place = *octet;
     }
-    Ok(frame)
+    frame
 }
 
 /// Whether these parts are no frame, for this fault.
@@ -267,74 +281,71 @@ fn is_not_made(address: Address, control: Control, info: &[u8], kind: FaultKind)
     Frame::new(address, control, info).err() == Some(kind)
 }
 
-/// Behind this head of the user, one octet more than N201 is this fault.
-fn is_refused(
-    alloc: Global,
-    head: &str,
-    role: Role,
-    control: Control,
-    kind: FaultKind,
-) -> Result<(), Fail> {
-    let link = address(role)?;
-    let refused = is_not_made(link, control, &[0xaa; 261], kind);
-    wants(refused, head, "it is made, or another fault")?;
-    let octets = with_information(alloc, head, N201 + 1)?;
-    let found = is_no_frame(octets.as_slice(), User, kind, Some(address(role)?));
-    wants(found, head, "another fault is read")
+/// Whether behind this head of the user, one octet more than N201 is this fault.
+fn is_refused(head: &[u8], role: Role, control: Control, kind: FaultKind) -> bool {
+    let link = address(role);
+    let frame = with_information(head);
+    let octets = frame.get(..head.len().wrapping_add(261)).unwrap_or(&[]);
+    let same = Some(address(role));
+    is_not_made(link, control, &[0xaa; 261], kind) && is_no_frame(octets, User, kind, same)
 }
 
-/// Behind this head of the user, N201 octets are a frame, and one more is F7.
-fn is_bounded(alloc: Global, head: &str, role: Role, control: Control) -> Result<(), Fail> {
+/// Whether behind this head of the user, N201 octets are a frame, and one more is F7.
+fn is_bounded(head: &[u8], role: Role, control: Control) -> bool {
+    let frame = with_information(head);
+    let octets = frame.get(..head.len().wrapping_add(260)).unwrap_or(&[]);
     let field = control;
-    is_refused(alloc, head, role, field, InfoTooLong)?;
-    let octets = with_information(alloc, head, N201)?;
-    let info_at = octets.len().saturating_sub(N201);
-    reads_and_writes(head, octets.as_slice(), info_at, User, role, control)
+    is_refused(head, role, field, InfoTooLong)
+        && is_frame(octets, head.len(), User, address(role), control)
 }
 
-/// Each row is a head of the user, behind which N201 octets are a frame, and one more is F7.
-fn all_bounded(alloc: Global, rows: &[(&str, Role, Control)]) -> Result<(), Fail> {
-    for (head, role, control) in rows {
-        is_bounded(alloc, head, *role, *control)?;
+/// Heads of the user: behind four of them N201 octets are a frame, and one more is F7; and a fault of the others is looked for
+/// before the length.
+fn wrong_length(nr: Number, ns: Number) -> Option<&'static str> {
+    if !is_bounded(b"\x00\x81\x13", Command, Ui { p: true }) {
+        Some("008113")
+    } else if !is_bounded(b"\x00\x81\xaf", Command, Xid { pf: false }) {
+        Some("0081af")
+    } else if !is_bounded(b"\x02\x81\xbf", Answer, Xid { pf: true }) {
+        Some("0281bf")
+    } else if !is_bounded(b"\x00\x81\x02\x00", Command, I { ns, nr, p: false }) {
+        Some("00810200")
+    } else if !is_refused(b"\x02\x81\x13", Answer, Ui { p: true }, Undefined) {
+        Some("028113")
+    } else if !is_refused(
+        b"\x00\x81\x7f",
+        Command,
+        Sabme { p: true },
+        InfoNotPermitted,
+    ) {
+        Some("00817f")
+    } else if !is_refused(b"\x02\x81\x97", Answer, Frmr { f: true }, WrongSize) {
+        Some("028197")
+    } else if !is_refused(
+        b"\x00\x81\x01\x00",
+        Command,
+        Rr { nr, pf: false },
+        WrongSize,
+    ) {
+        Some("00810100")
+    } else {
+        None
     }
-    Ok(())
-}
-
-/// Each row is a head of the user, and a fault that is looked for before the length.
-fn all_refused(alloc: Global, rows: &[(&str, Role, Control, FaultKind)]) -> Result<(), Fail> {
-    for (head, role, control, kind) in rows {
-        is_refused(alloc, head, *role, *control, *kind)?;
-    }
-    Ok(())
 }
 
 #[test]
-fn information_of_261_octets(rt: HostRuntime) -> Result<(), Fail> {
-    wants(N201 == 260 && MOST_OCTETS == 264, "N201", "its value")?;
-    let (nr, ns, p) = (number(0)?, number(1)?, false);
-    all_bounded(
-        rt.alloc(),
-        &[
-            ("008113", Command, Ui { p: true }),
-            ("0081af", Command, Xid { pf: false }),
-            ("0281bf", Answer, Xid { pf: true }),
-            ("00810200", Command, I { ns, nr, p }),
-        ],
-    )?;
-    all_refused(
-        rt.alloc(),
-        &[
-            ("028113", Answer, Ui { p: true }, Undefined),
-            ("00817f", Command, Sabme { p: true }, InfoNotPermitted),
-            ("028197", Answer, Frmr { f: true }, WrongSize),
-            ("00810100", Command, Rr { nr, pf: false }, WrongSize),
-        ],
-    )
-}
-
-#[test]
-fn laws_do_nothing() {
+fn frames() -> Result<(), Fail> {
     read_as_spelled();
     one_spelling();
     one_frame();
+    wants(N201 == 260 && MOST_OCTETS == 264, "N201", "its value")?;
+    let [zero, one, _, _] = numbers()?;
+    none_is_wrong(&[
+        wrong_numbered(zero),
+        wrong_length(zero, one),
+        wrong_unnumbered(),
+        wrong_to_the_group(),
+        wrong_for_no_link(),
+        wrong_for_a_link(),
+    ])
 }

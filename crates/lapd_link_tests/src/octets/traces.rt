@@ -1,14 +1,15 @@
 //! Lines of text for every frame and fault, written by hand, and histories that overflow.
 
-use crate::wants::wants;
+use crate::wants::{none_is_wrong, prints, wants};
 use lapd_trace::{History, Side, line};
 use std::alloc::{AllocError, Global};
 use std::test::Fail;
 
 // ---- Lines.
 
-/// Frames of the user, and their lines: each control field of each role with each value of the P/F bit.
-const FROM_USER: &str = "\
+/// Octets in hexadecimal, and their lines, which tell who sent them: each control field of each role with each value of the
+/// P/F bit, and each fault.
+const LINES: &str = "\
 00810204 | U>N SAPI 0 TEI 64 C I N(S)=1 N(R)=2 P=0
 0081feff | U>N SAPI 0 TEI 64 C I N(S)=127 N(R)=127 P=1
 00810100 | U>N SAPI 0 TEI 64 C RR N(R)=0 P=0
@@ -42,10 +43,6 @@ const FROM_USER: &str = "\
 401302040802 | U>N SAPI 16 TEI 9 C I N(S)=1 N(R)=2 P=0 info=0802
 42010101 | U>N SAPI 16 TEI 0 R RR N(R)=0 F=1
 fcff030f1234ff81 | U>N SAPI 63 TEI 127 C UI P=0 info=0f1234ff81
-";
-
-/// The same of the network.
-const FROM_NETWORK: &str = "\
 02810204 | N>U SAPI 0 TEI 64 C I N(S)=1 N(R)=2 P=0
 0281feff | N>U SAPI 0 TEI 64 C I N(S)=127 N(R)=127 P=1
 02810100 | N>U SAPI 0 TEI 64 C RR N(R)=0 P=0
@@ -79,10 +76,6 @@ const FROM_NETWORK: &str = "\
 42c713 | N>U SAPI 16 TEI 99 C UI P=1
 40010909 | N>U SAPI 16 TEI 0 R REJ N(R)=4 F=1
 feff030f12340281 | N>U SAPI 63 TEI 127 C UI P=0 info=0f12340281
-";
-
-/// Octets of the user that are no frame.
-const FAULTS: &str = "\
 00 | U>N F1 TooShort 00
  | U>N F1 TooShort
 0081 | U>N F1 TooShort 0081
@@ -100,67 +93,106 @@ const FAULTS: &str = "\
 0081010100 | U>N F6 WrongSize 0081010100
 028197 | U>N F6 WrongSize 028197
 0281977f000204 | U>N F6 WrongSize 0281977f000204
-";
-
-/// Octets of the network that are no frame.
-const FAULTS_OF_THE_NETWORK: &str = "\
 40c900c9 | N>U F4 Undefined 40c900c9
 00819700 | N>U F6 WrongSize 00819700
 ";
 
-/// The line of these octets in hexadecimal is this text.
-fn prints(alloc: Global, from: Side, octets: &str, text: &str) -> Result<(), Fail> {
-    let octets = hex::decode(alloc, octets)?;
-    prints_octets(alloc, from, octets.as_slice(), text)
+/// Who sent the octets of a line.
+fn sender_in(text: &str) -> Side {
+    if text.starts_with("U") {
+        Side::User
+    } else {
+        Side::Network
+    }
 }
 
-/// The line of these octets is this text, and memory was taken for it once.
-fn prints_octets(alloc: Global, from: Side, octets: &[u8], text: &str) -> Result<(), Fail> {
-    let printed = line(alloc, from, octets)?;
-    let printed_so = printed.as_str() == text && has_room(&printed, octets.len());
-    wants(printed_so, text, "other text, or other room")
+/// Whether the line of these octets is this text, and memory was taken for it once.
+fn prints_octets(alloc: Global, octets: &[u8], text: &str) -> bool {
+    match line(alloc, sender_in(text), octets) {
+        Ok(printed) => {
+            let room = octets.len().wrapping_mul(2).wrapping_add(43);
+            printed.as_str() == text && printed.capacity() == room
+        }
+        Err(_) => false,
+    }
 }
 
-/// Whether the line of so many octets has the room that was taken at first.
-fn has_room(line: &String, octets: usize) -> bool {
-    line.capacity() == octets.wrapping_mul(2).wrapping_add(43)
+/// Whether the line of these octets in hexadecimal is this text.
+fn prints_digits(alloc: Global, digits: &str, text: &str) -> bool {
+    match hex::decode(alloc, digits) {
+        Ok(octets) => prints_octets(alloc, octets.as_slice(), text),
+        Err(_) => false,
+    }
 }
 
-/// Each line is octets of this side in hexadecimal, ` | ` and what is printed for them.
-fn all_print(alloc: Global, from: Side, rows: &str) -> Result<(), Fail> {
+/// The first of these rows that prints otherwise, each octets in hexadecimal, ` | ` and what is printed for them.
+fn wrong_line(alloc: Global, rows: &'static str) -> Option<&'static str> {
     for row in rows.lines() {
-        let (octets, text) = row.split_once(" | ").ok_or("a row has a text")?;
-        prints(alloc, from, octets, text)?;
+        match row.split_once(" | ") {
+            Some((digits, text)) if prints_digits(alloc, digits, text) => {}
+            _ => return Some(row),
+        }
+    }
+    None
+}
+
+/// These words, and so many octets of information behind them, `5a` each.
+fn with_information(alloc: Global, words: &str, octets: usize) -> Result<String, AllocError> {
+    let mut text = "5a".repeat(alloc, octets)?;
+    text.insert_str(0, words)?;
+    Ok(text)
+}
+
+/// Whether an I frame of the user with so much information prints these words and its octets.
+fn prints_long(alloc: Global, words: &str, octets: usize) -> bool {
+    match (
+        with_information(alloc, "00810204", octets),
+        with_information(alloc, words, octets),
+    ) {
+        (Ok(digits), Ok(text)) => prints_digits(alloc, digits.as_str(), text.as_str()),
+        _ => false,
+    }
+}
+
+/// Most information and more.
+fn wrong_long_line(alloc: Global) -> Option<&'static str> {
+    if !prints_long(alloc, "U>N SAPI 0 TEI 64 C I N(S)=1 N(R)=2 P=0 info=", 260) {
+        Some("260 octets: other text, or other room")
+    } else if !prints_long(alloc, "U>N F7 InfoTooLong 00810204", 261) {
+        Some("261 octets: other text, or other room")
+    } else if !prints_long(alloc, "U>N F7 InfoTooLong 00810204", 100_000) {
+        Some("100,000 octets: other text, or other room")
+    } else {
+        None
+    }
+}
+
+#[test]
+fn lines(rt: HostRuntime) -> Result<(), Fail> {
+    none_is_wrong(&[wrong_line(rt.alloc(), LINES), wrong_long_line(rt.alloc())])
+}
+
+// ---- Histories.
+
+/// Pushes the lines 0 to `pushed` - 1.
+fn push_numbers(alloc: Global, history: &mut History, pushed: u64) -> Result<(), Fail> {
+    for number in 0..pushed {
+        history.push(number.to_string(alloc)?);
     }
     Ok(())
 }
 
-#[test]
-fn every_control_field_and_fault(rt: HostRuntime) -> Result<(), Fail> {
-    let alloc = rt.alloc();
-    all_print(alloc, Side::User, FROM_USER)?;
-    all_print(alloc, Side::Network, FROM_NETWORK)?;
-    all_print(alloc, Side::User, FAULTS)?;
-    all_print(alloc, Side::Network, FAULTS_OF_THE_NETWORK)
+/// Whether the history holds the lines `first` to `pushed` - 1, in order.
+fn holds_numbers(alloc: Global, history: &History, first: u64, pushed: u64) -> bool {
+    let mut number = first;
+    for line in history.lines() {
+        if !prints(alloc, number, line) {
+            return false;
+        }
+        number = number.wrapping_add(1);
+    }
+    number == pushed
 }
-
-/// An I frame of the user with so many octets of information, `5a` each, prints these words and its octets.
-fn prints_long(alloc: Global, words: &str, octets: usize) -> Result<(), Fail> {
-    let information = "5a".repeat(alloc, octets)?;
-    let frame = format!(in alloc; "00810204{information}")?;
-    let text = format!(in alloc; "{words}{information}")?;
-    prints(alloc, Side::User, frame.as_str(), text.as_str())
-}
-
-#[test]
-fn most_information_and_more(rt: HostRuntime) -> Result<(), Fail> {
-    let alloc = rt.alloc();
-    prints_long(alloc, "U>N SAPI 0 TEI 64 C I N(S)=1 N(R)=2 P=0 info=", 260)?;
-    prints_long(alloc, "U>N F7 InfoTooLong 00810204", 261)?;
-    prints_long(alloc, "U>N F7 InfoTooLong 00810204", 100_000)
-}
-
-// ---- Histories.
 
 /// A history of `room` lines, after the lines 0 to `pushed` - 1, keeps the last of them in order.
 fn keeps_the_last(alloc: Global, room: u16, pushed: u64) -> Result<(), Fail> {
@@ -169,42 +201,9 @@ fn keeps_the_last(alloc: Global, room: u16, pushed: u64) -> Result<(), Fail> {
     }
     let mut history = History::new(alloc, usize::from(room))?;
     push_numbers(alloc, &mut history, pushed)?;
-    holds_numbers(
-        alloc,
-        &history,
-        pushed.saturating_sub(u64::from(room)),
-        pushed,
-    )
-}
-
-/// Pushes the lines 0 to `pushed` - 1.
-fn push_numbers(alloc: Global, history: &mut History, pushed: u64) -> Result<(), Fail> {
-    for number in 0..pushed {
-        history.push(format!(in alloc; "{number}")?);
-    }
-    Ok(())
-}
-
-/// The history holds the lines `first` to `pushed` - 1, in order.
-fn holds_numbers(alloc: Global, history: &History, first: u64, pushed: u64) -> Result<(), Fail> {
-    let mut number = first;
-    for line in history.lines() {
-        is_number(alloc, line, number)?;
-        number = number.wrapping_add(1);
-    }
-    wants(number == pushed, "a history", "how many lines it keeps")
-}
-
-/// The line is this number.
-fn is_number(alloc: Global, line: &str, number: u64) -> Result<(), Fail> {
-    let wanted = format!(in alloc; "{number}")?;
-    wants(line == wanted.as_str(), line, "another line")
-}
-
-/// Whether the history holds `b` and then `c`, and no third line.
-fn holds_b_and_c(history: &History) -> bool {
-    let mut lines = history.lines();
-    lines.next() == Some("b") && lines.next() == Some("c") && lines.next().is_none()
+    let first = pushed.saturating_sub(u64::from(room));
+    let kept = holds_numbers(alloc, &history, first, pushed);
+    wants(kept, "a history", "which lines it keeps")
 }
 
 /// Pushes `a`, `b` and `c`.
@@ -215,29 +214,37 @@ fn push_three(alloc: Global, history: &mut History) -> Result<(), Fail> {
     Ok(())
 }
 
-#[test]
-fn a_history_keeps_the_last_lines(rt: HostRuntime) -> Result<(), Fail> {
-    let alloc = rt.alloc();
-    for (room, pushed) in [
-        (1, 0),
-        (1, 1),
-        (1, 5),
-        (3, 2),
-        (3, 3),
-        (3, 1000),
-        (1024, 3000),
-    ] {
-        keeps_the_last(alloc, room, pushed)?;
-    }
-    Ok(())
+/// Whether the history holds these two lines, and no third.
+fn holds_two(history: &History, first: &str, second: &str) -> bool {
+    let mut lines = history.lines();
+    lines.next() == Some(first) && lines.next() == Some(second) && lines.next().is_none()
 }
 
-#[test]
-fn a_history_of_two_lines_drops_the_first(rt: HostRuntime) -> Result<(), Fail> {
-    let alloc = rt.alloc();
+/// A history of two lines drops the first.
+fn drops_the_first(alloc: Global) -> Result<(), Fail> {
     let mut history = History::new(alloc, 2)?;
     push_three(alloc, &mut history)?;
-    wants(holds_b_and_c(&history), "of a, b and c", "not the last two")
+    let kept = holds_two(&history, "b", "c");
+    wants(kept, "of a, b and c", "not the last two")
+}
+
+/// Histories by their room, and how many lines are pushed.
+const HISTORIES: &[(u16, u64)] = &[
+    (1, 0),
+    (1, 1),
+    (1, 5),
+    (3, 2),
+    (3, 3),
+    (3, 1000),
+    (1024, 3000),
+];
+
+#[test]
+fn histories(rt: HostRuntime) -> Result<(), Fail> {
+    for (room, pushed) in HISTORIES {
+        keeps_the_last(rt.alloc(), *room, *pushed)?;
+    }
+    drops_the_first(rt.alloc())
 }
 
 // ---- Memory that is refused: `tools/refuse-memory` refuses each allocation of a run in turn (docs/DEVELOPING.md).
@@ -259,7 +266,7 @@ const TOLD: &[(Side, &[u8], &str)] = &[
 ];
 
 /// How often memory was refused: to a line, and to a history.
-#[derive(Clone, Copy, Debug, Default, PartialEq, Eq)]
+#[derive(Clone, Copy)]
 struct Refusals {
     lines: u32,
     histories: u32,
@@ -302,24 +309,24 @@ fn push_told(alloc: Global, history: &mut History, met: &mut Refusals) -> Result
     Ok(())
 }
 
-/// Whether the history holds the last two of these lines.
-fn holds_told(history: &History) -> bool {
-    let mut lines = history.lines();
-    lines.next() == Some(TOLD[2].2) && lines.next() == Some(TOLD[3].2) && lines.next().is_none()
-}
-
+/// The history keeps the last two of these lines.
 fn keeps_told(alloc: Global, met: &mut Refusals) -> Result<(), Fail> {
     let mut history = history_at_last(alloc, met)?;
     push_told(alloc, &mut history, met)?;
-    wants(holds_told(&history), "of four lines", "not the last two")
+    let kept = holds_two(&history, TOLD[2].2, TOLD[3].2);
+    wants(kept, "of four lines", "not the last two")
 }
 
 #[test]
 fn lines_without_memory(rt: HostRuntime) -> Result<(), Fail> {
-    let mut met = Refusals::default();
+    let mut met = Refusals {
+        lines: 0,
+        histories: 0,
+    };
     keeps_told(rt.alloc(), &mut met)?;
-    if met != Refusals::default() {
-        println!(rt; "refused: {met:?}")?;
+    let Refusals { lines, histories } = met;
+    if lines > 0 || histories > 0 {
+        println!(rt; "refused: {lines} to lines, {histories} to histories")?;
     }
     Ok(())
 }

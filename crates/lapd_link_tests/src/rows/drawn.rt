@@ -3,16 +3,15 @@
 mod events;
 mod plain;
 mod table;
-mod text;
 
+use crate::rows::Driven;
 use crate::rows::drawn::events::Draws;
 use crate::rows::drawn::plain::{K, N200, Plain, ROOM};
 use crate::rows::drawn::table::Table;
-use crate::rows::printed_for;
+use crate::rows::text::text_of;
 use crate::wants::wants;
-use lapd_cli_commands::Answerer;
 use lapd_frame::Side;
-use lapd_link::{Params, Recovery};
+use lapd_link::Recovery;
 use std::alloc::Global;
 use std::test::Fail;
 
@@ -29,39 +28,31 @@ fn count(counts: &mut Counts, state: u8) {
     }
 }
 
-/// A link of this side, and with this recovery.
-fn link_of(alloc: Global, side: Side, recovery: Recovery) -> Result<Answerer, Fail> {
-    let params = Params::new(K, N200, ROOM).ok_or("a number is out of range")?;
-    Ok(Answerer::new(alloc, side, params.with_recovery(recovery))?)
-}
-
 /// Draws an event, and does it with the link and by the table.
 fn turn(
-    alloc: Global,
     table: &mut Table,
-    link: &mut Answerer,
+    link: &mut Driven,
     plain: &mut Plain,
     draws: &mut Draws,
 ) -> Result<(), Fail> {
     let (event, then) = draws.draw(plain);
-    let printed = printed_for(alloc, link, draws.line())?;
+    let done = link.does(draws.line.octets());
     plain.step(table, event, then);
-    let alike = printed.as_bytes() == plain.wanted() && plain.is_of(link.link());
-    wants(alike, event, printed.as_str())
+    let alike = done && link.has_printed(&plain.wanted) && plain.is_of(link.link());
+    wants(alike, event, text_of(link.printed.as_slice()))
 }
 
 /// Draws events, and does each with the link and by the table.
 fn follow(
-    alloc: Global,
     table: &mut Table,
-    link: &mut Answerer,
+    link: &mut Driven,
     plain: &mut Plain,
     counts: &mut Counts,
 ) -> Result<(), Fail> {
     let mut draws = Draws::new(921);
     for _ in 0..EVENTS {
-        count(counts, plain.state());
-        turn(alloc, table, link, plain, &mut draws)?;
+        count(counts, plain.state);
+        turn(table, link, plain, &mut draws)?;
     }
     Ok(())
 }
@@ -74,10 +65,10 @@ fn follow_anew(
     side: Side,
     recovery: Recovery,
 ) -> Result<(), Fail> {
-    let mut link = link_of(alloc, side, recovery)?;
+    let mut link = Driven::new(alloc, side, (K, N200, ROOM), recovery)?;
     let last_again = recovery == Recovery::LastMessage;
     let mut plain = Plain::new(side == Side::Network, last_again);
-    follow(alloc, table, &mut link, &mut plain, counts)
+    follow(table, &mut link, &mut plain, counts)
 }
 
 /// Whether enough events came in each state.

@@ -11,8 +11,8 @@ establish request | establish | send 02817f; stop T203; start T200 | 5 L3I T200
 release request | release | send 028153; stop T203; start T200 | 6 T200
 data request | give 01 \
     | send 0281000001; stop T203; start T200 | 7 V(S)=1 T200 sent 01
-data request of 260 octets | give 260*aa \
-    | send 02810000+260*aa; stop T203; start T200 | 7 V(S)=1 T200 sent 260*aa
+data request of 260 octets | give +260*aa \
+    | send 02810000+260*aa; stop T203; start T200 | 7 V(S)=1 T200 sent +260*aa
 busy | busy on | send 00810500 | 7 own-busy T203
 not busy | busy off | - | =
 T203 | t203 | send 02810101; start T200 | 8 T200
@@ -49,7 +49,7 @@ I P=1, N(S) = V(R), N(R) = V(S) | frame 0081000105 \
 I P=0 without information | frame 00810000 \
     | data; start T203; send 00810102 | 7 V(R)=1 T203
 I P=0 of 260 octets | frame 00810000+260*aa \
-    | data 260*aa; start T203; send 00810102 | 7 V(R)=1 T203
+    | data +260*aa; start T203; send 00810102 | 7 V(R)=1 T203
 I P=0, N(S) not V(R) | frame 0081020005 | send 00810900; start T203 | 7 rejecting T203
 I P=1, N(S) not V(R) | frame 0081020105 | send 00810901; start T203 | 7 rejecting T203
 I P=0, N(S) before V(R) | frame 0081fe0005 | send 00810900; start T203 | 7 rejecting T203

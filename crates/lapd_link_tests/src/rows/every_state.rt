@@ -33,12 +33,12 @@ const IN_EVERY_STATE: &str = "\
 UI P=0 | frame 0081030a0b | unit 0a0b | =
 UI P=1 | frame 0081130a | unit 0a | =
 UI P=0 without information | frame 008103 | unit | =
-UI P=1 of 260 octets | frame 008113+260*aa | unit 260*aa | =
+UI P=1 of 260 octets | frame 008113+260*aa | unit +260*aa | =
 unit data request | unit 0a0b | send 0281030a0b | =
 unit data request of no octets | unit | send 028103 | =
-unit data request of 260 octets | unit 260*aa | send 028103+260*aa | =
-unit data request of 261 octets | unit 261*aa | refused L3 TooLong | =
-data request of 261 octets | give 261*aa | refused L3 TooLong | =
+unit data request of 260 octets | unit +260*aa | send 028103+260*aa | =
+unit data request of 261 octets | unit +261*aa | refused L3 TooLong | =
+data request of 261 octets | give +261*aa | refused L3 TooLong | =
 XID command P=0 | frame 0081affe | - | =
 XID command P=1 | frame 0081bf | - | =
 XID response F=0 | frame 0281affe | - | =

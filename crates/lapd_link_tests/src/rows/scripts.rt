@@ -1,37 +1,120 @@
 //! Worked scripts, each over one link from its beginning.
 
-use crate::rows::{called_for, gives, is_in, lead, new_link};
-use crate::wants::wants;
-use lapd_cli_commands::Answerer;
+use crate::rows::Driven;
+use crate::rows::text::Text;
 use lapd_frame::Side;
-use lapd_link::{Params, Recovery};
+use lapd_link::Recovery;
 use std::alloc::Global;
 use std::test::Fail;
 
-/// Checks a script over a link: each line is `event | outputs`, and the last one `= condition`, behind a note that begins
-/// with `#`.
-fn plays(alloc: Global, link: &mut Answerer, script: &str) -> Result<(), Fail> {
+impl Driven {
+    /// Whether a line of a script holds: `event | outputs`, `= condition`, or a note.
+    fn plays(&mut self, line: &str) -> bool {
+        if let Some((event, outs)) = line.split_once(" | ") {
+            self.gives(event, outs)
+        } else if let Some(condition) = line.strip_prefix("= ") {
+            self.is_in(condition)
+        } else {
+            self.plays_note(line)
+        }
+    }
+
+    /// Whether a note holds. One that begins with `#` says what the script is, and others stand for many lines.
+    fn plays_note(&mut self, line: &str) -> bool {
+        match line {
+            "254 messages are given" => self.is_given_254(),
+            "the longest step comes" => self.takes_longest_step(),
+            "130 messages come" => self.takes_130(),
+            _ => line.starts_with("#"),
+        }
+    }
+
+    /// Layer 3 gives 254 messages, each of one octet.
+    fn is_given_254(&mut self) -> bool {
+        for message in 0..254u8 {
+            let mut line = Text::new();
+            line.text("give ");
+            line.octet(message);
+            if !self.does(line.octets()) {
+                return false;
+            }
+        }
+        true
+    }
+
+    /// An I frame acknowledges 127 messages, and the next 127 go out: 134 outputs.
+    fn takes_longest_step(&mut self) -> bool {
+        let mut outs = Text::new();
+        let count = put_longest_outputs(&mut outs);
+        self.does(b"frame 028100ff") && self.has_printed(&outs) && count == 134
+    }
+
+    /// 130 messages of the peer come.
+    fn takes_130(&mut self) -> bool {
+        for number in 0..130u8 {
+            if !self.takes(number) {
+                return false;
+            }
+        }
+        true
+    }
+
+    /// The peer's I frame with this number comes, and is acknowledged.
+    fn takes(&mut self, number: u8) -> bool {
+        let ns = number % 128;
+        let vr = (ns + 1) % 128;
+        let mut line = Text::new();
+        line.text("frame 0081");
+        line.hex(&[ns * 2, 0, number]);
+        let mut outs = Text::new();
+        outs.text("data ");
+        outs.octet(number);
+        outs.text("\nstart T203\nsend 008101");
+        outs.octet(vr * 2);
+        outs.text("\n");
+        self.does(line.octets()) && self.has_printed(&outs)
+    }
+}
+
+/// Puts the outputs of the longest step, and tells how many they are.
+fn put_longest_outputs(outs: &mut Text) -> u16 {
+    outs.text("data\nsend 02810103\nacknowledged 127\nstop T200\nstart T203\n");
+    let mut count = 5u16;
+    for place in 0..127u8 {
+        let message = place + 127;
+        let ns = message % 128;
+        outs.text("send 0081");
+        outs.hex(&[ns * 2, 2, message]);
+        outs.text("\n");
+        count = count.wrapping_add(1);
+        if place == 0 {
+            outs.text("stop T203\nstart T200\n");
+            count = count.wrapping_add(2);
+        }
+    }
+    count
+}
+
+/// Checks a script over a new link of this side, with a window of `k` frames, N200 of 3 and room for so many messages, and with
+/// this recovery.
+fn plays_anew(
+    alloc: Global,
+    side: Side,
+    (k, room): (u8, u16),
+    recovery: Recovery,
+    script: &str,
+) -> Result<(), Fail> {
+    let mut link = Driven::new(alloc, side, (k, 3, room), recovery)?;
+    plays_all(&mut link, script)
+}
+
+/// Checks the lines of a script.
+fn plays_all(link: &mut Driven, script: &str) -> Result<(), Fail> {
     for line in script.lines() {
-        plays_line(alloc, link, line)?;
+        let holds = link.plays(line);
+        link.wants(holds, line)?;
     }
     Ok(())
-}
-
-/// Checks a line of a script.
-fn plays_line(alloc: Global, link: &mut Answerer, line: &str) -> Result<(), Fail> {
-    if let Some((event, outs)) = line.split_once(" | ") {
-        gives(alloc, link, event, outs)
-    } else if let Some(condition) = line.strip_prefix("= ") {
-        is_in(alloc, link, condition)
-    } else {
-        wants(line.starts_with("#"), line, "no line of a script")
-    }
-}
-
-/// Checks a script over a new link of this side, with a window of `k` frames, N200 of 3 and room for so many messages.
-fn plays_anew(alloc: Global, side: Side, k: u8, room: u16, script: &str) -> Result<(), Fail> {
-    let mut link = new_link(alloc, side, k, 3, room)?;
-    plays(alloc, &mut link, script)
 }
 
 /// Scripts, an empty line between two.
@@ -87,7 +170,7 @@ t200 | -
 #[test]
 fn a_user_link_with_a_window_of_three(rt: HostRuntime) -> Result<(), Fail> {
     for script in USER_SCRIPTS.split("\n\n") {
-        plays_anew(rt.alloc(), Side::User, 3, 512, script)?;
+        plays_anew(rt.alloc(), Side::User, (3, 512), Recovery::Enquiry, script)?;
     }
     Ok(())
 }
@@ -100,7 +183,7 @@ frame 008153 | send 00811f
 
 # The longest message, and then one that is too long.
 frame 00817f | send 008173; established; start T203
-frame 00810000+260*aa | data 260*aa; start T203; send 00810102
+frame 00810000+260*aa | data +260*aa; start T203; send 00810102
 frame 00810200+261*aa | report O; send 02817f; stop T203; start T200
 = 5 V(R)=1 T200
 
@@ -125,12 +208,23 @@ frame 0081040003 | data 03; start T203; send 00810106
 frame 0081020102 | send 00810907; start T203
 frame 0081020102 | send 00810107; start T203
 = 7 V(R)=3 rejecting T203
+
+# The numbers of received messages go round.
+frame 00817f | send 008173; established; start T203
+130 messages come
+= 7 V(R)=2 T203
 ";
 
 #[test]
 fn a_network_link(rt: HostRuntime) -> Result<(), Fail> {
     for script in NETWORK_SCRIPTS.split("\n\n") {
-        plays_anew(rt.alloc(), Side::Network, 1, 512, script)?;
+        plays_anew(
+            rt.alloc(),
+            Side::Network,
+            (1, 512),
+            Recovery::Enquiry,
+            script,
+        )?;
     }
     Ok(())
 }
@@ -143,80 +237,34 @@ frame 00810500 | stop T203; start T200
 give 01 | -
 give 02 | -
 give 03 | refused L2 QueueFull
-give 261*03 | refused L3 TooLong
+give +261*03 | refused L3 TooLong
 = 7 peer-busy T200 unsent 01 02
 ";
 
 #[test]
 fn a_full_queue_refuses(rt: HostRuntime) -> Result<(), Fail> {
-    plays_anew(rt.alloc(), Side::Network, 1, 2, FULL)
+    plays_anew(rt.alloc(), Side::Network, (1, 2), Recovery::Enquiry, FULL)
 }
 
-/// The outputs of the longest step: 127 messages are acknowledged, and the next 127 go out.
-fn longest_outputs(text: &mut String) -> Result<(), Fail> {
-    text.push_str("data; send 02810103; acknowledged 127; stop T200; start T203")?;
-    for place in 0..127u8 {
-        let message = place + 127;
-        let ns = message % 128;
-        write!(text, "; send 0081{:02x}02{message:02x}", ns * 2)?;
-        if place == 0 {
-            text.push_str("; stop T203; start T200")?;
-        }
-    }
-    Ok(())
-}
-
-/// Leads a user link with a window of 127 frames to the longest step.
-fn lead_to_longest(alloc: Global, link: &mut Answerer) -> Result<(), Fail> {
-    lead(alloc, link, "establish; frame 008173")?;
-    for message in 0..254u8 {
-        let line = format!(in alloc; "give {message:02x}")?;
-        let _ = called_for(alloc, link, line.as_str())?;
-    }
-    Ok(())
-}
-
-/// A user link with a window of 127 frames gives these 134 outputs in the longest step, and then acknowledges all.
-fn gives_longest(alloc: Global, link: &mut Answerer, wanted: &str) -> Result<(), Fail> {
-    let count = wanted.split("; ").count();
-    wants(count == 134, "the longest step", "how many outputs")?;
-    lead_to_longest(alloc, link)?;
-    gives(alloc, link, "frame 028100ff", wanted)?;
-    let all = "acknowledged 127; stop T200; start T203";
-    gives(alloc, link, "frame 008101fc", all)?;
-    is_in(alloc, link, "7 L3I V(S)=126 V(A)=126 V(R)=1 T203")
-}
+const LONGEST: &str = "\
+# A user link with a window of 127 frames gives 134 outputs in the longest step, and then acknowledges all.
+establish | send 00817f; start T200
+frame 008173 | confirmed; stop T200; start T203
+254 messages are given
+the longest step comes
+frame 008101fc | acknowledged 127; stop T200; start T203
+= 7 L3I V(S)=126 V(A)=126 V(R)=1 T203
+";
 
 #[test]
 fn the_longest_step_has_134_outputs(rt: HostRuntime) -> Result<(), Fail> {
-    let mut wanted = String::new(rt.alloc());
-    longest_outputs(&mut wanted)?;
-    let mut link = new_link(rt.alloc(), Side::User, 127, 3, 512)?;
-    gives_longest(rt.alloc(), &mut link, wanted.as_str())
-}
-
-/// The peer's I frame with this number comes, and is acknowledged.
-fn takes_message(alloc: Global, link: &mut Answerer, number: u8) -> Result<(), Fail> {
-    let ns = number % 128;
-    let vr = (ns + 1) % 128;
-    let line = format!(in alloc; "frame 0081{:02x}00{number:02x}", ns * 2)?;
-    let outs = format!(in alloc; "data {number:02x}; start T203; send 008101{:02x}", vr * 2)?;
-    gives(alloc, link, line.as_str(), outs.as_str())
-}
-
-/// The peer establishes, and 130 messages of its come.
-fn takes_messages(alloc: Global, link: &mut Answerer) -> Result<(), Fail> {
-    lead(alloc, link, "frame 00817f")?;
-    for number in 0..130u8 {
-        takes_message(alloc, link, number)?;
-    }
-    is_in(alloc, link, "7 V(R)=2 T203")
-}
-
-#[test]
-fn the_numbers_of_received_messages_go_round(rt: HostRuntime) -> Result<(), Fail> {
-    let mut link = new_link(rt.alloc(), Side::Network, 1, 3, 512)?;
-    takes_messages(rt.alloc(), &mut link)
+    plays_anew(
+        rt.alloc(),
+        Side::User,
+        (127, 512),
+        Recovery::Enquiry,
+        LONGEST,
+    )
 }
 
 /// Scripts of the other recovery, an empty line between two.
@@ -242,18 +290,16 @@ t200 | send 00810101; start T200
 = 8 L3I RC=1 V(S)=1 peer-busy T200 sent 01
 ";
 
-/// Checks a script over a new user link with the other recovery.
-fn recovers(alloc: Global, script: &str) -> Result<(), Fail> {
-    let params = Params::new(3, 3, 512).ok_or("a number is out of range")?;
-    let last = params.with_recovery(Recovery::LastMessage);
-    let mut link = Answerer::new(alloc, Side::User, last)?;
-    plays(alloc, &mut link, script)
-}
-
 #[test]
 fn the_last_message_goes_out_again(rt: HostRuntime) -> Result<(), Fail> {
     for script in LAST_MESSAGE_SCRIPTS.split("\n\n") {
-        recovers(rt.alloc(), script)?;
+        plays_anew(
+            rt.alloc(),
+            Side::User,
+            (3, 512),
+            Recovery::LastMessage,
+            script,
+        )?;
     }
     Ok(())
 }

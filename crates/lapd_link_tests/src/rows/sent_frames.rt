@@ -1,11 +1,9 @@
 //! What outputs put on the line, as octets of a user link with SAPI 0 and TEI 64 (Q.921 3.3 to 3.6).
 
-use crate::rows::{lead, new_link};
-use crate::wants::wants;
-use lapd_cli_commands::Answerer;
+use crate::rows::Driven;
+use crate::wants::{none_is_wrong, wants};
 use lapd_frame::{Control, Number, Role, Side, write};
-use lapd_link::{Link, Out};
-use std::alloc::Global;
+use lapd_link::{Link, Out, Recovery};
 use std::test::Fail;
 
 /// Whether an output puts these octets on the line.
@@ -25,13 +23,6 @@ fn sends_nothing(link: &Link, out: Out, handed: &[u8]) -> bool {
     link.frame(&out, handed).is_none()
 }
 
-/// An established user link that was given these messages.
-fn user_link(alloc: Global, script: &str) -> Result<Answerer, Fail> {
-    let mut link = new_link(alloc, Side::User, 7, 3, 8)?;
-    lead(alloc, &mut link, script)?;
-    Ok(link)
-}
-
 /// An I frame with this number in both places and P=0.
 fn i_frame(number: Number) -> Control {
     Control::I {
@@ -42,50 +33,53 @@ fn i_frame(number: Number) -> Control {
 }
 
 /// An RR, the second message and unit data are frames.
-fn sends_frames(link: &Link) -> Result<(), Fail> {
-    let nr = Number::new(5).ok_or("seven bits")?;
+fn wrong_frame(link: &Link, nr: Number) -> Option<&'static str> {
     let ready = Out::Send(Role::Answer, Control::Rr { nr, pf: true });
-    let is_sent = sends(link, ready, &[], b"\x02\x81\x01\x0b");
-    wants(is_sent, "RR", "other octets")?;
-    let second = Out::SendMessage(1, i_frame(nr));
-    let is_sent = sends(link, second, &[], b"\x00\x81\x0a\x0a\x03\x04");
-    wants(is_sent, "the second message", "other octets")?;
-    let is_sent = sends(link, Out::SendUnit, b"\x09", b"\x00\x81\x03\x09");
-    wants(is_sent, "UI", "other octets")
+    if !sends(link, ready, &[], b"\x02\x81\x01\x0b") {
+        Some("RR: other octets")
+    } else if !sends(
+        link,
+        Out::SendMessage(1, i_frame(nr)),
+        &[],
+        b"\x00\x81\x0a\x0a\x03\x04",
+    ) {
+        Some("the second message: other octets")
+    } else if !sends(link, Out::SendUnit, b"\x09", b"\x00\x81\x03\x09") {
+        Some("UI: other octets")
+    } else {
+        None
+    }
+}
+
+/// A message that is not there, a UA as a command, 261 octets and an indication are none.
+fn wrong_without_frame(link: &Link, nr: Number) -> Option<&'static str> {
+    let command = Out::Send(Role::Command, Control::Ua { f: true });
+    if !sends_nothing(link, Out::SendMessage(2, i_frame(nr)), &[]) {
+        Some("no message is there: sent")
+    } else if !sends_nothing(link, command, &[]) {
+        Some("UA is a response: sent")
+    } else if !sends_nothing(link, Out::SendUnit, &[0; 261]) {
+        Some("261 octets: sent")
+    } else if !sends_nothing(link, Out::Up, b"\x01") {
+        Some("an indication: sent")
+    } else {
+        None
+    }
+}
+
+/// What is wrong of a user link that is established, and was given two messages.
+fn check_outputs(user: &mut Driven) -> Result<(), Fail> {
+    let [zero, five] = [Number::new(0), Number::new(5)];
+    let zero = zero.ok_or("seven bits")?;
+    let five = five.ok_or("seven bits")?;
+    let is_led = user.lead("establish; frame 008173; give 0102; give 0304");
+    wants(is_led, "a user link", "a bad line")?;
+    let link = user.link();
+    none_is_wrong(&[wrong_frame(link, five), wrong_without_frame(link, zero)])
 }
 
 #[test]
 fn outputs_are_frames(rt: HostRuntime) -> Result<(), Fail> {
-    let user = user_link(rt.alloc(), "establish; frame 008173; give 0102; give 0304")?;
-    sends_frames(user.link())
-}
-
-/// A message that is not there, a UA as a command, 261 octets and an indication are none.
-fn sends_no_frames(link: &Link) -> Result<(), Fail> {
-    let nr = Number::new(0).ok_or("seven bits")?;
-    let third = Out::SendMessage(2, i_frame(nr));
-    wants(
-        sends_nothing(link, third, &[]),
-        "no message is there",
-        "sent",
-    )?;
-    let command = Out::Send(Role::Command, Control::Ua { f: true });
-    wants(
-        sends_nothing(link, command, &[]),
-        "UA is a response",
-        "sent",
-    )?;
-    let unit = Out::SendUnit;
-    wants(sends_nothing(link, unit, &[0; 261]), "261 octets", "sent")?;
-    wants(
-        sends_nothing(link, Out::Up, b"\x01"),
-        "an indication",
-        "sent",
-    )
-}
-
-#[test]
-fn outputs_are_no_frames(rt: HostRuntime) -> Result<(), Fail> {
-    let user = user_link(rt.alloc(), "establish; frame 008173; give 0102")?;
-    sends_no_frames(user.link())
+    let mut user = Driven::new(rt.alloc(), Side::User, (7, 3, 8), Recovery::Enquiry)?;
+    check_outputs(&mut user)
 }

@@ -1,7 +1,7 @@
 //! Events that are drawn, as lines of the command `answer`.
 
 use crate::rows::drawn::plain::{Heard, Plain};
-use crate::rows::drawn::text::Text;
+use crate::rows::text::{Text, three_of};
 use rand_core::{Rng, SeedableRng};
 use rand_pcg::Pcg32;
 
@@ -95,28 +95,7 @@ pub(super) type Drawn = (&'static str, &'static str);
 pub(super) struct Draws {
     random: Pcg32,
     mood: &'static str,
-    line: Text,
-}
-
-/// The line at a place of a text.
-fn line_at(text: &'static str, place: u32) -> &'static str {
-    for (line, number) in text.lines().zip(0..=place) {
-        if number == place {
-            return line;
-        }
-    }
-    ""
-}
-
-/// The event of a line, the one behind it, and its words.
-fn parts_of(line: &'static str) -> (&'static str, &'static str, &'static str) {
-    match line.split_once(" | ") {
-        Some((event, rest)) => match rest.split_once(" | ") {
-            Some((then, words)) => (event, then, words),
-            None => ("", "", ""),
-        },
-        None => ("", "", ""),
-    }
+    pub(super) line: Text,
 }
 
 impl Draws {
@@ -127,11 +106,6 @@ impl Draws {
             mood: ALL,
             line: Text::new(),
         }
-    }
-
-    /// The line of the event that was drawn last.
-    pub(super) fn line(&self) -> &[u8] {
-        self.line.octets()
     }
 
     /// A number below this one.
@@ -150,7 +124,7 @@ impl Draws {
         let line = self.line_of(text);
         let heard = self.heard(plain, text != ALL);
         let info = self.information();
-        let (event, then, words) = parts_of(line);
+        let (event, then, words) = three_of(line).unwrap_or(("", "", ""));
         plain.hear(
             &Heard {
                 long: words.ends_with("L"),
@@ -167,7 +141,7 @@ impl Draws {
         if self.below(200) == 0 {
             self.change_mood();
         }
-        let establishes = plain.state() < 7 && self.below(2) == 0;
+        let establishes = plain.state < 7 && self.below(2) == 0;
         let common = self.common_of();
         if establishes {
             ESTABLISHES
@@ -202,7 +176,7 @@ impl Draws {
             count = count.wrapping_add(1);
         }
         let place = self.below(count);
-        line_at(text, place)
+        text.lines().nth(place as usize).unwrap_or("")
     }
 
     /// Information.
@@ -238,57 +212,25 @@ impl Draws {
     fn put_word(&mut self, plain: &Plain, word: &str, heard: &Heard, info: &str) {
         match word.as_bytes() {
             [letter] => self.put_letter(plain, *letter, heard, info),
-            [_, _, b'+'] => self.put_with_p(word, heard.p),
-            _ => self.line.text(word),
-        }
-    }
-
-    /// Puts an octet behind, with P or F.
-    fn put_with_p(&mut self, word: &str, p: bool) {
-        if let Some(digits) = word.strip_suffix("+") {
-            self.line.with_p(digits, p);
+            _ => self.line.part(word, heard.p),
         }
     }
 
     /// Puts what a letter stands for behind.
     fn put_letter(&mut self, plain: &Plain, letter: u8, heard: &Heard, info: &str) {
         match letter {
-            b'C' => self.put_address(plain, true),
-            b'R' => self.put_address(plain, false),
-            b'E' => self.put_address(plain, heard.command),
+            b'C' => self.line.address(!plain.network),
+            b'R' => self.line.address(plain.network),
+            b'E' => self.line.address(heard.command != plain.network),
             b'S' => self.line.octet(heard.ns.wrapping_mul(2)),
             b'N' => self
                 .line
                 .octet(heard.nr.wrapping_mul(2) | u8::from(heard.p)),
-            b'J' => self.put_behind_space(info),
+            b'J' => self.line.information(info),
             b'M' => self.line.message(plain.next_message()),
-            b'L' => self.put_long(),
+            b'L' => self.line.run("aa", 261),
             b'_' => self.line.text(" "),
             _ => self.line.text(info),
-        }
-    }
-
-    /// Puts the address of a frame of the other side behind.
-    fn put_address(&mut self, plain: &Plain, command: bool) {
-        self.line.text(if command == plain.is_network() {
-            "0081"
-        } else {
-            "0281"
-        });
-    }
-
-    /// Puts information behind a space, where there is some.
-    fn put_behind_space(&mut self, info: &str) {
-        if !info.is_empty() {
-            self.line.text(" ");
-            self.line.text(info);
-        }
-    }
-
-    /// Puts 261 octets behind.
-    fn put_long(&mut self) {
-        for _ in 0..261 {
-            self.line.text("aa");
         }
     }
 }

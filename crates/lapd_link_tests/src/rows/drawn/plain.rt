@@ -1,7 +1,7 @@
 //! One end of a link as plain numbers, and what the words of the table do to it.
 
 use crate::rows::drawn::table::{FRAMES, PROCEDURES, Table};
-use crate::rows::drawn::text::{Text, meaning, place_in};
+use crate::rows::text::{Text, meaning, place_in};
 use lapd_link::{Link, Timer, Window};
 
 /// The window of the links that are looked at.
@@ -64,8 +64,8 @@ const RELATIONS: &[&str] = &["full", "unsent", "open", "valid"];
 /// An end of a link, and what it hears. Its messages are numbers, each one more than the one before.
 #[derive(Drop)]
 pub(super) struct Plain {
-    network: bool,
-    state: u8,
+    pub(super) network: bool,
+    pub(super) state: u8,
     numbers: [u8; 9],
     marks: [bool; 12],
     /// The information that it hears, in hexadecimal.
@@ -76,8 +76,8 @@ pub(super) struct Plain {
     queued: u16,
     /// How many of them are sent.
     sent: u16,
-    /// What is to be printed for the step.
-    wanted: Text,
+    /// What is to be printed for the last step.
+    pub(super) wanted: Text,
 }
 
 /// A frame that is heard.
@@ -114,16 +114,6 @@ impl Plain {
         }
     }
 
-    /// Whether it is the network's.
-    pub(super) fn is_network(&self) -> bool {
-        self.network
-    }
-
-    /// Its state.
-    pub(super) fn state(&self) -> u8 {
-        self.state
-    }
-
     /// How many I frames are outstanding.
     pub(super) fn outstanding(&self) -> u8 {
         steps(self.numbers[VA], self.numbers[VS])
@@ -142,11 +132,6 @@ impl Plain {
     /// The number of the next message that is given.
     pub(super) fn next_message(&self) -> u32 {
         self.first.wrapping_add(u32::from(self.queued))
-    }
-
-    /// What is to be printed for the last step.
-    pub(super) fn wanted(&self) -> &[u8] {
-        self.wanted.octets()
     }
 
     /// Hears this.
@@ -325,7 +310,7 @@ impl Plain {
 
     /// Drops all messages.
     fn discard(&mut self) -> bool {
-        self.wanted.count("dropped ", self.queued);
+        self.wanted.named("dropped ", self.queued, "\n");
         self.lose(self.queued);
         self.sent = 0;
         true
@@ -344,7 +329,7 @@ impl Plain {
         self.numbers[VA] = nr;
         self.lose(count);
         self.sent = self.sent.wrapping_sub(count);
-        self.wanted.count("acknowledged ", count);
+        self.wanted.named("acknowledged ", count, "\n");
     }
 
     /// The same; then V(S) = N(R), and all that is left is unsent.
@@ -372,10 +357,8 @@ impl Plain {
     /// The information that was heard goes up.
     fn put_information(&mut self, name: &str) {
         self.wanted.text(name);
-        if !self.info.is_empty() {
-            self.wanted.text(" ");
-        }
-        self.wanted.line(self.info);
+        self.wanted.information(self.info);
+        self.wanted.text("\n");
     }
 
     /// Puts together a frame.
@@ -390,15 +373,7 @@ impl Plain {
         match word.as_bytes() {
             [b'V', pf] => self.put_nr(*pf),
             [letter] => self.put_letter(*letter),
-            [_, _, b'+'] => self.put_with_p(word),
-            _ => self.wanted.text(word),
-        }
-    }
-
-    /// Puts an octet behind, with F=P.
-    fn put_with_p(&mut self, word: &str) {
-        if let Some(digits) = word.strip_suffix("+") {
-            self.wanted.with_p(digits, self.marks[P]);
+            _ => self.wanted.part(word, self.marks[P]),
         }
     }
 
@@ -413,8 +388,8 @@ impl Plain {
     /// Puts what a letter stands for behind.
     fn put_letter(&mut self, letter: u8) {
         match letter {
-            b'C' => self.put_address(self.network),
-            b'R' => self.put_address(!self.network),
+            b'C' => self.wanted.address(self.network),
+            b'R' => self.wanted.address(!self.network),
             b'?' => self
                 .wanted
                 .octet(if self.marks[OWN_BUSY] { 0x05 } else { 0x01 }),
@@ -426,11 +401,6 @@ impl Plain {
             b'm' => self.put_message(self.sent.wrapping_sub(1)),
             _ => self.wanted.text(self.info),
         }
-    }
-
-    /// Puts an address behind.
-    fn put_address(&mut self, is_set: bool) {
-        self.wanted.text(if is_set { "0281" } else { "0081" });
     }
 
     /// Puts the message behind that stands at a place of the queue.

@@ -5,6 +5,7 @@
 //! of each step is the event `end` for as long as a row of it fits.
 
 use crate::rows::drawn::plain::Plain;
+use crate::rows::text::three_of;
 use crate::wants::wants;
 use std::alloc::Global;
 use std::test::Fail;
@@ -186,8 +187,7 @@ pub(super) struct Table {
 fn row_of(line: &'static str) -> Option<Row> {
     let (states, rest) = line.split_once(" | ")?;
     let (event, rest) = rest.split_once(" | ")?;
-    let (conditions, rest) = rest.split_once(" | ")?;
-    let (actions, next) = rest.split_once(" | ")?;
+    let (conditions, actions, next) = three_of(rest)?;
     Some(Row {
         line,
         states: states.trim(),

@@ -8,6 +8,21 @@ pub(super) struct Text {
     octets: ArrayVec<u8, 4096>,
 }
 
+/// Octets as the text that they are.
+pub(super) fn text_of(octets: &[u8]) -> &str {
+    match str::from_utf8(octets) {
+        Ok(text) => text,
+        Err(_) => "no text",
+    }
+}
+
+/// The three parts of a line, with ` | ` between them.
+pub(super) fn three_of(line: &str) -> Option<(&str, &str, &str)> {
+    let (first, rest) = line.split_once(" | ")?;
+    let (second, third) = rest.split_once(" | ")?;
+    Some((first, second, third))
+}
+
 /// A digit of a hexadecimal number.
 fn digit_of(number: u8) -> u8 {
     if number < 10 {
@@ -78,28 +93,59 @@ impl Text {
         self.put(&[digit_of(octet / 16), digit_of(octet % 16)]);
     }
 
+    /// Puts octets behind, in hexadecimal.
+    pub(super) fn hex(&mut self, octets: &[u8]) {
+        for octet in octets {
+            self.octet(*octet);
+        }
+    }
+
     /// Puts the octets of a message behind, which are those of its number.
     pub(super) fn message(&mut self, number: u32) {
-        for octet in number.to_be_bytes() {
-            self.octet(octet);
+        self.hex(&number.to_be_bytes());
+    }
+
+    /// Puts a text behind so many times.
+    pub(super) fn run(&mut self, text: &str, count: u16) {
+        for _ in 0..count {
+            self.text(text);
         }
     }
 
-    /// Puts two digits behind, with 1 added to the first of them where P or F is 1.
-    pub(super) fn with_p(&mut self, digits: &str, p: bool) {
-        if let [first, second] = digits.as_bytes() {
-            self.put(&[first.wrapping_add(u8::from(p)), *second]);
+    /// Puts a word behind where it is so.
+    pub(super) fn mark(&mut self, word: &str, is_so: bool) {
+        if is_so {
+            self.text(word);
         }
     }
 
-    /// Puts a line with a number below 1,000 behind, where it is not 0.
-    pub(super) fn count(&mut self, name: &str, number: u16) {
+    /// Puts information behind a space, where there is some.
+    pub(super) fn information(&mut self, information: &str) {
+        self.mark(" ", !information.is_empty());
+        self.text(information);
+    }
+
+    /// Puts the address of a frame behind, whose C/R bit is this.
+    pub(super) fn address(&mut self, is_set: bool) {
+        self.text(if is_set { "0281" } else { "0081" });
+    }
+
+    /// Puts a part of a frame behind: octets, or two digits and `+`, where P or F adds 1 to the first of them.
+    pub(super) fn part(&mut self, part: &str, p: bool) {
+        match part.as_bytes() {
+            [first, second, b'+'] => self.put(&[first.wrapping_add(u8::from(p)), *second]),
+            octets => self.put(octets),
+        }
+    }
+
+    /// Puts a name and a number below 1,000 behind, and what stands behind them, where the number is not 0.
+    pub(super) fn named(&mut self, name: &str, number: u16, behind: &str) {
         if number > 0 {
             self.text(name);
             self.digit(number, 100);
             self.digit(number, 10);
             self.digit(number, 1);
-            self.put(b"\n");
+            self.text(behind);
         }
     }
 
