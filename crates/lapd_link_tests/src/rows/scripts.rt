@@ -108,6 +108,20 @@ fn plays_anew(
     plays_all(&mut link, script)
 }
 
+/// Checks scripts, an empty line between two, each over such a link.
+fn plays_each(
+    alloc: Global,
+    side: Side,
+    numbers: (u8, u16),
+    recovery: Recovery,
+    scripts: &str,
+) -> Result<(), Fail> {
+    for script in scripts.split("\n\n") {
+        plays_anew(alloc, side, numbers, recovery, script)?;
+    }
+    Ok(())
+}
+
 /// Checks the lines of a script.
 fn plays_all(link: &mut Driven, script: &str) -> Result<(), Fail> {
     for line in script.lines() {
@@ -169,10 +183,13 @@ t200 | -
 
 #[test]
 fn a_user_link_with_a_window_of_three(rt: HostRuntime) -> Result<(), Fail> {
-    for script in USER_SCRIPTS.split("\n\n") {
-        plays_anew(rt.alloc(), Side::User, (3, 512), Recovery::Enquiry, script)?;
-    }
-    Ok(())
+    plays_each(
+        rt.alloc(),
+        Side::User,
+        (3, 512),
+        Recovery::Enquiry,
+        USER_SCRIPTS,
+    )
 }
 
 /// Scripts, an empty line between two.
@@ -217,16 +234,13 @@ frame 00817f | send 008173; established; start T203
 
 #[test]
 fn a_network_link(rt: HostRuntime) -> Result<(), Fail> {
-    for script in NETWORK_SCRIPTS.split("\n\n") {
-        plays_anew(
-            rt.alloc(),
-            Side::Network,
-            (1, 512),
-            Recovery::Enquiry,
-            script,
-        )?;
-    }
-    Ok(())
+    plays_each(
+        rt.alloc(),
+        Side::Network,
+        (1, 512),
+        Recovery::Enquiry,
+        NETWORK_SCRIPTS,
+    )
 }
 
 const FULL: &str = "\
@@ -243,7 +257,7 @@ give +261*03 | refused L3 TooLong
 
 #[test]
 fn a_full_queue_refuses(rt: HostRuntime) -> Result<(), Fail> {
-    plays_anew(rt.alloc(), Side::Network, (1, 2), Recovery::Enquiry, FULL)
+    plays_each(rt.alloc(), Side::Network, (1, 2), Recovery::Enquiry, FULL)
 }
 
 const LONGEST: &str = "\
@@ -292,14 +306,11 @@ t200 | send 00810101; start T200
 
 #[test]
 fn the_last_message_goes_out_again(rt: HostRuntime) -> Result<(), Fail> {
-    for script in LAST_MESSAGE_SCRIPTS.split("\n\n") {
-        plays_anew(
-            rt.alloc(),
-            Side::User,
-            (3, 512),
-            Recovery::LastMessage,
-            script,
-        )?;
-    }
-    Ok(())
+    plays_each(
+        rt.alloc(),
+        Side::User,
+        (3, 512),
+        Recovery::LastMessage,
+        LAST_MESSAGE_SCRIPTS,
+    )
 }
