@@ -49,7 +49,8 @@ pub record WaitsInVain (until : Option ℕ) (old new : EitherSide) (deeds : List
   pub waits : deeds ≡ Waits until ∷ []
 
 -- or one does, and is heard
-pub record WaitsAndHears (until : Option ℕ) (old new : EitherSide) (deeds : List Deed) : Type 0 where
+pub record WaitsAndHears (until : Option ℕ) (old new : EitherSide) (deeds : List Deed) :
+    Type 0 where
   pub frame : List ℕ
   pub rest : List Deed
   pub hears : Hears frame old new rest
@@ -63,7 +64,8 @@ pub record WaitsOnce (end : Option ℕ) (old new : EitherSide) (deeds : List Dee
       ⊎ WaitsAndHears (sooner deadline end) old new deeds
 
 -- or no wait, since the end has come
-pub record IsOver (end : Option ℕ) (now : ℕ) (old new : EitherSide) (deeds : List Deed) : Type 0 where
+pub record IsOver (end : Option ℕ) (now : ℕ) (old new : EitherSide) (deeds : List Deed) :
+    Type 0 where
   pub come : HasCome end now
   pub side : new ≡ old
   pub none : deeds ≡ []

@@ -24,13 +24,24 @@ pub(crate) fn words_object(alloc: Global, line: &str) -> Result<String, AllocErr
         members: Map::new(alloc),
         words: String::new(alloc),
     };
-    for (place, word) in line.split(' ').enumerate() {
-        object.add(place, word)?;
-    }
-    object.into_text()
+    object.add_line(line)?;
+    let LineObject { members, .. } = object;
+    Value::Object(members).to_string(alloc)
 }
 
 impl LineObject {
+    /// Adds the words of a line, and behind them those that are no members of their own.
+    fn add_line(&mut self, line: &str) -> Result<(), AllocError> {
+        for (place, word) in line.split(' ').enumerate() {
+            self.add(place, word)?;
+        }
+        if self.words.is_empty() {
+            return Ok(());
+        }
+        let words = Value::try_from_str(self.alloc, self.words.as_str())?;
+        put(&mut self.members, self.alloc, "line", words)
+    }
+
     /// Adds the word at this place of the line.
     fn add(&mut self, place: usize, word: &str) -> Result<(), AllocError> {
         let (name, written) = match (place, word.split_once('=')) {
@@ -51,19 +62,5 @@ impl LineObject {
             self.words.push(' ')?;
         }
         self.words.push_str(word)
-    }
-
-    /// The object's text.
-    fn into_text(self) -> Result<String, AllocError> {
-        let LineObject {
-            alloc,
-            mut members,
-            words,
-        } = self;
-        if !words.is_empty() {
-            let words = Value::try_from_str(alloc, words.as_str())?;
-            put(&mut members, alloc, "line", words)?;
-        }
-        Value::Object(members).to_string(alloc)
     }
 }

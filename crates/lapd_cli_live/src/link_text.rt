@@ -1,4 +1,4 @@
-//! The line that tells a link's state.
+//! What is told of a link, and numbers with their names.
 
 use lapd_link::Link;
 use lapd_sides::{LinkId, Timer, TimerSet};
@@ -16,18 +16,11 @@ pub(crate) fn push_link(
     now: u64,
     text: &mut String,
 ) -> Result<(), AllocError> {
-    let window = link.window();
     write!(text, "{} {} state {}", id.sapi, id.tei, link.state())?;
-    write!(text, " V(S)={}", window.vs().value())?;
-    write!(text, " V(A)={}", window.va().value())?;
-    write!(text, " V(R)={}", window.vr().value())?;
-    write!(text, " RC={} queue={}", link.rc(), link.waiting())?;
-    if window.own_busy() {
-        text.push_str(" own-busy")?;
-    }
-    if window.peer_busy() {
-        text.push_str(" peer-busy")?;
-    }
+    push_variables(link, text)?;
+    push_number("RC", u64::from(link.rc()), text)?;
+    push_number("queue", u64::from(link.waiting()), text)?;
+    push_busy(link, text)?;
     match timers {
         Some(timers) => push_timers(timers, now, text),
         None => Ok(()),
@@ -47,8 +40,37 @@ pub(crate) fn push_timers(
     for timer in [Timer::T200, Timer::T201, Timer::T202, Timer::T203] {
         if let Some(deadline) = timers.deadline(timer) {
             let left = deadline.saturating_sub(now);
-            write!(text, " {}={left}", timer.name())?;
+            push_number(timer.name(), left, text)?;
         }
+    }
+    Ok(())
+}
+
+/// Appends a number behind its name.
+///
+/// # Errors
+///
+/// `AllocError`.
+pub(crate) fn push_number(name: &str, number: u64, text: &mut String) -> Result<(), AllocError> {
+    write!(text, " {name}={number}")
+}
+
+/// Appends V(S), V(A) and V(R).
+fn push_variables(link: &Link, text: &mut String) -> Result<(), AllocError> {
+    let window = link.window();
+    push_number("V(S)", u64::from(window.vs().value()), text)?;
+    push_number("V(A)", u64::from(window.va().value()), text)?;
+    push_number("V(R)", u64::from(window.vr().value()), text)
+}
+
+/// Appends which sides are busy.
+fn push_busy(link: &Link, text: &mut String) -> Result<(), AllocError> {
+    let window = link.window();
+    if window.own_busy() {
+        text.push_str(" own-busy")?;
+    }
+    if window.peer_busy() {
+        text.push_str(" peer-busy")?;
     }
     Ok(())
 }

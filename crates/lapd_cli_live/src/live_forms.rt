@@ -1,6 +1,7 @@
 //! The forms of the lines of a side that is served with the real clock, for people.
 
 use lapd_sides::Side;
+use memchr::memchr;
 use std::fmt;
 
 /// The form of a line.
@@ -73,7 +74,8 @@ pub struct LiveReason<'l> {
 impl LiveReason<'_> {
     /// The form of the line's first word, where a line begins so.
     fn form(&self) -> Option<LiveForm> {
-        let word = self.line.split(|octet| *octet == b' ').next()?;
+        let end = memchr(b' ', self.line).unwrap_or(self.line.len());
+        let word = &self.line[..end];
         for form in forms_of(self.side) {
             if form.word.as_bytes() == word {
                 return Some(*form);

@@ -1,13 +1,11 @@
 //! What the lines of a side do that is served with the real clock.
 
 use crate::fault::LiveFault;
-use crate::link_text::{push_link, push_timers};
 use crate::live_side::{Came, LiveSide};
 use crate::outside::Outside;
 use crate::words::{LiveLine, read_live_line};
 use lapd_cli_script::LineFault;
 use lapd_sides::{EitherSide, LinkId, SideKind, Tei};
-use std::alloc::Global;
 use std::io::Write;
 
 impl<O: Outside, W: Write> LiveSide<O, W> {
@@ -19,12 +17,11 @@ impl<O: Outside, W: Write> LiveSide<O, W> {
     /// `Line(Bad)` where the line is none of the side's, `Unmet` where a line was not printed in time that was waited for,
     /// `Line(Device)`, `Line(Memory)` and `Port`.
     pub fn obey(&mut self, line: &[u8]) -> Result<(), LiveFault> {
-        let side = self.side().side();
-        let line = read_live_line(self.alloc(), side, self.own_tei(), line)?;
+        let side = self.side.side();
+        let line = read_live_line(self.alloc, side, self.own_tei(), line)?;
         let done = self.do_line(line);
-        let flushed = self.printer().flush();
-        done?;
-        flushed
+        let flushed = self.printer.flush();
+        done.and(flushed)
     }
 
     /// Does what is asked for.
@@ -37,8 +34,8 @@ impl<O: Outside, W: Write> LiveSide<O, W> {
             LiveLine::State(None) => self.tell_links(),
             LiveLine::Stats => {
                 self.catch_up()?;
-                let discarded = self.side().discarded();
-                self.printer().put_stats(discarded)
+                let discarded = self.side.discarded();
+                self.printer.put_stats(discarded)
             }
             LiveLine::Ask(request) => self.ask(request),
         }
@@ -46,7 +43,7 @@ impl<O: Outside, W: Write> LiveSide<O, W> {
 
     /// The TEI of the links that a line of the user side names: its own, or the group TEI where it has none.
     fn own_tei(&self) -> Tei {
-        match self.side() {
+        match &self.side {
             EitherSide::User(side) => side.terminal().tei().unwrap_or(Tei::group()),
             EitherSide::Network(_) => Tei::group(),
         }
@@ -56,8 +53,8 @@ impl<O: Outside, W: Write> LiveSide<O, W> {
     fn read(&mut self, ms: Option<u64>) -> Result<(), LiveFault> {
         let end = self.end_after(ms)?;
         match self.serve(end, true)? {
-            Came::Closed => self.printer().put_named("refused", "S1 End"),
-            Came::End => self.printer().put_text("nothing"),
+            Came::Closed => self.printer.put_named("refused", "S1 End"),
+            Came::End => self.printer.put_text("nothing"),
             Came::Frame | Came::Line | Came::Due => Ok(()),
         }
     }
@@ -72,55 +69,49 @@ impl<O: Outside, W: Write> LiveSide<O, W> {
     /// Serves the side until a line is printed that begins so.
     fn expect(&mut self, front: &[u8], ms: u64) -> Result<(), LiveFault> {
         let end = self.end_after(Some(ms))?;
-        let awaited = front.to_vec(self.alloc())?;
-        self.printer().await_line(awaited);
+        self.printer.await_line(front)?;
         self.serve(end, false)?;
-        if self.printer().end_wait() {
+        if self.printer.end_wait() {
             return Ok(());
         }
-        let mut text = String::new(self.alloc());
-        for octet in front {
-            text.push(char::from(*octet))?;
-        }
-        self.printer().put_named("expected", text.as_str())?;
+        self.printer.put_unmet(front)?;
         Err(LiveFault::Unmet)
     }
 
     /// Tells the state of a link that is there.
     fn tell_link(&mut self, id: LinkId) -> Result<(), LiveFault> {
         let now = self.catch_up()?;
-        if self.push_state(&id, now)? {
+        if self.put_state(&id, now)? {
             return Ok(());
         }
-        self.printer().refuse(SideKind::NoLink)
+        self.printer.refuse(SideKind::NoLink)
     }
 
     /// Tells the state of each link, and which timer of TEI management runs, where one does.
     fn tell_links(&mut self) -> Result<(), LiveFault> {
         let now = self.catch_up()?;
-        for id in &self.side().table().ids()? {
-            self.push_state(id, now)?;
+        self.tell_each(now)?;
+        match self.side.timers(None) {
+            Some(timers) => self.printer.put_management(timers, now),
+            None => Ok(()),
         }
-        let mut text = String::new(self.alloc());
-        if let Some(timers) = self.side().timers(None) {
-            push_timers(timers, now, &mut text)?;
-        }
-        if text.is_empty() {
-            return Ok(());
-        }
-        let text = format!(in self.alloc(); "tei{text}")?;
-        self.printer().put_text(text.as_str())
     }
 
-    /// Tells the state of a link. `false` where it is not there.
-    fn push_state(&mut self, id: &LinkId, now: u64) -> Result<bool, LiveFault> {
-        let mut text = String::new(self.alloc());
-        let Some(link) = self.side().table().link(*id) else {
+    /// Tells the state of each link, as it is at this moment.
+    fn tell_each(&mut self, now: u64) -> Result<(), LiveFault> {
+        for id in &self.side.table().ids()? {
+            self.put_state(id, now)?;
+        }
+        Ok(())
+    }
+
+    /// Tells the state of a link, as it is at this moment. `false` where it is not there.
+    fn put_state(&mut self, id: &LinkId, now: u64) -> Result<bool, LiveFault> {
+        let Some(link) = self.side.table().link(*id) else {
             return Ok(false);
         };
-        let timers = self.side().timers(Some(*id));
-        push_link(id, link, timers, now, &mut text)?;
-        self.printer().put_text(text.as_str())?;
+        let timers = self.side.timers(Some(*id));
+        self.printer.put_link(id, link, timers, now)?;
         Ok(true)
     }
 }

@@ -20,11 +20,11 @@ use std::io::Write;
 /// A side with what is around it, and what it prints on.
 #[derive(Drop)]
 pub struct LiveSide<O, W> {
-    alloc: Global,
-    side: EitherSide,
+    pub(crate) alloc: Global,
+    pub(crate) side: EitherSide,
     acts: Acts,
     outside: O,
-    printer: Printer<W>,
+    pub(crate) printer: Printer<W>,
 }
 
 /// What a turn, or several, came to.
@@ -69,21 +69,6 @@ impl<O: Outside, W: Write> LiveSide<O, W> {
     /// What is around it, and the writer that it printed on.
     pub fn into_parts(self) -> (O, W) {
         (self.outside, self.printer.into_inner())
-    }
-
-    /// Where it takes memory of.
-    pub(crate) fn alloc(&self) -> Global {
-        self.alloc
-    }
-
-    /// The side.
-    pub(crate) fn side(&self) -> &EitherSide {
-        &self.side
-    }
-
-    /// What it prints on.
-    pub(crate) fn printer(&mut self) -> &mut Printer<W> {
-        &mut self.printer
     }
 
     /// The moment it is, which what is printed from here on may name.
@@ -163,7 +148,10 @@ impl<O: Outside, W: Write> LiveSide<O, W> {
         ensures deeds { O.deeds self.new.outside ≡ O.deeds self.old.outside }
     {
         let now = self.read_clock()?;
-        Ok(ms.map(|ms| now.saturating_add(ms)))
+        match ms {
+            Some(ms) => Ok(Some(now.saturating_add(ms))),
+            None => Ok(None),
+        }
     }
 
     /// A frame that came is printed and taken, and what this gives is sent and printed.

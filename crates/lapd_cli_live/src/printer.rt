@@ -2,13 +2,18 @@
 
 use crate::fault::LiveFault;
 use crate::line_objects::words_object;
+use crate::link_text::{push_link, push_timers};
 use crate::stats::Stats;
 use lapd_cli_script::LineFault;
 use lapd_cli_side_commands::{LineStyle, push_primitive, push_trace};
 use lapd_frame::Side;
-use lapd_sides::{Primitive, SideKind};
-use std::alloc::Global;
-use std::io::Write;
+use lapd_link::Link;
+use lapd_sides::{LinkId, Primitive, SideKind, TimerSet};
+use std::alloc::{AllocError, Global};
+use std::io::{self, Write};
+
+/// What the line of TEI management begins with.
+const MANAGEMENT: &str = "tei";
 
 /// Which lines are printed, and how.
 #[derive(Clone, Copy, Debug, PartialEq, Eq)]
@@ -66,9 +71,14 @@ impl<W: Write> Printer<W> {
     }
 
     /// Looks out for a line that begins so, from here on.
-    pub(crate) fn await_line(&mut self, front: Vec<u8>) {
-        self.awaited = front;
+    ///
+    /// # Errors
+    ///
+    /// `AllocError`.
+    pub(crate) fn await_line(&mut self, front: &[u8]) -> Result<(), AllocError> {
+        self.awaited.clear();
         self.is_found = false;
+        self.awaited.extend_from_slice(front)
     }
 
     /// Looks out for no line any more, and tells whether the one was printed.
@@ -152,6 +162,19 @@ impl<W: Write> Printer<W> {
         self.put()
     }
 
+    /// Tells what a line was to begin with that was not printed in time.
+    ///
+    /// # Errors
+    ///
+    /// `Device` and `Memory`.
+    pub(crate) fn put_unmet(&mut self, front: &[u8]) -> Result<(), LiveFault> {
+        let mut text = String::new(self.alloc);
+        for octet in front {
+            text.push(char::from(*octet))?;
+        }
+        self.put_named("expected", text.as_str())
+    }
+
     /// Prints a line of words and of numbers with their names.
     ///
     /// # Errors
@@ -159,11 +182,40 @@ impl<W: Write> Printer<W> {
     /// `Device` and `Memory`.
     pub(crate) fn put_text(&mut self, text: &str) -> Result<(), LiveFault> {
         self.line.clear();
-        writeln!(self.line, "{text}")?;
-        if self.style.lines == LineStyle::Json {
-            self.object = words_object(self.alloc, text)?;
+        self.line.push_str(text)?;
+        self.put_words()
+    }
+
+    /// Prints the state of a link, with what is left at the moment `now` of the timers that run.
+    ///
+    /// # Errors
+    ///
+    /// `Device` and `Memory`.
+    pub(crate) fn put_link(
+        &mut self,
+        id: &LinkId,
+        link: &Link,
+        timers: Option<&TimerSet>,
+        now: u64,
+    ) -> Result<(), LiveFault> {
+        self.line.clear();
+        push_link(id, link, timers, now, &mut self.line)?;
+        self.put_words()
+    }
+
+    /// Prints what is left at the moment `now` of the timers of TEI management that run, where one does.
+    ///
+    /// # Errors
+    ///
+    /// `Device` and `Memory`.
+    pub(crate) fn put_management(&mut self, timers: &TimerSet, now: u64) -> Result<(), LiveFault> {
+        self.line.clear();
+        self.line.push_str(MANAGEMENT)?;
+        push_timers(timers, now, &mut self.line)?;
+        if self.line.len() == MANAGEMENT.len() {
+            return Ok(());
         }
-        self.put()
+        self.put_words()
     }
 
     /// Prints what went over the line so far, where the side discarded so many frames.
@@ -172,15 +224,15 @@ impl<W: Write> Printer<W> {
     ///
     /// `Device` and `Memory`.
     pub(crate) fn put_stats(&mut self, discarded: u64) -> Result<(), LiveFault> {
-        let mut text = String::new(self.alloc);
-        self.stats.push_sent(&mut text)?;
-        self.put_text(text.as_str())?;
-        text.clear();
-        self.stats.push_received(discarded, &mut text)?;
-        self.put_text(text.as_str())?;
-        text.clear();
-        self.stats.push_reports(&mut text)?;
-        self.put_text(text.as_str())
+        self.line.clear();
+        self.stats.push_sent(&mut self.line)?;
+        self.put_words()?;
+        self.line.clear();
+        self.stats.push_received(discarded, &mut self.line)?;
+        self.put_words()?;
+        self.line.clear();
+        self.stats.push_reports(&mut self.line)?;
+        self.put_words()
     }
 
     /// Hands what was printed to the device.
@@ -193,32 +245,46 @@ impl<W: Write> Printer<W> {
         Ok(())
     }
 
+    /// Prints the words that stand in the room for a line, and have no line feed yet.
+    fn put_words(&mut self) -> Result<(), LiveFault> {
+        if self.style.lines == LineStyle::Json {
+            self.object = words_object(self.alloc, self.line.as_str())?;
+        }
+        self.line.push('\n')?;
+        self.put()
+    }
+
     /// Prints the line that stands in the room for it, or its object. What is looked out for are its words in both cases.
     fn put(&mut self) -> Result<(), LiveFault> {
-        let line = self.line.as_bytes();
-        if !self.awaited.is_empty() && line.starts_with(self.awaited.as_slice()) {
+        let awaited = self.awaited.as_slice();
+        if !awaited.is_empty() && self.line.as_bytes().starts_with(awaited) {
             self.is_found = true;
         }
-        if self.style.lines == LineStyle::Json {
-            return self.put_object();
-        }
-        if self.style.time {
-            write!(self.out, "{} ", self.moment)?;
-        }
-        self.out.write_all(line)?;
+        let written = match self.style.lines {
+            LineStyle::Text => self.write_line(),
+            LineStyle::Json => self.write_object(),
+        };
+        written?;
         Ok(())
     }
 
-    /// Prints the object of a line.
-    fn put_object(&mut self) -> Result<(), LiveFault> {
+    /// Writes the line, behind the moment where that is asked for.
+    fn write_line(&mut self) -> io::Result<()> {
+        if self.style.time {
+            write!(self.out, "{} ", self.moment)?;
+        }
+        self.out.write_all(self.line.as_bytes())
+    }
+
+    /// Writes the object of a line, with the moment where that is asked for.
+    fn write_object(&mut self) -> io::Result<()> {
         let object = self.object.as_str();
         let moment = self.moment;
         match object.strip_suffix("}") {
             Some(members) if self.style.time => {
-                writeln!(self.out, "{members},\"time\":{moment}}}")?;
+                writeln!(self.out, "{members},\"time\":{moment}}}")
             }
-            _ => writeln!(self.out, "{object}")?,
+            _ => writeln!(self.out, "{object}"),
         }
-        Ok(())
     }
 }

@@ -18,7 +18,7 @@ use std::io::{self, ErrorKind, Read, Write};
 const PART: usize = 4096;
 
 /// What is done with a line that was typed.
-#[derive(Clone, Copy, Debug, PartialEq, Eq)]
+#[derive(Clone, Copy)]
 pub(crate) enum TypedDeed {
     /// Nothing: it is empty or a comment.
     Pass,
@@ -45,14 +45,19 @@ pub fn live_session<R: Read, E: Write, O: Outside, W: Write>(
     errors: &mut E,
 ) -> (Result<(), LiveStop>, LiveSide<O, W>) {
     let _ = errors.write_all(b"lines are awaited: help lists them, and quit ends the session\n");
-    let stop = match serve_session(alloc, &mut live, lines, errors) {
-        Ok(()) => return (Ok(()), live),
-        Err(LiveFault::Port(fault)) => LiveStop::Script(ScriptFault::Port(fault)),
-        Err(LiveFault::Line(LineFault::Memory)) => LiveStop::Script(ScriptFault::Memory),
-        Err(LiveFault::Line(_)) => LiveStop::Script(ScriptFault::Device),
-        Err(LiveFault::Unmet) => LiveStop::Unmet,
-    };
-    (Err(stop), live)
+    let served = serve_session(alloc, &mut live, lines, errors);
+    (ending(served), live)
+}
+
+/// How a session ends.
+fn ending(served: Result<(), LiveFault>) -> Result<(), LiveStop> {
+    match served {
+        Ok(()) => Ok(()),
+        Err(LiveFault::Port(fault)) => Err(LiveStop::Script(ScriptFault::Port(fault))),
+        Err(LiveFault::Line(LineFault::Memory)) => Err(LiveStop::Script(ScriptFault::Memory)),
+        Err(LiveFault::Line(_)) => Err(LiveStop::Script(ScriptFault::Device)),
+        Err(LiveFault::Unmet) => Err(LiveStop::Unmet),
+    }
 }
 
 /// Serves a side while lines are typed.
@@ -63,15 +68,25 @@ fn serve_session<R: Read, E: Write, O: Outside, W: Write>(
     errors: &mut E,
 ) -> Result<(), LiveFault> {
     let mut typed = TypedLines::new(alloc);
+    serve_typed(live, lines, &mut typed, errors)
+}
+
+/// Serves a side while lines are typed, behind what was typed of a line so far.
+fn serve_typed<R: Read, E: Write, O: Outside, W: Write>(
+    live: &mut LiveSide<O, W>,
+    lines: &mut R,
+    typed: &mut TypedLines,
+    errors: &mut E,
+) -> Result<(), LiveFault> {
     for _read in 0..u64::MAX {
         if live.serve(None, false)? != Came::Line {
             return Ok(());
         }
-        if !read_typed(lines, &mut typed)? {
+        if !read_typed(lines, typed)? {
             do_typed(live, typed.last_line(), errors)?;
             return Ok(());
         }
-        if !do_lines(live, &mut typed, errors)? {
+        if !do_lines(live, typed, errors)? {
             return Ok(());
         }
     }
@@ -154,7 +169,7 @@ fn obey_typed<E: Write, O: Outside, W: Write>(
     line: &[u8],
     errors: &mut E,
 ) -> Result<(), LiveFault> {
-    let side = live.side().side();
+    let side = live.side.side();
     match live.obey(line) {
         Err(LiveFault::Line(LineFault::Bad)) => {
             let reason = LiveReason { side, line };
@@ -172,7 +187,7 @@ fn put_help<E: Write, O: Outside, W: Write>(
     errors: &mut E,
 ) -> io::Result<()> {
     errors.write_all(b"the lines with the real clock:\n")?;
-    for form in forms_of(live.side().side()) {
+    for form in forms_of(live.side.side()) {
         writeln!(errors, "  {form}")?;
     }
     errors.write_all(b"and help, which tells these, and quit, which ends the session\n")

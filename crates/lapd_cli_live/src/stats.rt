@@ -2,6 +2,7 @@
 
 ghost use Rattle.std.specs.Prelude.{◌<◌};
 
+use crate::link_text::push_number;
 use lapd_frame::{Address, Control, Side, read};
 use lapd_sides::{Letter, Primitive, What};
 use std::alloc::AllocError;
@@ -19,6 +20,11 @@ const OTHER: usize = KINDS - 1;
 
 /// How many letters there are that errors are reported by (Q.921 Appendix II).
 const LETTERS: usize = 15;
+
+/// The letters, in their order.
+const LETTER_NAMES: [&str; LETTERS] = [
+    "A", "B", "C", "D", "E", "F", "G", "H", "I", "J", "K", "L", "M", "N", "O",
+];
 
 /// How many links there may be, of two SAPIs.
 const LINKS: usize = 256;
@@ -51,16 +57,20 @@ impl Traffic {
         self.octets = self.octets.saturating_add(octets as u64);
     }
 
+    /// How many frames there were.
+    fn all(&self) -> u64 {
+        let mut all: u64 = 0;
+        for count in &self.frames {
+            all = all.saturating_add(*count);
+        }
+        all
+    }
+
     /// Appends its counts, with those kinds of which there were frames.
     fn push(&self, text: &mut String) -> Result<(), AllocError> {
-        let all: u64 = self.frames.iter().fold(0, |all, n| all.saturating_add(*n));
-        write!(text, "frames={all} octets={}", self.octets)?;
-        for (name, count) in NAMES.iter().zip(self.frames.iter()) {
-            if *count > 0 {
-                write!(text, " {name}={count}")?;
-            }
-        }
-        Ok(())
+        push_number("frames", self.all(), text)?;
+        push_number("octets", self.octets, text)?;
+        push_counts(&NAMES, &self.frames, text)
     }
 }
 
@@ -137,9 +147,9 @@ impl Stats {
     ///
     /// `AllocError`.
     pub(crate) fn push_sent(&self, text: &mut String) -> Result<(), AllocError> {
-        text.push_str("sent ")?;
+        text.push_str("sent")?;
         self.sent.push(text)?;
-        write!(text, " again={}", self.repeated)
+        push_number("again", self.repeated, text)
     }
 
     /// Appends a line of what was received, and how many of these frames were discarded.
@@ -152,9 +162,9 @@ impl Stats {
         discarded: u64,
         text: &mut String,
     ) -> Result<(), AllocError> {
-        text.push_str("received ")?;
+        text.push_str("received")?;
         self.received.push(text)?;
-        write!(text, " discarded={discarded}")
+        push_number("discarded", discarded, text)
     }
 
     /// Appends a line of what was reported, by its letters.
@@ -164,13 +174,18 @@ impl Stats {
     /// `AllocError`.
     pub(crate) fn push_reports(&self, text: &mut String) -> Result<(), AllocError> {
         text.push_str("reports")?;
-        for (letter, count) in (b'A'..=b'O').zip(self.reports.iter()) {
-            if *count > 0 {
-                write!(text, " {}={count}", char::from(letter))?;
-            }
-        }
-        Ok(())
+        push_counts(&LETTER_NAMES, &self.reports, text)
     }
+}
+
+/// Appends those counts that are not 0, each behind its name.
+fn push_counts(names: &[&str], counts: &[u64], text: &mut String) -> Result<(), AllocError> {
+    for (name, count) in names.iter().zip(counts.iter()) {
+        if *count > 0 {
+            push_number(name, *count, text)?;
+        }
+    }
+    Ok(())
 }
 
 /// The place of a control field's name.
