@@ -16,11 +16,19 @@ pub(crate) fn push_link(
     now: u64,
     text: &mut String,
 ) -> Result<(), AllocError> {
+    let window = link.window();
     write!(text, "{} {} state {}", id.sapi, id.tei, link.state())?;
-    push_variables(link, text)?;
+    push_number("V(S)", u64::from(window.vs().value()), text)?;
+    push_number("V(A)", u64::from(window.va().value()), text)?;
+    push_number("V(R)", u64::from(window.vr().value()), text)?;
     push_number("RC", u64::from(link.rc()), text)?;
     push_number("queue", u64::from(link.waiting()), text)?;
-    push_busy(link, text)?;
+    if window.own_busy() {
+        text.push_str(" own-busy")?;
+    }
+    if window.peer_busy() {
+        text.push_str(" peer-busy")?;
+    }
     match timers {
         Some(timers) => push_timers(timers, now, text),
         None => Ok(()),
@@ -53,24 +61,4 @@ pub(crate) fn push_timers(
 /// `AllocError`.
 pub(crate) fn push_number(name: &str, number: u64, text: &mut String) -> Result<(), AllocError> {
     write!(text, " {name}={number}")
-}
-
-/// Appends V(S), V(A) and V(R).
-fn push_variables(link: &Link, text: &mut String) -> Result<(), AllocError> {
-    let window = link.window();
-    push_number("V(S)", u64::from(window.vs().value()), text)?;
-    push_number("V(A)", u64::from(window.va().value()), text)?;
-    push_number("V(R)", u64::from(window.vr().value()), text)
-}
-
-/// Appends which sides are busy.
-fn push_busy(link: &Link, text: &mut String) -> Result<(), AllocError> {
-    let window = link.window();
-    if window.own_busy() {
-        text.push_str(" own-busy")?;
-    }
-    if window.peer_busy() {
-        text.push_str(" peer-busy")?;
-    }
-    Ok(())
 }

@@ -90,19 +90,13 @@ impl<O: Outside, W: Write> LiveSide<O, W> {
     /// Tells the state of each link, and which timer of TEI management runs, where one does.
     fn tell_links(&mut self) -> Result<(), LiveFault> {
         let now = self.catch_up()?;
-        self.tell_each(now)?;
+        for id in &self.side.table().ids()? {
+            self.put_state(id, now)?;
+        }
         match self.side.timers(None) {
             Some(timers) => self.printer.put_management(timers, now),
             None => Ok(()),
         }
-    }
-
-    /// Tells the state of each link, as it is at this moment.
-    fn tell_each(&mut self, now: u64) -> Result<(), LiveFault> {
-        for id in &self.side.table().ids()? {
-            self.put_state(id, now)?;
-        }
-        Ok(())
     }
 
     /// Tells the state of a link, as it is at this moment. `false` where it is not there.

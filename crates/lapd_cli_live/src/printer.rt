@@ -10,7 +10,7 @@ use lapd_frame::Side;
 use lapd_link::Link;
 use lapd_sides::{LinkId, Primitive, SideKind, TimerSet};
 use std::alloc::{AllocError, Global};
-use std::io::{self, Write};
+use std::io::Write;
 
 /// What the line of TEI management begins with.
 const MANAGEMENT: &str = "tei";
@@ -256,35 +256,30 @@ impl<W: Write> Printer<W> {
 
     /// Prints the line that stands in the room for it, or its object. What is looked out for are its words in both cases.
     fn put(&mut self) -> Result<(), LiveFault> {
-        let awaited = self.awaited.as_slice();
-        if !awaited.is_empty() && self.line.as_bytes().starts_with(awaited) {
+        let line = self.line.as_bytes();
+        if !self.awaited.is_empty() && line.starts_with(self.awaited.as_slice()) {
             self.is_found = true;
         }
-        let written = match self.style.lines {
-            LineStyle::Text => self.write_line(),
-            LineStyle::Json => self.write_object(),
-        };
-        written?;
-        Ok(())
-    }
-
-    /// Writes the line, behind the moment where that is asked for.
-    fn write_line(&mut self) -> io::Result<()> {
+        if self.style.lines == LineStyle::Json {
+            return self.put_object();
+        }
         if self.style.time {
             write!(self.out, "{} ", self.moment)?;
         }
-        self.out.write_all(self.line.as_bytes())
+        self.out.write_all(line)?;
+        Ok(())
     }
 
-    /// Writes the object of a line, with the moment where that is asked for.
-    fn write_object(&mut self) -> io::Result<()> {
+    /// Prints the object of a line.
+    fn put_object(&mut self) -> Result<(), LiveFault> {
         let object = self.object.as_str();
         let moment = self.moment;
         match object.strip_suffix("}") {
             Some(members) if self.style.time => {
-                writeln!(self.out, "{members},\"time\":{moment}}}")
+                writeln!(self.out, "{members},\"time\":{moment}}}")?;
             }
-            _ => writeln!(self.out, "{object}"),
+            _ => writeln!(self.out, "{object}")?,
         }
+        Ok(())
     }
 }

@@ -41,15 +41,12 @@ pub fn live_script<R: Read, O: Outside, W: Write>(
     };
     let ended = walk(alloc, &mut scripted, script, &mut io::sink());
     let ScriptedSide { live, stopped } = scripted;
-    (ending(ended, stopped), live)
-}
-
-/// How a script ends that a walk ended so, where this may have stopped it.
-fn ending(ended: Result<(), ScriptFault>, stopped: Option<LiveStop>) -> Result<(), LiveStop> {
-    match (stopped, ended) {
-        (Some(stop), _) => Err(stop),
-        (None, Ok(())) => Ok(()),
-        (None, Err(fault)) => Err(LiveStop::Script(fault)),
+    if let Some(stop) = stopped {
+        return (Err(stop), live);
+    }
+    match ended {
+        Ok(()) => (Ok(()), live),
+        Err(fault) => (Err(LiveStop::Script(fault)), live),
     }
 }
 

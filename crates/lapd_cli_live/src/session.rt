@@ -45,19 +45,14 @@ pub fn live_session<R: Read, E: Write, O: Outside, W: Write>(
     errors: &mut E,
 ) -> (Result<(), LiveStop>, LiveSide<O, W>) {
     let _ = errors.write_all(b"lines are awaited: help lists them, and quit ends the session\n");
-    let served = serve_session(alloc, &mut live, lines, errors);
-    (ending(served), live)
-}
-
-/// How a session ends.
-fn ending(served: Result<(), LiveFault>) -> Result<(), LiveStop> {
-    match served {
-        Ok(()) => Ok(()),
-        Err(LiveFault::Port(fault)) => Err(LiveStop::Script(ScriptFault::Port(fault))),
-        Err(LiveFault::Line(LineFault::Memory)) => Err(LiveStop::Script(ScriptFault::Memory)),
-        Err(LiveFault::Line(_)) => Err(LiveStop::Script(ScriptFault::Device)),
-        Err(LiveFault::Unmet) => Err(LiveStop::Unmet),
-    }
+    let stop = match serve_session(alloc, &mut live, lines, errors) {
+        Ok(()) => return (Ok(()), live),
+        Err(LiveFault::Port(fault)) => LiveStop::Script(ScriptFault::Port(fault)),
+        Err(LiveFault::Line(LineFault::Memory)) => LiveStop::Script(ScriptFault::Memory),
+        Err(LiveFault::Line(_)) => LiveStop::Script(ScriptFault::Device),
+        Err(LiveFault::Unmet) => LiveStop::Unmet,
+    };
+    (Err(stop), live)
 }
 
 /// Serves a side while lines are typed.
@@ -68,25 +63,15 @@ fn serve_session<R: Read, E: Write, O: Outside, W: Write>(
     errors: &mut E,
 ) -> Result<(), LiveFault> {
     let mut typed = TypedLines::new(alloc);
-    serve_typed(live, lines, &mut typed, errors)
-}
-
-/// Serves a side while lines are typed, behind what was typed of a line so far.
-fn serve_typed<R: Read, E: Write, O: Outside, W: Write>(
-    live: &mut LiveSide<O, W>,
-    lines: &mut R,
-    typed: &mut TypedLines,
-    errors: &mut E,
-) -> Result<(), LiveFault> {
     for _read in 0..u64::MAX {
         if live.serve(None, false)? != Came::Line {
             return Ok(());
         }
-        if !read_typed(lines, typed)? {
+        if !read_typed(lines, &mut typed)? {
             do_typed(live, typed.last_line(), errors)?;
             return Ok(());
         }
-        if !do_lines(live, typed, errors)? {
+        if !do_lines(live, &mut typed, errors)? {
             return Ok(());
         }
     }
