@@ -7,7 +7,7 @@ use crate::shown::Shown;
 use std::fmt;
 
 /// What is wrong with a line by its form.
-#[derive(Clone, Copy, Debug)]
+#[derive(Clone, Copy)]
 pub(crate) enum Complaint<'a> {
     /// Not all of its octets are UTF-8.
     NotUtf8,

@@ -98,7 +98,7 @@ impl fmt::Display for Form {
 }
 
 /// Forms one behind another, parted by commas.
-#[derive(Clone, Copy, Debug)]
+#[derive(Clone, Copy)]
 pub(crate) struct Forms(pub(crate) &'static [Form]);
 
 impl fmt::Display for Forms {

@@ -239,8 +239,10 @@ fn of_word<'a>(form: Form, argument: Argument, word: &'a [u8]) -> Complaint<'a> 
     if argument != Argument::Hex {
         return Complaint::OutOfRange(form, argument, word);
     }
-    match word.iter().find(|octet| !octet.is_ascii_hexdigit()) {
-        Some(octet) => Complaint::NoDigit(form, *octet),
-        None => Complaint::OddDigits(form),
+    for octet in word {
+        if !octet.is_ascii_hexdigit() {
+            return Complaint::NoDigit(form, *octet);
+        }
     }
+    Complaint::OddDigits(form)
 }

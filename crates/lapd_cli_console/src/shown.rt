@@ -6,7 +6,7 @@ use std::fmt;
 const MOST_SHOWN: usize = 32;
 
 /// A word between quotes. Of a long one the front is shown, and three dots. Octets that are not printed are escaped.
-#[derive(Clone, Copy, Debug)]
+#[derive(Clone, Copy)]
 pub(crate) struct Shown<'a>(pub(crate) &'a [u8]);
 
 impl fmt::Display for Shown<'_> {
