@@ -2,6 +2,7 @@
 
 use crate::invocation::{Clock, LiveOptions};
 use crate::no_invocation::NoInvocation;
+use crate::script_command::ScriptCommand;
 use clap::ArgMatches;
 use lapd_cli_values::{CONNECTED_TERMINALS, GSMTAP, terminals_written};
 
@@ -11,14 +12,19 @@ const REAL_FLAGS: [&str; 2] = ["time", "quiet"];
 // The options with a value that do.
 const REAL_OPTIONS: [&str; 3] = ["pcap", "gsmtap", "terminals"];
 
-/// The clock that was chosen for the command of this name. What goes with the real clock is refused without it.
+/// The clock that was chosen for this command.
 pub(crate) fn clock_of<'a>(
-    name: &str,
+    command: ScriptCommand,
     given: &ArgMatches<'a>,
 ) -> Result<Clock<'a>, NoInvocation<'a>> {
-    if name != "net" && name != "user" {
-        return Ok(Clock::Script);
+    match command {
+        ScriptCommand::Net | ScriptCommand::User => side_clock_of(given),
+        _ => Ok(Clock::Script),
     }
+}
+
+// The clock of a side. What goes with the real one is refused without it.
+fn side_clock_of<'a>(given: &ArgMatches<'a>) -> Result<Clock<'a>, NoInvocation<'a>> {
     if given.get_str("clock") == Some("real") {
         return Ok(Clock::Real(live_options_of(given)?));
     }

@@ -5,6 +5,7 @@ ghost use Rattle.lapd_frame.specs.declared.Sapi.TheVariants.{Management};
 
 use crate::invocation::{DecodeOptions, Job};
 use crate::no_invocation::NoInvocation;
+use crate::script_command::ScriptCommand;
 use clap::ArgMatches;
 use lapd_cli_values::{
     AddressOption, CONNECT, Interface, InterfaceOptions, K, KNOWN_TEI, LINK_TEI, LINKS_K, LISTEN,
@@ -13,20 +14,20 @@ use lapd_cli_values::{
 };
 use std::alloc::Global;
 
-/// What the command of this name chooses, with its options.
+/// What this command chooses, with its options.
 pub(crate) fn job_of<'a>(
     alloc: Global,
-    name: &str,
+    command: ScriptCommand,
     given: &ArgMatches<'a>,
 ) -> Result<Job, NoInvocation<'a>> {
-    match name {
-        "answer" => answer_of(given),
-        "bus" => bus_of(given),
-        "pair" => pair_of(given),
-        "loop" => loop_of(given),
-        "net" => Ok(Job::Net(interface_of(alloc, given)?)),
-        "user" => Ok(Job::User(interface_of(alloc, given)?)),
-        _ => Ok(Job::Decode(decode_of(given))),
+    match command {
+        ScriptCommand::Answer => answer_of(given),
+        ScriptCommand::Bus => bus_of(given),
+        ScriptCommand::Pair => pair_of(given),
+        ScriptCommand::Loop => loop_of(given),
+        ScriptCommand::Net => Ok(Job::Net(interface_of(alloc, given)?)),
+        ScriptCommand::User => Ok(Job::User(interface_of(alloc, given)?)),
+        ScriptCommand::Decode => Ok(Job::Decode(decode_of(given))),
     }
 }
 
@@ -67,18 +68,18 @@ fn decode_of(given: &ArgMatches<'_>) -> DecodeOptions {
     }
 }
 
-/// The file that was written for the command of this name, where it takes one.
-pub(crate) fn pcap_of<'a>(name: &str, given: &ArgMatches<'a>) -> Option<&'a str> {
-    match name {
-        "decode" => given.get_str("pcap"),
+/// The file that was written for this command, where it takes one in place of a script.
+pub(crate) fn pcap_of<'a>(command: ScriptCommand, given: &ArgMatches<'a>) -> Option<&'a str> {
+    match command {
+        ScriptCommand::Decode => given.get_str("pcap"),
         _ => None,
     }
 }
 
-/// Whether the command of this name prints each line of a side as a JSON object.
-pub(crate) fn prints_json(name: &str, given: &ArgMatches<'_>) -> bool {
-    match name {
-        "net" | "user" => given.get_flag("json"),
+/// Whether this command prints each line of a side as a JSON object.
+pub(crate) fn prints_json(command: ScriptCommand, given: &ArgMatches<'_>) -> bool {
+    match command {
+        ScriptCommand::Net | ScriptCommand::User => given.get_flag("json"),
         _ => false,
     }
 }
@@ -121,7 +122,17 @@ fn sapi_of(given: &ArgMatches<'_>) -> Sapi
 
 // What `net` or `user` is made with.
 fn interface_of<'a>(alloc: Global, given: &ArgMatches<'a>) -> Result<Interface, NoInvocation<'a>> {
-    let options = InterfaceOptions {
+    let options = interface_options_of(given);
+    let teis = given.get_strs(KNOWN_TEI.name).unwrap_or(&[]);
+    match interface_written(alloc, &options, teis) {
+        Ok(interface) => Ok(interface),
+        Err(fault) => Err(NoInvocation::from(fault)),
+    }
+}
+
+// What was written for an interface, but for its TEIs.
+fn interface_options_of<'a>(given: &ArgMatches<'a>) -> InterfaceOptions<'a> {
+    InterfaceOptions {
         pri: given.get_flag("pri"),
         sapi16: given.get_flag("sapi16"),
         k: given.get_str(LINKS_K.name),
@@ -133,11 +144,6 @@ fn interface_of<'a>(alloc: Global, given: &ArgMatches<'a>) -> Result<Interface, 
         t202: number_of(given, T202),
         t203: number_of(given, T203),
         seed: number_of(given, SEED),
-    };
-    let teis = given.get_strs(KNOWN_TEI.name).unwrap_or(&[]);
-    match interface_written(alloc, &options, teis) {
-        Ok(interface) => Ok(interface),
-        Err(fault) => Err(NoInvocation::from(fault)),
     }
 }
 
@@ -146,14 +152,14 @@ fn number_of<'a>(given: &ArgMatches<'a>, option: NumberOption) -> &'a str {
     given.get_str(option.name).unwrap_or(option.default)
 }
 
-/// The address that was written for the command of this name, where it takes one.
+/// The address that was written for this command, where it takes one.
 pub(crate) fn address_of<'a>(
-    name: &str,
+    command: ScriptCommand,
     given: &ArgMatches<'a>,
 ) -> Result<Option<&'a str>, NoInvocation<'a>> {
-    match name {
-        "net" => written_address(given, LISTEN),
-        "user" => written_address(given, CONNECT),
+    match command {
+        ScriptCommand::Net => written_address(given, LISTEN),
+        ScriptCommand::User => written_address(given, CONNECT),
         _ => Ok(None),
     }
 }

@@ -8,12 +8,15 @@ ghost use Rattle.std.specs.Prelude.{◌<◌, length, IsOkAnd};
 ghost use Rattle.lapd_cli_options.specs.CommandLine.{IsDefault};
 
 mod clock_options;
+mod command_option;
 mod command_options;
 pub mod help;
 mod invocation;
 mod no_invocation;
+mod option_tables;
 mod parser;
 mod program_words;
+mod script_command;
 
 use clap::{ArgMatches, Command};
 use clock_options::clock_of;
@@ -25,8 +28,9 @@ pub use lapd_cli_values::{
 pub use no_invocation::NoInvocation;
 use no_invocation::refused_by_parser;
 pub use parser::VERSION;
-use parser::{is_command, is_strict, program, unknown_command};
+use parser::{is_strict, program, unknown_command};
 pub use program_words::{WordsFault, words};
+use script_command::ScriptCommand;
 use std::alloc::Global;
 use std::convert::AsStr;
 
@@ -72,20 +76,28 @@ fn invocation_by<'a>(
     matches: &ArgMatches<'a>,
 ) -> Result<Invocation<'a>, NoInvocation<'a>> {
     match matches.subcommand() {
-        Some((name, given)) if is_command(name) => {
-            let job = job_of(alloc, name, given)?;
-            let address = address_of(name, given)?;
-            let clock = clock_of(name, given)?;
-            Ok(Invocation {
-                job,
-                address,
-                pcap: pcap_of(name, given),
-                clock,
-                json: prints_json(name, given),
-                strict: is_strict(given),
-            })
-        }
-        Some((name, _)) => Err(unknown_command(alloc, program, name)),
+        Some((name, given)) => match ScriptCommand::named(name) {
+            Some(command) => invocation_with(job_of(alloc, command, given)?, command, given),
+            None => Err(unknown_command(alloc, program, name)),
+        },
         None => Err(unknown_command(alloc, program, "")),
     }
+}
+
+// What this command chooses beside its job.
+fn invocation_with<'a>(
+    job: Job,
+    command: ScriptCommand,
+    given: &ArgMatches<'a>,
+) -> Result<Invocation<'a>, NoInvocation<'a>> {
+    let address = address_of(command, given)?;
+    let clock = clock_of(command, given)?;
+    Ok(Invocation {
+        job,
+        address,
+        pcap: pcap_of(command, given),
+        clock,
+        json: prints_json(command, given),
+        strict: is_strict(given),
+    })
 }

@@ -1,0 +1,162 @@
+//! The options of the commands, in the order of the help. Each table is a list of groups, of which some are shared.
+
+use crate::command_option::{CommandOption, WordOption};
+use crate::help;
+use lapd_cli_values::{
+    CONNECT, CONNECTED_TERMINALS, FIXED_TEI, GSMTAP, K, KNOWN_TEI, LINK_TEI, LINKS_K, LISTEN, N200,
+    ROOM, SEED, T200, T201, T202, T203, TERMINALS,
+};
+
+/// Those of `answer`.
+pub(crate) const ANSWER: &[&[CommandOption]] = &[
+    EACH,
+    &[
+        CommandOption::Word(SIDE),
+        CommandOption::Word(SAPI),
+        CommandOption::Number(LINK_TEI),
+    ],
+    NUMBERS,
+    &[CommandOption::Word(RECOVERY)],
+];
+
+/// Those of `bus`.
+pub(crate) const BUS: &[&[CommandOption]] = &[EACH, &[CommandOption::Number(TERMINALS)]];
+
+/// Those of `pair` and `loop`.
+pub(crate) const ENDS: &[&[CommandOption]] = &[
+    EACH,
+    NUMBERS,
+    &[
+        CommandOption::Word(RECOVERY_USER),
+        CommandOption::Word(RECOVERY_NET),
+    ],
+];
+
+/// Those of `net`.
+pub(crate) const NET: &[&[CommandOption]] = &[
+    EACH,
+    &[
+        CommandOption::RequiredAddress(LISTEN),
+        CommandOption::Flag("pri", help::PRI),
+        CommandOption::Numbers(KNOWN_TEI),
+    ],
+    INTERFACE,
+    LIVE,
+    &[CommandOption::BareNumber(CONNECTED_TERMINALS)],
+];
+
+/// Those of `user`.
+pub(crate) const USER: &[&[CommandOption]] = &[
+    EACH,
+    &[
+        CommandOption::RequiredAddress(CONNECT),
+        CommandOption::Flag("pri", help::PRI),
+        CommandOption::BareNumber(FIXED_TEI),
+    ],
+    INTERFACE,
+    LIVE,
+];
+
+/// Those of `decode`.
+pub(crate) const DECODE: &[&[CommandOption]] = &[
+    EACH,
+    &[
+        CommandOption::Flag("loose", help::LOOSE),
+        CommandOption::Word(SENDER),
+        CommandOption::Flag("names", help::NAMES),
+        CommandOption::Flag("json", help::JSON),
+        CommandOption::Flag("keep-going", help::KEEP_GOING),
+        CommandOption::File("pcap", help::PCAP),
+    ],
+];
+
+/// The option of each command.
+const EACH: &[CommandOption] = &[CommandOption::Flag("strict", help::STRICT)];
+
+/// The numbers of a link's parameters.
+const NUMBERS: &[CommandOption] = &[
+    CommandOption::Number(K),
+    CommandOption::Number(N200),
+    CommandOption::Number(ROOM),
+];
+
+/// What an interface has behind its TEIs.
+const INTERFACE: &[CommandOption] = &[
+    CommandOption::Flag("sapi16", help::SAPI16),
+    CommandOption::BareNumber(LINKS_K),
+    CommandOption::Number(N200),
+    CommandOption::Number(ROOM),
+    CommandOption::Word(RECOVERY),
+    CommandOption::Number(T200),
+    CommandOption::Number(T201),
+    CommandOption::Number(T202),
+    CommandOption::Number(T203),
+    CommandOption::Number(SEED),
+];
+
+/// What a side prints, its clock, and what goes with the real one.
+const LIVE: &[CommandOption] = &[
+    CommandOption::Flag("json", help::SIDE_JSON),
+    CommandOption::Word(CLOCK),
+    CommandOption::Flag("time", help::TIME),
+    CommandOption::Flag("quiet", help::QUIET),
+    CommandOption::File("pcap", help::LIVE_PCAP),
+    CommandOption::Address(GSMTAP),
+];
+
+/// The side of the link that answers.
+const SIDE: WordOption = WordOption {
+    name: "side",
+    value_name: "SIDE",
+    help: "The side of the link that answers",
+    words: &["net", "user"],
+    default: "net",
+};
+
+/// The side that `decode` takes for the sender.
+const SENDER: WordOption = WordOption {
+    name: "sender",
+    help: help::SENDER,
+    ..SIDE
+};
+
+/// The SAPI of a link.
+const SAPI: WordOption = WordOption {
+    name: "sapi",
+    value_name: "SAPI",
+    help: help::SAPI,
+    words: &["0", "16"],
+    default: "0",
+};
+
+/// The recovery of a link, or of all links of an interface.
+const RECOVERY: WordOption = WordOption {
+    name: "recovery",
+    value_name: "RECOVERY",
+    help: help::RECOVERY,
+    words: &["enquiry", "last"],
+    default: "enquiry",
+};
+
+/// The recovery of the user side of two.
+const RECOVERY_USER: WordOption = WordOption {
+    name: "recovery-user",
+    help: help::RECOVERY_USER,
+    ..RECOVERY
+};
+
+/// The recovery of the network side of two.
+const RECOVERY_NET: WordOption = WordOption {
+    name: "recovery-net",
+    help: help::RECOVERY_NET,
+    ..RECOVERY
+};
+
+/// The clock of a side.
+const CLOCK: WordOption = WordOption {
+    name: "clock",
+    value_name: "CLOCK",
+    help: help::CLOCK,
+    words: &["script", "real"],
+    default: "script",
+};

@@ -1,0 +1,90 @@
+//! The commands that do a script: how they are called, what their help says, and which options they take.
+
+use crate::command_option::CommandOption;
+use crate::{help, option_tables};
+
+/// A command that does a script.
+#[derive(Clone, Copy, PartialEq, Eq)]
+pub(crate) enum ScriptCommand {
+    Answer,
+    Bus,
+    Pair,
+    Loop,
+    Net,
+    User,
+    Decode,
+}
+
+/// All of them, in the order of the help.
+pub(crate) const COMMANDS: [ScriptCommand; 7] = [
+    ScriptCommand::Answer,
+    ScriptCommand::Bus,
+    ScriptCommand::Pair,
+    ScriptCommand::Loop,
+    ScriptCommand::Net,
+    ScriptCommand::User,
+    ScriptCommand::Decode,
+];
+
+impl ScriptCommand {
+    /// The command of this name, where there is one.
+    pub(crate) fn named(name: &str) -> Option<ScriptCommand> {
+        for command in COMMANDS {
+            if command.name() == name {
+                return Some(command);
+            }
+        }
+        None
+    }
+
+    /// The word that chooses it.
+    pub(crate) fn name(self) -> &'static str {
+        match self {
+            ScriptCommand::Answer => "answer",
+            ScriptCommand::Bus => "bus",
+            ScriptCommand::Pair => "pair",
+            ScriptCommand::Loop => "loop",
+            ScriptCommand::Net => "net",
+            ScriptCommand::User => "user",
+            ScriptCommand::Decode => "decode",
+        }
+    }
+
+    /// What it does.
+    pub(crate) fn about(self) -> &'static str {
+        match self {
+            ScriptCommand::Answer => help::ANSWER_ABOUT,
+            ScriptCommand::Bus => help::BUS_ABOUT,
+            ScriptCommand::Pair => help::PAIR_ABOUT,
+            ScriptCommand::Loop => help::LOOP_ABOUT,
+            ScriptCommand::Net => help::NET_ABOUT,
+            ScriptCommand::User => help::USER_ABOUT,
+            ScriptCommand::Decode => help::DECODE_ABOUT,
+        }
+    }
+
+    /// The text that ends its long help.
+    pub(crate) fn after_long_help(self) -> &'static str {
+        match self {
+            ScriptCommand::Answer => help::ANSWER,
+            ScriptCommand::Bus => help::BUS,
+            ScriptCommand::Pair => help::PAIR,
+            ScriptCommand::Loop => help::LOOP,
+            ScriptCommand::Net => help::NET,
+            ScriptCommand::User => help::USER,
+            ScriptCommand::Decode => help::DECODE,
+        }
+    }
+
+    /// Its options in the order of the help, in groups that commands share.
+    pub(crate) fn options(self) -> &'static [&'static [CommandOption]] {
+        match self {
+            ScriptCommand::Answer => option_tables::ANSWER,
+            ScriptCommand::Bus => option_tables::BUS,
+            ScriptCommand::Pair | ScriptCommand::Loop => option_tables::ENDS,
+            ScriptCommand::Net => option_tables::NET,
+            ScriptCommand::User => option_tables::USER,
+            ScriptCommand::Decode => option_tables::DECODE,
+        }
+    }
+}
