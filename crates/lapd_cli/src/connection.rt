@@ -13,12 +13,19 @@ use std::net::{SocketAddr, TcpListener, TcpStream};
 pub fn to_itself(rt: &HostRuntime) -> io::Result<(TcpStream, TcpStream)> {
     let listener = TcpListener::bind(rt, "127.0.0.1:0")?;
     let near = TcpStream::connect(rt, listener.local_addr()?)?;
-    let (far, from) = listener.accept()?;
-    if from != near.local_addr()? {
-        return Err(io::Error::from(ErrorKind::ConnectionRefused));
-    }
+    let far = far_end(&listener, &near)?;
     near.set_nodelay(true)?;
     Ok((near, far))
+}
+
+// The other end of this connection, which is the first that comes here.
+fn far_end(listener: &TcpListener, near: &TcpStream) -> io::Result<TcpStream> {
+    let (far, from) = listener.accept()?;
+    if from == near.local_addr()? {
+        Ok(far)
+    } else {
+        Err(io::Error::from(ErrorKind::ConnectionRefused))
+    }
 }
 
 /// The connection that comes first to this address, which is listened on, as [`listening`] and [`next`] do and tell.

@@ -119,14 +119,18 @@ fn say_fault(rt: &HostRuntime, ending: &Ending<'_>, fault: ScriptFault) {
 
 // Says why there is no connection.
 fn say_no_connection(rt: &HostRuntime, ending: &Ending<'_>, error: &io::Error) {
-    let address = ending.address;
-    let reason = Reason(error);
-    let _ = eprintln!(rt; "{}", ScriptFault::Device);
-    let _ = match ending.script {
-        Script::Net => eprintln!(rt; "cannot listen on {address}: {reason}"),
-        Script::User => eprintln!(rt; "cannot connect to {address}: {reason}"),
-        _ => eprintln!(rt; "cannot connect to itself: {reason}"),
+    let (what, whom) = match ending.script {
+        Script::Net => ("listen on", ending.address),
+        Script::User => ("connect to", ending.address),
+        _ => ("connect to", "itself"),
     };
+    say_impossible(rt, what, whom, error);
+}
+
+// Says that a device can't be had, what was to be done, with what, and why not.
+fn say_impossible(rt: &HostRuntime, what: &str, whom: &str, error: &io::Error) {
+    let _ = eprintln!(rt; "{}", ScriptFault::Device);
+    let _ = eprintln!(rt; "cannot {what} {whom}: {}", Reason(error));
 }
 
 // Says why frames can't go where they were to besides.
@@ -135,25 +139,29 @@ fn say_no_taps(rt: &HostRuntime, ending: &Ending<'_>, taps: &NoTaps) {
         Clock::Real(options) => (options.pcap.unwrap_or(""), options.gsmtap.unwrap_or("")),
         Clock::Script => ("", ""),
     };
-    let _ = eprintln!(rt; "{}", ScriptFault::Device);
-    let _ = match taps {
-        NoTaps::File(error) => eprintln!(rt; "cannot write {pcap}: {}", Reason(error)),
-        NoTaps::Socket(error) => eprintln!(rt; "cannot send to {gsmtap}: {}", Reason(error)),
-    };
+    match taps {
+        NoTaps::File(error) => say_impossible(rt, "write", pcap, error),
+        NoTaps::Socket(error) => say_impossible(rt, "send to", gsmtap, error),
+    }
 }
 
-// Says what is wrong with a line. A `tick` that is right by its form takes the clock past its end.
+// Says what is wrong with a line, where it is known.
 fn say_bad_line(rt: &HostRuntime, ending: &Ending<'_>) {
     let line = ending.line;
     if line.is_empty() {
         return;
     }
-    if ending.clock != Clock::Script {
+    if ending.clock == Clock::Script {
+        say_reason(rt, ending.script, line);
+    } else {
         let side = side_of(ending.script);
         let _ = eprintln!(rt; "{}", LiveReason { side, line });
-        return;
     }
-    let _ = match reason(rt.alloc(), ending.script, line) {
+}
+
+// Says what is wrong with a line of this script. A `tick` that is right by its form takes the clock past its end.
+fn say_reason(rt: &HostRuntime, script: Script, line: &[u8]) {
+    let _ = match reason(rt.alloc(), script, line) {
         Ok(Some(reason)) => eprintln!(rt; "{reason}"),
         Ok(None) if line.starts_with(b"tick ") => eprintln!(rt;
             "the clock ends at 1,000,000,000,000,000 ms"

@@ -6,7 +6,7 @@ use crate::live::do_live;
 use lapd_cli_commands::{answer, bus, decode, loop_over, pair};
 use lapd_cli_console::Script;
 use lapd_cli_decode::{LineForm, Style, decode_good_lines, decode_lines};
-use lapd_cli_options::{Clock, DecodeOptions, Interface, Job, LinkEnd, Params, Side};
+use lapd_cli_options::{Clock, DecodeOptions, Interface, Invocation, Job, LinkEnd, Params, Side};
 use lapd_cli_script::ScriptFault;
 use lapd_cli_side_commands::{Config, FromRead, FromWrite, LineStyle, Port, SideRun, net, user};
 use std::io::{Read, Write};
@@ -35,50 +35,59 @@ pub fn script_of(job: &Job) -> Script {
     }
 }
 
-/// Does a script, of `net` or `user` with this clock and this address, and with such lines.
+/// Does the script of what the words chose.
 ///
 /// # Errors
 ///
 /// `NoConnection`, where `loop`, `net` or `user` has none, and the command's own.
 pub fn do_job<R: Read, W: Write>(
     rt: &HostRuntime,
-    job: Job,
-    clock: &Clock<'_>,
-    address: &str,
-    lines: LineStyle,
+    chosen: &Invocation<'_>,
     script: &mut R,
     out: &mut W,
 ) -> Result<(), Stop> {
-    let ended = match job {
-        Job::Answer(end) => do_answer(rt, script, out, end),
-        Job::Bus { terminals } => bus(rt.alloc(), script, out, terminals),
-        Job::Pair { user, network } => pair(rt.alloc(), script, out, user, network),
-        Job::Loop { user, network } => return do_loop(rt, script, out, user, network),
+    let ended = match &chosen.job {
+        Job::Answer(end) => do_answer(rt, script, out, *end),
+        Job::Bus { terminals } => bus(rt.alloc(), script, out, *terminals),
+        Job::Pair { user, network } => pair(rt.alloc(), script, out, *user, *network),
+        Job::Loop { user, network } => return do_loop(rt, script, out, *user, *network),
         Job::Net(interface) => {
-            let setup = SideSetup {
-                interface: &interface,
-                address,
-                lines,
-            };
-            return match clock {
-                Clock::Script => do_net(rt, script, out, &setup),
-                Clock::Real(options) => do_live(rt, Side::Network, &setup, options, script, out),
-            };
+            return do_side(rt, Side::Network, interface, chosen, script, out);
         }
-        Job::User(interface) => {
-            let setup = SideSetup {
-                interface: &interface,
-                address,
-                lines,
-            };
-            return match clock {
-                Clock::Script => do_user(rt, script, out, &setup),
-                Clock::Real(options) => do_live(rt, Side::User, &setup, options, script, out),
-            };
-        }
-        Job::Decode(options) => do_decode(rt, script, out, options),
+        Job::User(interface) => return do_side(rt, Side::User, interface, chosen, script, out),
+        Job::Decode(options) => do_decode(rt, script, out, *options),
     };
     ended.map_err(Stop::Script)
+}
+
+// Does a script of a side of this interface, by the clock that was chosen.
+fn do_side<R: Read, W: Write>(
+    rt: &HostRuntime,
+    side: Side,
+    interface: &Interface,
+    chosen: &Invocation<'_>,
+    script: &mut R,
+    out: &mut W,
+) -> Result<(), Stop> {
+    let setup = SideSetup {
+        interface,
+        address: chosen.address.unwrap_or(""),
+        lines: style_of_lines(chosen.json),
+    };
+    match (&chosen.clock, side) {
+        (Clock::Real(options), _) => do_live(rt, side, &setup, options, script, out),
+        (Clock::Script, Side::Network) => do_net(rt, script, out, &setup),
+        (Clock::Script, Side::User) => do_user(rt, script, out, &setup),
+    }
+}
+
+// How `net` and `user` print their lines.
+fn style_of_lines(json: bool) -> LineStyle {
+    if json {
+        LineStyle::Json
+    } else {
+        LineStyle::Text
+    }
 }
 
 // Does a script of this end of a link.

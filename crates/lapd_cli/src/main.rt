@@ -26,7 +26,6 @@ use job::{do_job, script_of};
 use lapd_cli_console::{KeptLines, Refusals, Session, Watched};
 use lapd_cli_options::{Clock, Invocation, Job, parse_words, words};
 use lapd_cli_script::ScriptFault;
-use lapd_cli_side_commands::LineStyle;
 use std::io::{BufWriter, IsTerminal, Read};
 use std::process::ExitCode;
 
@@ -36,95 +35,57 @@ fn main(rt: HostRuntime) -> ExitCode {
         Err(fault) => return say_words_fault(&rt, fault),
     };
     match parse_words(rt.alloc(), words.as_slice()) {
-        Ok(
-            Invocation {
-                job,
-                address,
-                pcap,
-                clock,
-                json,
-                strict,
-            },
-        ) => match (job, pcap) {
-            (Job::Decode(options), Some(file)) => do_capture(&rt, file, options),
-            (job, _) => do_invocation(
-                &rt,
-                job,
-                &clock,
-                address.unwrap_or(""),
-                style_of_lines(json),
-                strict,
-            ),
-        },
+        Ok(chosen) => do_chosen(&rt, &chosen),
         Err(unchosen) => say_no_invocation(&rt, &unchosen),
     }
 }
 
-// Does what the words chose, over standard input and output. At a terminal a bad line is told, and the next one awaited.
-fn do_invocation(
-    rt: &HostRuntime,
-    job: Job,
-    clock: &Clock<'_>,
-    address: &str,
-    lines: LineStyle,
-    strict: bool,
-) -> ExitCode {
-    if rt.stdin().is_terminal() && has_forms(&job, clock) {
-        let session = Session::new(rt.alloc(), script_of(&job), rt.reader(), rt.stderr());
-        let typed = Greeting::new(session, rt.stderr());
-        do_script(rt, job, clock, address, lines, strict, typed)
-    } else {
-        do_script(rt, job, clock, address, lines, strict, rt.stdin())
+// Does what the words chose.
+fn do_chosen(rt: &HostRuntime, chosen: &Invocation<'_>) -> ExitCode {
+    match (&chosen.job, chosen.pcap) {
+        (Job::Decode(options), Some(file)) => do_capture(rt, file, *options),
+        _ => do_lines(rt, chosen),
     }
 }
 
-// How `net` and `user` print their lines.
-fn style_of_lines(json: bool) -> LineStyle {
-    if json {
-        LineStyle::Json
+// Does what the words chose, over standard input and output. At a terminal a bad line is told, and the next one awaited.
+fn do_lines(rt: &HostRuntime, chosen: &Invocation<'_>) -> ExitCode {
+    if rt.stdin().is_terminal() && has_forms(chosen) {
+        let script = script_of(&chosen.job);
+        let session = Session::new(rt.alloc(), script, rt.reader(), rt.stderr());
+        do_script(rt, chosen, Greeting::new(session, rt.stderr()))
     } else {
-        LineStyle::Text
+        do_script(rt, chosen, rt.stdin())
     }
 }
 
 // Whether the lines have the forms that a session at a terminal knows. With the real clock a side has a session of its own.
-fn has_forms(job: &Job, clock: &Clock<'_>) -> bool {
-    match job {
+fn has_forms(chosen: &Invocation<'_>) -> bool {
+    match &chosen.job {
         Job::Decode(options) => !options.loose,
-        _ => *clock == Clock::Script,
+        _ => chosen.clock == Clock::Script,
     }
 }
 
 // Does what the words chose, over a script that comes from this reader, and says how it ended.
-fn do_script<R: Read + Drop>(
-    rt: &HostRuntime,
-    job: Job,
-    clock: &Clock<'_>,
-    address: &str,
-    lines: LineStyle,
-    strict: bool,
-    reader: R,
-) -> ExitCode {
-    let script = script_of(&job);
+fn do_script<R: Read + Drop>(rt: &HostRuntime, chosen: &Invocation<'_>, reader: R) -> ExitCode {
     let mut kept = KeptLines::new(reader);
     let watched = Watched::new(Refusals::new(rt.stdout()));
     let Ok(mut out) = BufWriter::new(rt.alloc(), watched) else {
         return say_memory(rt);
     };
-    let ended = do_job(rt, job, clock, address, lines, &mut kept, &mut out);
+    let ended = do_job(rt, chosen, &mut kept, &mut out);
     // What a device that failed did not take is given up.
     let (watched, _left) = out.into_parts();
     let output = watched.fault();
     let refusals = watched.into_inner();
-    let line = bad_line(&kept, &ended);
-    let refusal = refusals.first().unwrap_or(&[]);
     let ending = Ending {
-        script,
-        clock: *clock,
-        address,
-        strict,
-        line,
-        refusal,
+        script: script_of(&chosen.job),
+        clock: chosen.clock,
+        address: chosen.address.unwrap_or(""),
+        strict: chosen.strict,
+        line: bad_line(&kept, &ended),
+        refusal: refusals.first().unwrap_or(&[]),
         input: kept.fault(),
         output,
     };
