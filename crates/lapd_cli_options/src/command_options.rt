@@ -132,6 +132,7 @@ fn interface_of<'a>(alloc: Global, given: &ArgMatches<'a>) -> Result<Interface, 
 
 // What was written for an interface, but for its TEIs.
 fn interface_options_of<'a>(given: &ArgMatches<'a>) -> InterfaceOptions<'a> {
+    let [t200, t201, t202, t203] = timers_of(given);
     InterfaceOptions {
         pri: given.get_flag("pri"),
         sapi16: given.get_flag("sapi16"),
@@ -139,12 +140,22 @@ fn interface_options_of<'a>(given: &ArgMatches<'a>) -> InterfaceOptions<'a> {
         n200: number_of(given, N200),
         room: number_of(given, ROOM),
         recovery: recovery_of(given, "recovery"),
-        t200: number_of(given, T200),
-        t201: number_of(given, T201),
-        t202: number_of(given, T202),
-        t203: number_of(given, T203),
+        t200,
+        t201,
+        t202,
+        t203,
         seed: number_of(given, SEED),
     }
+}
+
+// What was written for the timers, of which T200 is the first.
+fn timers_of<'a>(given: &ArgMatches<'a>) -> [&'a str; 4] {
+    [
+        number_of(given, T200),
+        number_of(given, T201),
+        number_of(given, T202),
+        number_of(given, T203),
+    ]
 }
 
 // What was written for this option, or its default.

@@ -3,7 +3,7 @@ ghost use Rattle.lapd_cli_options.specs.CommandLine.{IsDefault};
 use lapd_cli_values::{Interface, LinkEnd, Params, Sapi, Side, Tei};
 
 /// What the program's words choose.
-#[derive(Debug, PartialEq, Eq, Drop)]
+#[derive(Drop)]
 pub struct Invocation<'a> {
     /// What the program is to do.
     pub job: Job,
@@ -20,7 +20,7 @@ pub struct Invocation<'a> {
 }
 
 /// What the program is to do.
-#[derive(Debug, PartialEq, Eq, Drop)]
+#[derive(Drop)]
 pub enum Job {
     /// Answers a script as this end of a link.
     Answer(LinkEnd),

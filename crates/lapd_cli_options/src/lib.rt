@@ -53,7 +53,7 @@ pub fn parse_words<'a, S: AsStr>(
     }
     match program(alloc) {
         Ok(mut program) => invocation_of(alloc, &mut program, words),
-        Err(error) => Err(refused_by_parser(alloc, &error)),
+        Err(_) => Err(NoInvocation::Memory),
     }
 }
 

@@ -5,7 +5,7 @@ use std::alloc::Global;
 use std::fmt;
 
 /// Why the program's words choose nothing for it to do.
-#[derive(Debug, Drop)]
+#[derive(Drop)]
 pub enum NoInvocation<'a> {
     /// They ask for help or the version, which is this text. It is for standard output, and the exit status is 0.
     Shown(String),

@@ -54,15 +54,11 @@ fn near_command(alloc: Global, word: &str) -> Result<Option<&'static str>, Alloc
 }
 
 /// The parser of all words. It takes any word for a command, so that one that is none is told in words of our own.
-pub(crate) fn program<'a>(alloc: Global) -> Result<Command<'a>, Error> {
-    let commands = commands(alloc)?;
-    Ok(with_commands(named_program(alloc)?, commands)?)
-}
-
-// The program, with no commands yet.
-fn named_program<'a>(alloc: Global) -> Result<Command<'a>, AllocError> {
-    let program = Command::new(alloc, "lapd").bin_name("lapd")?;
-    Ok(with_texts(program))
+pub(crate) fn program<'a>(alloc: Global) -> Result<Command<'a>, AllocError> {
+    let mut commands = Vec::new(alloc);
+    push_commands(alloc, &mut commands)?;
+    let program = with_texts(Command::new(alloc, "lapd"));
+    with_commands(program, commands)?.bin_name("lapd")
 }
 
 // The program with its texts, which wants a command.
@@ -84,20 +80,30 @@ fn with_commands<'a>(
     program.subcommands(commands)
 }
 
-// All commands.
-fn commands<'a>(alloc: Global) -> Result<Vec<Command<'a>>, AllocError> {
-    let mut commands = Vec::new(alloc);
+fn push_commands<'a>(alloc: Global, commands: &mut Vec<Command<'a>>) -> Result<(), AllocError> {
     for command in COMMANDS {
-        commands.push(command_of(alloc, command)?)?;
+        push_command(alloc, commands, command)?;
     }
-    Ok(commands)
+    Ok(())
+}
+
+fn push_command<'a>(
+    alloc: Global,
+    commands: &mut Vec<Command<'a>>,
+    command: ScriptCommand,
+) -> Result<(), AllocError> {
+    commands.push(command_of(alloc, command)?)?;
+    Ok(())
 }
 
 fn command_of<'a>(alloc: Global, command: ScriptCommand) -> Result<Command<'a>, AllocError> {
     let mut args = Vec::new(alloc);
     push_groups(alloc, &mut args, command.options())?;
     let (about, after_long_help) = (command.about(), command.after_long_help());
-    with_args(described(alloc, command.name(), about, after_long_help), args)
+    with_args(
+        described(alloc, command.name(), about, after_long_help),
+        args,
+    )
 }
 
 // A command of this name, with what it does and the text that ends its help, and no options yet.
