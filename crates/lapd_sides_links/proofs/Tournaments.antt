@@ -130,6 +130,29 @@ pub sooner_of_two : (nodes : List (Option RunningTimer)) (at : ℕ) (left right 
 sooner_of_two nodes at left right first size high one other is = same_sooner left right first _ _ first
     (read_entry nodes (2 * at) left (omega (arith, size, high)) one) (read_entry nodes (2 * at + 1) right (omega (arith, size, high)) other) refl is
 
+either_way : (a b c : Option RunningTimer) → IsSooner a b c → IsSooner b a c
+either_way None None c is = is
+either_way None (Some b) c is = is
+either_way (Some a) None c is = is
+either_way (Some a) (Some b) c (inl is) = inr is
+either_way (Some a) (Some b) c (inr is) = inl is
+
+-- the one at a node against the one beside it
+pub sooner_of_pair : (nodes : List (Option RunningTimer)) (at : ℕ) (own other first : Option RunningTimer) → length nodes ≡ 512 → at < 512 → 2 ≤ at
+    → entry nodes at ≡ own → other ≡ get_or nodes (4 * (at / 2) + 1 - at) other → IsSooner own other first
+    → IsSooner (entry nodes (2 * (at / 2))) (entry nodes (2 * (at / 2) + 1)) first
+sooner_of_pair nodes at own other first size high low there beside is =
+    let reads : entry nodes (4 * (at / 2) + 1 - at) ≡ other = read_entry nodes _ other (omega (arith, size, high)) beside in
+    elim (cases_eq at (2 * (at / 2))) [
+      | inl even ↦
+          let next : 2 * (at / 2) + 1 ≡ 4 * (at / 2) + 1 - at = omega (arith, even) in
+          same_sooner own other first _ _ first (sym (ap (entry nodes) even) ∙ there) (ap (entry nodes) next ∙ reads) refl is
+      | inr differ ↦
+          let odd : at ≡ 2 * (at / 2) + 1 = omega (arith, differ) in
+          let before : 2 * (at / 2) ≡ 4 * (at / 2) + 1 - at = omega (arith, odd) in
+          same_sooner other own first _ _ first (ap (entry nodes) before ∙ reads) (sym (ap (entry nodes) odd) ∙ there) refl (either_way own other first is)
+    ]
+
 -- one that stays as it is
 pub won_before : (nodes : List (Option RunningTimer)) (at : ℕ) (first : Option RunningTimer) → IsWonBut at nodes → IsSooner (entry nodes (2 * at)) (entry nodes (2 * at + 1)) first
     → entry nodes at ≡ first → IsWonBut 0 nodes

@@ -64,26 +64,31 @@ impl Tournament {
         }
         let nodes = self.nodes.as_mut_slice();
         nodes[PLACES + place] = expiry;
-        settle(nodes, PLACES + place);
+        settle(nodes, PLACES + place, expiry);
     }
 }
 
-/// Lets the nodes above a place be won anew, from below, up to one that stays as it is.
-fn settle(nodes: &mut [Option<RunningTimer>], place: usize)
+/// Lets the nodes above a place, at which this expiry or none was entered, be won anew, from below, up to one that stays as it is.
+fn settle(nodes: &mut [Option<RunningTimer>], place: usize, entered: Option<RunningTimer>)
     requires open { IsWonBut (place / 2) nodes.old }
+    requires there { entry nodes.old place ≡ entered }
     requires low { 256 ≤ place }
     requires high { place < 512 }
     ensures won { IsWonBut 0 nodes.new }
     ensures places { (n : ℕ) → 256 ≤ n → entry nodes.new n ≡ entry nodes.old n }
 {
     let mut at = place;
+    let mut first = entered;
     while at > 1 {
-        at /= 2;
-        let first = sooner(nodes[2 * at], nodes[2 * at + 1]);
-        if is_same(&nodes[at], &first) {
+        let above = at / 2;
+        // Of 2n and 2n + 1 the other one.
+        let beside = 4 * above + 1 - at;
+        first = sooner(first, nodes[beside]);
+        if is_same(&nodes[above], &first) {
             return;
         }
-        nodes[at] = first;
+        nodes[above] = first;
+        at = above;
     }
 }
 

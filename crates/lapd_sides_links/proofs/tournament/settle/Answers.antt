@@ -1,29 +1,34 @@
-use Rattle.std.proofs.Common.{◌≡◌, ℕ, ◌/◌, ◌∙◌, subst, arith}
+use Rattle.std.proofs.Common.{◌≡◌, ℕ, ◌+◌, ◌*◌, ◌/◌, ◌∙◌, subst, arith}
 use Rattle.std.specs.Prelude.{None}
-use Rattle.std.proofs.lemmas.List.{get_or-set_other}
-use Rattle.lapd_sides_links.specs.Tournament.{IsWonBut}
-use Rattle.lapd_sides_links.proofs.Tournaments.{won_anew, won_before, read_entry, sooner_of_two}
+use Rattle.std.proofs.lemmas.List.{get_or-set_same, get_or-set_other}
+use Rattle.lapd_sides_links.specs.Tournament.{entry, IsWonBut}
+use Rattle.lapd_sides_links.specs.Places.{IsSooner}
+use Rattle.lapd_sides_links.proofs.Tournaments.{won_anew, won_before, read_entry, sooner_of_pair}
+use Rattle.lapd_sides_links.proofs.tournament.settle.Goals.{After-sooner-first}
 use Rattle.lapd_sides_links.proofs.tournament.settle.Goals as goal
 
+won : (c : After-sooner-first) → IsSooner (entry c.loop-at.nodes (2 * (c.loop-at.at / 2))) (entry c.loop-at.nodes (2 * (c.loop-at.at / 2) + 1)) c.sooner-first.result
+won c = sooner_of_pair c.loop-at.nodes c.loop-at.at c.loop-at.first c.index-nodes-beside.result c.sooner-first.result c.loop-at.invariant.0.size
+    c.loop-at.invariant.1.1.0 (omega (arith, c.loop-at-test.true)) c.loop-at.invariant.1.1.1.0 c.index-nodes-beside.is c.sooner-first.ensures
+
 pub returns-then-is_same-clause-won : goal.returns-then-is_same-clause-won
-returns-then-is_same-clause-won c =
-    let size = c.loop-at.invariant.0.size in
-    won_before c.loop-at.nodes (c.loop-at.at / 2) c.sooner-first.result c.loop-at.invariant.0
-    (sooner_of_two c.loop-at.nodes (c.loop-at.at / 2) c.index-nodes-at.result c.index-nodes-at-in-loop-at.result c.sooner-first.result
-    size (omega (arith, c.loop-at.invariant.1.1.0)) c.index-nodes-at.is c.index-nodes-at-in-loop-at.is c.sooner-first.ensures)
-    (read_entry c.loop-at.nodes (c.loop-at.at / 2) c.index-nodes-at-in-loop-at-2.result (omega (arith, size, c.loop-at.invariant.1.1.0)) c.index-nodes-at-in-loop-at-2.is
-    ∙ (c.index-nodes-at-in-loop-at-2.is ∙ c.is_same.ensures c.if-is_same.true))
+returns-then-is_same-clause-won c = won_before c.loop-at.nodes (c.loop-at.at / 2) c.sooner-first.result c.loop-at.invariant.0
+    (won (goal.at.returns-then-is_same-clause-won c).After-sooner-first)
+    (read_entry c.loop-at.nodes (c.loop-at.at / 2) c.index-nodes-above.result (omega (arith, c.loop-at.invariant.0.size, c.loop-at.invariant.1.1.0)) c.index-nodes-above.is
+    ∙ (c.index-nodes-above.is ∙ c.is_same.ensures c.if-is_same.true))
 
 pub loop-at-preserved : goal.loop-at-preserved
 loop-at-preserved c = (
   won_anew c.loop-at.nodes (c.loop-at.at / 2) c.sooner-first.result c.loop-at.invariant.0 (omega (arith, c.loop-at-test.true)) (omega (arith, c.loop-at.invariant.1.1.0))
-      (sooner_of_two c.loop-at.nodes (c.loop-at.at / 2) c.index-nodes-at.result c.index-nodes-at-in-loop-at.result c.sooner-first.result
-      c.loop-at.invariant.0.size (omega (arith, c.loop-at.invariant.1.1.0)) c.index-nodes-at.is c.index-nodes-at-in-loop-at.is c.sooner-first.ensures),
+      (won (goal.at.loop-at-preserved c).After-sooner-first),
   (
     omega (arith, c.loop-at-test.true),
     (
       omega (arith, c.loop-at.invariant.1.1.0),
-      λ n low. get_or-set_other c.loop-at.nodes (c.loop-at.at / 2) n c.sooner-first.result None (λ q. omega (arith, q, low, c.loop-at.invariant.1.1.0)) ∙ c.loop-at.invariant.1.1.1 n low,
+      (
+        get_or-set_same c.loop-at.nodes (c.loop-at.at / 2) c.sooner-first.result None (omega (arith, c.loop-at.invariant.0.size, c.loop-at.invariant.1.1.0)),
+        λ n low. get_or-set_other c.loop-at.nodes (c.loop-at.at / 2) n c.sooner-first.result None (λ q. omega (arith, q, low, c.loop-at.invariant.1.1.0)) ∙ c.loop-at.invariant.1.1.1.1 n low,
+      ),
     ),
   ),
 )
