@@ -6,3 +6,4 @@ pub mod Order
 pub mod Dues
 pub mod Outcomes
 pub mod Tournaments
+pub mod Spellings

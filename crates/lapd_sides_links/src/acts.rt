@@ -133,11 +133,10 @@ impl Acts {
               ∷ [];
         } }
     {
-        let mut spelled = ArrayVec::new();
-        write_over(frame, from, &mut spelled);
-        let Ok(()) = self.frames.push(spelled) else {
-            unreachable!()
-        };
+        // It is written in its place: one that is made first is copied there with all its room.
+        let place = self.frames.len();
+        self.frames.push_reserved(ArrayVec::new());
+        write_over(frame, from, &mut self.frames[place]);
     }
 
     /// Puts the octets of a message of TEI management behind the others, as this side sends it.
@@ -153,12 +152,12 @@ impl Acts {
         let Ok(()) = spelled.try_extend_from_slice(&message.frame(from)) else {
             unreachable!()
         };
-        let Ok(()) = self.frames.push(spelled) else {
-            unreachable!()
-        };
+        self.frames.push_reserved(spelled);
     }
 
     /// Puts a primitive behind the others.
+    // In place, a primitive without octets is written without room for them.
+    #[inline(always)]
     pub fn tell(&mut self, primitive: Primitive)
         requires { length self.old.primitives < MOST_PRIMITIVES }
         ensures { self.new ≡ record self.old {
@@ -166,8 +165,6 @@ impl Acts {
               ∷ [];
         } }
     {
-        let Ok(()) = self.primitives.push(primitive) else {
-            unreachable!()
-        };
+        self.primitives.push_reserved(primitive);
     }
 }

@@ -25,8 +25,7 @@ impl Model for Octets {
 
 impl Octets {
     /// These octets, at most 260.
-    // In place, the room for them would be cleared also where there are none: for each output of a step.
-    #[inline(never)]
+    #[inline(always)]
     pub fn new(octets: &[u8]) -> Octets
         requires { length octets.now ≤ MOST }
         ensures { result ≡ octets.now }

@@ -1,6 +1,6 @@
 //! What the outputs of a link's step come to: frames, primitives and timers.
 
-ghost use Rattle.std.specs.Prelude.{◌≡◌, ◌≤◌, ◌+◌, ◌++◌, false, length, map, ℕ, List, None};
+ghost use Rattle.std.specs.Prelude.{◌≡◌, ◌≤◌, ◌<◌, ◌+◌, ◌++◌, ◌∷◌, [], length, map};
 ghost use Rattle.std.specs.List.{filter_map};
 ghost use Rattle.lapd_link.specs.Link.{LinkStandsFor, setup_of};
 ghost use Rattle.lapd_link_rows.specs.End.{End};
@@ -42,48 +42,31 @@ pub fn tell_all(id: &LinkId, octets: &[u8], outs: &[Out], acts: &mut Acts)
     ensures at_most { length acts.new.primitives ≤ length acts.old.primitives + length outs.now }
 {
     for out in outs {
-        if !is_told(out) {
-            continue;
-        }
-        if let Some(what) = what_of(out, octets) {
-            acts.tell(of_link(id, what));
-        }
+        tell(id, octets, out, acts);
     }
 }
 
-/// Whether an output is for the layers above. Of one that is not, no `What` is made, whose room would be cleared.
-fn is_told(out: &Out) -> bool
-    ensures { result ≡ false → (octets : List ℕ) → what_of octets out.now ≡ None }
+/// Tells what this output is for the layers above, of the link with this name.
+// Each kind is made in its place: one that is made first is copied with the room for octets, also where it has none.
+fn tell(id: &LinkId, octets: &[u8], out: &Out, acts: &mut Acts)
+    requires fits { length octets.now ≤ N201 }
+    requires room { length acts.old.primitives < MOST_PRIMITIVES }
+    ensures primitives { acts.new.primitives ≡ acts.old.primitives
+        ++ map (Of id.now) (filter_map (what_of octets.now) (out.now ∷ [])) }
+    ensures frames { acts.new.frames ≡ acts.old.frames }
 {
-    !matches!(
-        out,
-        Out::Send(..) | Out::SendMessage(..) | Out::SendUnit | Out::Start(_) | Out::Stop(_)
-    )
-}
-
-/// What is told of the link with this name.
-fn of_link(id: &LinkId, what: What) -> Primitive
-    ensures { result ≡ Of id.now what }
-{
-    Primitive::Of(*id, what)
-}
-
-/// What layer 3 or management is told by an output.
-fn what_of(out: &Out, octets: &[u8]) -> Option<What>
-    requires { length octets.now ≤ N201 }
-    ensures { result ≡ what_of octets.now out.now }
-{
+    let of = *id;
     match out {
-        Out::Up => Some(What::Up(Octets::new(octets))),
-        Out::UnitUp => Some(What::UnitUp(Octets::new(octets))),
-        Out::Established => Some(What::Established),
-        Out::Confirmed => Some(What::Confirmed),
-        Out::Released => Some(What::Released),
-        Out::ReleaseConfirm => Some(What::ReleaseConfirm),
-        Out::Acknowledged(n) => Some(What::Acknowledged(*n)),
-        Out::Dropped(n) => Some(What::Dropped(*n)),
-        Out::Report(letter) => Some(What::Report(*letter)),
-        Out::Send(..) | Out::SendMessage(..) | Out::SendUnit | Out::Start(_) | Out::Stop(_) => None,
+        Out::Up => acts.tell(Primitive::Of(of, What::Up(Octets::new(octets)))),
+        Out::UnitUp => acts.tell(Primitive::Of(of, What::UnitUp(Octets::new(octets)))),
+        Out::Established => acts.tell(Primitive::Of(of, What::Established)),
+        Out::Confirmed => acts.tell(Primitive::Of(of, What::Confirmed)),
+        Out::Released => acts.tell(Primitive::Of(of, What::Released)),
+        Out::ReleaseConfirm => acts.tell(Primitive::Of(of, What::ReleaseConfirm)),
+        Out::Acknowledged(n) => acts.tell(Primitive::Of(of, What::Acknowledged(*n))),
+        Out::Dropped(n) => acts.tell(Primitive::Of(of, What::Dropped(*n))),
+        Out::Report(letter) => acts.tell(Primitive::Of(of, What::Report(*letter))),
+        Out::Send(..) | Out::SendMessage(..) | Out::SendUnit | Out::Start(_) | Out::Stop(_) => {}
     }
 }
 
