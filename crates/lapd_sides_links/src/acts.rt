@@ -1,5 +1,6 @@
 ghost use Rattle.std.specs.Prelude.{◌≡◌, ◌≤◌, ◌<◌, ◌+◌, ◌++◌, ◌∷◌, [], length, drop, map, IfOk, OnOk, OnErr};
 ghost use Rattle.std.specs.List.{All};
+ghost use Rattle.std.specs.Vec.{vec_capacity};
 ghost use Rattle.lapd_frame.specs.Frame.{spelling};
 ghost use Rattle.lapd_sides_links.specs.Effects.{HasLeastOctets, no_effects};
 ghost use Rattle.lapd_tei.specs.Message.{frame_of_message};
@@ -87,7 +88,7 @@ impl Acts {
         requires { 0 < length self.old.frames }
         ensures { self.new ≡ record self.old { frames = drop 1 self.old.frames } }
     {
-        drop(self.frames.remove(0));
+        remove_first(&mut self.frames);
     }
 
     /// Lets the first primitive go.
@@ -95,7 +96,7 @@ impl Acts {
         requires { 0 < length self.old.primitives }
         ensures { self.new ≡ record self.old { primitives = drop 1 self.old.primitives } }
     {
-        drop(self.primitives.remove(0));
+        remove_first(&mut self.primitives);
     }
 
     /// Moves all behind these frames and these primitives.
@@ -166,5 +167,19 @@ impl Acts {
         } }
     {
         self.primitives.push_reserved(primitive);
+    }
+}
+
+/// Lets the first of these go. The last one is not moved out for it.
+#[inline(always)]
+pub(crate) fn remove_first<T: Drop>(items: &mut Vec<T>)
+    requires { 0 < length items.old.items }
+    ensures items { items.new.items ≡ drop 1 items.old.items }
+    ensures capacity { vec_capacity items.new ≡ vec_capacity items.old }
+{
+    if items.len() == 1 {
+        items.clear();
+    } else {
+        drop(items.remove(0));
     }
 }

@@ -1,6 +1,7 @@
 ghost use Rattle.std.specs.Prelude.{◌≡◌, ◌<◌, length, drop, map, OnOk, OnErr};
 ghost use Rattle.lapd_sides_links.specs.Effects.{and_then, no_effects};
 
+use crate::acts::remove_first;
 use crate::{Acts, Primitive};
 use arrayvec::ArrayVec;
 use lapd_frame::MOST_OCTETS;
@@ -71,7 +72,7 @@ impl Backlog {
         requires { 0 < length self.old.frames }
         ensures { self.new ≡ record self.old { frames = drop 1 self.old.frames } }
     {
-        drop(self.frames.remove(0));
+        remove_first(&mut self.frames);
     }
 
     /// Lets the first primitive go.
@@ -79,6 +80,6 @@ impl Backlog {
         requires { 0 < length self.old.primitives }
         ensures { self.new ≡ record self.old { primitives = drop 1 self.old.primitives } }
     {
-        drop(self.primitives.remove(0));
+        remove_first(&mut self.primitives);
     }
 }

@@ -60,6 +60,7 @@ pub fn is_no_later(one: &RunningTimer, other: &RunningTimer) -> bool
 }
 
 /// Whether the one link comes first: by SAPI, then by TEI. TEI management comes before all of them.
+#[inline(always)]
 fn is_no_later_link(one: Option<LinkId>, other: Option<LinkId>) -> bool
     ensures { MatchBool result (IsNoLaterLink one other) (IsNoLaterLink other one) }
 {

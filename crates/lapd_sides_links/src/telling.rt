@@ -1,6 +1,6 @@
 //! What the outputs of a link's step come to: frames, primitives and timers.
 
-ghost use Rattle.std.specs.Prelude.{◌≡◌, ◌≤◌, ◌<◌, ◌+◌, ◌++◌, ◌∷◌, [], length, map};
+ghost use Rattle.std.specs.Prelude.{◌≡◌, ◌≤◌, ◌<◌, ◌+◌, ◌++◌, ◌∷◌, [], false, length, map, ℕ, List, None};
 ghost use Rattle.std.specs.List.{filter_map};
 ghost use Rattle.lapd_link.specs.Link.{LinkStandsFor, setup_of};
 ghost use Rattle.lapd_link_rows.specs.End.{End};
@@ -42,8 +42,21 @@ pub fn tell_all(id: &LinkId, octets: &[u8], outs: &[Out], acts: &mut Acts)
     ensures at_most { length acts.new.primitives ≤ length acts.old.primitives + length outs.now }
 {
     for out in outs {
-        tell(id, octets, out, acts);
+        if is_told(out) {
+            tell(id, octets, out, acts);
+        }
     }
+}
+
+/// Whether an output is for the layers above: of most it is found out at once that they are not.
+#[inline(always)]
+fn is_told(out: &Out) -> bool
+    ensures { result ≡ false → (octets : List ℕ) → what_of octets out.now ≡ None }
+{
+    !matches!(
+        out,
+        Out::Send(..) | Out::SendMessage(..) | Out::SendUnit | Out::Start(_) | Out::Stop(_)
+    )
 }
 
 /// Tells what this output is for the layers above, of the link with this name.

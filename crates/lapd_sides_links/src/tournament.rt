@@ -2,10 +2,11 @@
 
 ghost use Rattle.std.specs.Prelude.{◌≡◌, ◌≢◌, ◌≤◌, ◌<◌, ℕ, ◌/◌, None, IfOk, true};
 ghost use Rattle.lapd_sides_links.specs.Expiries.{IsFirst};
+ghost use Rattle.lapd_sides_links.specs.Places.{IsSooner};
 ghost use Rattle.lapd_sides_links.specs.Tournament.{entry, IsEntered, IsWonBut};
 
 use crate::RunningTimer;
-use crate::running_timer::{is_no_later, sooner};
+use crate::running_timer::is_no_later;
 use std::alloc::{AllocError, Global};
 use std::marker::Model;
 
@@ -83,12 +84,30 @@ fn settle(nodes: &mut [Option<RunningTimer>], place: usize, entered: Option<Runn
         let above = at / 2;
         // Of 2n and 2n + 1 the other one.
         let beside = 4 * above + 1 - at;
-        first = sooner(first, nodes[beside]);
+        first = sooner_beside(first, &nodes[beside]);
         if is_same(&nodes[above], &first) {
             return;
         }
         nodes[above] = first;
         at = above;
+    }
+}
+
+/// The one that comes first, of two that may be there. Of the other no more is read than has to be.
+#[inline(always)]
+fn sooner_beside(first: Option<RunningTimer>, other: &Option<RunningTimer>) -> Option<RunningTimer>
+    ensures { IsSooner first other.now result }
+{
+    let Some(other) = other else {
+        return first;
+    };
+    let Some(own) = first else {
+        return Some(*other);
+    };
+    if is_no_later(&own, other) {
+        Some(own)
+    } else {
+        Some(*other)
     }
 }
 
