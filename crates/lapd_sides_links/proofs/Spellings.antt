@@ -1,6 +1,6 @@
--- A frame that is written in its place.
-use Rattle.std.proofs.Common.{◌≡◌, ℕ, List, [], ◌∷◌, ◌++◌, length, map, set, ap, ◌∙◌}
-use Rattle.std.proofs.lemmas.List.{set_at, map-append}
+-- What is written in its place.
+use Rattle.std.proofs.Common.{◌≡◌, ℕ, List, [], ◌∷◌, ◌++◌, length, map, set, get_or, ap, ◌∙◌}
+use Rattle.std.proofs.lemmas.List.{set_at, get_or_at, map-append}
 use Rattle.arrayvec.specs.ArrayVec.{ArrayVec}
 use Rattle.lapd_sides_links.specs.declared.primitive.Primitive.{Primitive}
 use Rattle.lapd_sides_links.specs.Effects.{Effects}
@@ -16,3 +16,16 @@ written_behind frames pushed place made written octets primitives size push is =
     ∙ (ap (map (λ (f : ArrayVec ℕ). f.items)) (set_at frames made [] written place size)
     ∙ (map-append (λ (f : ArrayVec ℕ). f.items) frames (written ∷ [])
     ∙ ap (λ (o : List ℕ). map (λ (f : ArrayVec ℕ). f.items) frames ++ o ∷ []) is)))
+
+pub filled_behind : (primitives pushed : List Primitive) (place : ℕ) (made filled told : Primitive) (frames : List (List ℕ))
+    → length primitives ≡ place → pushed ≡ primitives ++ made ∷ [] → filled ≡ told
+    → these frames (set pushed place filled) ≡ these frames (primitives ++ told ∷ [])
+filled_behind primitives pushed place made filled told frames size push is = ap (these frames)
+    (ap (λ (l : List Primitive). set l place filled) push
+    ∙ (set_at primitives made [] filled place size ∙ ap (λ (p : Primitive). primitives ++ p ∷ []) is))
+
+-- and what was pushed stands there
+pub pushed_behind : (primitives pushed : List Primitive) (place : ℕ) (made found told : Primitive)
+    → length primitives ≡ place → pushed ≡ primitives ++ made ∷ [] → found ≡ get_or pushed place found → made ≡ told → found ≡ told
+pushed_behind primitives pushed place made found told size push read is =
+    read ∙ (ap (λ (l : List Primitive). get_or l place found) push ∙ (get_or_at primitives made [] found place size ∙ is))

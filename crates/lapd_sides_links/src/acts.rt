@@ -2,12 +2,15 @@ ghost use Rattle.std.specs.Prelude.{◌≡◌, ◌≤◌, ◌<◌, ◌+◌, ◌+
 ghost use Rattle.std.specs.List.{All};
 ghost use Rattle.std.specs.Vec.{vec_capacity};
 ghost use Rattle.lapd_frame.specs.Frame.{spelling};
+ghost use Rattle.lapd_sides_links.specs.declared.primitive.Primitive.TheVariants.{Of};
+ghost use Rattle.lapd_sides_links.specs.declared.primitive.What.TheVariants.{Up};
 ghost use Rattle.lapd_sides_links.specs.Effects.{HasLeastOctets, no_effects};
 ghost use Rattle.lapd_tei.specs.Message.{frame_of_message};
 
-use crate::Primitive;
+use crate::{Octets, Primitive, What};
 use arrayvec::ArrayVec;
-use lapd_frame::{Frame, MOST_OCTETS, Side, write_over};
+use lapd_frame::{Frame, MOST_OCTETS, N201, Side, write_over};
+use lapd_table::LinkId;
 use lapd_tei::TeiMessage;
 use std::alloc::{AllocError, Global};
 use std::marker::Model;
@@ -156,6 +159,22 @@ impl Acts {
         self.frames.push_reserved(spelled);
     }
 
+    /// Puts a message of the link with this name, which goes up, behind the others.
+    // It is copied to its place: octets that are made first are copied twice, with all their room.
+    #[inline(always)]
+    pub(crate) fn tell_up(&mut self, of: LinkId, octets: &[u8])
+        requires fits { length octets.now ≤ N201 }
+        requires room { length self.old.primitives < MOST_PRIMITIVES }
+        ensures { self.new ≡ record self.old {
+          primitives = self.old.primitives ++ Of of (Up octets.now) ∷ [];
+        } }
+    {
+        let place = self.primitives.len();
+        self.primitives
+            .push_reserved(Primitive::Of(of, What::Up(Octets::none())));
+        fill_up(&mut self.primitives[place], &of, octets);
+    }
+
     /// Puts a primitive behind the others.
     // In place, a primitive without octets is written without room for them.
     #[inline(always)]
@@ -167,6 +186,19 @@ impl Acts {
         } }
     {
         self.primitives.push_reserved(primitive);
+    }
+}
+
+/// Puts these octets into a message that goes up and has none.
+#[inline(always)]
+fn fill_up(primitive: &mut Primitive, of: &LinkId, octets: &[u8])
+    requires empty { primitive.old ≡ Of of.now (Up []) }
+    requires fits { length octets.now ≤ N201 }
+    ensures { primitive.new ≡ Of of.now (Up octets.now) }
+{
+    match primitive {
+        Primitive::Of(_, What::Up(up)) => up.fill(octets),
+        _ => unreachable!(),
     }
 }
 

@@ -1,4 +1,4 @@
-ghost use Rattle.std.specs.Prelude.{◌≡◌, ◌≤◌, length, Some};
+ghost use Rattle.std.specs.Prelude.{◌≡◌, ◌≤◌, [], length, Some};
 ghost use Rattle.hex.specs.Hex.{encode_lower};
 
 use arrayvec::ArrayVec;
@@ -35,6 +35,28 @@ impl Octets {
             unreachable!()
         };
         Octets { octets: copy }
+    }
+
+    /// No octets yet.
+    #[inline(always)]
+    pub(crate) fn none() -> Octets
+        ensures { result ≡ [] }
+    {
+        Octets {
+            octets: ArrayVec::new(),
+        }
+    }
+
+    /// These octets in place of none, at most 260.
+    #[inline(always)]
+    pub(crate) fn fill(&mut self, octets: &[u8])
+        requires none { self.old ≡ [] }
+        requires fits { length octets.now ≤ MOST }
+        ensures { self.new ≡ octets.now }
+    {
+        let Ok(()) = self.octets.try_extend_from_slice(octets) else {
+            unreachable!()
+        };
     }
 
     /// The octets.

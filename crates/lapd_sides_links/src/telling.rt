@@ -70,7 +70,7 @@ fn tell(id: &LinkId, octets: &[u8], out: &Out, acts: &mut Acts)
 {
     let of = *id;
     match out {
-        Out::Up => acts.tell(Primitive::Of(of, What::Up(Octets::new(octets)))),
+        Out::Up => acts.tell_up(of, octets),
         Out::UnitUp => acts.tell(Primitive::Of(of, What::UnitUp(Octets::new(octets)))),
         Out::Established => acts.tell(Primitive::Of(of, What::Established)),
         Out::Confirmed => acts.tell(Primitive::Of(of, What::Confirmed)),
