@@ -1,11 +1,10 @@
 //! The lines of what the moves of two ends give.
 
-ghost use Rattle.std.specs.Prelude.{◌≡◌, ◌∷◌, ◌++◌, map, IsOkUnless, OnOk};
+ghost use Rattle.std.specs.Prelude.{◌≡◌, ◌∷◌, ◌++◌, IsOkUnless, OnOk};
 ghost use Rattle.lapd_cli_commands.specs.Answer.{messages_of};
-ghost use Rattle.lapd_cli_commands.specs.Pair.{last_message as message_of, last_octets, side_name as name_of, spoken_of};
+ghost use Rattle.lapd_cli_commands.specs.Pair.{side_name as name_of, spoken_of};
 ghost use Rattle.lapd_cli_commands.specs.StandsForWorld.{made_side_line, made_side_lines};
 ghost use Rattle.lapd_cli_commands.specs.ToldValues.{phrase_line};
-ghost use Rattle.lapd_pair.specs.Histories.{octets_and_establishment};
 ghost use Rattle.lapd_pair.specs.Runs.{PairStandsFor};
 ghost use Rattle.lapd_cli_script.specs.Line.{text_line};
 ghost use Rattle.lapd_trace.specs.Trace.{frame_line};
@@ -37,36 +36,28 @@ pub(crate) fn write_lines(
     ensures err { IsOkUnless result LineFault.Memory }
 {
     text.clear();
-    let spoken = Spoken {
-        message: last_message(pair, side),
-        unit: last_unit(pair, side),
-        sent: unit,
-    };
+    let spoken = spoken_of(pair, side, unit);
     for given in outs {
         push_line(alloc, pair, side, &spoken, given, text)?;
     }
     Ok(())
 }
 
-/// The message that a side last received.
-fn last_message(pair: &Pair, side: Side) -> &[u8]
-    ensures { (w : World) → PairStandsFor pair.now w → result.now
-        ≡ message_of (map octets_and_establishment (view_of side w).station.history.received) }
-{
-    match pair.received(side).last() {
-        Some(message) => message.octets.as_slice(),
-        None => &[],
-    }
-}
-
-/// The unit data that a side last received.
-fn last_unit(pair: &Pair, side: Side) -> &[u8]
+/// The octets that the outputs of this side speak of, which sent this unit data.
+fn spoken_of<'a>(pair: &'a Pair, side: Side, unit: &'a [u8]) -> Spoken<'a>
     ensures { (w : World) → PairStandsFor pair.now w
-        → result.now ≡ last_octets (view_of side w).station.history.units }
+        → result ≡ spoken_of (view_of side w).station.history unit.now }
 {
-    match pair.units(side).last() {
-        Some(octets) => octets.as_slice(),
-        None => &[],
+    Spoken {
+        message: match pair.received(side).last() {
+            Some(message) => message.octets.as_slice(),
+            None => &[],
+        },
+        unit: match pair.units(side).last() {
+            Some(octets) => octets.as_slice(),
+            None => &[],
+        },
+        sent: unit,
     }
 }
 
