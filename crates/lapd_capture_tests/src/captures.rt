@@ -1,6 +1,6 @@
 //! Captures that were read, by what is printed of them.
 
-use crate::wants::{octets_of, wants};
+use crate::wants::{is_said, wants};
 use lapd_cli_decode::{Capture, CaptureStop, CaptureStyle, Side, Style, decode_capture};
 use std::alloc::Global;
 use std::test::Fail;
@@ -57,6 +57,10 @@ nanoseconds|4d3cb2a102000400000000000000000000000400b100000000000000ffc99a3b1300
 the greatest|d4c3b2a102000400000000000000000000000400b1000000ffffffffffffffff1300000013000000000420fd00010000000000000000003000817f|{"direction":"U>N","frame":"SABME","p":1,"packet":1,"role":"command","sapi":0,"tei":64,"time":"4294971589.967295"}
 pcapng, another packet and another block before it|0a0d0d0a1c0000004d3c2b1a01000000ffffffffffffffff1c00000001000000140000006900000000000000140000000100000014000000b10000000000000014000000060000002400000000000000000000000000000003000000030000006162630024000000050000000c0000000c00000006000000340000000100000000000000000000001300000013000000000420fd00010000000000000000003000817f0034000000|{"direction":"U>N","frame":"SABME","p":1,"packet":2,"role":"command","sapi":0,"tei":64}"#;
 
+// A name, a capture, and the lines that are printed where packets that can't be read are passed over.
+const PASSED_OVER: &str = "\
+captured in part|d4c3b2a102000400000000000000000000000400b100000001000000d00700001300000013000000000420fd00010000000000000000003000817f01000000d00700001300000028000000000420fd00010000000000000000003000817f01000000d00700001300000013000000000420fd00010000000000000000003000817f|U>N SAPI 0 TEI 64 C SABME P=1/U>N SAPI 0 TEI 64 C SABME P=1";
+
 const HOW: CaptureStyle = CaptureStyle {
     style: Style::Named,
     sender: Side::User,
@@ -65,87 +69,72 @@ const HOW: CaptureStyle = CaptureStyle {
 
 #[test]
 fn captures_are_printed(rt: HostRuntime) -> Result<(), Fail> {
-    for row in CAPTURES.lines() {
-        let (name, rest) = row.split_once('|').unwrap_or(("", ""));
-        let (digits, lines) = rest.split_once('|').unwrap_or(("", ""));
-        let octets = octets_of(rt.alloc(), digits)?;
-        let (ended, printed) = printed_of(rt.alloc(), octets.as_slice(), HOW)?;
-        wants(ended.is_ok(), name, "its end")?;
-        wants(are_lines(printed.as_slice(), lines), name, "its lines")?;
-    }
-    Ok(())
-}
-
-#[test]
-fn objects_have_their_packets(rt: HostRuntime) -> Result<(), Fail> {
-    let how = CaptureStyle {
+    let objects = CaptureStyle {
         style: Style::Json,
         ..HOW
     };
-    for row in OBJECTS.lines() {
-        let (name, rest) = row.split_once('|').unwrap_or(("", ""));
-        let (digits, lines) = rest.split_once('|').unwrap_or(("", ""));
-        let octets = octets_of(rt.alloc(), digits)?;
-        let (ended, printed) = printed_of(rt.alloc(), octets.as_slice(), how)?;
-        let so = ended.is_ok() && are_lines(printed.as_slice(), lines);
-        wants(so, name, "its objects")?;
-    }
-    Ok(())
-}
-
-#[test]
-fn faults_are_named(rt: HostRuntime) -> Result<(), Fail> {
-    for row in FAULTS.lines() {
-        let (name, rest) = row.split_once('|').unwrap_or(("", ""));
-        let (digits, rest) = rest.split_once('|').unwrap_or(("", ""));
-        let (fault, line) = rest.split_once('|').unwrap_or(("", ""));
-        let octets = octets_of(rt.alloc(), digits)?;
-        let (ended, printed) = printed_of(rt.alloc(), octets.as_slice(), HOW)?;
-        wants(is_stop(rt.alloc(), ended, fault)?, name, "its fault")?;
-        wants(are_lines(printed.as_slice(), line), name, "its lines")?;
-    }
-    Ok(())
-}
-
-#[test]
-fn packets_are_passed_over(rt: HostRuntime) -> Result<(), Fail> {
-    let how = CaptureStyle {
+    let keeping = CaptureStyle {
         keeping: true,
         ..HOW
     };
-    let digits =
-        "d4c3b2a102000400000000000000000000000400b100000001000000d00700001300000013000000000420fd00010000000000000000003000817f01000000d00700001300000028000000000420fd00010000000000000000003000817f01000000d00700001300000013000000000420fd00010000000000000000003000817f";
-    let octets = octets_of(rt.alloc(), digits)?;
-    let (ended, printed) = printed_of(rt.alloc(), octets.as_slice(), how)?;
-    wants(ended.is_ok(), "captured in part", "its end")?;
-    let lines = "U>N SAPI 0 TEI 64 C SABME P=1/U>N SAPI 0 TEI 64 C SABME P=1";
-    wants(
-        are_lines(printed.as_slice(), lines),
-        "captured in part",
-        "its lines",
-    )
+    rows_hold(rt.alloc(), CAPTURES, HOW)?;
+    rows_hold(rt.alloc(), FAULTS, HOW)?;
+    rows_hold(rt.alloc(), OBJECTS, objects)?;
+    rows_hold(rt.alloc(), PASSED_OVER, keeping)
 }
 
-// How printing a capture ends, and what it prints.
-fn printed_of(
+fn rows_hold(alloc: Global, rows: &str, how: CaptureStyle) -> Result<(), Fail> {
+    for row in rows.lines() {
+        let so = row_holds(alloc, row, how);
+        wants(so, row, "its end, or its lines")?;
+    }
+    Ok(())
+}
+
+// Whether a row holds: a name, a capture, how it ends where it does not end well, and the lines that are printed.
+fn row_holds(alloc: Global, row: &str, how: CaptureStyle) -> bool {
+    let mut fields = row.split('|');
+    let _name = fields.next();
+    let digits = fields.next().unwrap_or("");
+    let third = fields.next().unwrap_or("");
+    match fields.next() {
+        Some(lines) => comes_to(alloc, digits, how, third, lines),
+        None => comes_to(alloc, digits, how, "", third),
+    }
+}
+
+fn comes_to(alloc: Global, digits: &str, how: CaptureStyle, fault: &str, lines: &str) -> bool {
+    match hex::decode(alloc, digits.as_bytes()) {
+        Ok(octets) => prints(alloc, octets.as_slice(), how, fault, lines),
+        Err(_) => false,
+    }
+}
+
+fn prints(alloc: Global, octets: &[u8], how: CaptureStyle, fault: &str, lines: &str) -> bool {
+    let mut printed = Vec::new(alloc);
+    let ended = print_capture(alloc, octets, &mut printed, how);
+    ends_by(alloc, ended, fault) && are_lines(printed.as_slice(), lines)
+}
+
+// How printing a capture ends.
+fn print_capture(
     alloc: Global,
     octets: &[u8],
+    printed: &mut Vec<u8>,
     how: CaptureStyle,
-) -> Result<(Result<(), CaptureStop>, Vec<u8>), Fail> {
-    let mut printed = Vec::new(alloc);
+) -> Result<(), CaptureStop> {
     let mut told = Vec::new(alloc);
-    let ended = match Capture::new(octets) {
-        Ok(mut capture) => decode_capture(alloc, &mut capture, &mut printed, &mut told, how),
+    match Capture::new(octets) {
+        Ok(mut capture) => decode_capture(alloc, &mut capture, printed, &mut told, how),
         Err(fault) => Err(CaptureStop::Capture(fault, 0)),
-    };
-    Ok((ended, printed))
+    }
 }
 
-// Whether a capture ended by this fault.
-fn is_stop(alloc: Global, ended: Result<(), CaptureStop>, fault: &str) -> Result<bool, Fail> {
+// Whether a capture ended by this fault, or well where it is none.
+fn ends_by(alloc: Global, ended: Result<(), CaptureStop>, fault: &str) -> bool {
     match ended {
-        Ok(()) => Ok(false),
-        Err(stop) => Ok(format!(in alloc; "{stop}")?.as_str() == fault),
+        Ok(()) => fault.is_empty(),
+        Err(stop) => is_said(alloc, &stop, fault),
     }
 }
 

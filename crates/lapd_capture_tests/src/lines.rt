@@ -1,89 +1,99 @@
-//! Lines of loose forms, and what is printed for them.
+//! Lines of loose forms, and what is printed for them; and lines that are passed over.
 
-use crate::wants::wants;
+use crate::wants::{all_hold, wants};
 use lapd_cli_decode::{LineForm, Side, Style, decode_good_lines, decode_lines};
 use lapd_cli_script::ScriptFault;
 use std::alloc::Global;
 use std::test::Fail;
 
-// A loose line that the user printed, and the line for it.
-const LINES: &[(&str, &str)] = &[
-    ("user 00817f", "U>N SAPI 0 TEI 64 C SABME P=1\n"),
-    ("user 00 81 7f", "U>N SAPI 0 TEI 64 C SABME P=1\n"),
-    ("net 00:81:73", "N>U SAPI 0 TEI 64 R UA F=1\n"),
-    ("user  00\t81 7f\r", "U>N SAPI 0 TEI 64 C SABME P=1\n"),
-    ("user", "U>N F1 TooShort\n"),
-    ("> [ 00 81 7f ]", "U>N SAPI 0 TEI 64 C SABME P=1\n"),
-    ("< [ 00 81 73 ]", "N>U SAPI 0 TEI 64 R UA F=1\n"),
-    ("> [ 02 81 01 01 ]", "U>N SAPI 0 TEI 64 R RR N(R)=0 F=1\n"),
-];
-
-// Lines that are none, also where loose ones are taken.
-const NO_LINES: &[&str] = &[
-    "userx 00",
-    "user 00 8",
-    "user 00-81",
-    "nobody 00",
-    " user 00",
-    "> 0x00",
-    "[ 00 ]",
-];
+// A loose line that the user printed, and the line for it; nothing where it is none, also where loose ones are taken.
+const LINES: &str = "\
+user 00817f|U>N SAPI 0 TEI 64 C SABME P=1
+user 00 81 7f|U>N SAPI 0 TEI 64 C SABME P=1
+net 00:81:73|N>U SAPI 0 TEI 64 R UA F=1
+user  00\t81 7f\r|U>N SAPI 0 TEI 64 C SABME P=1
+user|U>N F1 TooShort
+> [ 00 81 7f ]|U>N SAPI 0 TEI 64 C SABME P=1
+< [ 00 81 73 ]|N>U SAPI 0 TEI 64 R UA F=1
+> [ 02 81 01 01 ]|U>N SAPI 0 TEI 64 R RR N(R)=0 F=1
+userx 00|
+user 00 8|
+user 00-81|
+nobody 00|
+ user 00|
+> 0x00|
+[ 00 ]|";
 
 #[test]
 fn loose_lines_are_decoded(rt: HostRuntime) -> Result<(), Fail> {
-    for (line, text) in LINES {
-        let mut printed = Vec::new(rt.alloc());
-        let form = LineForm::Loose(Side::User);
-        let ended = decode_lines(
-            rt.alloc(),
-            &mut line.as_bytes(),
-            &mut printed,
-            form,
-            Style::Plain,
-        );
-        let so = ended == Ok(()) && printed.as_slice() == text.as_bytes();
-        wants(so, line, "its text")?;
+    rows_hold(rt.alloc(), LINES, LineForm::Loose(Side::User), Style::Plain)
+}
+
+/// Each row is a line and what is printed for it, with its end left out; nothing where the line is bad.
+pub(crate) fn rows_hold(
+    alloc: Global,
+    rows: &str,
+    form: LineForm,
+    style: Style,
+) -> Result<(), Fail> {
+    for row in rows.split('\n') {
+        let so = row_holds(alloc, row, form, style);
+        wants(so, row, "its end, or what is printed")?;
     }
     Ok(())
 }
 
-#[test]
-fn other_lines_are_bad(rt: HostRuntime) -> Result<(), Fail> {
-    for line in NO_LINES {
-        let mut printed = Vec::new(rt.alloc());
-        let form = LineForm::Loose(Side::User);
-        let ended = decode_lines(
-            rt.alloc(),
-            &mut line.as_bytes(),
-            &mut printed,
-            form,
-            Style::Plain,
-        );
-        let so = ended == Err(ScriptFault::BadLine(1)) && printed.is_empty();
-        wants(so, line, "its end")?;
+fn row_holds(alloc: Global, row: &str, form: LineForm, style: Style) -> bool {
+    let (line, printed) = row.split_once('|').unwrap_or((row, ""));
+    let end = if printed.is_empty() {
+        Err(ScriptFault::BadLine(1))
+    } else {
+        Ok(())
+    };
+    prints(alloc, line, form, style, end, printed)
+}
+
+fn prints(
+    alloc: Global,
+    line: &str,
+    form: LineForm,
+    style: Style,
+    end: Result<(), ScriptFault>,
+    wanted: &str,
+) -> bool {
+    let mut printed = Vec::new(alloc);
+    let mut script = line.as_bytes();
+    let ended = decode_lines(alloc, &mut script, &mut printed, form, style);
+    ended == end && is_line(printed.as_slice(), wanted)
+}
+
+// Whether this line was printed, or nothing where it is empty.
+fn is_line(printed: &[u8], line: &str) -> bool {
+    match printed.strip_suffix(b"\n") {
+        Some(text) => !line.is_empty() && text == line.as_bytes(),
+        None => line.is_empty() && printed.is_empty(),
     }
-    Ok(())
+}
+
+const PASSED_OVER: &str = "user 00817f\nuser  00817f\n\nnet 008173\n";
+
+// Whether its good lines are printed, and the other one is told.
+fn passes_over(alloc: Global, printed: &mut Vec<u8>, told: &mut Vec<u8>) -> Result<(), Fail> {
+    let (form, style) = (LineForm::Strict, Style::Plain);
+    let mut script = PASSED_OVER.as_bytes();
+    let ended = decode_good_lines(alloc, &mut script, printed, form, style, &mut *told);
+    let text = b"U>N SAPI 0 TEI 64 C SABME P=1\nN>U SAPI 0 TEI 64 R UA F=1\n".as_slice();
+    let passed = b"passed over: user  00817f\n".as_slice();
+    all_hold(&[
+        (ended == Ok(()), PASSED_OVER, "its end"),
+        (printed.as_slice() == text, PASSED_OVER, "its text"),
+        (told.as_slice() == passed, PASSED_OVER, "what is told"),
+    ])
 }
 
 #[test]
 fn bad_lines_are_passed_over(rt: HostRuntime) -> Result<(), Fail> {
-    let script = "user 00817f\nuser  00817f\n\nnet 008173\n";
     let mut printed = Vec::new(rt.alloc());
     let mut told = Vec::new(rt.alloc());
-    let ended = decode_good_lines(
-        rt.alloc(),
-        &mut script.as_bytes(),
-        &mut printed,
-        LineForm::Strict,
-        Style::Plain,
-        &mut told,
-    );
-    wants(ended == Ok(()), script, "its end")?;
-    let text = b"U>N SAPI 0 TEI 64 C SABME P=1\nN>U SAPI 0 TEI 64 R UA F=1\n";
-    wants(printed.as_slice() == text.as_slice(), script, "its text")?;
-    wants(
-        told.as_slice() == b"passed over: user  00817f\n".as_slice(),
-        script,
-        "what is told",
-    )
+    passes_over(rt.alloc(), &mut printed, &mut told)
 }

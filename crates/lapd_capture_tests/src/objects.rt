@@ -1,8 +1,7 @@
 //! JSON objects for octets, as docs/SPECIFICATION.md has them.
 
-use crate::wants::wants;
-use lapd_cli_decode::{LineForm, Style, decode_lines};
-use std::alloc::Global;
+use crate::lines::rows_hold;
+use lapd_cli_decode::{LineForm, Style};
 use std::test::Fail;
 
 // A line, and its object.
@@ -31,27 +30,6 @@ net 04817f|{"direction":"N>U","fault":"F3 SapiNotServed","octets":"04817f"}"#;
 
 #[test]
 fn objects_are_printed(rt: HostRuntime) -> Result<(), Fail> {
-    are_printed(rt.alloc(), OBJECTS, Style::Json)?;
-    are_printed(rt.alloc(), NAMED, Style::NamedJson)
-}
-
-// Whether the object of each row is printed for its line.
-fn are_printed(alloc: Global, rows: &str, style: Style) -> Result<(), Fail> {
-    for row in rows.lines() {
-        let (line, object) = row.split_once('|').unwrap_or(("", ""));
-        let is_so = is_printed(alloc, line, object, style);
-        wants(is_so, line, "its object")?;
-    }
-    Ok(())
-}
-
-// Whether this object is printed for this line.
-fn is_printed(alloc: Global, line: &str, object: &str, style: Style) -> bool {
-    let mut printed = Vec::new(alloc);
-    let mut script = line.as_bytes();
-    let ended = decode_lines(alloc, &mut script, &mut printed, LineForm::Strict, style);
-    match printed.as_slice().strip_suffix(b"\n") {
-        Some(text) => ended == Ok(()) && text == object.as_bytes(),
-        None => false,
-    }
+    rows_hold(rt.alloc(), OBJECTS, LineForm::Strict, Style::Json)?;
+    rows_hold(rt.alloc(), NAMED, LineForm::Strict, Style::NamedJson)
 }

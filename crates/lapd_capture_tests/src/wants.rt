@@ -12,12 +12,19 @@ pub(crate) fn wants(so: bool, name: &str, what: &str) -> Result<(), Fail> {
     }
 }
 
-/// The octets that these digits write.
-pub(crate) fn octets_of(alloc: Global, digits: &str) -> Result<Vec<u8>, Fail> {
-    let octets = hex::decode(alloc, digits.as_bytes());
-    wants(octets.is_ok(), digits, "its digits")?;
-    match octets {
-        Ok(octets) => Ok(octets),
-        Err(_) => Ok(Vec::new(alloc)),
+/// Fails at the first of these rows that is not so, each with what is then wrong with it.
+pub(crate) fn all_hold(rows: &[(bool, &str, &str)]) -> Result<(), Fail> {
+    for (so, name, what) in rows {
+        wants(*so, name, what)?;
+    }
+    Ok(())
+}
+
+/// Whether this is said of it.
+pub(crate) fn is_said<T: ToString>(alloc: Global, told: &T, text: &str) -> bool {
+    let said = told.to_string(alloc);
+    match &said {
+        Ok(said) => said.as_str() == text,
+        Err(_) => false,
     }
 }
