@@ -88,7 +88,7 @@ fn push_move(
     let to = deed.side().other();
     let before = pair.line(to).len();
     match pair.apply(deed) {
-        Ok(outs) if tells => Ok(push_outputs(alloc, outs.as_slice(), text)?),
+        Ok(outs) if tells => Ok(push_outputs(outs.as_slice(), text)?),
         Ok(_) => Ok(push_frames(alloc, pair.line(to).get(before..).unwrap_or(&[]), text)?),
         Err(fault) => Ok(push_fault(alloc, fault, digest(pair) == shown, text)?),
     }
@@ -143,12 +143,11 @@ pub(crate) fn push_behind(text: &mut String, mark: &str, part: &str) -> Result<(
     text.push_str(part)
 }
 
-/// Adds outputs as they are printed for a person.
-fn push_outputs(alloc: Global, outs: &[Out], text: &mut String) -> Result<(), AllocError> {
+/// Adds outputs as they print for whoever looks for a fault.
+fn push_outputs(outs: &[Out], text: &mut String) -> Result<(), AllocError> {
     let mut mark = "tells ";
     for out in outs {
-        text.push_str(mark)?;
-        text.push_str(out.to_string(alloc)?.as_str())?;
+        write!(text, "{mark}{out:?}")?;
         mark = "; ";
     }
     Ok(())

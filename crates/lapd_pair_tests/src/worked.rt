@@ -71,7 +71,7 @@ net deliver: nothing
 net give aa: 02810000aa
 user deliver: nothing
 user expire200: 00817f
-net deliver: tells send Answer Ua { f: true }; report F; dropped 1; established; stop T200; start T203
+net deliver: tells Send(Answer, Ua { f: true }); Report(F); Dropped(1); Established; Stop(T200); Start(T203)
 user deliver: nothing
 user shows: state 7, begun
 net shows: state 7, begun, begun, dropped
@@ -85,7 +85,7 @@ user expire200: 00817f
 net lose 0: nothing
 user expire200: 00817f
 net lose 0: nothing
-user expire200: tells report G; released
+user expire200: tells Report(G); Released
 user expire200: refused P2 NotRunning
 user shows: state 4
 net shows: state 4";
@@ -153,7 +153,7 @@ user lose 0: nothing
 user expire200: 0081020102
 user expire200: refused P3 NotYet network 0
 net deliver: 00810905
-user deliver: tells acknowledged 2; stop T200; start T203
+user deliver: tells Acknowledged(2); Stop(T200); Start(T203)
 user give 03: 0081040003
 net deliver: 00810106
 user shows: state 7, begun, acknowledged, acknowledged, waiting
