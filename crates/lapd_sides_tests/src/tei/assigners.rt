@@ -1,168 +1,221 @@
 //! The assigner of TEIs, a step a row (Q.921 5.3).
 
 use crate::calls::tei;
+use crate::tei::outs::{Out, are};
 use crate::wants::wants;
-use lapd_tei::{Assigner, AssignerEvent, Tei, TeiKind, TeiMessage, TeiOut, Timer};
+use lapd_tei::{Assigner, AssignerEvent, Tei, TeiKind, TeiMessage, Timer};
 use std::test::Fail;
 
-fn heard(kind: TeiKind, ri: u16, ai: u8) -> AssignerEvent {
-    AssignerEvent::Heard(TeiMessage { ri, kind, ai })
+/// The TEIs that an assigner knows of at its beginning.
+#[derive(Clone, Copy)]
+enum Known {
+    None,
+    Tei64,
+    /// TEI 64, named twice, and TEI 3.
+    Teis64And3,
 }
 
-fn message(kind: TeiKind, ri: u16, ai: u8) -> TeiOut {
-    TeiOut::Send(TeiMessage { ri, kind, ai })
+/// What happens to an assigner, or is looked at. An event gives so many outputs, of which the first and the last are named.
+#[derive(Clone, Copy)]
+enum Step {
+    /// An assigner begins that knows of these.
+    Begins(Known),
+    /// Each request but the last that could be is served.
+    ServesAll,
+    /// A message with this reference and Ai is heard.
+    Hears(TeiKind, u16, u8, usize, Option<Out>, Option<Out>),
+    /// A TEI is to be checked.
+    Checks(u8, usize, Option<Out>, Option<Out>),
+    /// T201 expires.
+    Waits(usize, Option<Out>, Option<Out>),
+    /// Whether a TEI is held.
+    Holds(u8, bool),
+    /// Which TEI is under check.
+    IsChecked(Option<u8>),
 }
 
-fn sends(kind: TeiKind, ri: u16, ai: u8) -> Option<TeiOut> {
-    Some(message(kind, ri, ai))
-}
+use Step::{Begins, Checks, Hears, Holds, IsChecked, ServesAll, Waits};
+
+/// The start of T201.
+const T201: Option<Out> = Some(Out::Start(Timer::T201));
+
+/// The question whether TEI 64 is in use.
+const REQUEST: Option<Out> = Some(Out::Send(TeiKind::CheckRequest, 0, 64));
+
+const ASSIGNED: Option<Out> = Some(Out::Send(TeiKind::Assigned, 1, 65));
+
+const GIVEN: Option<Out> = Some(Out::Given(65));
+
+const FREE: Option<Out> = Some(Out::Free(64));
+
+const IN_USE: Option<Out> = Some(Out::InUse(64));
+
+const REMOVED: Option<Out> = Some(Out::Send(TeiKind::Remove, 0, 64));
+
+const DOUBLED: Option<Out> = Some(Out::Doubled(64));
+
+const DENIED: Option<Out> = Some(Out::Send(TeiKind::Denied, 0x1234, 127));
+
+/// What each step shows, and the step.
+const STEPS: &[(&str, Step)] = &[
+    ("no TEI is known", Begins(Known::None)),
+    ("63 requests", ServesAll),
+    (
+        "one more",
+        Hears(TeiKind::Request, 0x1234, 127, 1, DENIED, DENIED),
+    ),
+    ("64 and 3 are known", Begins(Known::Teis64And3)),
+    ("3", Holds(3, true)),
+    ("64", Holds(64, true)),
+    ("65", Holds(65, false)),
+    ("127", Holds(127, false)),
+    (
+        "a request",
+        Hears(TeiKind::Request, 1, 3, 2, ASSIGNED, GIVEN),
+    ),
+    // A check has two rounds.
+    ("64 is known", Begins(Known::Tei64)),
+    ("T201 without a check", Waits(0, None, None)),
+    ("a check", Checks(64, 2, REQUEST, T201)),
+    ("its TEI", IsChecked(Some(64))),
+    ("a second check", Checks(65, 0, None, None)),
+    ("the first round", Waits(2, REQUEST, T201)),
+    ("the second round", Waits(1, FREE, FREE)),
+    ("no check", IsChecked(None)),
+    ("free", Holds(64, false)),
+    // One response keeps the TEI.
+    ("64 is known", Begins(Known::Tei64)),
+    ("verify", Hears(TeiKind::Verify, 9, 64, 2, REQUEST, T201)),
+    ("its TEI", IsChecked(Some(64))),
+    (
+        "of another TEI",
+        Hears(TeiKind::CheckResponse, 9, 65, 0, None, None),
+    ),
+    (
+        "a response",
+        Hears(TeiKind::CheckResponse, 0x5678, 64, 0, None, None),
+    ),
+    ("one response", Waits(1, IN_USE, IN_USE)),
+    ("no check", IsChecked(None)),
+    ("in use", Holds(64, true)),
+    // Two responses remove the TEI; a third changes nothing.
+    ("64 is known", Begins(Known::Tei64)),
+    ("a check", Checks(64, 2, REQUEST, T201)),
+    ("its TEI", IsChecked(Some(64))),
+    (
+        "a response",
+        Hears(TeiKind::CheckResponse, 0x5678, 64, 0, None, None),
+    ),
+    (
+        "a second",
+        Hears(TeiKind::CheckResponse, 0x5678, 64, 0, None, None),
+    ),
+    (
+        "a third",
+        Hears(TeiKind::CheckResponse, 0x5678, 64, 0, None, None),
+    ),
+    ("two responses", Waits(3, REMOVED, DOUBLED)),
+    ("no check", IsChecked(None)),
+    ("removed", Holds(64, false)),
+];
 
 /// Whether an event gives so many outputs, of which these are the first and the last.
 fn gives(
     assigner: &mut Assigner,
     event: AssignerEvent,
     count: usize,
-    first: Option<TeiOut>,
-    last: Option<TeiOut>,
+    first: Option<Out>,
+    last: Option<Out>,
 ) -> bool {
     let outs = assigner.handle(event);
-    let outs = outs.as_slice();
-    outs.len() == count && outs.first().copied() == first && outs.last().copied() == last
+    are(outs.as_slice(), count, first, last)
 }
 
-/// Whether an event gives this output alone.
-fn gives_one(assigner: &mut Assigner, event: AssignerEvent, out: TeiOut) -> bool {
-    assigner.handle(event).as_slice() == [out].as_slice()
+/// Whether a message that is heard gives so.
+fn hears(
+    assigner: &mut Assigner,
+    message: TeiMessage,
+    count: usize,
+    first: Option<Out>,
+    last: Option<Out>,
+) -> bool {
+    gives(assigner, AssignerEvent::Heard(message), count, first, last)
 }
 
-/// The start of T201.
-const T201: Option<TeiOut> = Some(TeiOut::Start(Timer::T201));
-
-#[test]
-fn all_but_the_last_are_served() -> Result<(), Fail> {
-    let mut assigner = Assigner::new(&[]);
-    let a = &mut assigner;
-    for number in 64..127 {
-        let given = Some(TeiOut::Given(tei(number)));
-        let assigned = sends(TeiKind::Assigned, 0x1234, number);
-        let request = heard(TeiKind::Request, 0x1234, 127);
-        wants(
-            gives(a, request, 2, assigned, given),
-            "a request",
-            "another TEI",
-        )?;
+/// Whether the check of a TEI gives so.
+fn checks(
+    assigner: &mut Assigner,
+    number: u8,
+    count: usize,
+    first: Option<Out>,
+    last: Option<Out>,
+) -> bool {
+    match Tei::new(number) {
+        Some(tei) => gives(assigner, AssignerEvent::Check(tei), count, first, last),
+        None => false,
     }
-    let denied = message(TeiKind::Denied, 0x1234, 127);
-    let request = heard(TeiKind::Request, 0x1234, 127);
-    wants(gives_one(a, request, denied), "one more", "not denied")
+}
+
+/// Whether this TEI is held.
+fn is_held(assigner: &Assigner, number: u8) -> bool {
+    match Tei::new(number) {
+        Some(tei) => assigner.holds(tei),
+        None => false,
+    }
+}
+
+/// Whether a request is served with this TEI.
+fn serves(assigner: &mut Assigner, number: u8) -> bool {
+    let assigned = Some(Out::Send(TeiKind::Assigned, 0x1234, number));
+    let request = TeiMessage {
+        ri: 0x1234,
+        kind: TeiKind::Request,
+        ai: 127,
+    };
+    hears(assigner, request, 2, assigned, Some(Out::Given(number)))
+}
+
+/// Whether a request for each TEI that is given is served, by rising TEIs.
+fn serves_all(assigner: &mut Assigner) -> bool {
+    let mut all = true;
+    for number in 64..127 {
+        all = all && serves(assigner, number);
+    }
+    all
+}
+
+/// An assigner that knows of these TEIs.
+fn begun(known: Known) -> Assigner {
+    match known {
+        Known::None => Assigner::new(&[]),
+        Known::Tei64 => Assigner::new(&[tei(64)]),
+        Known::Teis64And3 => Assigner::new(&[tei(64), tei(3), tei(64)]),
+    }
+}
+
+/// Whether a step comes to what it says.
+fn holds(assigner: &mut Assigner, step: Step) -> bool {
+    match step {
+        Begins(known) => {
+            *assigner = begun(known);
+            true
+        }
+        ServesAll => serves_all(assigner),
+        Hears(kind, ri, ai, count, first, last) => {
+            hears(assigner, TeiMessage { ri, kind, ai }, count, first, last)
+        }
+        Checks(number, count, first, last) => checks(assigner, number, count, first, last),
+        Waits(count, first, last) => gives(assigner, AssignerEvent::T201, count, first, last),
+        Holds(number, held) => is_held(assigner, number) == held,
+        IsChecked(number) => assigner.check() == number.and_then(Tei::new),
+    }
 }
 
 #[test]
-fn what_is_known_is_held() -> Result<(), Fail> {
-    let mut assigner = Assigner::new(&[tei(64), tei(3), tei(64)]);
-    let a = &mut assigner;
-    wants(a.holds(tei(3)) && a.holds(tei(64)), "3 and 64", "not held")?;
-    wants(
-        !a.holds(tei(65)) && !a.holds(Tei::group()),
-        "65 and 127",
-        "held",
-    )?;
-    let assigned = sends(TeiKind::Assigned, 1, 65);
-    let given = Some(TeiOut::Given(tei(65)));
-    wants(
-        gives(a, heard(TeiKind::Request, 1, 3), 2, assigned, given),
-        "a request",
-        "not 65",
-    )
-}
-
-/// A check of TEI 64 begins.
-fn begin(a: &mut Assigner, event: AssignerEvent) -> Result<(), Fail> {
-    let request = sends(TeiKind::CheckRequest, 0, 64);
-    wants(
-        gives(a, event, 2, request, T201),
-        "a check",
-        "it does not begin",
-    )?;
-    wants(a.check() == Some(tei(64)), "a check", "of another TEI")
-}
-
-/// A response of TEI 64 comes.
-fn respond(a: &mut Assigner) -> Result<(), Fail> {
-    let response = heard(TeiKind::CheckResponse, 0x5678, 64);
-    wants(gives(a, response, 0, None, None), "a response", "an output")
-}
-
-#[test]
-fn a_check_has_two_rounds() -> Result<(), Fail> {
-    let mut assigner = Assigner::new(&[tei(64)]);
-    let a = &mut assigner;
-    wants(
-        gives(a, AssignerEvent::T201, 0, None, None),
-        "T201",
-        "a step without a check",
-    )?;
-    begin(a, AssignerEvent::Check(tei(64)))?;
-    let other = AssignerEvent::Check(tei(65));
-    wants(
-        gives(a, other, 0, None, None),
-        "a second check",
-        "it begins",
-    )?;
-    let request = sends(TeiKind::CheckRequest, 0, 64);
-    wants(
-        gives(a, AssignerEvent::T201, 2, request, T201),
-        "the first round",
-        "it ends",
-    )?;
-    let free = TeiOut::Free(tei(64));
-    wants(
-        gives_one(a, AssignerEvent::T201, free),
-        "the second round",
-        "not free",
-    )?;
-    wants(a.check().is_none() && !a.holds(tei(64)), "free", "held")
-}
-
-#[test]
-fn one_response_keeps_a_tei() -> Result<(), Fail> {
-    let mut assigner = Assigner::new(&[tei(64)]);
-    let a = &mut assigner;
-    begin(a, heard(TeiKind::Verify, 9, 64))?;
-    let other = heard(TeiKind::CheckResponse, 9, 65);
-    wants(
-        gives(a, other, 0, None, None),
-        "of another TEI",
-        "an output",
-    )?;
-    respond(a)?;
-    let in_use = TeiOut::InUse(tei(64));
-    wants(
-        gives_one(a, AssignerEvent::T201, in_use),
-        "one",
-        "not in use",
-    )?;
-    wants(
-        a.check().is_none() && a.holds(tei(64)),
-        "in use",
-        "not held",
-    )
-}
-
-#[test]
-fn two_responses_remove_a_tei() -> Result<(), Fail> {
-    let mut assigner = Assigner::new(&[tei(64)]);
-    let a = &mut assigner;
-    begin(a, AssignerEvent::Check(tei(64)))?;
-    respond(a)?;
-    respond(a)?;
-    respond(a)?;
-    let remove = sends(TeiKind::Remove, 0, 64);
-    let doubled = Some(TeiOut::Doubled(tei(64)));
-    wants(
-        gives(a, AssignerEvent::T201, 3, remove, doubled),
-        "two",
-        "not removed",
-    )?;
-    wants(a.check().is_none() && !a.holds(tei(64)), "removed", "held")
+fn assigners_go_as_said() -> Result<(), Fail> {
+    let mut assigner = begun(Known::None);
+    for (name, step) in STEPS {
+        wants(holds(&mut assigner, *step), name, "it does otherwise")?;
+    }
+    Ok(())
 }

@@ -2,24 +2,11 @@
 //! it met it (docs/DEVELOPING.md). A move that finds no memory ends in U3 and leaves all that the bus shows as it was, and
 //! made again it comes to what it comes to where none is refused.
 
+use crate::tei::deeds::{Deed, move_of};
 use crate::wants::wants;
-use lapd_tei::{Assigner, Bus, BusFault, BusMove, Tei, TeiOuts, Terminal};
+use lapd_tei::{Assigner, Bus, BusFault, BusMove, TeiOuts, Terminal};
 use std::alloc::{AllocError, Global};
 use std::test::Fail;
-
-/// A move. The TEI of a check is a number.
-#[derive(Clone, Copy)]
-enum Deed {
-    Ask(usize, u16),
-    T202(usize, u16),
-    Hear(usize, usize, u16),
-    Drop(usize),
-    HearUp(usize),
-    DropUp(usize),
-    Check(u8),
-    T201,
-    Leave(usize),
-}
 
 /// A name, moves, and how many of them are refused.
 type Row = (&'static str, &'static [Deed], usize);
@@ -91,23 +78,6 @@ struct Refusals {
     moves: u32,
 }
 
-/// The move that a row names.
-fn move_of(deed: Deed) -> Option<BusMove> {
-    match deed {
-        Deed::Ask(terminal, reference) => Some(BusMove::Ask(terminal, reference)),
-        Deed::T202(terminal, reference) => Some(BusMove::T202(terminal, reference)),
-        Deed::Hear(message, terminal, reference) => {
-            Some(BusMove::Hear(message, terminal, reference))
-        }
-        Deed::Drop(message) => Some(BusMove::Drop(message)),
-        Deed::HearUp(message) => Some(BusMove::HearUp(message)),
-        Deed::DropUp(message) => Some(BusMove::DropUp(message)),
-        Deed::Check(tei) => Some(BusMove::Check(Tei::new(tei)?)),
-        Deed::T201 => Some(BusMove::T201),
-        Deed::Leave(terminal) => Some(BusMove::Leave(terminal)),
-    }
-}
-
 /// What the readers of a bus of two terminals show.
 #[derive(Clone, Copy, PartialEq, Eq)]
 struct Readers {
@@ -162,8 +132,7 @@ fn keep(row: &Row, one: &mut Bus, other: &mut Bus, met: &mut Refusals) -> Result
     let (name, deeds, wanted) = *row;
     let mut refused = 0usize;
     for deed in deeds {
-        let m = move_of(*deed).ok_or("no move")?;
-        let (same, is_refused) = moves_both(one, other, &m, met);
+        let (same, is_refused) = moves_both(one, other, &move_of(*deed), met);
         wants(same, name, "a move comes to something else")?;
         refused = refused.saturating_add(usize::from(is_refused));
     }

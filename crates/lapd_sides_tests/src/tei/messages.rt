@@ -4,10 +4,6 @@ use crate::wants::wants;
 use lapd_tei::{Side, TeiFault, TeiKind, TeiMessage};
 use std::test::Fail;
 
-fn message(ri: u16, kind: TeiKind, ai: u8) -> TeiMessage {
-    TeiMessage { ri, kind, ai }
-}
-
 /// The information of a frame, and what is read from it.
 const READ: &[(&[u8], Result<TeiMessage, TeiFault>)] = &[
     (
@@ -58,13 +54,49 @@ const READ: &[(&[u8], Result<TeiMessage, TeiFault>)] = &[
     (&[0x0f, 0x12, 0x34, 0x07, 0xff], Err(TeiFault::BadAi)),
 ];
 
+/// What a message is, who sends it, and the octets of its frame.
+const SENT: &[(&str, u16, TeiKind, u8, Side, [u8; 8])] = &[
+    (
+        "a request",
+        0x1234,
+        TeiKind::Request,
+        127,
+        Side::User,
+        [0xfc, 0xff, 0x03, 0x0f, 0x12, 0x34, 0x01, 0xff],
+    ),
+    (
+        "an assignment",
+        0x1234,
+        TeiKind::Assigned,
+        64,
+        Side::Network,
+        [0xfe, 0xff, 0x03, 0x0f, 0x12, 0x34, 0x02, 0x81],
+    ),
+    (
+        "a denial",
+        0x1234,
+        TeiKind::Denied,
+        127,
+        Side::Network,
+        [0xfe, 0xff, 0x03, 0x0f, 0x12, 0x34, 0x03, 0xff],
+    ),
+    (
+        "a response",
+        0x5678,
+        TeiKind::CheckResponse,
+        64,
+        Side::User,
+        [0xfc, 0xff, 0x03, 0x0f, 0x56, 0x78, 0x05, 0x81],
+    ),
+];
+
 /// Whether this is read from these octets.
 fn reads(info: &[u8], wanted: Result<TeiMessage, TeiFault>) -> bool {
     TeiMessage::read(info) == wanted
 }
 
-#[test]
-fn octets_are_read() -> Result<(), Fail> {
+/// Octets are read as said.
+fn are_read() -> Result<(), Fail> {
     for (info, wanted) in READ {
         wants(reads(info, *wanted), "a message", "another is read")?;
     }
@@ -72,38 +104,20 @@ fn octets_are_read() -> Result<(), Fail> {
 }
 
 /// Whether the message goes out in these octets, and is read again.
-fn goes_out(message: TeiMessage, from: Side, octets: [u8; 8]) -> bool {
-    message.ai <= 127 && message.frame(from) == octets && reads(&octets[3..], Ok(message))
+fn goes_out(message: TeiMessage, from: Side, octets: &[u8; 8]) -> bool {
+    message.ai <= 127 && message.frame(from) == *octets && reads(&octets[3..], Ok(message))
 }
 
 #[test]
-fn messages_go_out() -> Result<(), Fail> {
-    let request = message(0x1234, TeiKind::Request, 127);
-    let octets = [0xfc, 0xff, 0x03, 0x0f, 0x12, 0x34, 0x01, 0xff];
-    wants(
-        goes_out(request, Side::User, octets),
-        "a request",
-        "other octets",
-    )?;
-    let assigned = message(0x1234, TeiKind::Assigned, 64);
-    let octets = [0xfe, 0xff, 0x03, 0x0f, 0x12, 0x34, 0x02, 0x81];
-    wants(
-        goes_out(assigned, Side::Network, octets),
-        "an assignment",
-        "other octets",
-    )?;
-    let denied = message(0x1234, TeiKind::Denied, 127);
-    let octets = [0xfe, 0xff, 0x03, 0x0f, 0x12, 0x34, 0x03, 0xff];
-    wants(
-        goes_out(denied, Side::Network, octets),
-        "a denial",
-        "other octets",
-    )?;
-    let response = message(0x5678, TeiKind::CheckResponse, 64);
-    let octets = [0xfc, 0xff, 0x03, 0x0f, 0x56, 0x78, 0x05, 0x81];
-    wants(
-        goes_out(response, Side::User, octets),
-        "a response",
-        "other octets",
-    )
+fn messages_are_read_and_go_out() -> Result<(), Fail> {
+    are_read()?;
+    for (name, ri, kind, ai, from, octets) in SENT {
+        let (ri, kind, ai) = (*ri, *kind, *ai);
+        wants(
+            goes_out(TeiMessage { ri, kind, ai }, *from, octets),
+            name,
+            "other octets",
+        )?;
+    }
+    Ok(())
 }

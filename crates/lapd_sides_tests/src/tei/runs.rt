@@ -1,149 +1,172 @@
 //! Runs of a bus, with ample memory.
 
+use crate::tei::deeds::{Deed, move_of};
 use crate::wants::wants;
 use lapd_tei::{Bus, BusFault, BusMove, Tei};
-use std::alloc::Global;
+use std::alloc::{AllocError, Global};
 use std::test::Fail;
 
-/// How many of the moves are refused on a new bus of two terminals, and the TEIs that these hold then.
-fn run(alloc: Global, moves: &[BusMove]) -> Result<(u64, Option<u8>, Option<u8>), Fail> {
-    let mut bus = Bus::new(alloc, 2)?;
-    let Ok(refused) = bus.run(moves) else {
-        return Err(Fail::new("no memory"));
-    };
-    Ok((refused, tei(&bus, 0), tei(&bus, 1)))
+/// How many moves are refused on a new bus of two terminals, and the TEIs that these hold then.
+type End = (u64, Option<u8>, Option<u8>);
+
+/// A name, moves, and how they end.
+type Row = (&'static str, &'static [Deed], End);
+
+const ASK: Deed = Deed::Ask(0, 1);
+
+const HEAR_UP: Deed = Deed::HearUp(0);
+
+const ROWS: &[Row] = &[
+    ("no moves", &[], (0, None, None)),
+    (
+        "one asks",
+        &[ASK, HEAR_UP, Deed::Hear(0, 1, 2), Deed::Hear(0, 0, 3)],
+        (0, Some(64), None),
+    ),
+    (
+        "refused moves are passed over",
+        &[
+            Deed::T201,
+            Deed::Ask(2, 9),
+            ASK,
+            HEAR_UP,
+            HEAR_UP,
+            Deed::Hear(0, 0, 2),
+            Deed::Hear(0, 0, 3),
+            Deed::Drop(1),
+            Deed::DropUp(0),
+        ],
+        (6, Some(64), None),
+    ),
+    (
+        "the second answer is heard first",
+        &[
+            ASK,
+            Deed::Ask(1, 2),
+            HEAR_UP,
+            HEAR_UP,
+            Deed::Hear(1, 1, 3),
+            Deed::Hear(0, 0, 4),
+        ],
+        (0, Some(64), Some(65)),
+    ),
+    (
+        "a lost request is repeated",
+        &[
+            ASK,
+            Deed::DropUp(0),
+            Deed::T202(0, 2),
+            HEAR_UP,
+            Deed::Hear(0, 0, 3),
+        ],
+        (0, Some(64), None),
+    ),
+    // Without its premises the law of the TEIs fails.
+    (
+        "two requests with one reference",
+        &[
+            ASK,
+            Deed::Ask(1, 1),
+            HEAR_UP,
+            Deed::Hear(0, 0, 2),
+            Deed::Hear(0, 1, 3),
+        ],
+        (0, Some(64), Some(64)),
+    ),
+    (
+        "a TEI is freed while a terminal holds it",
+        &[
+            ASK,
+            HEAR_UP,
+            Deed::Hear(0, 0, 2),
+            Deed::Check(64),
+            Deed::T201,
+            Deed::T201,
+            Deed::Ask(1, 3),
+            HEAR_UP,
+            Deed::Hear(3, 1, 4),
+        ],
+        (0, Some(64), Some(64)),
+    ),
+    (
+        "a TEI is freed while its assignment is on its way",
+        &[
+            ASK,
+            HEAR_UP,
+            Deed::Check(64),
+            Deed::T201,
+            Deed::T201,
+            Deed::Ask(1, 2),
+            HEAR_UP,
+            Deed::Hear(0, 0, 3),
+            Deed::Hear(3, 1, 4),
+        ],
+        (0, Some(64), Some(64)),
+    ),
+];
+
+/// The moves that a row names.
+fn moves_of(alloc: Global, deeds: &[Deed]) -> Result<Vec<BusMove>, AllocError> {
+    let mut moves = Vec::new(alloc);
+    for deed in deeds {
+        moves.push(move_of(*deed))?;
+    }
+    Ok(moves)
+}
+
+/// Whether moves end so on this bus.
+fn ends(bus: &mut Bus, moves: &[BusMove], (refused, first, second): End) -> bool {
+    bus.run(moves) == Ok(refused) && tei(bus, 0) == first && tei(bus, 1) == second
 }
 
 /// The TEI of a terminal.
 fn tei(bus: &Bus, t: usize) -> Option<u8> {
-    Some(bus.terminal(t)?.tei()?.value())
+    match bus.terminal(t) {
+        Some(terminal) => number_of(terminal.tei()),
+        None => None,
+    }
 }
 
-/// Fails unless the moves on a new bus end so.
-fn ends(
-    alloc: Global,
-    name: &str,
-    moves: &[BusMove],
-    wanted: (u64, Option<u8>, Option<u8>),
-) -> Result<(), Fail> {
-    wants(run(alloc, moves)? == wanted, name, "another end")
+/// The number of a TEI.
+fn number_of(tei: Option<Tei>) -> Option<u8> {
+    match tei {
+        Some(tei) => Some(tei.value()),
+        None => None,
+    }
 }
 
-const ASK: BusMove = BusMove::Ask(0, 1);
-
-const HEAR_UP: BusMove = BusMove::HearUp(0);
-
-const T201: BusMove = BusMove::T201;
-
-#[test]
-fn one_asks(rt: HostRuntime) -> Result<(), Fail> {
-    let moves = [ASK, HEAR_UP, BusMove::Hear(0, 1, 2), BusMove::Hear(0, 0, 3)];
-    ends(rt.alloc(), "no moves", &[], (0, None, None))?;
-    ends(rt.alloc(), "one asks", &moves, (0, Some(64), None))
+/// Whether moves end so on a new bus of two terminals.
+fn ends_anew(alloc: Global, moves: &[BusMove], end: End) -> Result<bool, AllocError> {
+    let mut bus = Bus::new(alloc, 2)?;
+    Ok(ends(&mut bus, moves, end))
 }
 
-#[test]
-fn refused_moves_are_passed_over(rt: HostRuntime) -> Result<(), Fail> {
-    let moves = [
-        T201,
-        BusMove::Ask(2, 9),
-        ASK,
-        HEAR_UP,
-        HEAR_UP,
-        BusMove::Hear(0, 0, 2),
-        BusMove::Hear(0, 0, 3),
-        BusMove::Drop(1),
-        BusMove::DropUp(0),
-    ];
-    ends(rt.alloc(), "refused moves", &moves, (6, Some(64), None))
+/// Whether a row's moves end as it says.
+fn goes(alloc: Global, (_, deeds, end): &Row) -> Result<bool, AllocError> {
+    let moves = moves_of(alloc, deeds)?;
+    ends_anew(alloc, moves.as_slice(), *end)
 }
 
-#[test]
-fn the_second_answer_is_heard_first(rt: HostRuntime) -> Result<(), Fail> {
-    let moves = [
-        ASK,
-        BusMove::Ask(1, 2),
-        HEAR_UP,
-        HEAR_UP,
-        BusMove::Hear(1, 1, 3),
-        BusMove::Hear(0, 0, 4),
-    ];
-    ends(rt.alloc(), "overtaken", &moves, (0, Some(64), Some(65)))
+/// Whether there is no terminal on a bus, and no TEI is held.
+fn is_empty(bus: &Bus) -> bool {
+    bus.terminal(0).is_none() && !bus.assigner().holds(Tei::group())
+}
+
+/// Whether nothing is there that could ask.
+fn asks_nothing(bus: &mut Bus) -> bool {
+    bus.apply(BusMove::Ask(0, 1)).err() == Some(BusFault::NothingThere)
+}
+
+/// Whether a bus of no terminals is empty, and refuses a move.
+fn rests(alloc: Global) -> Result<bool, AllocError> {
+    let mut bus = Bus::new(alloc, 0)?;
+    Ok(is_empty(&bus) && asks_nothing(&mut bus))
 }
 
 #[test]
-fn a_lost_request_is_repeated(rt: HostRuntime) -> Result<(), Fail> {
-    let moves = [
-        ASK,
-        BusMove::DropUp(0),
-        BusMove::T202(0, 2),
-        HEAR_UP,
-        BusMove::Hear(0, 0, 3),
-    ];
-    ends(rt.alloc(), "repeated", &moves, (0, Some(64), None))
-}
-
-/// Fails unless both terminals hold TEI 64 after these moves.
-fn doubles(alloc: Global, name: &str, moves: &[BusMove]) -> Result<(), Fail> {
-    let (_, first, second) = run(alloc, moves)?;
-    wants(first == Some(64) && second == Some(64), name, "not doubled")
-}
-
-// Without its premises the law of the TEIs fails.
-
-#[test]
-fn two_requests_with_one_reference(rt: HostRuntime) -> Result<(), Fail> {
-    let moves = [
-        ASK,
-        BusMove::Ask(1, 1),
-        HEAR_UP,
-        BusMove::Hear(0, 0, 2),
-        BusMove::Hear(0, 1, 3),
-    ];
-    doubles(rt.alloc(), "one reference", &moves)
-}
-
-#[test]
-fn a_tei_freed_while_a_terminal_holds_it(rt: HostRuntime) -> Result<(), Fail> {
-    let moves = [
-        ASK,
-        HEAR_UP,
-        BusMove::Hear(0, 0, 2),
-        BusMove::Check(Tei::new(64).unwrap()),
-        T201,
-        T201,
-        BusMove::Ask(1, 3),
-        HEAR_UP,
-        BusMove::Hear(3, 1, 4),
-    ];
-    doubles(rt.alloc(), "freed while held", &moves)
-}
-
-#[test]
-fn a_tei_freed_while_its_assignment_is_on_its_way(rt: HostRuntime) -> Result<(), Fail> {
-    let moves = [
-        ASK,
-        HEAR_UP,
-        BusMove::Check(Tei::new(64).unwrap()),
-        T201,
-        T201,
-        BusMove::Ask(1, 2),
-        HEAR_UP,
-        BusMove::Hear(0, 0, 3),
-        BusMove::Hear(3, 1, 4),
-    ];
-    doubles(rt.alloc(), "freed on its way", &moves)
-}
-
-#[test]
-fn a_bus_of_no_terminals(rt: HostRuntime) -> Result<(), Fail> {
-    let mut bus = Bus::new(rt.alloc(), 0)?;
-    wants(bus.terminal(0).is_none(), "no terminals", "one is there")?;
-    wants(
-        !bus.assigner().holds(Tei::group()),
-        "no terminals",
-        "a TEI is held",
-    )?;
-    let nothing = bus.apply(ASK).err() == Some(BusFault::NothingThere);
-    wants(nothing, "no terminals", "one asks")
+fn runs_end_as_said(rt: HostRuntime) -> Result<(), Fail> {
+    for row in ROWS {
+        wants(goes(rt.alloc(), row)?, row.0, "another end")?;
+    }
+    wants(rests(rt.alloc())?, "no terminals", "one is there, or asks")
 }

@@ -1,24 +1,94 @@
 //! A terminal's TEI management, a step a row (Q.921 5.3).
 
 use crate::calls::tei;
+use crate::tei::outs::{Out, is};
 use crate::wants::wants;
-use lapd_tei::{Tei, TeiKind, TeiMessage, TeiOut, Terminal, TerminalEvent, Timer};
+use lapd_tei::{Tei, TeiKind, TeiMessage, Terminal, TerminalEvent, Timer};
 use std::test::Fail;
 
-fn heard(kind: TeiKind, ri: u16, ai: u8, answer: u16) -> TerminalEvent {
-    TerminalEvent::Heard(TeiMessage { ri, kind, ai }, answer)
+/// What happens to a terminal, or is looked at. An event leads to a state, with so many outputs, of which the last is named.
+#[derive(Clone, Copy)]
+enum Step {
+    /// A terminal begins, with TEI 64 or with none.
+    Begins(bool),
+    /// A message with this reference and Ai is heard; what may be answered has the reference 7.
+    Hears(TeiKind, u16, u8, u8, usize, Option<Out>),
+    Does(TerminalEvent, u8, usize, Option<Out>),
+    /// It shows this TEI, how often it asked, and this reference.
+    Shows(Option<u8>, u8, Option<u16>),
 }
 
+use Step::{Begins, Does, Hears, Shows};
+
+/// The start of T202.
+const T202: Option<Out> = Some(Out::Start(Timer::T202));
+
+/// The answer of TEI 64 to a check.
+const ANSWER: Option<Out> = Some(Out::Send(TeiKind::CheckResponse, 7, 64));
+
+const GOT: Option<Out> = Some(Out::Got(64));
+
+const GONE: Option<Out> = Some(Out::Gone(64));
+
+/// What each step shows, and the step.
+const STEPS: &[(&str, Step)] = &[
+    // A terminal without a TEI asks for one, hears what is not for it, gets one and gives it up.
+    ("no TEI", Begins(false)),
+    ("T202 in state 1", Does(TerminalEvent::T202(1), 1, 0, None)),
+    ("asked", Does(TerminalEvent::Ask(5), 2, 2, T202)),
+    ("the reference", Shows(None, 1, Some(5))),
+    ("wanted", Does(TerminalEvent::Want(6), 3, 0, None)),
+    ("denied", Hears(TeiKind::Denied, 5, 127, 3, 0, None)),
+    ("another's", Hears(TeiKind::Assigned, 4, 64, 3, 0, None)),
+    ("TEI 63", Hears(TeiKind::Assigned, 5, 63, 3, 0, None)),
+    ("assigned", Hears(TeiKind::Assigned, 5, 64, 4, 2, GOT)),
+    ("the TEI", Shows(Some(64), 0, Some(5))),
+    ("again", Hears(TeiKind::Assigned, 5, 64, 4, 0, None)),
+    ("to another", Hears(TeiKind::Assigned, 9, 64, 1, 1, GONE)),
+    // A terminal with TEI 64 answers a check, and obeys a removal.
+    ("TEI 64", Begins(true)),
+    ("a fixed TEI", Shows(Some(64), 0, None)),
+    (
+        "a check of 65",
+        Hears(TeiKind::CheckRequest, 0, 65, 4, 0, None),
+    ),
+    (
+        "a check of 64",
+        Hears(TeiKind::CheckRequest, 0, 64, 4, 1, ANSWER),
+    ),
+    (
+        "a check of all",
+        Hears(TeiKind::CheckRequest, 0, 127, 4, 1, ANSWER),
+    ),
+    ("65 removed", Hears(TeiKind::Remove, 0, 65, 4, 0, None)),
+    ("all removed", Hears(TeiKind::Remove, 0, 127, 1, 1, GONE)),
+    // A terminal without a TEI asks three times, then anew, and leaves.
+    ("no TEI again", Begins(false)),
+    ("first", Does(TerminalEvent::Want(1), 3, 2, T202)),
+    ("second", Does(TerminalEvent::T202(2), 3, 2, T202)),
+    ("third", Does(TerminalEvent::T202(3), 3, 2, T202)),
+    ("the count", Shows(None, 3, Some(3))),
+    (
+        "fourth",
+        Does(TerminalEvent::T202(4), 1, 1, Some(Out::Failed)),
+    ),
+    ("anew", Does(TerminalEvent::Ask(5), 2, 2, T202)),
+    (
+        "left",
+        Does(TerminalEvent::Leave, 1, 1, Some(Out::Stop(Timer::T202))),
+    ),
+];
+
 /// Whether an event leads the terminal to this state, with so many outputs, the last of which is this.
-fn steps(
+fn does(
     terminal: &mut Terminal,
     event: TerminalEvent,
     state: u8,
     count: usize,
-    last: Option<TeiOut>,
+    last: Option<Out>,
 ) -> bool {
     let outs = terminal.handle(event);
-    terminal.state() == state && outs.len() == count && outs.as_slice().last().copied() == last
+    terminal.state() == state && outs.len() == count && is(outs.as_slice().last(), last)
 }
 
 /// Whether the terminal shows this TEI, how often it asked, and this reference.
@@ -28,145 +98,38 @@ fn shows(terminal: &Terminal, tei: Option<u8>, count: u8, reference: Option<u16>
         && terminal.reference() == reference
 }
 
-/// The answer of TEI 64 to a check.
-fn answer() -> Option<TeiOut> {
-    Some(TeiOut::Send(TeiMessage {
-        ri: 7,
-        kind: TeiKind::CheckResponse,
-        ai: 64,
-    }))
+/// A terminal with TEI 64, or with none.
+fn begun(fixed: bool) -> Terminal {
+    Terminal::new(if fixed { Some(tei(64)) } else { None })
 }
 
-/// The start of T202.
-const T202: Option<TeiOut> = Some(TeiOut::Start(Timer::T202));
-
-/// A terminal without a TEI asks for one, and hears what is not for it.
-fn asks_in_vain(t: &mut Terminal) -> Result<(), Fail> {
-    wants(
-        steps(t, TerminalEvent::T202(1), 1, 0, None),
-        "T202 in state 1",
-        "a step",
-    )?;
-    wants(
-        steps(t, TerminalEvent::Ask(5), 2, 2, T202),
-        "asked",
-        "not state 2",
-    )?;
-    wants(shows(t, None, 1, Some(5)), "asked", "another reference")?;
-    wants(
-        steps(t, TerminalEvent::Want(6), 3, 0, None),
-        "wanted",
-        "not state 3",
-    )?;
-    wants(
-        steps(t, heard(TeiKind::Denied, 5, 127, 7), 3, 0, None),
-        "denied",
-        "a step",
-    )?;
-    wants(
-        steps(t, heard(TeiKind::Assigned, 4, 64, 7), 3, 0, None),
-        "another's",
-        "taken",
-    )?;
-    wants(
-        steps(t, heard(TeiKind::Assigned, 5, 63, 7), 3, 0, None),
-        "TEI 63",
-        "taken",
-    )
+/// Whether a step comes to what it says.
+fn holds(terminal: &mut Terminal, step: Step) -> bool {
+    match step {
+        Begins(fixed) => {
+            *terminal = begun(fixed);
+            true
+        }
+        Hears(kind, ri, ai, state, count, last) => {
+            let message = TeiMessage { ri, kind, ai };
+            does(
+                terminal,
+                TerminalEvent::Heard(message, 7),
+                state,
+                count,
+                last,
+            )
+        }
+        Does(event, state, count, last) => does(terminal, event, state, count, last),
+        Shows(tei, count, reference) => shows(terminal, tei, count, reference),
+    }
 }
 
 #[test]
-fn a_tei_is_got_and_given_up() -> Result<(), Fail> {
-    let mut terminal = Terminal::new(None);
-    let t = &mut terminal;
-    asks_in_vain(t)?;
-    let got = Some(TeiOut::Got(tei(64)));
-    wants(
-        steps(t, heard(TeiKind::Assigned, 5, 64, 7), 4, 2, got),
-        "assigned",
-        "not got",
-    )?;
-    wants(shows(t, Some(64), 0, Some(5)), "assigned", "another TEI")?;
-    wants(
-        steps(t, heard(TeiKind::Assigned, 5, 64, 7), 4, 0, None),
-        "again",
-        "a step",
-    )?;
-    let gone = Some(TeiOut::Gone(tei(64)));
-    wants(
-        steps(t, heard(TeiKind::Assigned, 9, 64, 7), 1, 1, gone),
-        "to another",
-        "kept",
-    )
-}
-
-#[test]
-fn a_check_is_answered_and_a_removal_obeyed() -> Result<(), Fail> {
-    let mut terminal = Terminal::new(Some(tei(64)));
-    let t = &mut terminal;
-    wants(shows(t, Some(64), 0, None), "a fixed TEI", "another TEI")?;
-    wants(
-        steps(t, heard(TeiKind::CheckRequest, 0, 65, 7), 4, 0, None),
-        "of 65",
-        "answered",
-    )?;
-    wants(
-        steps(t, heard(TeiKind::CheckRequest, 0, 64, 7), 4, 1, answer()),
-        "of 64",
-        "silent",
-    )?;
-    wants(
-        steps(t, heard(TeiKind::CheckRequest, 0, 127, 7), 4, 1, answer()),
-        "of all",
-        "silent",
-    )?;
-    wants(
-        steps(t, heard(TeiKind::Remove, 0, 65, 7), 4, 0, None),
-        "65 removed",
-        "obeyed",
-    )?;
-    let gone = Some(TeiOut::Gone(tei(64)));
-    wants(
-        steps(t, heard(TeiKind::Remove, 0, 127, 7), 1, 1, gone),
-        "all removed",
-        "kept",
-    )
-}
-
-#[test]
-fn a_terminal_asks_three_times() -> Result<(), Fail> {
-    let mut terminal = Terminal::new(None);
-    let t = &mut terminal;
-    wants(
-        steps(t, TerminalEvent::Want(1), 3, 2, T202),
-        "first",
-        "not asked",
-    )?;
-    wants(
-        steps(t, TerminalEvent::T202(2), 3, 2, T202),
-        "second",
-        "not asked",
-    )?;
-    wants(
-        steps(t, TerminalEvent::T202(3), 3, 2, T202),
-        "third",
-        "not asked",
-    )?;
-    wants(shows(t, None, 3, Some(3)), "third", "another count")?;
-    wants(
-        steps(t, TerminalEvent::T202(4), 1, 1, Some(TeiOut::Failed)),
-        "fourth",
-        "no end",
-    )?;
-    wants(
-        steps(t, TerminalEvent::Ask(5), 2, 2, T202),
-        "anew",
-        "not asked",
-    )?;
-    let stop = Some(TeiOut::Stop(Timer::T202));
-    wants(
-        steps(t, TerminalEvent::Leave, 1, 1, stop),
-        "left",
-        "T202 runs",
-    )
+fn terminals_go_as_said() -> Result<(), Fail> {
+    let mut terminal = begun(false);
+    for (name, step) in STEPS {
+        wants(holds(&mut terminal, *step), name, "it does otherwise")?;
+    }
+    Ok(())
 }
