@@ -5,33 +5,21 @@ ghost use Rattle.std.specs.Prelude.{◌≡◌, ◌<◌};
 use lapd_cli_script::put_hex;
 use lapd_link::LinkFault;
 use lapd_sides::{
-    Acts, Config, Durations, LinkId, NetSide, Params, Request, Sapi, SideFault, SideKind, Tei,
-    UserSide,
+    Acts, Config, Durations, EitherSide, LinkId, Params, Request, Sapi, SideFault, SideKind, Tei,
 };
 use std::alloc::Global;
 use std::io;
 use std::io::Write;
 use std::test::Fail;
 
-/// A call of a side: its moment, and the SAPI, the TEI and the octets, in hexadecimal digits, that it names.
+/// A call of a side: its moment, its word, the SAPI and the TEI that it names, or 0 and 0, and its octets in hexadecimal digits.
 #[derive(Clone, Copy)]
-pub(crate) enum Call {
-    Take(u64, &'static str),
-    Tick(u64),
-    Establish(u64, u8, u8),
-    Release(u64, u8, u8),
-    Unit(u64, u8, u8, &'static str),
-    Give(u64, u8, u8, &'static str),
-    Busy(u64, u8, u8, bool),
-    AskTei(u64),
-    Check(u64, u8),
-}
-
-/// A side of either kind.
-#[derive(Drop)]
-pub(crate) enum AnySide {
-    Network(NetSide),
-    User(UserSide),
+pub(crate) struct Call<'a> {
+    now: u64,
+    word: &'a str,
+    sapi: u8,
+    tei: u8,
+    digits: &'a str,
 }
 
 /// What a side is made with: basic access, by the standard durations, and with the seed 921.
@@ -53,11 +41,20 @@ pub(crate) fn tei(number: u8) -> Tei
     Tei::new(number).unwrap()
 }
 
+/// The link of this SAPI and TEI; `None` where there is no such SAPI or TEI.
+pub(crate) fn link_of(sapi: u8, tei: u8) -> Option<LinkId> {
+    Some(LinkId {
+        sapi: Sapi::new(sapi)?,
+        tei: Tei::new(tei)?,
+    })
+}
+
 /// The link of this SAPI and TEI.
 pub(crate) fn id_of(sapi: u8, tei: u8) -> Result<LinkId, Fail> {
-    let sapi = Sapi::new(sapi).ok_or("a SAPI is none")?;
-    let tei = Tei::new(tei).ok_or("a TEI is none")?;
-    Ok(LinkId { sapi, tei })
+    match link_of(sapi, tei) {
+        Some(id) => Ok(id),
+        None => Err(Fail::new("no link has these numbers")),
+    }
 }
 
 /// The octets that these digits write.
@@ -68,165 +65,164 @@ pub(crate) fn octets_of(alloc: Global, digits: &str) -> Result<Vec<u8>, Fail> {
     }
 }
 
-impl Call {
-    /// Its moment, and the SAPI, the TEI and the octets that it names: 0, 0 and no octets where it names none.
-    fn parts(self) -> (u64, u8, u8, &'static str) {
-        match self {
-            Call::Take(now, digits) => (now, 0, 0, digits),
-            Call::Tick(now) | Call::AskTei(now) => (now, 0, 0, ""),
-            Call::Establish(now, sapi, tei)
-            | Call::Release(now, sapi, tei)
-            | Call::Busy(now, sapi, tei, _) => (now, sapi, tei, ""),
-            Call::Unit(now, sapi, tei, digits) | Call::Give(now, sapi, tei, digits) => {
-                (now, sapi, tei, digits)
-            }
-            Call::Check(now, tei) => (now, 0, tei, ""),
-        }
+/// The word at the front, and what stands behind its space.
+pub(crate) fn first_word(words: &str) -> (&str, &str) {
+    words.split_once(" ").unwrap_or((words, ""))
+}
+
+/// The SAPI or the TEI that a word writes.
+pub(crate) fn small_number(word: &str) -> Option<u8> {
+    word.parse::<u8>().ok()
+}
+
+/// The call that these words write: a moment, what is done, the SAPI and the TEI where it names a link, and octets.
+pub(crate) fn call_of(words: &str) -> Option<Call<'_>> {
+    let (now, rest) = first_word(words);
+    let (word, behind) = first_word(rest);
+    let (sapi, rest) = first_word(behind);
+    let (tei, digits) = first_word(rest);
+    let now = now.parse::<u64>().ok()?;
+    Some(match (small_number(sapi), small_number(tei)) {
+        (Some(sapi), Some(tei)) => Call {
+            now,
+            word,
+            sapi,
+            tei,
+            digits,
+        },
+        _ => Call {
+            now,
+            word,
+            sapi: 0,
+            tei: 0,
+            digits: behind,
+        },
+    })
+}
+
+impl<'a> Call<'a> {
+    /// The link of the SAPI and the TEI that it names.
+    pub(crate) fn id(&self) -> Result<LinkId, Fail> {
+        id_of(self.sapi, self.tei)
     }
 
     /// The octets that it names, in hexadecimal digits.
-    pub(crate) fn digits(self) -> &'static str {
-        let (_, _, _, digits) = self.parts();
-        digits
+    pub(crate) fn digits(&self) -> &'a str {
+        self.digits
     }
 
     /// The request that it makes, for this link and with these octets; none where it is no request.
-    fn request(self, id: LinkId, octets: Vec<u8>) -> Option<Request> {
-        match self {
-            Call::Take(..) | Call::Tick(_) => None,
-            Call::Establish(..) => Some(Request::Establish(id)),
-            Call::Release(..) => Some(Request::Release(id)),
-            Call::Unit(..) => Some(Request::Unit(id, octets)),
-            Call::Give(..) => Some(Request::Give(id, octets)),
-            Call::Busy(_, _, _, busy) => Some(Request::Busy(id, busy)),
-            Call::AskTei(_) => Some(Request::AskTei),
-            Call::Check(..) => Some(Request::Check(id.tei)),
+    fn request(&self, id: LinkId, octets: Vec<u8>) -> Option<Request> {
+        match self.word {
+            "establish" => Some(Request::Establish(id)),
+            "release" => Some(Request::Release(id)),
+            "unit" => Some(Request::Unit(id, octets)),
+            "give" => Some(Request::Give(id, octets)),
+            "busy" => Some(Request::Busy(id, true)),
+            "ready" => Some(Request::Busy(id, false)),
+            "ask" => Some(Request::AskTei),
+            "check" => Some(Request::Check(id.tei)),
+            _ => None,
         }
     }
 }
 
-impl AnySide {
-    /// Something is asked for.
-    pub(crate) fn request(
-        &mut self,
-        request: Request,
-        now: u64,
-        acts: &mut Acts,
-    ) -> Result<(), SideFault> {
-        match self {
-            AnySide::Network(side) => side.request(request, now, acts),
-            AnySide::User(side) => side.request(request, now, acts),
-        }
+/// Makes a call, with this link and these octets. A refusal is written, and `none` where nothing is due.
+fn make(
+    side: &mut EitherSide,
+    call: &Call<'_>,
+    id: LinkId,
+    octets: Vec<u8>,
+    acts: &mut Acts,
+    text: &mut Vec<u8>,
+) -> io::Result<()> {
+    match call.word {
+        "take" => take(side, octets.as_slice(), call.now, acts, text),
+        "tick" => tick(side, call.now, acts, text),
+        _ => ask(side, call.request(id, octets), call.now, acts, text),
     }
+}
 
-    /// How many frames it has discarded.
-    pub(crate) fn discarded(&self) -> u64 {
-        match self {
-            AnySide::Network(side) => side.discarded(),
-            AnySide::User(side) => side.discarded(),
-        }
-    }
+/// Octets come. A refusal is written.
+fn take(
+    side: &mut EitherSide,
+    octets: &[u8],
+    now: u64,
+    acts: &mut Acts,
+    text: &mut Vec<u8>,
+) -> io::Result<()> {
+    put_end(&side.take(octets, now, acts), text)
+}
 
-    /// The next moment at which something is due.
-    pub(crate) fn next_deadline(&self) -> Option<u64> {
-        match self {
-            AnySide::Network(side) => side.next_deadline(),
-            AnySide::User(side) => side.next_deadline(),
-        }
-    }
-
-    /// Octets come. A refusal is written.
-    fn take(
-        &mut self,
-        octets: &[u8],
-        now: u64,
-        acts: &mut Acts,
-        text: &mut Vec<u8>,
-    ) -> io::Result<()> {
-        let done = match self {
-            AnySide::Network(side) => side.take(octets, now, acts),
-            AnySide::User(side) => side.take(octets, now, acts),
-        };
-        put_end(&done, text)
-    }
-
-    /// What is due first is done, where something is.
-    pub(crate) fn does_due(&mut self, now: u64, acts: &mut Acts) -> bool {
-        match self {
-            AnySide::Network(side) => side.tick(now, acts),
-            AnySide::User(side) => side.tick(now, acts),
-        }
-    }
-
-    /// What is due first is done. `none` is written where nothing is.
-    fn tick(&mut self, now: u64, acts: &mut Acts, text: &mut Vec<u8>) -> io::Result<()> {
-        if self.does_due(now, acts) {
-            Ok(())
-        } else {
-            text.write_all(b"none;")
-        }
-    }
-
-    /// Something is asked for. A refusal is written.
-    fn ask(
-        &mut self,
-        request: Option<Request>,
-        now: u64,
-        acts: &mut Acts,
-        text: &mut Vec<u8>,
-    ) -> io::Result<()> {
-        match request {
-            Some(request) => put_end(&self.request(request, now, acts), text),
-            None => text.write_all(b"no request;"),
-        }
-    }
-
-    /// Makes a call with these octets. A refusal is written, and `none` where nothing is due.
-    fn make(
-        &mut self,
-        call: Call,
-        octets: Vec<u8>,
-        acts: &mut Acts,
-        text: &mut Vec<u8>,
-    ) -> Result<(), Fail> {
-        let (now, sapi, tei, _) = call.parts();
-        let id = id_of(sapi, tei)?;
-        let done = match call {
-            Call::Take(..) => self.take(octets.as_slice(), now, acts, text),
-            Call::Tick(_) => self.tick(now, acts, text),
-            _ => self.ask(call.request(id, octets), now, acts, text),
-        };
-        Ok(done?)
-    }
-
-    /// Whether this is what a call gives: a refusal, or that nothing is due, then each frame and each primitive, with `;`
-    /// behind it.
-    pub(crate) fn gives(
-        &mut self,
-        alloc: Global,
-        call: Call,
-        acts: &mut Acts,
-        wanted: &str,
-    ) -> Result<bool, Fail> {
-        let mut text = Vec::new(alloc);
-        let octets = octets_of(alloc, call.digits())?;
-        self.write_given(call, octets, acts, &mut text)?;
-        Ok(text.as_slice() == wanted.as_bytes())
-    }
-
-    /// Writes what a call with these octets gives.
-    pub(crate) fn write_given(
-        &mut self,
-        call: Call,
-        octets: Vec<u8>,
-        acts: &mut Acts,
-        text: &mut Vec<u8>,
-    ) -> Result<(), Fail> {
-        self.make(call, octets, acts, text)?;
-        put_frames(acts, text)?;
-        put_primitives(acts, text)?;
+/// What is due first is done. `none` is written where nothing is.
+fn tick(side: &mut EitherSide, now: u64, acts: &mut Acts, text: &mut Vec<u8>) -> io::Result<()> {
+    if side.tick(now, acts) {
         Ok(())
+    } else {
+        text.write_all(b"none;")
     }
+}
+
+/// Something is asked for. A refusal is written.
+fn ask(
+    side: &mut EitherSide,
+    request: Option<Request>,
+    now: u64,
+    acts: &mut Acts,
+    text: &mut Vec<u8>,
+) -> io::Result<()> {
+    match request {
+        Some(request) => put_end(&side.request(request, now, acts), text),
+        None => text.write_all(b"no request;"),
+    }
+}
+
+/// Whether this is what a call gives: a refusal, or that nothing is due, then each frame and each primitive, with `;` behind it.
+pub(crate) fn gives(
+    alloc: Global,
+    side: &mut EitherSide,
+    words: &str,
+    acts: &mut Acts,
+    wanted: &str,
+) -> Result<bool, Fail> {
+    let mut text = Vec::new(alloc);
+    write_call(alloc, side, words, acts, &mut text)?;
+    Ok(text.as_slice() == wanted.as_bytes())
+}
+
+/// Writes what a call gives.
+fn write_call(
+    alloc: Global,
+    side: &mut EitherSide,
+    words: &str,
+    acts: &mut Acts,
+    text: &mut Vec<u8>,
+) -> Result<(), Fail> {
+    match call_of(words) {
+        Some(call) => {
+            let octets = octets_of(alloc, call.digits)?;
+            write_given(side, &call, octets, acts, text)
+        }
+        None => Err(Fail::new("a bad call")),
+    }
+}
+
+/// Writes what a call with these octets gives.
+pub(crate) fn write_given(
+    side: &mut EitherSide,
+    call: &Call<'_>,
+    octets: Vec<u8>,
+    acts: &mut Acts,
+    text: &mut Vec<u8>,
+) -> Result<(), Fail> {
+    make(side, call, call.id()?, octets, acts, text)?;
+    put_acts(acts, text)
+}
+
+/// Writes the frames and the primitives.
+fn put_acts(acts: &Acts, text: &mut Vec<u8>) -> Result<(), Fail> {
+    put_frames(acts, text)?;
+    Ok(put_primitives(acts, text)?)
 }
 
 /// Writes the frames.
@@ -266,7 +262,7 @@ fn put_refusal(fault: &SideFault, text: &mut Vec<u8>) -> io::Result<()> {
 }
 
 /// The short name of a refusal.
-fn name_of_kind(kind: SideKind) -> &'static str {
+pub(crate) fn name_of_kind(kind: SideKind) -> &'static str {
     match kind {
         SideKind::NoLink => "B1",
         SideKind::Memory => "B3",

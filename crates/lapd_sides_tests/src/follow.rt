@@ -8,8 +8,8 @@ use lapd_frame::MOST_OCTETS;
 use lapd_link::{Link, LinkFault, Out};
 use lapd_pair::{FrameOctets, Move, Outs, Pair, PairFault};
 use lapd_sides::{
-    Acts, Config, Durations, LinkId, NetSide, Params, Primitive, Request, Sapi, Side, SideFault,
-    SideKind, UserSide, What,
+    Acts, Config, Durations, EitherSide, LinkId, NetSide, Params, Primitive, Request, Sapi, Side,
+    SideFault, SideKind, UserSide, What,
 };
 use rand_core::{Rng, SeedableRng};
 use rand_pcg::Pcg32;
@@ -27,14 +27,19 @@ struct Moves {
     messages: u32,
 }
 
-/// The two sides, the clock of each, and what the last call gave.
+/// A side, and its clock.
+#[derive(Drop)]
+struct Clocked {
+    side: EitherSide,
+    clock: u64,
+}
+
+/// The two sides, and what the last call gave.
 #[derive(Drop)]
 struct Sides {
     alloc: Global,
-    network: NetSide,
-    network_clock: u64,
-    user: UserSide,
-    user_clock: u64,
+    network: Clocked,
+    user: Clocked,
     acts: Acts,
 }
 
@@ -151,17 +156,62 @@ fn refusal(done: Result<(), SideFault>) -> Option<SideKind> {
     }
 }
 
+impl Clocked {
+    /// A network side with the TEI of the pair.
+    fn network(alloc: Global) -> Result<Clocked, Fail> {
+        let side = NetSide::new(alloc, config()?, &[tei(64)])?;
+        Ok(Clocked {
+            side: EitherSide::Network(side),
+            clock: 0,
+        })
+    }
+
+    /// A user side with the TEI of the pair.
+    fn user(alloc: Global) -> Result<Clocked, Fail> {
+        let side = UserSide::new(alloc, config()?, Some(tei(64)))?;
+        Ok(Clocked {
+            side: EitherSide::User(side),
+            clock: 0,
+        })
+    }
+
+    /// Octets come.
+    fn take(&mut self, coming: &[u8], acts: &mut Acts) -> Option<SideKind> {
+        refusal(self.side.take(coming, self.clock, acts))
+    }
+
+    /// Something is asked for.
+    fn request(&mut self, request: Request, acts: &mut Acts) -> Option<SideKind> {
+        refusal(self.side.request(request, self.clock, acts))
+    }
+
+    /// The clock goes on by a millisecond, and T200 expires.
+    fn expire(&mut self, acts: &mut Acts) -> Option<SideKind> {
+        self.clock = self.clock.wrapping_add(1);
+        if self.side.tick(self.clock, acts) {
+            None
+        } else {
+            Some(SideKind::Memory)
+        }
+    }
+
+    /// Whether the link of the side is where this one is.
+    fn stands_as(&self, link: &Link) -> bool {
+        is_alike(self.side.table().link(id()), link)
+    }
+}
+
 impl Sides {
     /// Both sides, with the TEI and the link of the pair.
     fn new(alloc: Global) -> Result<Sides, Fail> {
-        let config = config()?;
+        let acts = Acts::new(alloc)?;
+        let network = Clocked::network(alloc)?;
+        let user = Clocked::user(alloc)?;
         Ok(Sides {
             alloc,
-            network: NetSide::new(alloc, config, &[tei(64)])?,
-            network_clock: 0,
-            user: UserSide::new(alloc, config, Some(tei(64)))?,
-            user_clock: 0,
-            acts: Acts::new(alloc)?,
+            network,
+            user,
+            acts,
         })
     }
 
@@ -206,12 +256,10 @@ impl Sides {
 
     /// Octets come to a side.
     fn take(&mut self, to: Side, coming: &[u8]) -> Option<SideKind> {
-        refusal(match to {
-            Side::Network => self
-                .network
-                .take(coming, self.network_clock, &mut self.acts),
-            Side::User => self.user.take(coming, self.user_clock, &mut self.acts),
-        })
+        match to {
+            Side::Network => self.network.take(coming, &mut self.acts),
+            Side::User => self.user.take(coming, &mut self.acts),
+        }
     }
 
     /// A side is asked for something, or for nothing.
@@ -224,27 +272,18 @@ impl Sides {
 
     /// A side is asked for something.
     fn request(&mut self, side: Side, request: Request) -> Option<SideKind> {
-        refusal(match side {
-            Side::Network => self
-                .network
-                .request(request, self.network_clock, &mut self.acts),
-            Side::User => self.user.request(request, self.user_clock, &mut self.acts),
-        })
+        match side {
+            Side::Network => self.network.request(request, &mut self.acts),
+            Side::User => self.user.request(request, &mut self.acts),
+        }
     }
 
     /// The clock goes on by a millisecond, and T200 expires.
     fn expire(&mut self, side: Side) -> Option<SideKind> {
-        let ticked = match side {
-            Side::Network => {
-                self.network_clock = self.network_clock.wrapping_add(1);
-                self.network.tick(self.network_clock, &mut self.acts)
-            }
-            Side::User => {
-                self.user_clock = self.user_clock.wrapping_add(1);
-                self.user.tick(self.user_clock, &mut self.acts)
-            }
-        };
-        if ticked { None } else { Some(SideKind::Memory) }
+        match side {
+            Side::Network => self.network.expire(&mut self.acts),
+            Side::User => self.user.expire(&mut self.acts),
+        }
     }
 
     /// Whether the side gave nothing.
@@ -260,8 +299,8 @@ impl Sides {
 
     /// Whether the links of both sides are where those of the pair are.
     fn stand_as(&self, pair: &Pair) -> bool {
-        is_alike(self.network.table().link(id()), pair.link(Side::Network))
-            && is_alike(self.user.table().link(id()), pair.link(Side::User))
+        self.network.stands_as(pair.link(Side::Network))
+            && self.user.stands_as(pair.link(Side::User))
     }
 }
 
@@ -415,6 +454,12 @@ fn turn(
     is_followed(pair, sides, counts, &deed)
 }
 
+/// Makes a pair, and all moves.
+fn run_over(alloc: Global, sides: &mut Sides, moves: &mut Moves) -> Result<(), Fail> {
+    let mut pair = Pair::new(alloc, params()?, params()?)?;
+    run(&mut pair, sides, moves)
+}
+
 /// Makes all moves, and looks at both sides after each.
 fn run(pair: &mut Pair, sides: &mut Sides, moves: &mut Moves) -> Result<(), Fail> {
     let mut counts = Counts {
@@ -438,7 +483,6 @@ fn sides_follow_pair(rt: HostRuntime) -> Result<(), Fail> {
         random: Pcg32::seed_from_u64(921),
         messages: 0,
     };
-    let mut pair = Pair::new(alloc, params()?, params()?)?;
     let mut sides = Sides::new(alloc)?;
-    run(&mut pair, &mut sides, &mut moves)
+    run_over(alloc, &mut sides, &mut moves)
 }

@@ -8,11 +8,11 @@ mod watch;
 ghost use Rattle.std.specs.Prelude.{◌<◌, IfOk};
 ghost use Rattle.std.specs.List.{All};
 
-use crate::calls::{AnySide, config, octets_of, tei};
+use crate::calls::{config, octets_of, tei};
 use crate::dialogues::{Held, Made, side_of};
-use crate::hostile::drawn::{Draws, FRONTS, MOST, put};
+use crate::hostile::drawn::{Draws, MOST, fronts, put};
 use crate::hostile::watch::Watch;
-use lapd_sides::{NetSide, Tei};
+use lapd_sides::{EitherSide, NetSide, Tei};
 use std::alloc::Global;
 use std::test::Fail;
 
@@ -96,14 +96,14 @@ fn every_tei(alloc: Global) -> Result<Vec<Tei>, Fail>
 }
 
 /// A network side with a link for every TEI and SAPI.
-fn side_of_all(alloc: Global) -> Result<AnySide, Fail> {
+fn side_of_all(alloc: Global) -> Result<EitherSide, Fail> {
     let known = every_tei(alloc)?;
     let side = NetSide::new(alloc, config(true), known.as_slice())?;
-    Ok(AnySide::Network(side))
+    Ok(EitherSide::Network(side))
 }
 
 /// A side with these links.
-fn side_with(alloc: Global, links: Links) -> Result<AnySide, Fail> {
+fn side_with(alloc: Global, links: Links) -> Result<EitherSide, Fail> {
     match links {
         Links::Network => Ok(side_of(alloc, Made::Net(Held::Tei64, true))?),
         Links::User => Ok(side_of(alloc, Made::User(Held::Tei64, true))?),
@@ -187,7 +187,7 @@ fn each_front_comes(
 
 /// Strings of all lengths come that begin as frames do.
 fn long_strings_come(alloc: Global, watch: &mut Watch, state: u8) -> Result<(), Fail> {
-    for front in FRONTS {
+    for front in fronts() {
         let mut octets = [0xab; MOST];
         put(&mut octets, front);
         each_front_comes(alloc, watch, state, &octets)?;

@@ -8,8 +8,6 @@
 #[cfg(test)]
 mod calls;
 #[cfg(test)]
-mod deadlines;
-#[cfg(test)]
 mod dialogues;
 #[cfg(test)]
 mod follow;

@@ -2,11 +2,11 @@
 //! in turn, and the test prints where it met it (docs/DEVELOPING.md). A call that finds no memory gives nothing and leaves
 //! all that the side shows as it was, and made again it gives what it gives where none is refused.
 
-use crate::calls::{AnySide, Call, octets_of};
-use crate::dialogues::{Made, NETWORK, Row, USER, side_of};
+use crate::calls::{Call, call_of, octets_of, write_given};
+use crate::dialogues::{Made, first_line, made_of, network_rows, parts_of, side_of, user_rows};
 use crate::shown::digest;
 use crate::wants::wants;
-use lapd_sides::Acts;
+use lapd_sides::{Acts, EitherSide};
 use std::alloc::{AllocError, Global};
 use std::test::Fail;
 
@@ -23,7 +23,7 @@ struct Refusals {
 #[derive(Drop)]
 struct Talk<'a> {
     alloc: Global,
-    side: &'a mut AnySide,
+    side: &'a mut EitherSide,
     acts: &'a mut Acts,
     text: &'a mut Vec<u8>,
     met: &'a mut Refusals,
@@ -43,10 +43,10 @@ impl Talk<'_> {
     }
 
     /// Makes a call, and writes what it gives.
-    fn write(&mut self, call: Call) -> Result<(), Fail> {
+    fn write(&mut self, call: &Call<'_>) -> Result<(), Fail> {
         let octets = self.octets(call.digits())?;
         self.text.clear();
-        self.side.write_given(call, octets, self.acts, self.text)
+        write_given(self.side, call, octets, self.acts, self.text)
     }
 
     /// Whether this is written.
@@ -55,7 +55,7 @@ impl Talk<'_> {
     }
 
     /// Whether a call gives this, at the second try where the first finds no memory, gives nothing and changes nothing.
-    fn gives(&mut self, call: Call, wanted: &str) -> Result<bool, Fail> {
+    fn gives(&mut self, call: &Call<'_>, wanted: &str) -> Result<bool, Fail> {
         let before = digest(self.side);
         self.write(call)?;
         if !self.says(b"refused B3;") {
@@ -67,18 +67,26 @@ impl Talk<'_> {
         Ok(unchanged && self.says(wanted.as_bytes()))
     }
 
+    /// Whether a call gives what a line says. What is looked at is not looked at here.
+    fn is_so(&mut self, line: &str) -> Result<bool, Fail> {
+        let (words, wanted) = parts_of(line);
+        match call_of(words) {
+            Some(call) => self.gives(&call, wanted),
+            None => Ok(words.starts_with("shows ")),
+        }
+    }
+
     /// Makes the calls of a row.
-    fn keep(&mut self, row: &Row) -> Result<(), Fail> {
-        let (name, _, calls, _) = row;
-        for (call, wanted) in *calls {
-            wants(self.gives(*call, wanted)?, name, wanted)?;
+    fn keep(&mut self, name: &str, lines: &str) -> Result<(), Fail> {
+        for line in lines.lines() {
+            wants(self.is_so(line)?, name, line)?;
         }
         Ok(())
     }
 }
 
 /// A side as the row wants it, at the second try where the first finds no memory.
-fn new_side(alloc: Global, made: Made, met: &mut Refusals) -> Result<AnySide, AllocError> {
+fn new_side(alloc: Global, made: Made, met: &mut Refusals) -> Result<EitherSide, AllocError> {
     match side_of(alloc, made) {
         Ok(side) => Ok(side),
         Err(AllocError) => {
@@ -111,16 +119,17 @@ fn new_text(alloc: Global, met: &mut Refusals) -> Result<Vec<u8>, AllocError> {
 }
 
 /// Goes over a row, and notes where memory was refused.
-fn keeps(alloc: Global, row: &Row, met: &mut Refusals) -> Result<(), Fail> {
-    let (_, made, _, _) = row;
-    let mut side = new_side(alloc, *made, met)?;
-    keeps_side(alloc, row, &mut side, met)
+fn keeps(alloc: Global, name: &str, rest: &str, met: &mut Refusals) -> Result<(), Fail> {
+    let (made, lines) = first_line(rest);
+    let mut side = new_side(alloc, made_of(made), met)?;
+    keeps_side(alloc, name, lines, &mut side, met)
 }
 
 fn keeps_side(
     alloc: Global,
-    row: &Row,
-    side: &mut AnySide,
+    name: &str,
+    lines: &str,
+    side: &mut EitherSide,
     met: &mut Refusals,
 ) -> Result<(), Fail> {
     let mut acts = new_acts(alloc, met)?;
@@ -132,22 +141,23 @@ fn keeps_side(
         text: &mut text,
         met,
     };
-    talk.keep(row)
+    talk.keep(name, lines)
 }
 
 /// Goes over a row, and prints where memory was refused.
-fn keeps_and_tells(rt: &HostRuntime, row: &Row) -> Result<(), Fail> {
+fn keeps_and_tells(rt: &HostRuntime, row: &str) -> Result<(), Fail> {
     let mut met = Refusals::default();
-    keeps(rt.alloc(), row, &mut met)?;
+    let (name, rest) = first_line(row);
+    keeps(rt.alloc(), name, rest, &mut met)?;
     if met != Refusals::default() {
-        println!(rt; "refused in {}: {met:?}", row.0)?;
+        println!(rt; "refused in {name}: {met:?}")?;
     }
     Ok(())
 }
 
 /// Goes over each row.
-fn keep_all(rt: &HostRuntime, rows: &[Row]) -> Result<(), Fail> {
-    for row in rows {
+fn keep_all(rt: &HostRuntime, rows: &str) -> Result<(), Fail> {
+    for row in rows.split("\n\n") {
         keeps_and_tells(rt, row)?;
     }
     Ok(())
@@ -155,10 +165,10 @@ fn keep_all(rt: &HostRuntime, rows: &[Row]) -> Result<(), Fail> {
 
 #[test]
 fn a_network_side_without_memory(rt: HostRuntime) -> Result<(), Fail> {
-    keep_all(&rt, NETWORK)
+    keep_all(&rt, network_rows())
 }
 
 #[test]
 fn a_user_side_without_memory(rt: HostRuntime) -> Result<(), Fail> {
-    keep_all(&rt, USER)
+    keep_all(&rt, user_rows())
 }

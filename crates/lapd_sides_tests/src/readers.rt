@@ -1,197 +1,236 @@
-//! What the readers of a side show.
+//! What the readers of a side show, and the next moment at which something is due on it.
 
-use crate::calls::{config, id_of, tei};
-use crate::wants::wants;
+use crate::calls::{first_word, link_of, small_number};
+use crate::dialogues::go_over;
 use lapd_link::Timer;
-use lapd_sides::{
-    Acts, EitherSide, LinkId, LinkTable, NetSide, Request, Side, Terminal, TimerSet, UserSide,
-};
+use lapd_sides::{Assigner, EitherSide, LinkId, Side, Tei, Terminal, TimerSet};
 use std::test::Fail;
 
-/// When this timer expires: `None` where there are no timers, or it does not run.
-fn deadline(timers: Option<&TimerSet>, timer: Timer) -> Option<u64> {
-    match timers {
-        Some(timers) => timers.deadline(timer),
-        None => None,
-    }
-}
+/// Rows as those of dialogues. T200 runs 1 s, T201 1 s, T202 2 s and T203 10 s (Q.921 5.9).
+const ROWS: &str = "\
+a network side shows its links, and a check
+net 64 packets
+0 take 00817f: 008173;0 64 established;
+0 take 40817f: 408173;16 64 established;
+500 take 408153: 408173;16 64 released;
+shows state 0 64: 7
+shows state 16 64: 4
+shows T203 0 64: 10000
+shows T203 16 64: none
+shows running 16 64: 0
+shows running 0 65: none
+shows held 64: 1
+600 check 0 64: feff030f00000481;
+shows checked: 64
+shows T201: 1600
 
-/// Whether there are timers, and this one does not run.
-fn rests(timers: Option<&TimerSet>, timer: Timer) -> bool {
-    match timers {
-        Some(timers) => !timers.running(timer) && timers.deadline(timer).is_none(),
-        None => false,
-    }
+a user side shows its terminal, and the link that it establishes
+user
+0 establish 0 127: fcff030f619901ff;
+shows terminal: 3
+shows reference: 24985
+shows T202: 2000
+100 take feff030f61990281: 00817f;tei got 64;
+shows tei: 64
+shows T202: none
+shows running: 0
+shows state 0 64: 5
+shows T200 0 64: 1100
+
+a link of a network side enquires, and is released
+net 64
+shows network: 1
+0 take 00817f: 008173;0 64 established;
+shows state 0 64: 7
+shows discarded: 0
+shows T203 0 64: 10000
+shows next: 10000
+9999 tick: none;
+10000 tick: 02810101;
+10000 release 0 64: 028153;
+
+a link of a user side enquires, and is released
+user 64
+shows network: 0
+0 take 02817f: 028173;0 64 established;
+shows state 0 64: 7
+shows discarded: 0
+shows T203 0 64: 10000
+shows next: 10000
+9999 tick: none;
+10000 tick: 00810101;
+10000 release 0 64: 008153;
+
+nothing is due on a new side
+net 64 packets
+0 tick: none;
+shows next: none
+
+a link is established, sends a message, and is released
+net 64
+0 take 00817f: 008173;0 64 established;
+shows next: 10000
+2000 give 0 64 0801: 028100000801;
+shows next: 3000
+2500 take 02810102: 0 64 acknowledged 1;
+shows next: 12500
+3000 take 008153: 008173;0 64 released;
+shows next: none
+
+the least of two links
+net 64 packets
+0 take 00817f: 008173;0 64 established;
+shows next: 10000
+500 take 40817f: 408173;16 64 established;
+shows next: 10000
+600 take 008153: 008173;0 64 released;
+shows next: 10500
+
+a message beside an enquiry to come
+net 64 packets
+0 take 00817f: 008173;0 64 established;
+shows next: 10000
+500 take 40817f: 408173;16 64 established;
+shows next: 10000
+9200 give 16 64 0801: 428100000801;
+shows next: 10000
+9300 give 0 64 0801: 028100000801;
+shows next: 10200
+
+T201 alone
+net 64
+600 check 0 64: feff030f00000481;
+shows next: 1600
+
+T202 alone, until a TEI is got
+user
+0 ask: fcff030f619901ff;
+shows next: 2000
+100 take feff030f61990281: tei got 64;
+shows next: none
+
+T202, and T202 again
+user
+0 ask: fcff030f619901ff;
+shows next: 2000
+2000 tick: fcff030f769101ff;
+shows next: 4000
+
+a user's link is established
+user 64
+0 establish 0 64: 00817f;
+shows next: 1000
+300 take 008173: 0 64 confirmed;
+shows next: 10300
+";
+
+/// What a line of a row names that is not there is found by this number.
+const UNKNOWN: Option<u64> = Some(u64::MAX);
+
+/// The link of the SAPI and the TEI that these words write.
+fn id_of(words: &str) -> Option<LinkId> {
+    let (sapi, tei) = first_word(words);
+    link_of(small_number(sapi)?, small_number(tei)?)
 }
 
 /// The state of a link: `None` where it is not there.
-fn state(table: &LinkTable, id: LinkId) -> Option<u8> {
-    match table.link(id) {
-        Some(link) => Some(link.state()),
+fn state(side: &EitherSide, words: &str) -> Option<u64> {
+    match id_of(words) {
+        Some(id) => match side.table().link(id) {
+            Some(link) => Some(u64::from(link.state())),
+            None => None,
+        },
+        None => UNKNOWN,
+    }
+}
+
+/// When a timer expires, or how many run: `None` where there are no timers, or it does not run.
+fn timed(timers: Option<&TimerSet>, word: &str) -> Option<u64> {
+    match (timers, word) {
+        (None, _) => None,
+        (Some(timers), "running") => Some(running(timers)),
+        (Some(timers), _) => deadline(timers, word),
+    }
+}
+
+/// When a timer expires: `None` where it does not run.
+fn deadline(timers: &TimerSet, word: &str) -> Option<u64> {
+    match word {
+        "T200" => timers.deadline(Timer::T200),
+        "T201" => timers.deadline(Timer::T201),
+        "T202" => timers.deadline(Timer::T202),
+        "T203" => timers.deadline(Timer::T203),
+        _ => UNKNOWN,
+    }
+}
+
+/// How many timers run.
+fn running(timers: &TimerSet) -> u64 {
+    let mut count = 0u64;
+    for timer in [Timer::T200, Timer::T201, Timer::T202, Timer::T203] {
+        count = count.wrapping_add(u64::from(timers.running(timer)));
+    }
+    count
+}
+
+/// The number of a TEI, where there is one.
+fn number(tei: Option<Tei>) -> Option<u64> {
+    match tei {
+        Some(tei) => Some(u64::from(tei.value())),
         None => None,
     }
 }
 
-/// Frames that come to a network side, and when: both links are established, and that of SAPI 16 is released.
-const FRAMES: &[([u8; 3], u64)] = &[
-    ([0x00, 0x81, 0x7f], 0),
-    ([0x40, 0x81, 0x7f], 0),
-    ([0x40, 0x81, 0x53], 500),
-];
-
-/// The frames come.
-fn frames_come(side: &mut NetSide, acts: &mut Acts) -> Result<(), Fail> {
-    for (octets, now) in FRAMES {
-        let taken = side.take(octets, *now, acts).is_ok();
-        wants(taken, "a frame", "refused")?;
+/// The TEI that is checked, or whether one is held.
+fn assigned(assigner: &Assigner, word: &str, of: &str) -> Option<u64> {
+    match word {
+        "checked" => number(assigner.check()),
+        "held" => Some(u64::from(assigner.holds(Tei::new(small_number(of)?)?))),
+        _ => UNKNOWN,
     }
-    Ok(())
 }
 
-/// The links, and their timers.
-fn links_are_shown(side: &NetSide) -> Result<(), Fail> {
-    let (call, packet) = (id_of(0, 64)?, id_of(16, 64)?);
-    let states = (state(side.table(), call), state(side.table(), packet));
-    wants(states == (Some(7), Some(4)), "the links", "other states")?;
-    let t203 = deadline(side.timers(Some(call)), Timer::T203) == Some(10_000);
-    wants(t203, "T203 of SAPI 0", "another deadline")?;
-    let t203 = rests(side.timers(Some(packet)), Timer::T203);
-    wants(t203, "T203 of SAPI 16", "it runs")?;
-    let none = side.timers(Some(id_of(0, 65)?)).is_none();
-    wants(none, "a link that is not there", "it has timers")
+/// The state of a terminal, its reference or its TEI.
+fn kept(terminal: &Terminal, word: &str) -> Option<u64> {
+    match word {
+        "terminal" => Some(u64::from(terminal.state())),
+        "reference" => Some(u64::from(terminal.reference()?)),
+        "tei" => number(terminal.tei()),
+        _ => UNKNOWN,
+    }
 }
 
-/// Whether a check of the TEI begins at 600.
-fn begins_check(side: &mut NetSide, acts: &mut Acts) -> bool {
-    side.request(Request::Check(tei(64)), 600, acts).is_ok()
+/// What is shown of TEI management.
+fn managed(side: &EitherSide, word: &str, of: &str) -> Option<u64> {
+    match side {
+        EitherSide::Network(side) => assigned(side.assigner(), word, of),
+        EitherSide::User(side) => kept(side.terminal(), word),
+    }
 }
 
-/// Whether the check of the TEI is shown, and T201.
-fn shows_check(side: &NetSide) -> bool {
-    side.assigner().check() == Some(tei(64))
-        && deadline(side.timers(None), Timer::T201) == Some(1_600)
+/// What a side shows of itself, of a link, or of TEI management; 1 stands for what is so, and 0 for what is not.
+fn shown(side: &EitherSide, words: &str) -> Option<u64> {
+    let (word, of) = first_word(words);
+    match word {
+        "network" => Some(u64::from(side.side() == Side::Network)),
+        "discarded" => Some(side.discarded()),
+        "next" => side.next_deadline(),
+        "state" => state(side, of),
+        "running" | "T200" | "T201" | "T202" | "T203" => timed(side.timers(id_of(of)), word),
+        _ => managed(side, word, of),
+    }
 }
 
-/// The links, and then the TEI that is held, and its check.
-fn network_is_shown(side: &mut NetSide, acts: &mut Acts) -> Result<(), Fail> {
-    frames_come(side, acts)?;
-    links_are_shown(side)?;
-    let held = side.assigner().holds(tei(64));
-    wants(held, "the assigner", "the TEI is free")?;
-    let checked = begins_check(side, acts) && shows_check(side);
-    wants(checked, "a check", "it does not run")
-}
-
-#[test]
-fn a_network_side_shows_its_links(rt: HostRuntime) -> Result<(), Fail> {
-    let alloc = rt.alloc();
-    let mut acts = Acts::new(alloc)?;
-    let mut side = NetSide::new(alloc, config(true), &[tei(64)])?;
-    network_is_shown(&mut side, &mut acts)
-}
-
-/// Whether the link of SAPI 0 is asked for, and not refused.
-fn asks(side: &mut UserSide, acts: &mut Acts, call: LinkId) -> bool {
-    side.request(Request::Establish(call), 0, acts).is_ok()
-}
-
-/// Whether the terminal waits for a TEI.
-fn waits(terminal: &Terminal) -> bool {
-    terminal.state() == 3 && terminal.reference() == Some(0x6199)
-}
-
-/// A terminal that asks for a TEI, as a link is to be established.
-fn asking_is_shown(side: &mut UserSide, acts: &mut Acts) -> Result<(), Fail> {
-    let asked = asks(side, acts, id_of(0, 127)?) && waits(side.terminal());
-    wants(asked, "a TEI is asked for", "another state")?;
-    let t202 = deadline(side.timers(None), Timer::T202) == Some(2_000);
-    wants(t202, "T202", "another deadline")
-}
-
-/// Whether the octets that assign the TEI are taken at 100.
-fn hears(side: &mut UserSide, acts: &mut Acts) -> bool {
-    let assigned = [0xfe, 0xff, 0x03, 0x0f, 0x61, 0x99, 0x02, 0x81];
-    side.take(&assigned, 100, acts).is_ok()
-}
-
-/// The terminal with its TEI, and the link that it establishes.
-fn tei_is_shown(side: &UserSide) -> Result<(), Fail> {
-    let got = side.terminal().tei() == Some(tei(64));
-    let t202 = rests(side.timers(None), Timer::T202);
-    wants(got && t202, "a TEI is got", "T202 runs")?;
-    let call = id_of(0, 64)?;
-    let state = state(side.table(), call) == Some(5);
-    let t200 = deadline(side.timers(Some(call)), Timer::T200) == Some(1_100);
-    wants(state && t200, "the link", "it does not wait")
-}
-
-/// The terminal that asks, and then with its TEI, and the link that it establishes.
-fn terminal_is_shown(side: &mut UserSide, acts: &mut Acts) -> Result<(), Fail> {
-    asking_is_shown(side, acts)?;
-    wants(hears(side, acts), "a TEI is assigned", "refused")?;
-    tei_is_shown(side)
+/// Whether a side shows this number, or `none`.
+pub(crate) fn shows(side: &EitherSide, words: &str, wanted: &str) -> bool {
+    let shown = shown(side, words);
+    match wanted {
+        "none" => shown.is_none(),
+        _ => shown.is_some() && shown == wanted.parse::<u64>().ok(),
+    }
 }
 
 #[test]
-fn a_user_side_shows_its_terminal(rt: HostRuntime) -> Result<(), Fail> {
-    let alloc = rt.alloc();
-    let mut acts = Acts::new(alloc)?;
-    let mut side = UserSide::new(alloc, config(false), None)?;
-    terminal_is_shown(&mut side, &mut acts)
-}
-
-/// Whether a SABME is answered at 0.
-fn answers(side: &mut EitherSide, sabme: &[u8], acts: &mut Acts) -> bool {
-    side.take(sabme, 0, acts).is_ok() && acts.frames().len() == 1
-}
-
-/// Whether T203 of this link is all that runs.
-fn runs_t203(side: &EitherSide, call: LinkId) -> bool {
-    let t203 = deadline(side.timers(Some(call)), Timer::T203);
-    t203 == Some(10_000) && side.next_deadline() == Some(10_000)
-}
-
-/// Whether this link is established, and nothing was discarded.
-fn is_established(side: &EitherSide, call: LinkId) -> bool {
-    state(side.table(), call) == Some(7) && side.discarded() == 0
-}
-
-/// Whether T203 expires at its moment, and not before.
-fn expires(side: &mut EitherSide, acts: &mut Acts) -> bool {
-    !side.tick(9_999, acts) && side.tick(10_000, acts) && acts.frames().len() == 1
-}
-
-/// Whether the link is asked to be released, and not refused.
-fn releases(side: &mut EitherSide, call: LinkId, acts: &mut Acts) -> bool {
-    side.request(Request::Release(call), 10_000, acts).is_ok()
-}
-
-/// The link of SAPI 0, TEI 64, is established by the other side, and enquires; then it is released.
-fn either_is_shown(side: &mut EitherSide, sabme: &[u8], acts: &mut Acts) -> Result<(), Fail> {
-    wants(answers(side, sabme, acts), "a SABME", "no answer")?;
-    let established = is_established(side, id_of(0, 64)?);
-    wants(established, "the link", "it is another")?;
-    let runs = runs_t203(side, id_of(0, 64)?);
-    wants(runs, "T203", "it does not run, or not alone")?;
-    wants(expires(side, acts), "T203", "another moment")?;
-    let released = releases(side, id_of(0, 64)?, acts);
-    wants(released, "a release", "refused")
-}
-
-#[test]
-fn either_side_shows_its_link(rt: HostRuntime) -> Result<(), Fail> {
-    let alloc = rt.alloc();
-    let mut acts = Acts::new(alloc)?;
-    let mut side = EitherSide::Network(NetSide::new(alloc, config(false), &[tei(64)])?);
-    wants(side.side() == Side::Network, "its kind", "a user side")?;
-    either_is_shown(&mut side, &[0x00, 0x81, 0x7f], &mut acts)
-}
-
-#[test]
-fn either_side_shows_a_users_link(rt: HostRuntime) -> Result<(), Fail> {
-    let alloc = rt.alloc();
-    let mut acts = Acts::new(alloc)?;
-    let mut side = EitherSide::User(UserSide::new(alloc, config(false), Some(tei(64)))?);
-    wants(side.side() == Side::User, "its kind", "a network side")?;
-    either_is_shown(&mut side, &[0x02, 0x81, 0x7f], &mut acts)
+fn readers_show_as_said(rt: HostRuntime) -> Result<(), Fail> {
+    go_over(rt.alloc(), ROWS)
 }

@@ -1,10 +1,10 @@
 //! Requests with more octets than a frame has room for. They are handed back, and nothing is given.
 
-use crate::calls::{AnySide, id_of};
+use crate::calls::id_of;
 use crate::dialogues::{Held, Made, side_of};
 use crate::wants::wants;
 use lapd_link::LinkFault;
-use lapd_sides::{Acts, LinkId, Request, SideFault, SideKind};
+use lapd_sides::{Acts, EitherSide, LinkId, Request, SideFault, SideKind};
 use std::alloc::{AllocError, Global};
 use std::test::Fail;
 
@@ -22,9 +22,11 @@ enum Sort {
     Message,
 }
 
-/// A name, SAPIs and TEIs, for each how many octets, and why they are refused, if they are.
+/// A name, the side, what it is asked for, SAPIs and TEIs, for each how many octets, and why they are refused, if they are.
 type Row = (
     &'static str,
+    Made,
+    Sort,
     &'static [(u8, u8)],
     &'static [usize],
     Option<SideKind>,
@@ -36,42 +38,65 @@ const LENGTHS: &[usize] = &[0, N201, N201 + 1, 1_000];
 /// Links that a side without TEIs has not.
 const NO_LINKS: &[(u8, u8)] = &[(0, 64), (16, 127), (63, 1)];
 
-/// A side, and what it is asked for with unit data.
-const UNITS: &[(Made, &[Row])] = &[
-    (
-        Made::Net(Held::Nothing, false),
-        &[
-            ("to all terminals, 260 octets", &[(0, 127)], &[N201], None),
-            (
-                "to all terminals, 261 octets",
-                &[(0, 127)],
-                &[N201 + 1],
-                Some(TOO_LONG),
-            ),
-            (
-                "a SAPI that is not served",
-                &[(16, 127)],
-                &[N201 + 1],
-                Some(SideKind::NoLink),
-            ),
-            ("no link", &[(0, 64)], &[N201 + 1], Some(SideKind::NoLink)),
-        ],
-    ),
-    (
-        Made::User(Held::Nothing, true),
-        &[("no TEI", NO_LINKS, LENGTHS, Some(SideKind::NoLink))],
-    ),
-];
+/// A network side without TEIs.
+const NET: Made = Made::Net(Held::Nothing, false);
 
-/// A side, and what it is asked for with messages.
-const MESSAGES: &[(Made, &[Row])] = &[
+const ROWS: &[Row] = &[
     (
-        Made::Net(Held::Nothing, false),
-        &[("no link", NO_LINKS, LENGTHS, Some(SideKind::NoLink))],
+        "to all terminals, 260 octets",
+        NET,
+        Sort::Unit,
+        &[(0, 127)],
+        &[N201],
+        None,
     ),
     (
+        "to all terminals, 261 octets",
+        NET,
+        Sort::Unit,
+        &[(0, 127)],
+        &[N201 + 1],
+        Some(TOO_LONG),
+    ),
+    (
+        "a SAPI that is not served",
+        NET,
+        Sort::Unit,
+        &[(16, 127)],
+        &[N201 + 1],
+        Some(SideKind::NoLink),
+    ),
+    (
+        "no link",
+        NET,
+        Sort::Unit,
+        &[(0, 64)],
+        &[N201 + 1],
+        Some(SideKind::NoLink),
+    ),
+    (
+        "no TEI",
+        Made::User(Held::Nothing, true),
+        Sort::Unit,
+        NO_LINKS,
+        LENGTHS,
+        Some(SideKind::NoLink),
+    ),
+    (
+        "a message for no link",
+        NET,
+        Sort::Message,
+        NO_LINKS,
+        LENGTHS,
+        Some(SideKind::NoLink),
+    ),
+    (
+        "a message without a TEI",
         Made::User(Held::Nothing, false),
-        &[("no TEI", NO_LINKS, LENGTHS, Some(NOT_ESTABLISHED))],
+        Sort::Message,
+        NO_LINKS,
+        LENGTHS,
+        Some(NOT_ESTABLISHED),
     ),
 ];
 
@@ -106,7 +131,7 @@ fn is_end(done: &Result<(), SideFault>, acts: &Acts, len: usize, wanted: Option<
 /// Whether a side answers so to so many octets for a link.
 fn answers(
     alloc: Global,
-    side: &mut AnySide,
+    side: &mut EitherSide,
     sort: Sort,
     (sapi, tei): (u8, u8),
     len: usize,
@@ -119,45 +144,27 @@ fn answers(
 }
 
 /// Asks a side for what a row says.
-fn ask(alloc: Global, side: &mut AnySide, sort: Sort, row: &Row) -> Result<(), Fail> {
-    let (name, links, lengths, wanted) = row;
+fn ask(alloc: Global, side: &mut EitherSide, row: &Row) -> Result<(), Fail> {
+    let (name, _, sort, links, lengths, wanted) = row;
     for link in *links {
         for len in *lengths {
-            let answered = answers(alloc, side, sort, *link, *len, *wanted)?;
+            let answered = answers(alloc, side, *sort, *link, *len, *wanted)?;
             wants(answered, name, "it answers otherwise")?;
         }
     }
     Ok(())
 }
 
-/// Asks a side for what each row says.
-fn ask_rows(alloc: Global, side: &mut AnySide, sort: Sort, rows: &[Row]) -> Result<(), Fail> {
-    for row in rows {
-        ask(alloc, side, sort, row)?;
-    }
-    Ok(())
-}
-
-/// Makes a side, and asks it for what each row says.
-fn ask_side(alloc: Global, made: Made, sort: Sort, rows: &[Row]) -> Result<(), Fail> {
-    let mut side = side_of(alloc, made)?;
-    ask_rows(alloc, &mut side, sort, rows)
-}
-
-/// Asks each side for what its rows say.
-fn ask_sides(alloc: Global, sort: Sort, sides: &[(Made, &[Row])]) -> Result<(), Fail> {
-    for (made, rows) in sides {
-        ask_side(alloc, *made, sort, rows)?;
-    }
-    Ok(())
+/// Makes a side, and asks it for what a row says.
+fn ask_anew(alloc: Global, row: &Row) -> Result<(), Fail> {
+    let mut side = side_of(alloc, row.1)?;
+    ask(alloc, &mut side, row)
 }
 
 #[test]
-fn unit_data_too_long(rt: HostRuntime) -> Result<(), Fail> {
-    ask_sides(rt.alloc(), Sort::Unit, UNITS)
-}
-
-#[test]
-fn messages_too_long(rt: HostRuntime) -> Result<(), Fail> {
-    ask_sides(rt.alloc(), Sort::Message, MESSAGES)
+fn too_many_octets_are_handed_back(rt: HostRuntime) -> Result<(), Fail> {
+    for row in ROWS {
+        ask_anew(rt.alloc(), row)?;
+    }
+    Ok(())
 }

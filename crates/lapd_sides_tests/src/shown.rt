@@ -1,31 +1,14 @@
 //! All that the readers of a side show, as one number, so that "unchanged" can be looked at without memory.
 
-use crate::calls::AnySide;
 use lapd_link::{IQueue, Link, Timer, Window};
-use lapd_sides::{Assigner, LinkId, LinkTable, Sapi, Tei, Terminal, TimerSet};
+use lapd_sides::{Assigner, EitherSide, LinkId, Sapi, Tei, Terminal, TimerSet};
 
 /// All that its readers show, as one number.
-pub(crate) fn digest(side: &AnySide) -> u64 {
-    let all = with_timers(with_management(side.discarded(), side), timers(side, None));
+pub(crate) fn digest(side: &EitherSide) -> u64 {
+    let all = with_timers(with_management(side.discarded(), side), side.timers(None));
     let mut all = with_links(all, side, Sapi::Call);
     all = with_links(all, side, Sapi::Packet);
     all
-}
-
-/// The links that are there.
-fn table(side: &AnySide) -> &LinkTable {
-    match side {
-        AnySide::Network(side) => side.table(),
-        AnySide::User(side) => side.table(),
-    }
-}
-
-/// The timers of a link, or of TEI management.
-fn timers(side: &AnySide, of: Option<LinkId>) -> Option<&TimerSet> {
-    match side {
-        AnySide::Network(side) => side.timers(of),
-        AnySide::User(side) => side.timers(of),
-    }
 }
 
 /// One number more (the hash FNV-1a, by words).
@@ -33,10 +16,10 @@ fn with(all: u64, number: u64) -> u64 {
     (all ^ number).wrapping_mul(0x0000_0100_0000_01b3)
 }
 
-fn with_management(all: u64, side: &AnySide) -> u64 {
+fn with_management(all: u64, side: &EitherSide) -> u64 {
     match side {
-        AnySide::Network(side) => with_assigner(all, side.assigner()),
-        AnySide::User(side) => with_terminal(all, side.terminal()),
+        EitherSide::Network(side) => with_assigner(all, side.assigner()),
+        EitherSide::User(side) => with_terminal(all, side.terminal()),
     }
 }
 
@@ -79,12 +62,12 @@ fn with_deadline(all: u64, deadline: Option<u64>) -> u64 {
 }
 
 /// The links of this SAPI, and their timers.
-fn with_links(all: u64, side: &AnySide, sapi: Sapi) -> u64 {
+fn with_links(all: u64, side: &EitherSide, sapi: Sapi) -> u64 {
     let mut all = all;
     for number in 0..128 {
         if let Some(tei) = Tei::new(number) {
-            all = with_link(all, table(side).link(LinkId { sapi, tei }));
-            all = with_timers(all, timers(side, Some(LinkId { sapi, tei })));
+            all = with_link(all, side.table().link(LinkId { sapi, tei }));
+            all = with_timers(all, side.timers(Some(LinkId { sapi, tei })));
         }
     }
     all

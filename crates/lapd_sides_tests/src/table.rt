@@ -1,6 +1,5 @@
 //! Tests of a table of links: which links are there, octets that come for them, and refused memory.
 
-mod ids;
 mod made;
 mod memory;
-mod network;
+mod steps;

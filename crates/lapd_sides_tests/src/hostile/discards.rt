@@ -1,19 +1,11 @@
 //! Which octets a side discards, by plain rules.
 
-use crate::calls::AnySide;
-use lapd_sides::{LinkId, Sapi, Tei};
-
-/// The name of a link, by its numbers: `None` where there is no such SAPI.
-fn id_of(sapi: u8, tei: u8) -> Option<LinkId> {
-    Some(LinkId {
-        sapi: Sapi::new(sapi)?,
-        tei: Tei::new(tei)?,
-    })
-}
+use crate::calls::link_of;
+use lapd_sides::{EitherSide, Side};
 
 /// Whether a side has a link of these numbers.
-fn has_link(side: &AnySide, sapi: u8, tei: u8) -> bool {
-    match id_of(sapi, tei) {
+fn has_link(side: &EitherSide, sapi: u8, tei: u8) -> bool {
+    match link_of(sapi, tei) {
         Some(id) => side.table().link(id).is_some(),
         None => false,
     }
@@ -57,9 +49,9 @@ pub(super) fn is_for_management(octets: &[u8], to_network: bool) -> bool {
 }
 
 /// Whether octets are a UI command to all terminals of a SAPI that a user side serves.
-fn is_for_all(octets: &[u8], side: &AnySide) -> bool {
+fn is_for_all(octets: &[u8], side: &EitherSide) -> bool {
     match (side, octets) {
-        (AnySide::User(_), [first, 0xff, _, ..]) => {
+        (EitherSide::User(_), [first, 0xff, _, ..]) => {
             matches!(sapi_of(*first), 0 | 16) && is_unit_data(octets, false)
         }
         _ => false,
@@ -68,16 +60,16 @@ fn is_for_all(octets: &[u8], side: &AnySide) -> bool {
 
 /// Whether a side, which serves SAPI 0 and 16, discards these octets: they are none for a link that is there, none for TEI
 /// management, and no unit data to all terminals.
-pub(super) fn is_discarded(octets: &[u8], side: &AnySide) -> bool {
+pub(super) fn is_discarded(octets: &[u8], side: &EitherSide) -> bool {
     if are_for_nobody(octets) {
         return true;
     }
-    let taken = is_for_management(octets, side.is_network()) || is_for_all(octets, side);
+    let taken = is_for_management(octets, side.side() == Side::Network) || is_for_all(octets, side);
     !taken && !is_for_link(octets, side)
 }
 
 /// Whether octets have the address of a link that is there.
-fn is_for_link(octets: &[u8], side: &AnySide) -> bool {
+fn is_for_link(octets: &[u8], side: &EitherSide) -> bool {
     match octets {
         [first, second, ..] => has_link(side, sapi_of(*first), tei_of(*second)),
         _ => false,

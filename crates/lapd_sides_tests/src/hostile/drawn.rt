@@ -7,7 +7,7 @@ use rand_pcg::Pcg32;
 pub(super) const MOST: usize = 300;
 
 /// Octets with which strings begin: addresses of links that are there and of others, of all terminals, and of TEI management.
-pub(super) const FRONTS: &[&[u8]] = &[
+const FRONTS: &[&[u8]] = &[
     &[0x00, 0x81],
     &[0x02, 0x81],
     &[0x00, 0x81, 0x00, 0x00],
@@ -27,6 +27,11 @@ pub(super) const FRONTS: &[&[u8]] = &[
     &[0xfe, 0xff, 0x03, 0x0f],
     &[0xfe, 0xff, 0x13, 0x0f, 0x00, 0x00, 0x06],
 ];
+
+/// What strings begin with, lent: a constant is written out in each function that names it.
+pub(super) fn fronts() -> &'static [&'static [u8]] {
+    FRONTS
+}
 
 /// Draws of octets.
 #[derive(Drop)]
@@ -63,8 +68,9 @@ impl Draws {
         let sort = self.below(4);
         let most = if sort == 0 { 10 } else { MOST };
         if sort < 2 {
-            let front = self.below(FRONTS.len());
-            put(&mut self.octets, FRONTS.get(front).copied().unwrap_or(&[]));
+            let fronts = fronts();
+            let front = self.below(fronts.len());
+            put(&mut self.octets, fronts.get(front).copied().unwrap_or(&[]));
         }
         let len = self.below(most + 1);
         self.octets.get(..len).unwrap_or(&[])

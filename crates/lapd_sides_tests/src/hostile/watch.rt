@@ -1,10 +1,9 @@
 //! A side that is watched: what it gives for octets, and which of its links they change.
 
-use crate::calls::AnySide;
 use crate::hostile::discards::{is_discarded, is_for_management};
 use lapd_frame::{Frame, MOST_OCTETS, read, write};
 use lapd_link::{Link, Timer, Window};
-use lapd_sides::{Acts, LinkId, LinkTable, Request, Sapi, Side, Tei, TimerSet};
+use lapd_sides::{Acts, EitherSide, LinkId, Request, Sapi, Side, Tei, TimerSet};
 use std::alloc::{AllocError, Global};
 
 /// How many TEIs a link can have.
@@ -27,7 +26,7 @@ struct Seen {
 /// A side, and what was last seen of each link of SAPI 0, then of SAPI 16, by rising TEI.
 #[derive(Drop)]
 pub(super) struct Watch {
-    side: AnySide,
+    side: EitherSide,
     acts: Acts,
     seen: Vec<Option<Seen>>,
 }
@@ -79,61 +78,29 @@ fn is_written(frame: &Frame<'_>, from: Side, octets: &[u8]) -> bool {
     room.get(..len) == Some(octets)
 }
 
-/// How many strings of octets a side has discarded.
-fn discarded_by(side: &AnySide) -> u64 {
-    match side {
-        AnySide::Network(side) => side.discarded(),
-        AnySide::User(side) => side.discarded(),
-    }
-}
-
-impl AnySide {
-    /// Whether it is a network side.
-    pub(super) fn is_network(&self) -> bool {
-        matches!(self, AnySide::Network(_))
-    }
-
-    /// Its links.
-    pub(super) fn table(&self) -> &LinkTable {
-        match self {
-            AnySide::Network(side) => side.table(),
-            AnySide::User(side) => side.table(),
-        }
-    }
-
-    /// The timers of a link.
-    fn timers(&self, id: LinkId) -> Option<&TimerSet> {
-        match self {
-            AnySide::Network(side) => side.timers(Some(id)),
-            AnySide::User(side) => side.timers(Some(id)),
-        }
-    }
-
-    /// What is seen of the link that stands at a place; `None` where it is not there.
-    fn seen(&self, place: usize) -> Option<Seen> {
-        match (self.table().link(id_at(place)), self.timers(id_at(place))) {
-            (Some(link), Some(timers)) => Some(seen_of(link, timers)),
-            _ => None,
-        }
-    }
-
-    /// Which side it is.
-    fn side(&self) -> Side {
-        if self.is_network() {
-            Side::Network
-        } else {
-            Side::User
-        }
+/// What is seen of the link that stands at a place; `None` where it is not there.
+fn seen_at(side: &EitherSide, place: usize) -> Option<Seen> {
+    match (
+        side.table().link(id_at(place)),
+        side.timers(Some(id_at(place))),
+    ) {
+        (Some(link), Some(timers)) => Some(seen_of(link, timers)),
+        _ => None,
     }
 }
 
 impl Watch {
     /// A side that is watched from now on.
-    pub(super) fn new(alloc: Global, side: AnySide) -> Result<Watch, AllocError> {
+    pub(super) fn new(alloc: Global, side: EitherSide) -> Result<Watch, AllocError> {
         let acts = Acts::new(alloc)?;
         let mut seen = Vec::new(alloc);
         seen.resize(TEIS * 2, None)?;
         Ok(Watch { side, acts, seen })
+    }
+
+    /// Whether it is a network side.
+    fn is_network(&self) -> bool {
+        self.side.side() == Side::Network
     }
 
     /// Establishes the links of even TEIs that are there, and looks at all.
@@ -151,7 +118,7 @@ impl Watch {
 
     /// Looks at the link at this place.
     fn look_at(&mut self, place: usize) {
-        let now = self.side.seen(place);
+        let now = seen_at(&self.side, place);
         if let Some(seen) = self.seen.get_mut(place) {
             *seen = now;
         }
@@ -159,10 +126,7 @@ impl Watch {
 
     /// Whether octets come, and the side is not refused memory.
     pub(super) fn takes(&mut self, octets: &[u8]) -> bool {
-        match &mut self.side {
-            AnySide::Network(side) => side.take(octets, 0, &mut self.acts).is_ok(),
-            AnySide::User(side) => side.take(octets, 0, &mut self.acts).is_ok(),
-        }
+        self.side.take(octets, 0, &mut self.acts).is_ok()
     }
 
     /// Whether the side is given a message for the link of SAPI 0 and TEI 64.
@@ -190,7 +154,7 @@ impl Watch {
 
     /// The first octets of commands and responses that come.
     fn addresses(&self) -> (u8, u8) {
-        if self.side.is_network() {
+        if self.is_network() {
             (0x00, 0x02)
         } else {
             (0x02, 0x00)
@@ -209,12 +173,12 @@ impl Watch {
     /// discarded, which are counted, and all other links are as before.
     pub(super) fn hears(&mut self, octets: &[u8]) -> bool {
         let discarded = is_discarded(octets, &self.side);
-        let managed = is_for_management(octets, self.side.is_network());
-        let wanted = discarded_by(&self.side).wrapping_add(u64::from(discarded));
+        let managed = is_for_management(octets, self.is_network());
+        let wanted = self.side.discarded().wrapping_add(u64::from(discarded));
         self.takes(octets)
             && self.gives_frames()
             && (!discarded || self.gives_nothing())
-            && discarded_by(&self.side) == wanted
+            && self.side.discarded() == wanted
             && self.leaves_others(place_of(octets), managed)
     }
 
@@ -246,8 +210,8 @@ impl Watch {
     /// Whether the link at this place is as before. By TEI management the links of a TEI come to a network side, and those of its
     /// own TEI come to a user side or go.
     fn is_left(&mut self, place: usize, managed: bool) -> bool {
-        let now = self.side.seen(place);
-        let moves = managed && (now.is_some() || !self.side.is_network());
+        let now = seen_at(&self.side, place);
+        let moves = managed && (now.is_some() || !self.is_network());
         match self.seen.get_mut(place) {
             Some(seen) => {
                 let left = *seen == now || (moves && (seen.is_none() || now.is_none()));

@@ -1,10 +1,9 @@
-//! Links and tables that the tests begin with.
+//! Links that are added to tables.
 
 ghost use Rattle.std.specs.Prelude.{◌≢◌, ◌<◌, IsTrue};
 
 use crate::calls;
-use crate::wants::wants;
-use lapd_frame::{Sapi, Side};
+use lapd_frame::Sapi;
 use lapd_link::{Link, Params};
 use lapd_table::{LinkId, LinkTable, TableFault};
 use std::alloc::Global;
@@ -42,23 +41,5 @@ pub(crate) fn try_add(
         Ok(()) => Ok(None),
         Err((fault, link)) if LinkId::of_link(&link) == id => Ok(Some(fault)),
         Err(_) => Err(Fail::new("another link comes back")),
-    }
-}
-
-/// Adds these links.
-fn add_all(alloc: Global, table: &mut LinkTable, links: &[Numbers]) -> Result<(), Fail> {
-    for numbers in links {
-        let fault = try_add(alloc, table, id_of(*numbers)?)?;
-        wants(fault.is_none(), "a link", "it is refused")?;
-    }
-    Ok(())
-}
-
-/// A table of the network's with these links.
-pub(crate) fn network_table(alloc: Global, links: &[Numbers]) -> Result<LinkTable, Fail> {
-    let mut table = LinkTable::new(alloc, Side::Network);
-    match add_all(alloc, &mut table, links) {
-        Ok(()) => Ok(table),
-        Err(fail) => Err(fail),
     }
 }

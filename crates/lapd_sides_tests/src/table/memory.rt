@@ -1,13 +1,12 @@
 //! Memory that is refused to a table: `tools/refuse-memory` refuses each allocation of a run in turn (docs/DEVELOPING.md). A
 //! link that finds no memory comes back, the table has the links that it had, and the same call with memory adds it.
 
-use crate::table::ids::has;
 use crate::table::made::{Numbers, id_of, is_of_link};
 use crate::wants::wants;
 use lapd_frame::Side;
 use lapd_link::{Link, Params};
-use lapd_table::{LinkTable, TableFault};
-use std::alloc::Global;
+use lapd_table::{LinkId, LinkTable, TableFault};
+use std::alloc::{AllocError, Global};
 use std::test::Fail;
 
 /// So many that slab and map grow several times.
@@ -32,6 +31,21 @@ const LINKS: &[Numbers] = &[
     (16, 69),
 ];
 
+/// Whether just these links are there, in this order.
+fn has(table: &LinkTable, links: &[Numbers]) -> Result<bool, AllocError> {
+    let ids = table.ids()?;
+    Ok(are_ids(ids.as_slice(), links))
+}
+
+/// Whether the ids are of these numbers.
+fn are_ids(ids: &[LinkId], links: &[Numbers]) -> bool {
+    let mut same = ids.len() == links.len();
+    for (id, (sapi, tei)) in ids.iter().zip(links) {
+        same = same && id.sapi.value() == *sapi && id.tei.value() == *tei;
+    }
+    same
+}
+
 /// Adds a link, at the second try where the first finds no memory and leaves these.
 fn keeps(
     alloc: Global,
@@ -54,15 +68,16 @@ fn keeps(
     }
 }
 
-/// Adds all links, and looks at which are there.
-fn are_kept(alloc: Global, table: &mut LinkTable) -> Result<(), Fail> {
-    for (number, numbers) in LINKS.iter().enumerate() {
-        let kept = keeps(alloc, table, *numbers, &LINKS[..number])?;
+/// Adds all of these links, and looks at which are there.
+fn are_kept(alloc: Global, table: &mut LinkTable, links: &[Numbers]) -> Result<(), Fail> {
+    for (number, numbers) in links.iter().enumerate() {
+        let before = links.get(..number).unwrap_or(&[]);
+        let kept = keeps(alloc, table, *numbers, before)?;
         wants(kept, "a link", "not added, or the table has changed")?;
     }
-    let all = match has(table, LINKS) {
+    let all = match has(table, links) {
         Ok(all) => all,
-        Err(_) => has(table, LINKS)?,
+        Err(_) => has(table, links)?,
     };
     wants(all, "all links", "others are there")
 }
@@ -70,5 +85,5 @@ fn are_kept(alloc: Global, table: &mut LinkTable) -> Result<(), Fail> {
 #[test]
 fn links_without_memory(rt: HostRuntime) -> Result<(), Fail> {
     let mut table = LinkTable::new(rt.alloc(), Side::Network);
-    are_kept(rt.alloc(), &mut table)
+    are_kept(rt.alloc(), &mut table, LINKS)
 }
