@@ -73,7 +73,8 @@ pub record HasMade (config : Config) (IsMade : Config → EitherSide → Type 0)
 
 -- A side is made with what the settings come to, or memory is refused; where a number is out of its
 -- range, none is made. Where none is made, the handle owns what it owned.
-abbrev pub Makes : (Config → EitherSide → Type 0) → ℕ → ℕ → Held → Held → Option Config → Type 0
+abbrev pub Makes : (Config → EitherSide → Type 0) → ℕ → ℕ → Held → Held → Option Config
+    → Type 0
 Makes IsMade most code old new None = (code ≡ out_of_range) × (new ≡ old)
 Makes IsMade most code old new (Some config) =
     IsWithoutMemory code old new ⊎ HasMade config IsMade most code new
