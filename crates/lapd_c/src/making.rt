@@ -48,11 +48,7 @@ pub(crate) fn make_user(
 }
 
 /// A side on the heap, which has given nothing yet.
-fn boxed(
-    alloc: Global,
-    side: EitherSide,
-    most_waiting: u16,
-) -> Result<Box<HeldSide>, AllocError>
+fn boxed(alloc: Global, side: EitherSide, most_waiting: u16) -> Result<Box<HeldSide>, AllocError>
     ensures { IfOk result (λ held. held.value ≡ record {
       side = side;
       acts = no_effects;
