@@ -2,24 +2,20 @@
 
 ghost use Rattle.std.specs.Prelude.{◌≡◌, ◌<◌};
 
-use lapd_cli_script::put_hex;
+use crate::text::{Text, number_of, small_number, split};
 use lapd_link::LinkFault;
 use lapd_sides::{
-    Acts, Config, Durations, EitherSide, LinkId, Params, Request, Sapi, SideFault, SideKind, Tei,
+    Acts, Config, Durations, LinkId, Params, Request, Sapi, SideFault, SideKind, Tei,
 };
 use std::alloc::Global;
-use std::io;
-use std::io::Write;
-use std::test::Fail;
 
-/// A call of a side: its moment, its word, the SAPI and the TEI that it names, or 0 and 0, and its octets in hexadecimal digits.
+/// A call of a side: its moment, its word, the link that it names, or that of SAPI 0 and TEI 0, and its octets as text.
 #[derive(Clone, Copy)]
 pub(crate) struct Call<'a> {
-    now: u64,
-    word: &'a str,
-    sapi: u8,
-    tei: u8,
-    digits: &'a str,
+    pub(crate) now: u64,
+    pub(crate) word: &'a str,
+    id: LinkId,
+    pub(crate) octets: &'a str,
 }
 
 /// What a side is made with: basic access, by the standard durations, and with the seed 921.
@@ -33,6 +29,30 @@ pub(crate) fn config(sapi16: bool) -> Config {
     }
 }
 
+/// A window of 7, a frame sent 3 times, and 64 messages; what basic access has, should a number be out of range.
+pub(crate) fn params() -> Params {
+    Params::new(7, 3, 64).unwrap_or(Params::basic(Sapi::Call))
+}
+
+/// What a side beside a pair is made with: T200 runs a millisecond, and T203 an hour.
+pub(crate) fn fast() -> Config {
+    Config {
+        params0: params(),
+        params16: params(),
+        durations: Durations::new(1, 1_000, 2_000, 3_600_000).unwrap_or(Durations::standard()),
+        ..config(false)
+    }
+}
+
+/// What a side is made with that these words name: it is fast, serves SAPI 16, or neither.
+pub(crate) fn config_of(words: &str) -> Config {
+    if words.ends_with("fast") {
+        fast()
+    } else {
+        config(words.ends_with("packets"))
+    }
+}
+
 /// The TEI of this number, of a terminal.
 pub(crate) fn tei(number: u8) -> Tei
     requires { number < 127 }
@@ -43,76 +63,60 @@ pub(crate) fn tei(number: u8) -> Tei
 
 /// The link of this SAPI and TEI; `None` where there is no such SAPI or TEI.
 pub(crate) fn link_of(sapi: u8, tei: u8) -> Option<LinkId> {
-    Some(LinkId {
-        sapi: Sapi::new(sapi)?,
-        tei: Tei::new(tei)?,
-    })
-}
-
-/// The link of this SAPI and TEI.
-pub(crate) fn id_of(sapi: u8, tei: u8) -> Result<LinkId, Fail> {
-    match link_of(sapi, tei) {
-        Some(id) => Ok(id),
-        None => Err(Fail::new("no link has these numbers")),
+    match (Sapi::new(sapi), Tei::new(tei)) {
+        (Some(sapi), Some(tei)) => Some(LinkId { sapi, tei }),
+        _ => None,
     }
 }
 
-/// The octets that these digits write.
-pub(crate) fn octets_of(alloc: Global, digits: &str) -> Result<Vec<u8>, Fail> {
-    match hex::decode(alloc, digits.as_bytes()) {
-        Ok(octets) => Ok(octets),
-        Err(_) => Err(Fail::new(format_args!("these are no octets: {digits}"))),
+/// The octets that are written in hexadecimal digits, or so many octets aa, as `[261]`. `None` also where there is no memory.
+pub(crate) fn octets_of(alloc: Global, text: &str) -> Option<Vec<u8>> {
+    match text.strip_prefix("[") {
+        Some(count) => run_of(alloc, split(count, "]").0),
+        None => hex::decode(alloc, text.as_bytes()).ok(),
     }
 }
 
-/// The word at the front, and what stands behind its space.
-pub(crate) fn first_word(words: &str) -> (&str, &str) {
-    words.split_once(" ").unwrap_or((words, ""))
+/// So many octets aa.
+fn run_of(alloc: Global, count: &str) -> Option<Vec<u8>> {
+    let count = count.parse::<usize>().ok()?;
+    let mut octets = Vec::new(alloc);
+    match octets.resize(count, 0xaa) {
+        Ok(()) => Some(octets),
+        Err(_) => None,
+    }
 }
 
-/// The SAPI or the TEI that a word writes.
-pub(crate) fn small_number(word: &str) -> Option<u8> {
-    word.parse::<u8>().ok()
+/// The link that these words name at their front, or that of SAPI 0 and TEI 0, and what stands behind it.
+pub(crate) fn link_at(words: &str) -> (Option<LinkId>, &str) {
+    let (sapi, rest) = split(words, " ");
+    let (tei, behind) = split(rest, " ");
+    match (small_number(sapi), small_number(tei)) {
+        (Some(sapi), Some(tei)) => (link_of(sapi, tei), behind),
+        _ => (link_of(0, 0), words),
+    }
 }
 
 /// The call that these words write: a moment, what is done, the SAPI and the TEI where it names a link, and octets.
 pub(crate) fn call_of(words: &str) -> Option<Call<'_>> {
-    let (now, rest) = first_word(words);
-    let (word, behind) = first_word(rest);
-    let (sapi, rest) = first_word(behind);
-    let (tei, digits) = first_word(rest);
-    let now = now.parse::<u64>().ok()?;
-    Some(match (small_number(sapi), small_number(tei)) {
-        (Some(sapi), Some(tei)) => Call {
+    let (now, rest) = split(words, " ");
+    let (word, behind) = split(rest, " ");
+    let (id, octets) = link_at(behind);
+    match (number_of(now), id) {
+        (Some(now), Some(id)) => Some(Call {
             now,
             word,
-            sapi,
-            tei,
-            digits,
-        },
-        _ => Call {
-            now,
-            word,
-            sapi: 0,
-            tei: 0,
-            digits: behind,
-        },
-    })
+            id,
+            octets,
+        }),
+        _ => None,
+    }
 }
 
-impl<'a> Call<'a> {
-    /// The link of the SAPI and the TEI that it names.
-    pub(crate) fn id(&self) -> Result<LinkId, Fail> {
-        id_of(self.sapi, self.tei)
-    }
-
-    /// The octets that it names, in hexadecimal digits.
-    pub(crate) fn digits(&self) -> &'a str {
-        self.digits
-    }
-
-    /// The request that it makes, for this link and with these octets; none where it is no request.
-    fn request(&self, id: LinkId, octets: Vec<u8>) -> Option<Request> {
+impl Call<'_> {
+    /// The request that it makes, with these octets; none where it is no request.
+    pub(crate) fn request(&self, octets: Vec<u8>) -> Option<Request> {
+        let id = self.id;
         match self.word {
             "establish" => Some(Request::Establish(id)),
             "release" => Some(Request::Release(id)),
@@ -127,138 +131,60 @@ impl<'a> Call<'a> {
     }
 }
 
-/// Makes a call, with this link and these octets. A refusal is written, and `none` where nothing is due.
-fn make(
-    side: &mut EitherSide,
-    call: &Call<'_>,
-    id: LinkId,
-    octets: Vec<u8>,
-    acts: &mut Acts,
-    text: &mut Vec<u8>,
-) -> io::Result<()> {
-    match call.word {
-        "take" => take(side, octets.as_slice(), call.now, acts, text),
-        "tick" => tick(side, call.now, acts, text),
-        _ => ask(side, call.request(id, octets), call.now, acts, text),
-    }
-}
-
-/// Octets come. A refusal is written.
-fn take(
-    side: &mut EitherSide,
-    octets: &[u8],
-    now: u64,
-    acts: &mut Acts,
-    text: &mut Vec<u8>,
-) -> io::Result<()> {
-    put_end(&side.take(octets, now, acts), text)
-}
-
-/// What is due first is done. `none` is written where nothing is.
-fn tick(side: &mut EitherSide, now: u64, acts: &mut Acts, text: &mut Vec<u8>) -> io::Result<()> {
-    if side.tick(now, acts) {
-        Ok(())
-    } else {
-        text.write_all(b"none;")
-    }
-}
-
-/// Something is asked for. A refusal is written.
-fn ask(
-    side: &mut EitherSide,
-    request: Option<Request>,
-    now: u64,
-    acts: &mut Acts,
-    text: &mut Vec<u8>,
-) -> io::Result<()> {
-    match request {
-        Some(request) => put_end(&side.request(request, now, acts), text),
-        None => text.write_all(b"no request;"),
-    }
-}
-
-/// Whether this is what a call gives: a refusal, or that nothing is due, then each frame and each primitive, with `;` behind it.
-pub(crate) fn gives(
-    alloc: Global,
-    side: &mut EitherSide,
-    words: &str,
-    acts: &mut Acts,
-    wanted: &str,
-) -> Result<bool, Fail> {
-    let mut text = Vec::new(alloc);
-    write_call(alloc, side, words, acts, &mut text)?;
-    Ok(text.as_slice() == wanted.as_bytes())
-}
-
-/// Writes what a call gives.
-fn write_call(
-    alloc: Global,
-    side: &mut EitherSide,
-    words: &str,
-    acts: &mut Acts,
-    text: &mut Vec<u8>,
-) -> Result<(), Fail> {
-    match call_of(words) {
-        Some(call) => {
-            let octets = octets_of(alloc, call.digits)?;
-            write_given(side, &call, octets, acts, text)
+impl Text {
+    /// Puts octets behind: many that are aa as their number, and others in hexadecimal digits.
+    fn octets(&mut self, octets: &[u8]) {
+        if is_run(octets) {
+            self.number("[", octets.len() as u64);
+            self.put("]");
+        } else {
+            self.hex(octets);
         }
-        None => Err(Fail::new("a bad call")),
+    }
+
+    /// Puts what a call gave behind: each frame and each primitive, with `;` behind it.
+    pub(crate) fn acts(&mut self, acts: &Acts) {
+        for frame in acts.frames() {
+            let (front, information) = parts_of(frame.as_slice());
+            self.hex(front);
+            self.octets(information);
+            self.put(";");
+        }
+        for primitive in acts.primitives() {
+            self.shown(primitive);
+            self.put(";");
+        }
+    }
+
+    /// Puts a refusal behind, where there is one, and the message that is handed back.
+    pub(crate) fn end(&mut self, done: &Result<(), SideFault>) {
+        if let Err(fault) = done {
+            self.put("refused ");
+            self.put(name_of_kind(fault.kind));
+            if let Some(message) = &fault.message {
+                self.put(" ");
+                self.octets(message.as_slice());
+            }
+            self.put(";");
+        }
     }
 }
 
-/// Writes what a call with these octets gives.
-pub(crate) fn write_given(
-    side: &mut EitherSide,
-    call: &Call<'_>,
-    octets: Vec<u8>,
-    acts: &mut Acts,
-    text: &mut Vec<u8>,
-) -> Result<(), Fail> {
-    make(side, call, call.id()?, octets, acts, text)?;
-    put_acts(acts, text)
-}
-
-/// Writes the frames and the primitives.
-fn put_acts(acts: &Acts, text: &mut Vec<u8>) -> Result<(), Fail> {
-    put_frames(acts, text)?;
-    Ok(put_primitives(acts, text)?)
-}
-
-/// Writes the frames.
-fn put_frames(acts: &Acts, text: &mut Vec<u8>) -> io::Result<()> {
-    for frame in acts.frames() {
-        put_hex(frame.as_slice(), text)?;
-        text.write_all(b";")?;
+/// Whether these are many octets, and all are aa.
+fn is_run(octets: &[u8]) -> bool {
+    let mut run = octets.len() > 100;
+    for octet in octets {
+        run = run && *octet == 0xaa;
     }
-    Ok(())
+    run
 }
 
-/// Writes the primitives, as they print.
-fn put_primitives(acts: &Acts, text: &mut Vec<u8>) -> io::Result<()> {
-    for primitive in acts.primitives() {
-        write!(text, "{primitive};")?;
+/// The first three octets of a frame, and the others.
+fn parts_of(frame: &[u8]) -> (&[u8], &[u8]) {
+    match (frame.get(..3), frame.get(3..)) {
+        (Some(front), Some(information)) => (front, information),
+        _ => (frame, &[]),
     }
-    Ok(())
-}
-
-/// Writes a refusal, where there is one.
-fn put_end(done: &Result<(), SideFault>, text: &mut Vec<u8>) -> io::Result<()> {
-    match done {
-        Ok(()) => Ok(()),
-        Err(fault) => put_refusal(fault, text),
-    }
-}
-
-/// Writes a refusal, and the message that is handed back.
-fn put_refusal(fault: &SideFault, text: &mut Vec<u8>) -> io::Result<()> {
-    text.write_all(b"refused ")?;
-    text.write_all(name_of_kind(fault.kind).as_bytes())?;
-    if let Some(message) = &fault.message {
-        text.write_all(b" ")?;
-        put_hex(message.as_slice(), text)?;
-    }
-    text.write_all(b";")
 }
 
 /// The short name of a refusal.

@@ -1,32 +1,11 @@
 //! Dialogues of a side with the line, layer 3 and its clock, as text.
 //!
-//! A row has its name in the first line. The second is the side: `net` or `user`, with `64` where it knows of TEI 64 or has
+//! The first line names a row. The second is the side: `net` or `user`, with `64` where it knows of TEI 64 or has
 //! it, and with `packets` where it serves SAPI 16. Then comes a line for each call (`call_of`), and behind `: ` what it gives,
-//! or nothing; or for what is shown then (`shows` of `readers`).
-
-use crate::calls::{config, gives, tei};
-use crate::readers::shows;
-use crate::wants::wants;
-use lapd_sides::{Acts, EitherSide, NetSide, UserSide};
-use std::alloc::{AllocError, Global};
-use std::test::Fail;
-
-/// The TEI that a user side has, or that a network side knows of.
-#[derive(Clone, Copy)]
-pub(crate) enum Held {
-    Nothing,
-    Tei64,
-}
-
-/// Which side it is, what TEI it has or knows of, and whether it serves SAPI 16.
-#[derive(Clone, Copy)]
-pub(crate) enum Made {
-    Net(Held, bool),
-    User(Held, bool),
-}
+//! or nothing; or for what is shown then (`shown` of `readers`), or for whether the next moment is exact (`is_exact` of `talks`).
 
 const NETWORK: &str = "\
-a link goes, and the timer of the other runs on
+# a link goes, and the timer of the other runs on
 net 64 packets
 0 take 00817f: 008173;0 64 established;
 0 take 40817f: 408173;16 64 established;
@@ -35,8 +14,9 @@ net 64 packets
 10000 tick: 02810101;
 10000 tick: none;
 shows discarded: 0
+exact: yes
 
-a TEI is given, and its links are there
+# a TEI is given, and its links are there
 net packets
 0 take fcff030f123401ff: feff030f12340281;tei given 64;
 0 take 008153: 00811f;
@@ -45,8 +25,9 @@ net packets
 0 take fcff030f567801ff: feff030f56780283;tei given 65;
 0 take 008353: 00831f;
 shows discarded: 1
+exact: yes
 
-what is for nobody is discarded
+# what is for nobody is discarded
 net 64
 0 take
 0 take 00
@@ -61,8 +42,9 @@ net 64
 0 take 00817f00: 0 64 report M;
 0 take 00817f: 008173;0 64 established;
 shows discarded: 8
+exact: yes
 
-a TEI is free again, and its links go; T200 of SAPI 0, then of SAPI 16, expires before T201
+# a TEI is free again, and its links go; T200 of SAPI 0, then of SAPI 16, expires before T201
 net 64 packets
 0 establish 0 64: 02817f;
 0 take 40817f: 408173;16 64 established;
@@ -82,8 +64,9 @@ net 64 packets
 100000 take 00817f
 100000 establish 0 64: refused B1;
 shows discarded: 1
+exact: yes
 
-a TEI is in use, then doubled
+# a TEI is in use, then doubled
 net 64
 0 check 0 64: feff030f00000481;
 1 take fcff030f56780581
@@ -95,8 +78,9 @@ net 64
 3000 tick: feff030f00000681;feff030f00000681;tei doubled 64;
 3000 take 008153
 shows discarded: 1
+exact: yes
 
-unit data to all terminals
+# unit data to all terminals
 net
 0 unit 0 127 0a: 02ff030a;
 0 unit 0 127: 02ff03;
@@ -105,8 +89,9 @@ net
 0 unit 0 64 0a: refused B1 0a;
 0 ask
 shows discarded: 0
+exact: yes
 
-a receiver is busy
+# a receiver is busy
 net 64
 0 busy 0 65: refused B1;
 0 take 00817f: 008173;0 64 established;
@@ -116,8 +101,9 @@ net 64
 0 ready 0 64: 00810100;
 0 take 0081000108: 00810103;0 64 data 08;
 shows discarded: 0
+exact: yes
 
-frames that are discarded are counted
+# frames that are discarded are counted
 net 64
 0 take 00
 0 take 018173
@@ -125,16 +111,18 @@ net 64
 0 take 00837f
 0 take 00817f: 008173;0 64 established;
 shows discarded: 4
+exact: yes
 
-SAPI 63 has no links
+# SAPI 63 has no links
 net 64
 0 take fc81030f123401ff
 0 take fcffaf
 0 take fcff7f
 0 take feff030f123401ff
 shows discarded: 4
+exact: yes
 
-what TEI management ignores is not counted
+# what TEI management ignores is not counted
 net 64
 0 take fcff03
 0 take fcff030f123401
@@ -142,10 +130,11 @@ net 64
 0 take fcff030f123405ff
 0 take fcff130f56780581
 shows discarded: 0
+exact: yes
 ";
 
 const USER: &str = "\
-no TEI is assigned
+# no TEI is assigned
 user
 0 establish 0 127: fcff030f619901ff;
 1999 tick: none;
@@ -157,8 +146,9 @@ user
 100000 release 0 127: refused B1;
 100000 establish 0 127: fcff030f983001ff;
 shows discarded: 0
+exact: yes
 
-a TEI is got, and the establishment done
+# a TEI is got, and the establishment done
 user
 0 establish 0 127: fcff030f619901ff;
 100 take feff030f769102c1
@@ -169,8 +159,9 @@ user
 1200 take 008173: 0 64 confirmed;
 1200 give 0 0 0801: 008100000801;
 shows discarded: 0
+exact: yes
 
-without a TEI there is no link
+# without a TEI there is no link
 user
 0 give 0 127 0801: refused L1 0801;
 0 give 16 64 0801: refused L1 0801;
@@ -183,8 +174,9 @@ user
 0 check 0 64
 0 take 02817f
 shows discarded: 1
+exact: yes
 
-two establishments are kept, of each SAPI one
+# two establishments are kept, of each SAPI one
 user packets
 0 ask: fcff030f619901ff;
 0 establish 16 127
@@ -193,8 +185,9 @@ user packets
 0 take feff030f61990281: 00817f;40817f;tei got 64;
 0 establish 0 127
 shows discarded: 0
+exact: yes
 
-two establishments are kept in vain
+# two establishments are kept in vain
 user packets
 0 establish 16 127: fcff030f619901ff;
 0 establish 0 127
@@ -202,8 +195,9 @@ user packets
 4000 tick: fcff030f15ec01ff;
 6000 tick: tei failed;0 127 released;16 127 released;
 shows discarded: 0
+exact: yes
 
-an establishment is forgotten
+# an establishment is forgotten
 user packets
 0 establish 0 127: fcff030f619901ff;
 0 release 16 127: refused B1;
@@ -213,8 +207,9 @@ user packets
 2000 take feff030f76910281: tei got 64;
 2000 establish 0 127: 00817f;
 shows discarded: 0
+exact: yes
 
-unit data to all terminals
+# unit data to all terminals
 user
 0 take 02ff030a: 0 127 unit 0a;
 0 take 02ff130a: 0 127 unit 0a;
@@ -227,8 +222,9 @@ user
 0 unit 0 127 0c: 0081030c;
 0 unit 16 64 0c: refused B1 0c;
 shows discarded: 2
+exact: yes
 
-a TEI is fixed, checked and removed
+# a TEI is fixed, checked and removed
 user 64 packets
 0 take 02817f: 028173;0 64 established;
 0 establish 16 5: 40817f;
@@ -241,15 +237,17 @@ user 64 packets
 100000 take 02817f
 100000 ask: fcff030f15ec01ff;
 shows discarded: 1
+exact: yes
 
-its TEI is assigned to another
+# its TEI is assigned to another
 user 64
 0 release 0 0: 0 64 release-confirmed;
 0 take feff030f12340281: tei gone 64;
 0 release 0 0: refused B1;
 shows discarded: 0
+exact: yes
 
-frames that are discarded are counted
+# frames that are discarded are counted
 user
 0 take 02
 0 take 02817f
@@ -259,6 +257,72 @@ user
 0 take feff030f123402
 0 take 02ff030a: 0 127 unit 0a;
 shows discarded: 5
+exact: yes
+";
+
+/// Octets that are as many as a frame has room for, or more (N201, 260, Q.921 5.9.3). What is refused is handed back, and
+/// nothing is given.
+const LENGTHS: &str = "\
+# to all terminals, 260 octets
+net
+0 unit 0 127 [260]: 02ff03[260];
+
+# to all terminals, 261 octets
+net
+0 unit 0 127 [261]: refused L3 [261];
+
+# a SAPI that is not served
+net
+0 unit 16 127 [261]: refused B1 [261];
+
+# no link
+net
+0 unit 0 64 [261]: refused B1 [261];
+
+# no TEI
+user packets
+0 unit 0 64: refused B1 ;
+0 unit 0 64 [260]: refused B1 [260];
+0 unit 0 64 [261]: refused B1 [261];
+0 unit 0 64 [1000]: refused B1 [1000];
+0 unit 16 127: refused B1 ;
+0 unit 16 127 [260]: refused B1 [260];
+0 unit 16 127 [261]: refused B1 [261];
+0 unit 16 127 [1000]: refused B1 [1000];
+0 unit 63 1: refused B1 ;
+0 unit 63 1 [260]: refused B1 [260];
+0 unit 63 1 [261]: refused B1 [261];
+0 unit 63 1 [1000]: refused B1 [1000];
+
+# a message for no link
+net
+0 give 0 64: refused B1 ;
+0 give 0 64 [260]: refused B1 [260];
+0 give 0 64 [261]: refused B1 [261];
+0 give 0 64 [1000]: refused B1 [1000];
+0 give 16 127: refused B1 ;
+0 give 16 127 [260]: refused B1 [260];
+0 give 16 127 [261]: refused B1 [261];
+0 give 16 127 [1000]: refused B1 [1000];
+0 give 63 1: refused B1 ;
+0 give 63 1 [260]: refused B1 [260];
+0 give 63 1 [261]: refused B1 [261];
+0 give 63 1 [1000]: refused B1 [1000];
+
+# a message without a TEI
+user
+0 give 0 64: refused L1 ;
+0 give 0 64 [260]: refused L1 [260];
+0 give 0 64 [261]: refused L1 [261];
+0 give 0 64 [1000]: refused L1 [1000];
+0 give 16 127: refused L1 ;
+0 give 16 127 [260]: refused L1 [260];
+0 give 16 127 [261]: refused L1 [261];
+0 give 16 127 [1000]: refused L1 [1000];
+0 give 63 1: refused L1 ;
+0 give 63 1 [260]: refused L1 [260];
+0 give 63 1 [261]: refused L1 [261];
+0 give 63 1 [1000]: refused L1 [1000];
 ";
 
 /// The rows of a network side. They are lent, as a constant is written out in each function that names it.
@@ -271,109 +335,7 @@ pub(crate) fn user_rows() -> &'static str {
     USER
 }
 
-/// A network side that knows of TEI 64, named twice, or of none.
-fn network_side(alloc: Global, known: Held, sapi16: bool) -> Result<NetSide, AllocError> {
-    match known {
-        Held::Tei64 => NetSide::new(alloc, config(sapi16), &[tei(64), tei(64)]),
-        Held::Nothing => NetSide::new(alloc, config(sapi16), &[]),
-    }
-}
-
-/// A user side that has TEI 64, or none.
-fn user_side(alloc: Global, fixed: Held, sapi16: bool) -> Result<UserSide, AllocError> {
-    match fixed {
-        Held::Tei64 => UserSide::new(alloc, config(sapi16), Some(tei(64))),
-        Held::Nothing => UserSide::new(alloc, config(sapi16), None),
-    }
-}
-
-/// A side as the row wants it.
-pub(crate) fn side_of(alloc: Global, made: Made) -> Result<EitherSide, AllocError> {
-    match made {
-        Made::Net(known, sapi16) => Ok(EitherSide::Network(network_side(alloc, known, sapi16)?)),
-        Made::User(fixed, sapi16) => Ok(EitherSide::User(user_side(alloc, fixed, sapi16)?)),
-    }
-}
-
-/// The side that these words name.
-pub(crate) fn made_of(words: &str) -> Made {
-    let held = if words.contains("64") {
-        Held::Tei64
-    } else {
-        Held::Nothing
-    };
-    if words.starts_with("net") {
-        Made::Net(held, words.ends_with("packets"))
-    } else {
-        Made::User(held, words.ends_with("packets"))
-    }
-}
-
-/// A row's first line, and the others.
-pub(crate) fn first_line(row: &str) -> (&str, &str) {
-    row.split_once("\n").unwrap_or((row, ""))
-}
-
-/// A call, and what it gives; or what is looked at, and what it is.
-pub(crate) fn parts_of(line: &str) -> (&str, &str) {
-    line.split_once(": ").unwrap_or((line, ""))
-}
-
-/// Whether a call gives what a line says, or what is shown is as it says.
-fn is_so(alloc: Global, side: &mut EitherSide, line: &str, acts: &mut Acts) -> Result<bool, Fail> {
-    let (words, wanted) = parts_of(line);
-    match words.strip_prefix("shows ") {
-        Some(words) => Ok(shows(side, words, wanted)),
-        None => gives(alloc, side, words, acts, wanted),
-    }
-}
-
-/// Whether nothing is due a millisecond before the next moment, and something at it; where there is none, nothing ever is.
-fn is_exact(side: &mut EitherSide, acts: &mut Acts) -> bool {
-    match side.next_deadline() {
-        Some(moment) => !side.tick(moment.saturating_sub(1), acts) && side.tick(moment, acts),
-        None => !side.tick(u64::MAX, acts),
-    }
-}
-
-/// Goes over the lines of a row, and looks at the next moment at which something is due.
-fn talks(
-    alloc: Global,
-    name: &str,
-    lines: &str,
-    side: &mut EitherSide,
-    acts: &mut Acts,
-) -> Result<(), Fail> {
-    for line in lines.lines() {
-        wants(is_so(alloc, side, line, acts)?, name, line)?;
-    }
-    wants(is_exact(side, acts), name, "the next moment is another")
-}
-
-/// Goes over the lines of a row with this side.
-fn goes_over(alloc: Global, name: &str, lines: &str, side: &mut EitherSide) -> Result<(), Fail> {
-    let mut acts = Acts::new(alloc)?;
-    talks(alloc, name, lines, side, &mut acts)
-}
-
-/// Goes over a row.
-fn goes(alloc: Global, row: &str) -> Result<(), Fail> {
-    let (name, rest) = first_line(row);
-    let (made, lines) = first_line(rest);
-    let mut side = side_of(alloc, made_of(made))?;
-    goes_over(alloc, name, lines, &mut side)
-}
-
-/// Goes over rows, an empty line between two.
-pub(crate) fn go_over(alloc: Global, rows: &str) -> Result<(), Fail> {
-    for row in rows.split("\n\n") {
-        goes(alloc, row)?;
-    }
-    Ok(())
-}
-
-#[test]
-fn a_side_gives_as_said(rt: HostRuntime) -> Result<(), Fail> {
-    go_over(rt.alloc(), network_rows())?;
-    go_over(rt.alloc(), user_rows())
+/// The rows of lengths.
+pub(crate) fn rows_of_lengths() -> &'static str {
+    LENGTHS
 }

@@ -1,16 +1,15 @@
-//! Two sides beside a pair of links: 10,000 drawn moves, and at each the side's frames, primitives and refusals are those of the
-//! pair's end.
+//! Two sides beside a pair of links: 10,000 drawn moves, and at each the side gives, as text, what the pair's end gave: frames,
+//! primitives, or a refusal.
 
-use crate::calls::tei;
-use crate::wants::wants;
+use crate::calls::{name_of_kind, params, tei};
+use crate::talks::Talk;
+use crate::text::{Text, Wrong};
+use crate::wants::none_is_wrong;
 use arrayvec::ArrayVec;
 use lapd_frame::MOST_OCTETS;
 use lapd_link::{Link, LinkFault, Out};
-use lapd_pair::{FrameOctets, Move, Outs, Pair, PairFault};
-use lapd_sides::{
-    Acts, Config, Durations, EitherSide, LinkId, NetSide, Params, Primitive, Request, Sapi, Side,
-    SideFault, SideKind, UserSide, What,
-};
+use lapd_pair::{Move, Outs, Pair, PairFault};
+use lapd_sides::{LinkId, Request, Sapi, Side, SideKind};
 use rand_core::{Rng, SeedableRng};
 use rand_pcg::Pcg32;
 use std::alloc::{AllocError, Global};
@@ -30,17 +29,15 @@ struct Moves {
 /// A side, and its clock.
 #[derive(Drop)]
 struct Clocked {
-    side: EitherSide,
+    talk: Talk,
     clock: u64,
 }
 
-/// The two sides, and what the last call gave.
+/// The two sides.
 #[derive(Drop)]
 struct Sides {
-    alloc: Global,
     network: Clocked,
     user: Clocked,
-    acts: Acts,
 }
 
 /// How many moves were made, refused by the links, and not made.
@@ -57,26 +54,6 @@ fn id() -> LinkId {
         sapi: Sapi::Call,
         tei: tei(64),
     }
-}
-
-/// The parameters of all links.
-fn params() -> Result<Params, Fail> {
-    match Params::new(7, 3, 64) {
-        Some(params) => Ok(params),
-        None => Err(Fail::new("a number is out of range")),
-    }
-}
-
-/// What both sides are made with: T200 runs a millisecond, and T203 an hour.
-fn config() -> Result<Config, Fail> {
-    let params = params()?;
-    Ok(Config {
-        sapi16: false,
-        params0: params,
-        params16: params,
-        durations: Durations::new(1, 1_000, 2_000, 3_600_000).ok_or("a duration is none")?,
-        seed: 921,
-    })
 }
 
 impl Moves {
@@ -129,18 +106,11 @@ fn unit(alloc: Global, side: Side) -> Result<Move, AllocError> {
     Ok(Move::Unit(side, [0xff; 3].to_vec(alloc)?))
 }
 
-/// The request that a move is; none where it is no request.
-fn request_of(alloc: Global, deed: &Move) -> Result<Option<Request>, AllocError> {
+/// The request that a move is; none where it is no request, or there is no memory.
+fn request_of(alloc: Global, deed: &Move) -> Option<Request> {
     match deed {
-        Move::Give(_, octets) => Ok(Some(Request::Give(id(), octets.as_slice().to_vec(alloc)?))),
-        Move::Unit(_, octets) => Ok(Some(Request::Unit(id(), octets.as_slice().to_vec(alloc)?))),
-        _ => Ok(plain_request(deed)),
-    }
-}
-
-/// The request that a move without octets is; none where it is no request.
-fn plain_request(deed: &Move) -> Option<Request> {
-    match deed {
+        Move::Give(_, octets) => Some(Request::Give(id(), octets.as_slice().to_vec(alloc).ok()?)),
+        Move::Unit(_, octets) => Some(Request::Unit(id(), octets.as_slice().to_vec(alloc).ok()?)),
         Move::Establish(_) => Some(Request::Establish(id())),
         Move::Release(_) => Some(Request::Release(id())),
         Move::Busy(_, busy) => Some(Request::Busy(id(), *busy)),
@@ -148,153 +118,56 @@ fn plain_request(deed: &Move) -> Option<Request> {
     }
 }
 
-/// Why something was refused.
-fn refusal(done: Result<(), SideFault>) -> Option<SideKind> {
-    match done {
-        Ok(()) => None,
-        Err(fault) => Some(fault.kind),
-    }
-}
-
 impl Clocked {
-    /// A network side with the TEI of the pair.
-    fn network(alloc: Global) -> Result<Clocked, Fail> {
-        let side = NetSide::new(alloc, config()?, &[tei(64)])?;
-        Ok(Clocked {
-            side: EitherSide::Network(side),
-            clock: 0,
-        })
+    /// The side that these words name. Its clock stands at 0.
+    fn new(alloc: Global, words: &str) -> Result<Clocked, AllocError> {
+        let talk = Talk::of(alloc, words, "")?;
+        Ok(Clocked { talk, clock: 0 })
     }
 
-    /// A user side with the TEI of the pair.
-    fn user(alloc: Global) -> Result<Clocked, Fail> {
-        let side = UserSide::new(alloc, config()?, Some(tei(64)))?;
-        Ok(Clocked {
-            side: EitherSide::User(side),
-            clock: 0,
-        })
-    }
-
-    /// Octets come.
-    fn take(&mut self, coming: &[u8], acts: &mut Acts) -> Option<SideKind> {
-        refusal(self.side.take(coming, self.clock, acts))
-    }
-
-    /// Something is asked for.
-    fn request(&mut self, request: Request, acts: &mut Acts) -> Option<SideKind> {
-        refusal(self.side.request(request, self.clock, acts))
-    }
-
-    /// The clock goes on by a millisecond, and T200 expires.
-    fn expire(&mut self, acts: &mut Acts) -> Option<SideKind> {
-        self.clock = self.clock.wrapping_add(1);
-        if self.side.tick(self.clock, acts) {
-            None
-        } else {
-            Some(SideKind::Memory)
+    /// It does what the pair's end did, and writes what it gives. Where T200 expires, its clock goes on by a millisecond.
+    fn follow(&mut self, deed: &Move, coming: &[u8], text: &mut Text) {
+        match deed {
+            Move::Deliver(_) => self.talk.take(coming, self.clock, text),
+            Move::Expire200(_) => {
+                self.clock = self.clock.wrapping_add(1);
+                self.talk.tick(self.clock, text);
+            }
+            _ => {
+                let request = request_of(self.talk.alloc, deed);
+                self.talk.ask(request, self.clock, text);
+            }
         }
+        text.acts(&self.talk.acts);
     }
 
-    /// Whether the link of the side is where this one is.
+    /// Whether it gives this where it does what the pair's end did.
+    fn gives(&mut self, deed: &Move, coming: &[u8], wanted: &Text) -> bool {
+        let mut text = Text::new();
+        self.follow(deed, coming, &mut text);
+        text.is(wanted.as_str())
+    }
+
+    /// Whether its link is where this one is.
     fn stands_as(&self, link: &Link) -> bool {
-        is_alike(self.side.table().link(id()), link)
+        is_alike(self.talk.side.table().link(id()), link)
     }
 }
 
 impl Sides {
     /// Both sides, with the TEI and the link of the pair.
-    fn new(alloc: Global) -> Result<Sides, Fail> {
-        let acts = Acts::new(alloc)?;
-        let network = Clocked::network(alloc)?;
-        let user = Clocked::user(alloc)?;
-        Ok(Sides {
-            alloc,
-            network,
-            user,
-            acts,
-        })
+    fn new(alloc: Global) -> Result<Sides, AllocError> {
+        let network = Clocked::new(alloc, "net 64 fast")?;
+        let user = Clocked::new(alloc, "user 64 fast")?;
+        Ok(Sides { network, user })
     }
 
-    /// Whether a side does for a move what the pair's end did.
-    fn does_as(
-        &mut self,
-        pair: &Pair,
-        deed: &Move,
-        coming: &[u8],
-        before: usize,
-        outs: &[Out],
-    ) -> Result<bool, AllocError> {
-        if matches!(deed, Move::Lose(..)) {
-            return Ok(true);
-        }
-        let refused = self.follow(deed, coming)?;
-        Ok(refused.is_none() && self.gives_as(pair, deed.side(), before, outs))
-    }
-
-    /// Whether a side refuses a move as the pair's end did, and gives nothing.
-    fn refuses_as(
-        &mut self,
-        deed: &Move,
-        coming: &[u8],
-        fault: LinkFault,
-    ) -> Result<bool, AllocError> {
-        let refused = self.follow(deed, coming)?;
-        Ok(refused == Some(SideKind::Link(fault)) && self.is_silent())
-    }
-
-    /// A side does what the pair's end did: why it refuses.
-    fn follow(&mut self, deed: &Move, coming: &[u8]) -> Result<Option<SideKind>, AllocError> {
-        match deed {
-            Move::Deliver(to) => Ok(self.take(*to, coming)),
-            Move::Expire200(side) => Ok(self.expire(*side)),
-            _ => {
-                let request = request_of(self.alloc, deed)?;
-                Ok(self.ask(deed.side(), request))
-            }
-        }
-    }
-
-    /// Octets come to a side.
-    fn take(&mut self, to: Side, coming: &[u8]) -> Option<SideKind> {
-        match to {
-            Side::Network => self.network.take(coming, &mut self.acts),
-            Side::User => self.user.take(coming, &mut self.acts),
-        }
-    }
-
-    /// A side is asked for something, or for nothing.
-    fn ask(&mut self, side: Side, request: Option<Request>) -> Option<SideKind> {
-        match request {
-            Some(request) => self.request(side, request),
-            None => None,
-        }
-    }
-
-    /// A side is asked for something.
-    fn request(&mut self, side: Side, request: Request) -> Option<SideKind> {
+    /// One of them.
+    fn of(&mut self, side: Side) -> &mut Clocked {
         match side {
-            Side::Network => self.network.request(request, &mut self.acts),
-            Side::User => self.user.request(request, &mut self.acts),
+            Side::Network => &mut self.network,
+            Side::User => &mut self.user,
         }
-    }
-
-    /// The clock goes on by a millisecond, and T200 expires.
-    fn expire(&mut self, side: Side) -> Option<SideKind> {
-        match side {
-            Side::Network => self.network.expire(&mut self.acts),
-            Side::User => self.user.expire(&mut self.acts),
-        }
-    }
-
-    /// Whether the side gave nothing.
-    fn is_silent(&self) -> bool {
-        self.acts.frames().is_empty() && self.acts.primitives().is_empty()
-    }
-
-    /// Whether the side gave the frames that the pair's end put on the line, and what its outputs tell.
-    fn gives_as(&self, pair: &Pair, side: Side, before: usize, outs: &[Out]) -> bool {
-        has_sent(pair.line(side.other()), before, self.acts.frames())
-            && tells_as(self.acts.primitives(), pair, side, outs)
     }
 
     /// Whether the links of both sides are where those of the pair are.
@@ -304,80 +177,83 @@ impl Sides {
     }
 }
 
-/// Whether these frames are on the line behind as many as `before`, and no others.
-fn has_sent(line: &[FrameOctets], before: usize, frames: &[ArrayVec<u8, MOST_OCTETS>]) -> bool {
-    match line.get(before..) {
-        Some(sent) => sent == frames,
-        None => false,
-    }
-}
-
-/// Whether an output of the pair's end tells nothing.
-fn tells_nothing(out: &Out) -> bool {
-    matches!(
-        out,
-        Out::Send(..) | Out::SendMessage(..) | Out::SendUnit | Out::Start(_) | Out::Stop(_)
-    )
-}
-
-/// Whether these primitives tell just what these outputs of the pair's end tell.
-fn tells_as(primitives: &[Primitive], pair: &Pair, side: Side, outs: &[Out]) -> bool {
-    let mut rest = primitives.iter();
-    for out in outs {
-        if !tells_nothing(out) && !is_told(pair, side, out, rest.next()) {
-            return false;
+impl Text {
+    /// Puts behind what an end of the pair gave: the frames on the line behind as many as `before`, and what its outputs tell.
+    fn given(&mut self, pair: &Pair, side: Side, before: usize, outs: &[Out]) {
+        for frame in pair.line(side.other()).get(before..).unwrap_or(&[]) {
+            self.hex(frame.as_slice());
+            self.put(";");
+        }
+        for out in outs {
+            self.tell(pair, side, out);
         }
     }
-    rest.next().is_none()
-}
 
-/// Whether this is what an output of the pair's end tells.
-fn is_told(pair: &Pair, side: Side, out: &Out, primitive: Option<&Primitive>) -> bool {
-    match primitive {
-        Some(Primitive::Of(named, what)) => {
-            *named == id() && *out == out_of(what) && has_come(pair, side, what)
+    /// Puts behind what an output of an end tells, if it tells something. Octets are those that came last.
+    fn tell(&mut self, pair: &Pair, side: Side, out: &Out) {
+        match out {
+            Out::Up => self.data("0 64 data ", last_message(pair, side)),
+            Out::UnitUp => self.data("0 64 unit ", last_unit(pair, side)),
+            Out::Acknowledged(n) => self.count("0 64 acknowledged ", *n),
+            Out::Dropped(n) => self.count("0 64 dropped ", *n),
+            Out::Report(letter) => {
+                self.put("0 64 report ");
+                self.put(letter.name());
+                self.put(";");
+            }
+            _ => self.put(word_of(out)),
         }
-        _ => false,
+    }
+
+    /// Puts octets behind.
+    fn data(&mut self, word: &str, octets: &[u8]) {
+        self.put(word);
+        self.hex(octets);
+        self.put(";");
+    }
+
+    /// Puts a number behind.
+    fn count(&mut self, word: &str, number: u16) {
+        self.number(word, u64::from(number));
+        self.put(";");
+    }
+
+    /// Puts behind that a move was refused, with the octets that it had.
+    fn refused(&mut self, deed: &Move, fault: LinkFault) {
+        self.put("refused ");
+        self.put(name_of_kind(SideKind::Link(fault)));
+        if let Move::Give(_, octets) | Move::Unit(_, octets) = deed {
+            self.put(" ");
+            self.hex(octets.as_slice());
+        }
+        self.put(";");
     }
 }
 
-/// The output of a link that tells this.
-fn out_of(what: &What) -> Out {
-    match what {
-        What::Up(_) => Out::Up,
-        What::UnitUp(_) => Out::UnitUp,
-        What::Established => Out::Established,
-        What::Confirmed => Out::Confirmed,
-        What::Released => Out::Released,
-        What::ReleaseConfirm => Out::ReleaseConfirm,
-        What::Acknowledged(n) => Out::Acknowledged(*n),
-        What::Dropped(n) => Out::Dropped(*n),
-        What::Report(letter) => Out::Report(*letter),
-    }
-}
-
-/// Whether the octets of a message or of unit data are those that came last to the pair's end.
-fn has_come(pair: &Pair, side: Side, what: &What) -> bool {
-    match what {
-        What::Up(octets) => last_message(pair, side) == Some(octets.as_slice()),
-        What::UnitUp(octets) => last_unit(pair, side) == Some(octets.as_slice()),
-        _ => true,
+/// What an output tells that has no number and no octets.
+fn word_of(out: &Out) -> &'static str {
+    match out {
+        Out::Established => "0 64 established;",
+        Out::Confirmed => "0 64 confirmed;",
+        Out::Released => "0 64 released;",
+        Out::ReleaseConfirm => "0 64 release-confirmed;",
+        _ => "",
     }
 }
 
 /// The message that came last to an end of the pair.
-fn last_message(pair: &Pair, side: Side) -> Option<&[u8]> {
+fn last_message(pair: &Pair, side: Side) -> &[u8] {
     match pair.received(side).last() {
-        Some(message) => Some(message.octets.as_slice()),
-        None => None,
+        Some(message) => message.octets.as_slice(),
+        None => &[],
     }
 }
 
 /// The unit data that came last to an end of the pair.
-fn last_unit(pair: &Pair, side: Side) -> Option<&[u8]> {
+fn last_unit(pair: &Pair, side: Side) -> &[u8] {
     match pair.units(side).last() {
-        Some(unit) => Some(unit.as_slice()),
-        None => None,
+        Some(unit) => unit.as_slice(),
+        None => &[],
     }
 }
 
@@ -425,54 +301,87 @@ fn is_alike(link: Option<&Link>, wanted: &Link) -> bool {
     }
 }
 
-/// Makes a move with the pair, and then with the side whose it is. What the pair refuses by P1 to P3 the sides do not get.
-fn is_followed(
-    pair: &mut Pair,
-    sides: &mut Sides,
-    counts: &mut Counts,
+/// Whether a side gets a move: what the pair refuses by P1 to P3 it does not get, nor that a frame is lost.
+fn is_got(deed: &Move, applied: &Result<Outs, PairFault>) -> bool {
+    match applied {
+        Ok(_) | Err(PairFault::Refused(_)) => !matches!(deed, Move::Lose(..)),
+        Err(_) => false,
+    }
+}
+
+/// Whether memory was refused to the pair.
+fn is_without_memory(applied: &Result<Outs, PairFault>) -> bool {
+    match applied {
+        Ok(_) => false,
+        Err(fault) => fault.is_memory(),
+    }
+}
+
+/// Writes what a move came to.
+fn put_wanted(
+    pair: &Pair,
     deed: &Move,
-) -> Result<bool, AllocError> {
+    before: usize,
+    applied: &Result<Outs, PairFault>,
+    text: &mut Text,
+) {
+    match applied {
+        Ok(outs) => text.given(pair, deed.side(), before, outs.as_slice()),
+        Err(PairFault::Refused(fault)) => text.refused(deed, *fault),
+        Err(_) => {}
+    }
+}
+
+/// Makes a move with the pair, and then with the side whose it is.
+fn is_followed(pair: &mut Pair, sides: &mut Sides, counts: &mut Counts, deed: &Move) -> bool {
     let before = pair.line(deed.side().other()).len();
     let coming = first_frame(pair, deed.side());
     let applied = pair.apply(deed);
     counts.count(&applied);
-    match applied {
-        Ok(outs) => sides.does_as(pair, deed, coming.as_slice(), before, outs.as_slice()),
-        Err(PairFault::Refused(fault)) => sides.refuses_as(deed, coming.as_slice(), fault),
-        Err(fault) => Ok(!fault.is_memory()),
+    if !is_got(deed, &applied) {
+        return !is_without_memory(&applied);
     }
+    let mut wanted = Text::new();
+    put_wanted(pair, deed, before, &applied, &mut wanted);
+    sides
+        .of(deed.side())
+        .gives(deed, coming.as_slice(), &wanted)
 }
 
 /// Draws a move, and makes it.
-fn turn(
-    pair: &mut Pair,
-    sides: &mut Sides,
-    counts: &mut Counts,
-    moves: &mut Moves,
-) -> Result<bool, AllocError> {
-    let deed = moves.draw()?;
-    is_followed(pair, sides, counts, &deed)
-}
-
-/// Makes a pair, and all moves.
-fn run_over(alloc: Global, sides: &mut Sides, moves: &mut Moves) -> Result<(), Fail> {
-    let mut pair = Pair::new(alloc, params()?, params()?)?;
-    run(&mut pair, sides, moves)
+fn turn(pair: &mut Pair, sides: &mut Sides, counts: &mut Counts, moves: &mut Moves) -> bool {
+    match moves.draw() {
+        Ok(deed) => is_followed(pair, sides, counts, &deed),
+        Err(_) => false,
+    }
 }
 
 /// Makes all moves, and looks at both sides after each.
-fn run(pair: &mut Pair, sides: &mut Sides, moves: &mut Moves) -> Result<(), Fail> {
+fn wrong_move(pair: &mut Pair, sides: &mut Sides, moves: &mut Moves) -> Wrong<'static> {
     let mut counts = Counts {
         made: 0,
         refused: 0,
         left_out: 0,
     };
     for _ in 0..MOVES {
-        let followed = turn(pair, sides, &mut counts, moves)?;
-        wants(followed, "a move", "the side gives otherwise")?;
-        wants(sides.stand_as(pair), "a move", "the links differ")?;
+        if !turn(pair, sides, &mut counts, moves) {
+            return Some(("a move", "the side gives otherwise"));
+        }
+        if !sides.stand_as(pair) {
+            return Some(("a move", "the links differ"));
+        }
     }
-    wants(counts.are_lively(pair), "all moves", "too little happened")
+    if counts.are_lively(pair) {
+        None
+    } else {
+        Some(("all moves", "too little happened"))
+    }
+}
+
+/// Makes a pair, and all moves.
+fn run(alloc: Global, sides: &mut Sides, moves: &mut Moves) -> Result<(), Fail> {
+    let mut pair = Pair::new(alloc, params(), params())?;
+    none_is_wrong(&[wrong_move(&mut pair, sides, moves)])
 }
 
 #[test]
@@ -484,5 +393,5 @@ fn sides_follow_pair(rt: HostRuntime) -> Result<(), Fail> {
         messages: 0,
     };
     let mut sides = Sides::new(alloc)?;
-    run_over(alloc, &mut sides, &mut moves)
+    run(alloc, &mut sides, &mut moves)
 }

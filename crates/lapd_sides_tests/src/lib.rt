@@ -14,16 +14,16 @@ mod follow;
 #[cfg(test)]
 mod hostile;
 #[cfg(test)]
-mod memory;
-#[cfg(test)]
 mod readers;
-#[cfg(test)]
-mod refusals;
 #[cfg(test)]
 mod shown;
 #[cfg(test)]
 mod table;
 #[cfg(test)]
+mod talks;
+#[cfg(test)]
 mod tei;
+#[cfg(test)]
+mod text;
 #[cfg(test)]
 mod wants;

@@ -1,14 +1,13 @@
 //! What the readers of a side show, and the next moment at which something is due on it.
 
-use crate::calls::{first_word, link_of, small_number};
-use crate::dialogues::go_over;
+use crate::calls::link_of;
+use crate::text::{small_number, split};
 use lapd_link::Timer;
 use lapd_sides::{Assigner, EitherSide, LinkId, Side, Tei, Terminal, TimerSet};
-use std::test::Fail;
 
 /// Rows as those of dialogues. T200 runs 1 s, T201 1 s, T202 2 s and T203 10 s (Q.921 5.9).
 const ROWS: &str = "\
-a network side shows its links, and a check
+# a network side shows its links, and a check
 net 64 packets
 0 take 00817f: 008173;0 64 established;
 0 take 40817f: 408173;16 64 established;
@@ -23,8 +22,9 @@ shows held 64: 1
 600 check 0 64: feff030f00000481;
 shows checked: 64
 shows T201: 1600
+exact: yes
 
-a user side shows its terminal, and the link that it establishes
+# a user side shows its terminal, and the link that it establishes
 user
 0 establish 0 127: fcff030f619901ff;
 shows terminal: 3
@@ -36,8 +36,9 @@ shows T202: none
 shows running: 0
 shows state 0 64: 5
 shows T200 0 64: 1100
+exact: yes
 
-a link of a network side enquires, and is released
+# a link of a network side enquires, and is released
 net 64
 shows network: 1
 0 take 00817f: 008173;0 64 established;
@@ -48,8 +49,9 @@ shows next: 10000
 9999 tick: none;
 10000 tick: 02810101;
 10000 release 0 64: 028153;
+exact: yes
 
-a link of a user side enquires, and is released
+# a link of a user side enquires, and is released
 user 64
 shows network: 0
 0 take 02817f: 028173;0 64 established;
@@ -60,13 +62,15 @@ shows next: 10000
 9999 tick: none;
 10000 tick: 00810101;
 10000 release 0 64: 008153;
+exact: yes
 
-nothing is due on a new side
+# nothing is due on a new side
 net 64 packets
 0 tick: none;
 shows next: none
+exact: yes
 
-a link is established, sends a message, and is released
+# a link is established, sends a message, and is released
 net 64
 0 take 00817f: 008173;0 64 established;
 shows next: 10000
@@ -76,8 +80,9 @@ shows next: 3000
 shows next: 12500
 3000 take 008153: 008173;0 64 released;
 shows next: none
+exact: yes
 
-the least of two links
+# the least of two links
 net 64 packets
 0 take 00817f: 008173;0 64 established;
 shows next: 10000
@@ -85,8 +90,9 @@ shows next: 10000
 shows next: 10000
 600 take 008153: 008173;0 64 released;
 shows next: 10500
+exact: yes
 
-a message beside an enquiry to come
+# a message beside an enquiry to come
 net 64 packets
 0 take 00817f: 008173;0 64 established;
 shows next: 10000
@@ -96,40 +102,50 @@ shows next: 10000
 shows next: 10000
 9300 give 0 64 0801: 028100000801;
 shows next: 10200
+exact: yes
 
-T201 alone
+# T201 alone
 net 64
 600 check 0 64: feff030f00000481;
 shows next: 1600
+exact: yes
 
-T202 alone, until a TEI is got
+# T202 alone, until a TEI is got
 user
 0 ask: fcff030f619901ff;
 shows next: 2000
 100 take feff030f61990281: tei got 64;
 shows next: none
+exact: yes
 
-T202, and T202 again
+# T202, and T202 again
 user
 0 ask: fcff030f619901ff;
 shows next: 2000
 2000 tick: fcff030f769101ff;
 shows next: 4000
+exact: yes
 
-a user's link is established
+# a user's link is established
 user 64
 0 establish 0 64: 00817f;
 shows next: 1000
 300 take 008173: 0 64 confirmed;
 shows next: 10300
+exact: yes
 ";
+
+/// The rows of readers.
+pub(crate) fn rows_of_readers() -> &'static str {
+    ROWS
+}
 
 /// What a line of a row names that is not there is found by this number.
 const UNKNOWN: Option<u64> = Some(u64::MAX);
 
 /// The link of the SAPI and the TEI that these words write.
 fn id_of(words: &str) -> Option<LinkId> {
-    let (sapi, tei) = first_word(words);
+    let (sapi, tei) = split(words, " ");
     link_of(small_number(sapi)?, small_number(tei)?)
 }
 
@@ -146,21 +162,13 @@ fn state(side: &EitherSide, words: &str) -> Option<u64> {
 
 /// When a timer expires, or how many run: `None` where there are no timers, or it does not run.
 fn timed(timers: Option<&TimerSet>, word: &str) -> Option<u64> {
-    match (timers, word) {
-        (None, _) => None,
-        (Some(timers), "running") => Some(running(timers)),
-        (Some(timers), _) => deadline(timers, word),
-    }
-}
-
-/// When a timer expires: `None` where it does not run.
-fn deadline(timers: &TimerSet, word: &str) -> Option<u64> {
+    let timers = timers?;
     match word {
         "T200" => timers.deadline(Timer::T200),
         "T201" => timers.deadline(Timer::T201),
         "T202" => timers.deadline(Timer::T202),
         "T203" => timers.deadline(Timer::T203),
-        _ => UNKNOWN,
+        _ => Some(running(timers)),
     }
 }
 
@@ -174,7 +182,7 @@ fn running(timers: &TimerSet) -> u64 {
 }
 
 /// The number of a TEI, where there is one.
-fn number(tei: Option<Tei>) -> Option<u64> {
+pub(crate) fn number(tei: Option<Tei>) -> Option<u64> {
     match tei {
         Some(tei) => Some(u64::from(tei.value())),
         None => None,
@@ -200,37 +208,18 @@ fn kept(terminal: &Terminal, word: &str) -> Option<u64> {
     }
 }
 
-/// What is shown of TEI management.
-fn managed(side: &EitherSide, word: &str, of: &str) -> Option<u64> {
-    match side {
-        EitherSide::Network(side) => assigned(side.assigner(), word, of),
-        EitherSide::User(side) => kept(side.terminal(), word),
-    }
-}
-
 /// What a side shows of itself, of a link, or of TEI management; 1 stands for what is so, and 0 for what is not.
-fn shown(side: &EitherSide, words: &str) -> Option<u64> {
-    let (word, of) = first_word(words);
+pub(crate) fn shown(side: &EitherSide, words: &str) -> Option<u64> {
+    let (word, of) = split(words, " ");
     match word {
         "network" => Some(u64::from(side.side() == Side::Network)),
         "discarded" => Some(side.discarded()),
         "next" => side.next_deadline(),
         "state" => state(side, of),
         "running" | "T200" | "T201" | "T202" | "T203" => timed(side.timers(id_of(of)), word),
-        _ => managed(side, word, of),
+        _ => match side {
+            EitherSide::Network(side) => assigned(side.assigner(), word, of),
+            EitherSide::User(side) => kept(side.terminal(), word),
+        },
     }
-}
-
-/// Whether a side shows this number, or `none`.
-pub(crate) fn shows(side: &EitherSide, words: &str, wanted: &str) -> bool {
-    let shown = shown(side, words);
-    match wanted {
-        "none" => shown.is_none(),
-        _ => shown.is_some() && shown == wanted.parse::<u64>().ok(),
-    }
-}
-
-#[test]
-fn readers_show_as_said(rt: HostRuntime) -> Result<(), Fail> {
-    go_over(rt.alloc(), ROWS)
 }

@@ -1,6 +1,7 @@
 //! A side that is watched: what it gives for octets, and which of its links they change.
 
 use crate::hostile::discards::{is_discarded, is_for_management};
+use crate::text::{Text, Wrong};
 use lapd_frame::{Frame, MOST_OCTETS, read, write};
 use lapd_link::{Link, Timer, Window};
 use lapd_sides::{Acts, EitherSide, LinkId, Request, Sapi, Side, Tei, TimerSet};
@@ -23,12 +24,16 @@ struct Seen {
     t203: Option<u64>,
 }
 
-/// A side, and what was last seen of each link of SAPI 0, then of SAPI 16, by rising TEI.
+/// A side, what was last seen of each link of SAPI 0, then of SAPI 16, by rising TEI, the state that its link is led to, and the
+/// first octets for which all was not well.
 #[derive(Drop)]
 pub(super) struct Watch {
+    alloc: Global,
     side: EitherSide,
     acts: Acts,
-    seen: Vec<Option<Seen>>,
+    seen: [Option<Seen>; 2 * TEIS],
+    state: u8,
+    wrong: Text,
 }
 
 /// The link that stands at a place.
@@ -90,12 +95,38 @@ fn seen_at(side: &EitherSide, place: usize) -> Option<Seen> {
 }
 
 impl Watch {
-    /// A side that is watched from now on.
+    /// This side.
     pub(super) fn new(alloc: Global, side: EitherSide) -> Result<Watch, AllocError> {
         let acts = Acts::new(alloc)?;
-        let mut seen = Vec::new(alloc);
-        seen.resize(TEIS * 2, None)?;
-        Ok(Watch { side, acts, seen })
+        Ok(Watch {
+            alloc,
+            side,
+            acts,
+            seen: [None; 2 * TEIS],
+            state: 4,
+            wrong: Text::new(),
+        })
+    }
+
+    /// Where its memory comes from.
+    pub(super) fn alloc(&self) -> Global {
+        self.alloc
+    }
+
+    /// The first octets for which all was not well.
+    pub(super) fn wrong(&self) -> Wrong<'_> {
+        if self.wrong.is("") {
+            None
+        } else {
+            Some(("octets come", self.wrong.as_str()))
+        }
+    }
+
+    /// Notes why all was not well, where nothing is noted yet.
+    pub(super) fn fail(&mut self, why: &str) {
+        if self.wrong.is("") {
+            self.wrong.put(why);
+        }
     }
 
     /// Whether it is a network side.
@@ -103,8 +134,10 @@ impl Watch {
         self.side.side() == Side::Network
     }
 
-    /// Establishes the links of even TEIs that are there, and looks at all.
-    pub(super) fn begin(&mut self) {
+    /// Watches this side. Establishes the links of even TEIs that are there, and looks at all.
+    pub(super) fn begin(&mut self, side: EitherSide, state: u8) {
+        self.side = side;
+        self.state = state;
         let (command, _) = self.addresses();
         for half in 0..64u8 {
             let second = half.wrapping_mul(4) | 1;
@@ -125,30 +158,29 @@ impl Watch {
     }
 
     /// Whether octets come, and the side is not refused memory.
-    pub(super) fn takes(&mut self, octets: &[u8]) -> bool {
+    fn takes(&mut self, octets: &[u8]) -> bool {
         self.side.take(octets, 0, &mut self.acts).is_ok()
     }
 
-    /// Whether the side is given a message for the link of SAPI 0 and TEI 64.
-    fn is_given(&mut self, message: Vec<u8>) -> bool {
-        let request = Request::Give(id_at(PLACE), message);
-        self.side.request(request, 0, &mut self.acts).is_ok()
+    /// The side is given a message for the link of SAPI 0 and TEI 64.
+    fn give(&mut self) {
+        if let Ok(message) = [0xaa, 0xbb].to_vec(self.alloc) {
+            let request = Request::Give(id_at(PLACE), message);
+            let _ = self.side.request(request, 0, &mut self.acts);
+        }
     }
 
-    /// Leads the link of SAPI 0 and TEI 64, if it is there, to state 4: the other side sends UA with F=1, then DISC.
-    pub(super) fn lead_to_4(&mut self) {
+    /// Leads the link of SAPI 0 and TEI 64, if it is there, to its state. For state 4 the other side sends UA with F=1, then DISC;
+    /// for state 7, where one message is sent, UA with F=1, then SABME with P=1.
+    pub(super) fn lead(&mut self) {
         let (command, response) = self.addresses();
         let _ = self.takes(&[response, 0x81, 0x73]);
-        let _ = self.takes(&[command, 0x81, 0x53]);
-        self.look_at(PLACE);
-    }
-
-    /// Leads it to state 7, where one message is sent: the other side sends UA with F=1, then SABME with P=1.
-    pub(super) fn lead_to_7(&mut self, message: Vec<u8>) {
-        let (command, response) = self.addresses();
-        let _ = self.takes(&[response, 0x81, 0x73]);
-        let _ = self.takes(&[command, 0x81, 0x7f]);
-        let _ = self.is_given(message);
+        if self.state == 4 {
+            let _ = self.takes(&[command, 0x81, 0x53]);
+        } else {
+            let _ = self.takes(&[command, 0x81, 0x7f]);
+            self.give();
+        }
         self.look_at(PLACE);
     }
 
@@ -161,17 +193,34 @@ impl Watch {
         }
     }
 
-    /// The state of the link of SAPI 0 and TEI 64.
-    pub(super) fn state(&self) -> Option<u8> {
+    /// Whether the link of SAPI 0 and TEI 64 is there, in its state.
+    fn is_led(&self) -> bool {
         match self.seen.get(PLACE) {
-            Some(Some(seen)) => Some(seen.state),
-            _ => None,
+            Some(Some(seen)) => seen.state == self.state,
+            _ => false,
+        }
+    }
+
+    /// Leads the link to its state, and octets come.
+    pub(super) fn hear(&mut self, octets: &[u8]) {
+        self.lead();
+        if !self.is_led() {
+            self.fail("the link is in another state");
+        }
+        self.look(octets);
+    }
+
+    /// Octets come, and are noted where they are the first for which all is not well.
+    pub(super) fn look(&mut self, octets: &[u8]) {
+        if !self.hears(octets) && self.wrong.is("") {
+            self.wrong.put("they are ");
+            self.wrong.hex(octets);
         }
     }
 
     /// Whether all is well when these octets come: the frames that are given are frames, nothing is given for octets that are
     /// discarded, which are counted, and all other links are as before.
-    pub(super) fn hears(&mut self, octets: &[u8]) -> bool {
+    fn hears(&mut self, octets: &[u8]) -> bool {
         let discarded = is_discarded(octets, &self.side);
         let managed = is_for_management(octets, self.is_network());
         let wanted = self.side.discarded().wrapping_add(u64::from(discarded));

@@ -1,8 +1,10 @@
 //! TEIs that are given: none that is held, kept beside the assigner in a set of its own.
 
-use crate::calls::config;
-use crate::wants::wants;
-use lapd_sides::{Acts, NetSide};
+use crate::talks::side_of;
+use crate::tei::assigners::holds;
+use crate::text::Wrong;
+use crate::wants::none_is_wrong;
+use lapd_sides::{Acts, EitherSide};
 use lapd_tei::{Assigner, AssignerEvent, Tei, TeiKind, TeiMessage, TeiOut, TeiOuts};
 use rand_core::{Rng, SeedableRng};
 use rand_pcg::Pcg32;
@@ -102,14 +104,6 @@ impl Held {
     }
 }
 
-/// Whether an assigner holds the TEI of this number.
-fn holds(assigner: &Assigner, number: u8) -> bool {
-    match Tei::new(number) {
-        Some(tei) => assigner.holds(tei),
-        None => false,
-    }
-}
-
 /// A reference.
 fn reference(random: &mut Pcg32) -> u16 {
     (random.next_u32() & 0xffff) as u16
@@ -149,31 +143,22 @@ fn is_allowed(assigner: &mut Assigner, held: &mut Held, random: &mut Pcg32) -> b
     held.allows_all(&outs, ri) && held.are_of(assigner)
 }
 
-#[test]
-fn nothing_that_is_held_is_given() -> Result<(), Fail> {
+/// What is wrong where events are drawn: nothing is to be given that is held, and all are to be held at once.
+fn wrong_event() -> Wrong<'static> {
     let mut random = Pcg32::seed_from_u64(921);
     let mut assigner = Assigner::new(&[]);
     let mut held = Held::new();
     let mut most = 0;
     for _ in 0..EVENTS {
-        let allowed = is_allowed(&mut assigner, &mut held, &mut random);
-        wants(
-            allowed,
-            "an event",
-            "a TEI is given that is held, or another is",
-        )?;
+        if !is_allowed(&mut assigner, &mut held, &mut random) {
+            return Some(("an event", "a TEI is given that is held, or another is"));
+        }
         most = held.count().max(most);
     }
-    wants(most == TEIS, "all events", "not all were held at once")
-}
-
-/// A Request with a drawn reference comes to a side: its octets, and whether they are taken.
-fn asks(side: &mut NetSide, acts: &mut Acts, random: &mut Pcg32) -> Option<[u8; 2]> {
-    let [high, low] = reference(random).to_be_bytes();
-    let request = [0xfc, 0xff, 0x03, 0x0f, high, low, 0x01, 0xff];
-    match side.take(&request, 0, acts) {
-        Ok(()) => Some([high, low]),
-        Err(_) => None,
+    if most == TEIS {
+        None
+    } else {
+        Some(("all events", "not all were held at once"))
     }
 }
 
@@ -191,41 +176,39 @@ fn answered(acts: &Acts, [high, low]: [u8; 2], kind: u8) -> Option<u8> {
     }
 }
 
-/// Whether a Request is served with a TEI that is not held.
-fn is_served(side: &mut NetSide, acts: &mut Acts, random: &mut Pcg32, held: &mut Held) -> bool {
-    match asks(side, acts, random) {
-        Some(ri) => match answered(acts, ri, 2) {
-            Some(tei) => held.gives(tei),
-            None => false,
-        },
-        None => false,
+/// A Request with a drawn reference comes to a side: the Ai of its answer, if that is of this kind.
+fn answer(side: &mut EitherSide, acts: &mut Acts, random: &mut Pcg32, kind: u8) -> Option<u8> {
+    let [high, low] = reference(random).to_be_bytes();
+    let request = [0xfc, 0xff, 0x03, 0x0f, high, low, 0x01, 0xff];
+    match side.take(&request, 0, acts) {
+        Ok(()) => answered(acts, [high, low], kind),
+        Err(_) => None,
     }
 }
 
-/// Whether a Request is denied.
-fn is_denied(side: &mut NetSide, acts: &mut Acts, random: &mut Pcg32) -> bool {
-    match asks(side, acts, random) {
-        Some(ri) => answered(acts, ri, 3) == Some(127),
-        None => false,
-    }
-}
-
-/// Of 64 Requests all but the last are served, each with another TEI.
-fn all_but_the_last(side: &mut NetSide, acts: &mut Acts) -> Result<(), Fail> {
+/// What is wrong where 64 Requests come: all but the last are to be served, each with another TEI.
+fn wrong_answer(side: &mut EitherSide, acts: &mut Acts) -> Wrong<'static> {
     let mut random = Pcg32::seed_from_u64(921);
     let mut held = Held::new();
     for _ in 0..TEIS {
-        let served = is_served(side, acts, &mut random, &mut held);
-        wants(served, "a request", "no TEI, or one that is held")?;
+        match answer(side, acts, &mut random, 2) {
+            Some(tei) if held.gives(tei) => {}
+            _ => return Some(("a request", "no TEI, or one that is held")),
+        }
     }
-    wants(held.count() == TEIS, "63 requests", "fewer TEIs")?;
-    let denied = is_denied(side, acts, &mut random);
-    wants(denied, "one more", "not denied")
+    if held.count() == TEIS && answer(side, acts, &mut random, 3) == Some(127) {
+        None
+    } else {
+        Some((
+            "63 requests and one more",
+            "fewer TEIs, or it is not denied",
+        ))
+    }
 }
 
 #[test]
-fn each_request_gets_another_tei(rt: HostRuntime) -> Result<(), Fail> {
+fn nothing_that_is_held_is_given(rt: HostRuntime) -> Result<(), Fail> {
     let mut acts = Acts::new(rt.alloc())?;
-    let mut side = NetSide::new(rt.alloc(), config(true), &[])?;
-    all_but_the_last(&mut side, &mut acts)
+    let mut side = side_of(rt.alloc(), "net packets")?;
+    none_is_wrong(&[wrong_event(), wrong_answer(&mut side, &mut acts)])
 }

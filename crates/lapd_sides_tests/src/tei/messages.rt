@@ -1,123 +1,77 @@
 //! TEI messages and their octets (Q.921 5.3.6).
 
-use crate::wants::wants;
-use lapd_tei::{Side, TeiFault, TeiKind, TeiMessage};
-use std::test::Fail;
+use crate::calls::octets_of;
+use crate::tei::outs::message_of;
+use crate::text::{Led, Text, split};
+use lapd_tei::{Side, TeiMessage};
+use std::alloc::Global;
 
-/// The information of a frame, and what is read from it.
-const READ: &[(&[u8], Result<TeiMessage, TeiFault>)] = &[
-    (
-        &[0x0f, 0x12, 0x34, 0x01, 0xff],
-        Ok(TeiMessage {
-            ri: 0x1234,
-            kind: TeiKind::Request,
-            ai: 127,
-        }),
-    ),
-    (
-        &[0x0f, 0x12, 0x34, 0x02, 0x81],
-        Ok(TeiMessage {
-            ri: 0x1234,
-            kind: TeiKind::Assigned,
-            ai: 64,
-        }),
-    ),
-    (
-        &[0x0f, 0x00, 0x00, 0x06, 0xff],
-        Ok(TeiMessage {
-            ri: 0,
-            kind: TeiKind::Remove,
-            ai: 127,
-        }),
-    ),
-    (
-        &[0x0f, 0xff, 0xff, 0x07, 0x01],
-        Ok(TeiMessage {
-            ri: 0xffff,
-            kind: TeiKind::Verify,
-            ai: 0,
-        }),
-    ),
-    (&[], Err(TeiFault::NotManagement)),
-    (&[0x0e, 0x12, 0x34], Err(TeiFault::NotManagement)),
-    (&[0x0f], Err(TeiFault::BadLength)),
-    (&[0x0f, 0x12, 0x34, 0x09], Err(TeiFault::BadLength)),
-    (
-        &[0x0f, 0x12, 0x34, 0x01, 0xff, 0xff],
-        Err(TeiFault::BadLength),
-    ),
-    (&[0x0f, 0x12, 0x34, 0x00, 0x80], Err(TeiFault::BadKind)),
-    (&[0x0f, 0x12, 0x34, 0x08, 0x81], Err(TeiFault::BadKind)),
-    (&[0x0f, 0x12, 0x34, 0x01, 0x80], Err(TeiFault::BadAi)),
-    (&[0x0f, 0x12, 0x34, 0x02, 0xff], Err(TeiFault::BadAi)),
-    (&[0x0f, 0x12, 0x34, 0x05, 0xff], Err(TeiFault::BadAi)),
-    (&[0x0f, 0x12, 0x34, 0x07, 0xff], Err(TeiFault::BadAi)),
-];
+/// What is read from the information of a frame; and the octets of the frame in which a side sends a message, and what is
+/// read from them again.
+const STEPS: &str = "\
+# they are read
+read 0f123401ff: Request 4660 127
+read 0f12340281: Assigned 4660 64
+read 0f000006ff: Remove 0 127
+read 0fffff0701: Verify 65535 0
+read: M1 NotManagement
+read 0e1234: M1 NotManagement
+read 0f: M2 BadLength
+read 0f123409: M2 BadLength
+read 0f123401ffff: M2 BadLength
+read 0f12340080: M3 BadKind
+read 0f12340881: M3 BadKind
+read 0f12340180: M4 BadAi
+read 0f123402ff: M4 BadAi
+read 0f123405ff: M4 BadAi
+read 0f123407ff: M4 BadAi
 
-/// What a message is, who sends it, and the octets of its frame.
-const SENT: &[(&str, u16, TeiKind, u8, Side, [u8; 8])] = &[
-    (
-        "a request",
-        0x1234,
-        TeiKind::Request,
-        127,
-        Side::User,
-        [0xfc, 0xff, 0x03, 0x0f, 0x12, 0x34, 0x01, 0xff],
-    ),
-    (
-        "an assignment",
-        0x1234,
-        TeiKind::Assigned,
-        64,
-        Side::Network,
-        [0xfe, 0xff, 0x03, 0x0f, 0x12, 0x34, 0x02, 0x81],
-    ),
-    (
-        "a denial",
-        0x1234,
-        TeiKind::Denied,
-        127,
-        Side::Network,
-        [0xfe, 0xff, 0x03, 0x0f, 0x12, 0x34, 0x03, 0xff],
-    ),
-    (
-        "a response",
-        0x5678,
-        TeiKind::CheckResponse,
-        64,
-        Side::User,
-        [0xfc, 0xff, 0x03, 0x0f, 0x56, 0x78, 0x05, 0x81],
-    ),
-];
+# they go out
+user Request 4660 127: fcff030f123401ff Request 4660 127
+net Assigned 4660 64: feff030f12340281 Assigned 4660 64
+net Denied 4660 127: feff030f123403ff Denied 4660 127
+user CheckResponse 22136 64: fcff030f56780581 CheckResponse 22136 64
+";
 
-/// Whether this is read from these octets.
-fn reads(info: &[u8], wanted: Result<TeiMessage, TeiFault>) -> bool {
-    TeiMessage::read(info) == wanted
+/// What is read and sent.
+pub(super) fn steps() -> &'static str {
+    STEPS
 }
 
-/// Octets are read as said.
-fn are_read() -> Result<(), Fail> {
-    for (info, wanted) in READ {
-        wants(reads(info, *wanted), "a message", "another is read")?;
+/// Messages that are read and sent.
+#[derive(Clone, Copy)]
+pub(super) struct Messages {
+    pub(super) alloc: Global,
+}
+
+/// Writes what is read from these octets.
+fn put_read(info: &[u8], text: &mut Text) {
+    match TeiMessage::read(info) {
+        Ok(message) => text.message(&message),
+        Err(fault) => text.put(fault.name()),
     }
-    Ok(())
 }
 
-/// Whether the message goes out in these octets, and is read again.
-fn goes_out(message: TeiMessage, from: Side, octets: &[u8; 8]) -> bool {
-    message.ai <= 127 && message.frame(from) == *octets && reads(&octets[3..], Ok(message))
-}
-
-#[test]
-fn messages_are_read_and_go_out() -> Result<(), Fail> {
-    are_read()?;
-    for (name, ri, kind, ai, from, octets) in SENT {
-        let (ri, kind, ai) = (*ri, *kind, *ai);
-        wants(
-            goes_out(TeiMessage { ri, kind, ai }, *from, octets),
-            name,
-            "other octets",
-        )?;
+/// Writes the octets in which a message goes out, and what is read from them.
+fn put_sent(message: TeiMessage, from: Side, text: &mut Text) {
+    if message.ai <= 127 {
+        let octets = message.frame(from);
+        text.hex(&octets);
+        text.put(" ");
+        put_read(&octets[3..], text);
     }
-    Ok(())
+}
+
+impl Led for Messages {
+    fn step(&mut self, words: &str, text: &mut Text) {
+        let (word, behind) = split(words, " ");
+        match (word, message_of(behind)) {
+            ("user", Some(message)) => put_sent(message, Side::User, text),
+            ("net", Some(message)) => put_sent(message, Side::Network, text),
+            _ => match octets_of(self.alloc, behind) {
+                Some(octets) => put_read(octets.as_slice(), text),
+                None => text.put("no octets"),
+            },
+        }
+    }
 }

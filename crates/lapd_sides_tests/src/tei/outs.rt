@@ -1,49 +1,93 @@
-//! Outputs of terminals and of assigners, with numbers for TEIs, so that they can stand in constants.
+//! Messages and outputs of TEI management as text.
 
-use crate::tei::deeds::tei_of;
-use lapd_tei::{TeiKind, TeiMessage, TeiOut, Timer};
+use crate::text::{Text, small_number, split};
+use lapd_tei::{TeiKind, TeiMessage, TeiOut};
 
-/// An output, with the number of its TEI.
-#[derive(Clone, Copy)]
-pub(super) enum Out {
-    Send(TeiKind, u16, u8),
-    Start(Timer),
-    Stop(Timer),
-    Got(u8),
-    Gone(u8),
-    Failed,
-    Given(u8),
-    Free(u8),
-    InUse(u8),
-    Doubled(u8),
+/// The number of 16 bits that a word writes.
+pub(super) fn reference_of(word: &str) -> Option<u16> {
+    word.parse::<u16>().ok()
 }
 
-/// The output itself.
-fn made(out: Out) -> TeiOut {
+/// The message that these words write: its kind, Ri and Ai.
+pub(super) fn message_of(words: &str) -> Option<TeiMessage> {
+    let (kind, rest) = split(words, " ");
+    let (ri, ai) = split(rest, " ");
+    match (kind_of(kind), reference_of(ri), small_number(ai)) {
+        (Some(kind), Some(ri), Some(ai)) => Some(TeiMessage { ri, kind, ai }),
+        _ => None,
+    }
+}
+
+/// The kind of this name.
+fn kind_of(name: &str) -> Option<TeiKind> {
+    for number in 1..8 {
+        match TeiKind::new(number) {
+            Some(kind) if name_of(kind) == name => return Some(kind),
+            _ => {}
+        }
+    }
+    None
+}
+
+/// The name of a kind.
+fn name_of(kind: TeiKind) -> &'static str {
+    match kind {
+        TeiKind::Request => "Request",
+        TeiKind::Assigned => "Assigned",
+        TeiKind::Denied => "Denied",
+        TeiKind::CheckRequest => "CheckRequest",
+        TeiKind::CheckResponse => "CheckResponse",
+        TeiKind::Remove => "Remove",
+        TeiKind::Verify => "Verify",
+    }
+}
+
+/// The word of an output that is no message, and the number of its TEI, where it has one.
+fn told(out: &TeiOut) -> (&'static str, Option<u8>) {
     match out {
-        Out::Send(kind, ri, ai) => TeiOut::Send(TeiMessage { ri, kind, ai }),
-        Out::Start(timer) => TeiOut::Start(timer),
-        Out::Stop(timer) => TeiOut::Stop(timer),
-        Out::Got(tei) => TeiOut::Got(tei_of(tei)),
-        Out::Gone(tei) => TeiOut::Gone(tei_of(tei)),
-        Out::Failed => TeiOut::Failed,
-        Out::Given(tei) => TeiOut::Given(tei_of(tei)),
-        Out::Free(tei) => TeiOut::Free(tei_of(tei)),
-        Out::InUse(tei) => TeiOut::InUse(tei_of(tei)),
-        Out::Doubled(tei) => TeiOut::Doubled(tei_of(tei)),
+        TeiOut::Send(_) => ("message", None),
+        TeiOut::Start(timer) => (timer.name(), None),
+        TeiOut::Stop(_) => ("stop", None),
+        TeiOut::Got(tei) => ("got ", Some(tei.value())),
+        TeiOut::Gone(tei) => ("gone ", Some(tei.value())),
+        TeiOut::Failed => ("failed", None),
+        TeiOut::Given(tei) => ("given ", Some(tei.value())),
+        TeiOut::Free(tei) => ("free ", Some(tei.value())),
+        TeiOut::InUse(tei) => ("in use ", Some(tei.value())),
+        TeiOut::Doubled(tei) => ("doubled ", Some(tei.value())),
     }
 }
 
-/// Whether this is the output that is wanted, or none where none is.
-pub(super) fn is(out: Option<&TeiOut>, wanted: Option<Out>) -> bool {
-    match (out, wanted) {
-        (Some(out), Some(wanted)) => *out == made(wanted),
-        (None, None) => true,
-        _ => false,
+impl Text {
+    /// Puts a message behind: its kind, Ri and Ai.
+    pub(super) fn message(&mut self, message: &TeiMessage) {
+        self.put(name_of(message.kind));
+        self.number(" ", u64::from(message.ri));
+        self.number(" ", u64::from(message.ai));
     }
-}
 
-/// Whether these are so many outputs, of which these are the first and the last.
-pub(super) fn are(outs: &[TeiOut], count: usize, first: Option<Out>, last: Option<Out>) -> bool {
-    outs.len() == count && is(outs.first(), first) && is(outs.last(), last)
+    /// Puts an output behind this mark, where there is one.
+    pub(super) fn out(&mut self, mark: &str, out: Option<&TeiOut>) {
+        let Some(out) = out else {
+            return;
+        };
+        self.put(mark);
+        match out {
+            TeiOut::Send(message) => self.message(message),
+            TeiOut::Stop(timer) => {
+                self.put("stop ");
+                self.put(timer.name());
+            }
+            _ => self.put_told(out),
+        }
+    }
+
+    /// Puts an output behind that is no message. The start of a timer is its name.
+    fn put_told(&mut self, out: &TeiOut) {
+        let (word, tei) = told(out);
+        match tei {
+            Some(tei) => self.number(word, u64::from(tei)),
+            None => self.put(word),
+        }
+    }
 }

@@ -1,172 +1,115 @@
 //! Runs of a bus, with ample memory.
 
-use crate::tei::deeds::{Deed, move_of};
-use crate::wants::wants;
+use crate::readers::number;
+use crate::tei::moves::move_of;
+use crate::text::{Led, Text};
 use lapd_tei::{Bus, BusFault, BusMove, Tei};
 use std::alloc::{AllocError, Global};
-use std::test::Fail;
 
-/// How many moves are refused on a new bus of two terminals, and the TEIs that these hold then.
-type End = (u64, Option<u8>, Option<u8>);
+/// Moves of a new bus of two terminals, how many of them are refused, and the TEIs that these hold then. `rests` is whether there
+/// is nothing on a bus of no terminals, and nothing that could ask.
+const STEPS: &str = "\
+# no moves
+run: 0 none none
 
-/// A name, moves, and how they end.
-type Row = (&'static str, &'static [Deed], End);
+# one asks
+run, ask 0 1, hear-up 0, hear 0 1 2, hear 0 0 3: 0 64 none
 
-const ASK: Deed = Deed::Ask(0, 1);
+# refused moves are passed over
+run, T201, ask 2 9, ask 0 1, hear-up 0, hear-up 0, hear 0 0 2, hear 0 0 3, drop 1, drop-up 0: 6 64 none
 
-const HEAR_UP: Deed = Deed::HearUp(0);
+# the second answer is heard first
+run, ask 0 1, ask 1 2, hear-up 0, hear-up 0, hear 1 1 3, hear 0 0 4: 0 64 65
 
-const ROWS: &[Row] = &[
-    ("no moves", &[], (0, None, None)),
-    (
-        "one asks",
-        &[ASK, HEAR_UP, Deed::Hear(0, 1, 2), Deed::Hear(0, 0, 3)],
-        (0, Some(64), None),
-    ),
-    (
-        "refused moves are passed over",
-        &[
-            Deed::T201,
-            Deed::Ask(2, 9),
-            ASK,
-            HEAR_UP,
-            HEAR_UP,
-            Deed::Hear(0, 0, 2),
-            Deed::Hear(0, 0, 3),
-            Deed::Drop(1),
-            Deed::DropUp(0),
-        ],
-        (6, Some(64), None),
-    ),
-    (
-        "the second answer is heard first",
-        &[
-            ASK,
-            Deed::Ask(1, 2),
-            HEAR_UP,
-            HEAR_UP,
-            Deed::Hear(1, 1, 3),
-            Deed::Hear(0, 0, 4),
-        ],
-        (0, Some(64), Some(65)),
-    ),
-    (
-        "a lost request is repeated",
-        &[
-            ASK,
-            Deed::DropUp(0),
-            Deed::T202(0, 2),
-            HEAR_UP,
-            Deed::Hear(0, 0, 3),
-        ],
-        (0, Some(64), None),
-    ),
-    // Without its premises the law of the TEIs fails.
-    (
-        "two requests with one reference",
-        &[
-            ASK,
-            Deed::Ask(1, 1),
-            HEAR_UP,
-            Deed::Hear(0, 0, 2),
-            Deed::Hear(0, 1, 3),
-        ],
-        (0, Some(64), Some(64)),
-    ),
-    (
-        "a TEI is freed while a terminal holds it",
-        &[
-            ASK,
-            HEAR_UP,
-            Deed::Hear(0, 0, 2),
-            Deed::Check(64),
-            Deed::T201,
-            Deed::T201,
-            Deed::Ask(1, 3),
-            HEAR_UP,
-            Deed::Hear(3, 1, 4),
-        ],
-        (0, Some(64), Some(64)),
-    ),
-    (
-        "a TEI is freed while its assignment is on its way",
-        &[
-            ASK,
-            HEAR_UP,
-            Deed::Check(64),
-            Deed::T201,
-            Deed::T201,
-            Deed::Ask(1, 2),
-            HEAR_UP,
-            Deed::Hear(0, 0, 3),
-            Deed::Hear(3, 1, 4),
-        ],
-        (0, Some(64), Some(64)),
-    ),
-];
+# a lost request is repeated
+run, ask 0 1, drop-up 0, T202 0 2, hear-up 0, hear 0 0 3: 0 64 none
 
-/// The moves that a row names.
-fn moves_of(alloc: Global, deeds: &[Deed]) -> Result<Vec<BusMove>, AllocError> {
-    let mut moves = Vec::new(alloc);
-    for deed in deeds {
-        moves.push(move_of(*deed))?;
-    }
-    Ok(moves)
+# two requests with one reference: without its premises the law of the TEIs fails
+run, ask 0 1, ask 1 1, hear-up 0, hear 0 0 2, hear 0 1 3: 0 64 64
+
+# a TEI is freed while a terminal holds it
+run, ask 0 1, hear-up 0, hear 0 0 2, check 64, T201, T201, ask 1 3, hear-up 0, hear 3 1 4: 0 64 64
+
+# a TEI is freed while its assignment is on its way
+run, ask 0 1, hear-up 0, check 64, T201, T201, ask 1 2, hear-up 0, hear 0 0 3, hear 3 1 4: 0 64 64
+
+# no terminals
+rests: yes
+";
+
+/// What buses are led through.
+pub(super) fn steps() -> &'static str {
+    STEPS
 }
 
-/// Whether moves end so on this bus.
-fn ends(bus: &mut Bus, moves: &[BusMove], (refused, first, second): End) -> bool {
-    bus.run(moves) == Ok(refused) && tei(bus, 0) == first && tei(bus, 1) == second
+/// Buses that are made anew for each run.
+#[derive(Clone, Copy)]
+pub(super) struct Runs {
+    pub(super) alloc: Global,
+}
+
+/// The moves that these words name, behind the first; `None` also where there is no memory.
+fn moves_of(alloc: Global, words: &str) -> Option<Vec<BusMove>> {
+    let mut moves = Vec::new(alloc);
+    for word in words.split(", ") {
+        if word != "run" {
+            moves.push(move_of(word)?).ok()?;
+        }
+    }
+    Some(moves)
 }
 
 /// The TEI of a terminal.
-fn tei(bus: &Bus, t: usize) -> Option<u8> {
+fn tei(bus: &Bus, t: usize) -> Option<u64> {
     match bus.terminal(t) {
-        Some(terminal) => number_of(terminal.tei()),
+        Some(terminal) => number(terminal.tei()),
         None => None,
     }
 }
 
-/// The number of a TEI.
-fn number_of(tei: Option<Tei>) -> Option<u8> {
-    match tei {
-        Some(tei) => Some(tei.value()),
-        None => None,
+/// Writes how moves end on this bus.
+fn put_end(bus: &mut Bus, moves: &[BusMove], text: &mut Text) {
+    match bus.run(moves) {
+        Ok(refused) => text.number("", refused),
+        Err(_) => text.put("no memory"),
     }
+    text.optional(" ", tei(bus, 0));
+    text.optional(" ", tei(bus, 1));
 }
 
-/// Whether moves end so on a new bus of two terminals.
-fn ends_anew(alloc: Global, moves: &[BusMove], end: End) -> Result<bool, AllocError> {
+/// Writes how moves end on a new bus of two terminals.
+fn put_run(alloc: Global, moves: &[BusMove], text: &mut Text) -> Result<(), AllocError> {
     let mut bus = Bus::new(alloc, 2)?;
-    Ok(ends(&mut bus, moves, end))
+    put_end(&mut bus, moves, text);
+    Ok(())
 }
 
-/// Whether a row's moves end as it says.
-fn goes(alloc: Global, (_, deeds, end): &Row) -> Result<bool, AllocError> {
-    let moves = moves_of(alloc, deeds)?;
-    ends_anew(alloc, moves.as_slice(), *end)
+/// Whether there is no terminal on a bus, no TEI is held, and nothing is there that could ask.
+fn is_empty(bus: &mut Bus) -> bool {
+    bus.terminal(0).is_none()
+        && !bus.assigner().holds(Tei::group())
+        && matches!(bus.apply(BusMove::Ask(0, 1)), Err(BusFault::NothingThere))
 }
 
-/// Whether there is no terminal on a bus, and no TEI is held.
-fn is_empty(bus: &Bus) -> bool {
-    bus.terminal(0).is_none() && !bus.assigner().holds(Tei::group())
-}
-
-/// Whether nothing is there that could ask.
-fn asks_nothing(bus: &mut Bus) -> bool {
-    bus.apply(BusMove::Ask(0, 1)).err() == Some(BusFault::NothingThere)
-}
-
-/// Whether a bus of no terminals is empty, and refuses a move.
-fn rests(alloc: Global) -> Result<bool, AllocError> {
-    let mut bus = Bus::new(alloc, 0)?;
-    Ok(is_empty(&bus) && asks_nothing(&mut bus))
-}
-
-#[test]
-fn runs_end_as_said(rt: HostRuntime) -> Result<(), Fail> {
-    for row in ROWS {
-        wants(goes(rt.alloc(), row)?, row.0, "another end")?;
+/// Whether a bus of no terminals is empty.
+fn rests(alloc: Global) -> bool {
+    match Bus::new(alloc, 0) {
+        Ok(mut bus) => is_empty(&mut bus),
+        Err(_) => false,
     }
-    wants(rests(rt.alloc())?, "no terminals", "one is there, or asks")
+}
+
+impl Led for Runs {
+    fn step(&mut self, words: &str, text: &mut Text) {
+        if words == "rests" {
+            text.put(if rests(self.alloc) { "yes" } else { "no" });
+            return;
+        }
+        match moves_of(self.alloc, words) {
+            Some(moves) => {
+                let _ = put_run(self.alloc, moves.as_slice(), text);
+            }
+            None => text.put("no moves"),
+        }
+    }
 }

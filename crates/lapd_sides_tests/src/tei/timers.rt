@@ -1,97 +1,111 @@
 //! Timers, and which of them is due.
 
-use crate::wants::wants;
+use crate::text::{Led, Text, number_of, split};
 use lapd_timers::{Durations, Timer, TimerSet};
-use std::test::Fail;
 
-/// What is done to timers of the standard's durations, or looked at.
-#[derive(Clone, Copy)]
-enum Step {
-    /// None runs any more.
-    New,
-    Start(Timer, u64),
-    Stop(Timer),
-    /// At this moment this one is due.
-    Due(u64, Option<Timer>),
-    /// It runs with this deadline.
-    RunsUntil(Timer, u64),
-    /// Durations, and whether they are taken, and told again.
-    Taken(u32, u32, u32, u32, bool),
+/// What is done to timers of the standard's durations; which is due at a moment; until when one runs; and durations, whether
+/// they are taken, and told again.
+const STEPS: &str = "\
+# the least deadline is due first
+new
+start T203 0
+start T200 9000
+due 9999: none
+due 10000: T200
+stop T200
+due 10000: T203
+stop T203
+due 18446744073709551615: none
+
+# a deadline is in 64 bits
+new
+start T200 18446744073709551615
+runs T200: 18446744073709551615
+start T202 5
+runs T202: 2005
+due 2005: T202
+
+# ties go by the order of timers
+new
+start T203 0
+start T202 8000
+start T201 9000
+due 10000: T201
+start T200 9000
+due 10000: T200
+
+# in range, 0, and past an hour
+durations: taken, refused, refused
+";
+
+/// What timers are led through.
+pub(super) fn steps() -> &'static str {
+    STEPS
 }
 
-/// What each step shows, and the step.
-const STEPS: &[(&str, Step)] = &[
-    ("the least deadline is due first", Step::New),
-    ("T203 begins", Step::Start(Timer::T203, 0)),
-    ("T200 begins", Step::Start(Timer::T200, 9_000)),
-    ("9,999: none", Step::Due(9_999, None)),
-    ("10,000: T200", Step::Due(10_000, Some(Timer::T200))),
-    ("T200 is stopped", Step::Stop(Timer::T200)),
-    ("10,000: T203", Step::Due(10_000, Some(Timer::T203))),
-    ("T203 is stopped", Step::Stop(Timer::T203)),
-    ("all stopped: none", Step::Due(u64::MAX, None)),
-    ("a deadline is in 64 bits", Step::New),
-    ("T200 begins last", Step::Start(Timer::T200, u64::MAX)),
-    ("the last moment", Step::RunsUntil(Timer::T200, u64::MAX)),
-    ("T202 begins", Step::Start(Timer::T202, 5)),
-    ("T202 runs", Step::RunsUntil(Timer::T202, 2_005)),
-    ("T202 is due", Step::Due(2_005, Some(Timer::T202))),
-    ("ties go by the order of timers", Step::New),
-    ("T203 at 10,000", Step::Start(Timer::T203, 0)),
-    ("T202 at 10,000", Step::Start(Timer::T202, 8_000)),
-    ("T201 at 10,000", Step::Start(Timer::T201, 9_000)),
-    ("of three T201", Step::Due(10_000, Some(Timer::T201))),
-    ("T200 at 10,000", Step::Start(Timer::T200, 9_000)),
-    ("of four T200", Step::Due(10_000, Some(Timer::T200))),
-    ("in range", Step::Taken(1, 2, 3, 3_600_000, true)),
-    ("0", Step::Taken(0, 1, 1, 1, false)),
-    ("past an hour", Step::Taken(1, 1, 1, 3_600_001, false)),
-];
-
 /// Timers of the standard's durations.
-fn new_timers() -> TimerSet {
+pub(super) fn new_timers() -> TimerSet {
     TimerSet::new(Durations::standard())
 }
 
-/// Whether the timer runs with this deadline.
-fn runs_until(timers: &TimerSet, timer: Timer, deadline: u64) -> bool {
-    timers.running(timer) && timers.deadline(timer) == Some(deadline)
+/// The timer of this name.
+fn timer_of(name: &str) -> Option<Timer> {
+    match name {
+        "T200" => Some(Timer::T200),
+        "T201" => Some(Timer::T201),
+        "T202" => Some(Timer::T202),
+        "T203" => Some(Timer::T203),
+        _ => None,
+    }
 }
 
 /// Whether these durations are taken, and told again.
-fn are_taken(t200: u32, t201: u32, t202: u32, t203: u32) -> bool {
+fn taken(t200: u32, t201: u32, t202: u32, t203: u32) -> &'static str {
     match Durations::new(t200, t201, t202, t203) {
-        Some(durations) => durations.of(Timer::T200) == t200 && durations.of(Timer::T203) == t203,
-        None => false,
+        None => "refused",
+        Some(durations) if durations.of(Timer::T200) == t200 && durations.of(Timer::T203) == t203 =>
+            { "taken" }
+        Some(_) => "others",
     }
 }
 
-/// Does a step: whether what it looks at is as it says.
-fn holds(timers: &mut TimerSet, step: Step) -> bool {
-    match step {
-        Step::New => *timers = new_timers(),
-        Step::Start(timer, now) => timers.start(timer, now),
-        Step::Stop(timer) => timers.stop(timer),
-        _ => return shows(timers, step),
-    }
-    true
-}
-
-/// Whether what a step looks at is as it says.
-fn shows(timers: &TimerSet, step: Step) -> bool {
-    match step {
-        Step::Due(now, due) => timers.due(now) == due,
-        Step::RunsUntil(timer, deadline) => runs_until(timers, timer, deadline),
-        Step::Taken(t200, t201, t202, t203, taken) => are_taken(t200, t201, t202, t203) == taken,
-        _ => false,
+/// Writes the timer that is due.
+fn put_due(timers: &TimerSet, now: u64, text: &mut Text) {
+    match timers.due(now) {
+        Some(timer) => text.put(timer.name()),
+        None => text.put("none"),
     }
 }
 
-#[test]
-fn timers_go_as_said() -> Result<(), Fail> {
-    let mut timers = new_timers();
-    for (name, step) in STEPS {
-        wants(holds(&mut timers, *step), name, "otherwise")?;
+/// Starts or stops a timer, or writes until when it runs.
+fn put_timed(timers: &mut TimerSet, word: &str, timer: Timer, now: u64, text: &mut Text) {
+    match word {
+        "start" => timers.start(timer, now),
+        "stop" => timers.stop(timer),
+        _ if timers.running(timer) => text.optional("", timers.deadline(timer)),
+        _ => text.put("it does not run"),
     }
-    Ok(())
+}
+
+/// Writes which durations are taken.
+fn put_durations(text: &mut Text) {
+    text.put(taken(1, 2, 3, 3_600_000));
+    text.put(", ");
+    text.put(taken(0, 1, 1, 1));
+    text.put(", ");
+    text.put(taken(1, 1, 1, 3_600_001));
+}
+
+impl Led for TimerSet {
+    fn step(&mut self, words: &str, text: &mut Text) {
+        let (word, behind) = split(words, " ");
+        let (name, now) = split(behind, " ");
+        match (word, timer_of(name)) {
+            ("new", _) => *self = new_timers(),
+            ("due", _) => put_due(self, number_of(name).unwrap_or(0), text),
+            ("durations", _) => put_durations(text),
+            (_, Some(timer)) => put_timed(self, word, timer, number_of(now).unwrap_or(0), text),
+            _ => text.put("no timer"),
+        }
+    }
 }
