@@ -1,690 +1,348 @@
 //! What the program's words choose, and what is said of words that choose nothing.
 
-use crate::wants::{are_same, is_said, wants};
+use crate::rows::{Check, tables_hold};
+use crate::wants::{all_hold, are_same, is_said, no_row};
 use lapd_cli_options::{
-    Clock, Invocation, Job, LinkEnd, LiveOptions, NoInvocation, WordsFault, help, parse_words,
-    words,
+    Clock, Interface, Invocation, Job, LinkEnd, LiveOptions, NoInvocation, WordsFault, help,
+    parse_words, words,
 };
 use lapd_cli_script::{PortFault, ScriptFault};
-use lapd_frame::{Sapi, Side};
+use lapd_frame::Side;
 use lapd_link::{Params, Recovery};
-use std::alloc::Global;
+use lapd_timers::{Durations, Timer};
+use std::alloc::{AllocError, Global};
 use std::env::{Env, FillError};
 use std::test::Fail;
 
-// How many frames a window has, how often a frame is sent again, and for how many messages there is room.
-type Numbers = (u8, u8, u16);
+// Rows: the words, with `_` for a space in a word and `~` for a line feed, and what they come to. Of a link's parameters the
+// window, N200, the room and the recovery are said, of an interface those of SAPI 0 and of SAPI 16, T200 to T203, whether SAPI
+// 16 is served, the seed and the TEIs, and of the real clock the terminals, the file and the address of GSMTAP.
+const CHOICES: &str = "\
+lapd => answer net 0 64 1 3 512 enquiry
+lapd answer => answer net 0 64 1 3 512 enquiry
+lapd answer --side net => answer net 0 64 1 3 512 enquiry
+lapd answer --side=user => answer user 0 64 1 3 512 enquiry
+lapd answer --side user --k 3 => answer user 0 64 3 3 512 enquiry
+lapd answer --k 127 --n200 100 --room 1024 => answer net 0 64 127 100 1024 enquiry
+lapd answer --room=1 --n200=1 --k=1 --side=user => answer user 0 64 1 1 1 enquiry
+lapd answer --n200 7 => answer net 0 64 1 7 512 enquiry
+lapd answer --room 0002 => answer net 0 64 1 3 2 enquiry
+lapd answer --recovery last => answer net 0 64 1 3 512 last
+lapd decode => decode
+lapd bus => bus 2
+lapd bus --terminals 1 => bus 1
+lapd bus --terminals=0127 => bus 127
+lapd pair => pair 1 3 512 enquiry 1 3 512 enquiry
+lapd pair --k 7 --n200 2 --room 9 --recovery-user last => pair 7 2 9 last 7 2 9 enquiry
+lapd pair --recovery-net=last --recovery-user=enquiry => pair 1 3 512 enquiry 1 3 512 last
+lapd loop => loop 1 3 512 enquiry 1 3 512 enquiry
+lapd loop --k=7 --n200=2 --room=9 --recovery-net=last => loop 7 2 9 enquiry 7 2 9 last
+lapd net --listen 127.0.0.1:7000 => net 1 3 512 enquiry 3 3 512 enquiry 1000 1000 2000 10000 with-16 921 at 127.0.0.1:7000
+lapd user --connect=no_address:65535 => user 1 3 512 enquiry 3 3 512 enquiry 1000 1000 2000 10000 with-16 921 at no address:65535
+lapd answer --strict --side user => answer user 0 64 1 3 512 enquiry strict
+lapd net --listen=[::1]:0 --strict => net 1 3 512 enquiry 3 3 512 enquiry 1000 1000 2000 10000 with-16 921 at [::1]:0 strict
+lapd decode --strict => decode strict
+lapd net --listen a:1 => net 1 3 512 enquiry 3 3 512 enquiry 1000 1000 2000 10000 with-16 921 at a:1
+lapd user --connect a:1 --clock script => user 1 3 512 enquiry 3 3 512 enquiry 1000 1000 2000 10000 with-16 921 at a:1
+lapd net --listen a:1 --clock real => net 1 3 512 enquiry 3 3 512 enquiry 1000 1000 2000 10000 with-16 921 at a:1 real 1 - -
+lapd user --clock=real --time --connect=a:1 => user 1 3 512 enquiry 3 3 512 enquiry 1000 1000 2000 10000 with-16 921 at a:1 real 1 - - time
+lapd user --connect=a:1 --quiet --clock=real => user 1 3 512 enquiry 3 3 512 enquiry 1000 1000 2000 10000 with-16 921 at a:1 real 1 - - quiet
+lapd net --listen=a:1 --clock=real --terminals=127 --pcap line.pcap --gsmtap b:4729 => net 1 3 512 enquiry 3 3 512 enquiry 1000 1000 2000 10000 with-16 921 at a:1 real 127 line.pcap b:4729
+lapd net --listen=a:1 => net 1 3 512 enquiry 3 3 512 enquiry 1000 1000 2000 10000 with-16 921 at a:1
+lapd net --listen=a:1 --json => net 1 3 512 enquiry 3 3 512 enquiry 1000 1000 2000 10000 with-16 921 at a:1 json
+lapd user --json --connect=a:1 --clock=real => user 1 3 512 enquiry 3 3 512 enquiry 1000 1000 2000 10000 with-16 921 at a:1 real 1 - - json
+lapd decode --json => decode
+lapd net --listen 127.0.0.1:4000 => net 1 3 512 enquiry 3 3 512 enquiry 1000 1000 2000 10000 with-16 921 at 127.0.0.1:4000
+lapd user --connect 127.0.0.1:4000 => user 1 3 512 enquiry 3 3 512 enquiry 1000 1000 2000 10000 with-16 921 at 127.0.0.1:4000
+lapd net --listen 127.0.0.1:4000 --pri => net 7 3 512 enquiry 7 3 512 enquiry 1000 1000 2000 10000 without-16 921 0 at 127.0.0.1:4000
+lapd user --connect 127.0.0.1:4000 --pri => user 7 3 512 enquiry 7 3 512 enquiry 1000 1000 2000 10000 without-16 921 0 at 127.0.0.1:4000
+lapd net --listen 127.0.0.1:4000 --pri --sapi16 => net 7 3 512 enquiry 7 3 512 enquiry 1000 1000 2000 10000 with-16 921 0 at 127.0.0.1:4000
+lapd net --listen 127.0.0.1:4000 --pri --k 127 => net 127 3 512 enquiry 127 3 512 enquiry 1000 1000 2000 10000 without-16 921 0 at 127.0.0.1:4000
+lapd net --listen 127.0.0.1:4000 --pri --tei 64 => net 7 3 512 enquiry 7 3 512 enquiry 1000 1000 2000 10000 without-16 921 64 at 127.0.0.1:4000
+lapd net --listen 127.0.0.1:4000 --tei 0 --tei 126 => net 1 3 512 enquiry 3 3 512 enquiry 1000 1000 2000 10000 with-16 921 0 126 at 127.0.0.1:4000
+lapd user --connect 127.0.0.1:4000 --tei 126 => user 1 3 512 enquiry 3 3 512 enquiry 1000 1000 2000 10000 with-16 921 126 at 127.0.0.1:4000
+lapd user --connect 127.0.0.1:4000 --k 1 => user 1 3 512 enquiry 1 3 512 enquiry 1000 1000 2000 10000 with-16 921 at 127.0.0.1:4000
+lapd user --connect 127.0.0.1:4000 --n200 100 --room 1024 => user 1 100 1024 enquiry 3 100 1024 enquiry 1000 1000 2000 10000 with-16 921 at 127.0.0.1:4000
+lapd user --connect 127.0.0.1:4000 --n200 1 --room 1 => user 1 1 1 enquiry 3 1 1 enquiry 1000 1000 2000 10000 with-16 921 at 127.0.0.1:4000
+lapd user --connect 127.0.0.1:4000 --recovery last => user 1 3 512 last 3 3 512 last 1000 1000 2000 10000 with-16 921 at 127.0.0.1:4000
+lapd user --connect 127.0.0.1:4000 --t200 1 --t201 2 --t202 3 --t203 3600000 => user 1 3 512 enquiry 3 3 512 enquiry 1 2 3 3600000 with-16 921 at 127.0.0.1:4000
+lapd net --listen 127.0.0.1:4000 --seed 18446744073709551615 => net 1 3 512 enquiry 3 3 512 enquiry 1000 1000 2000 10000 with-16 18446744073709551615 at 127.0.0.1:4000
+lapd net --listen 127.0.0.1:4000 --seed 0 => net 1 3 512 enquiry 3 3 512 enquiry 1000 1000 2000 10000 with-16 0 at 127.0.0.1:4000
+lapd answer --sapi 16 --tei 126 --k 3 --side user => answer user 16 126 3 3 512 enquiry
+lapd answer --sapi 0 --tei 0 => answer net 0 0 1 3 512 enquiry";
 
-const BASIC: Numbers = (1, 3, 512);
+const REFUSED: &str = "\
+lapd --side user => refused
+lapd --k 3 => refused
+lapd -- => refused
+lapd  => refused
+lapd answer --side user --side net => refused
+lapd answer --side => refused
+lapd answer --side other => refused
+lapd answer --recovery other => refused
+lapd answer more => refused
+lapd answer --version => refused
+lapd pair more => refused
+lapd pair --side user => refused
+lapd pair --recovery last => refused
+lapd pair --recovery-user other => refused
+lapd pair --recovery-net => refused
+lapd pair --k 3 --k 3 => refused
+lapd loop more => refused
+lapd loop --side user => refused
+lapd loop --recovery last => refused
+lapd loop --k => refused
+lapd net => refused
+lapd net --listen => refused
+lapd net --connect 127.0.0.1:7000 => refused
+lapd net --listen a:1 --listen a:1 => refused
+lapd user => refused
+lapd user --listen 127.0.0.1:7000 => refused
+lapd user --connect a:1 --clock real --terminals 2 => refused
+lapd net --listen a:1 --clock other => refused
+lapd answer --clock real => refused
+lapd decode --side user => refused
+lapd decode --k 3 => refused
+lapd decode more => refused
+lapd --terminals 3 => refused
+lapd bus more => refused
+lapd bus --k 3 => refused
+lapd bus --terminals => refused
+lapd bus --terminals 3 --terminals 3 => refused
+lapd other => refused
+lapd help other => refused
+lapd --strict => refused
+lapd pair --strict --strict => refused
+lapd answer --k => refused
+lapd answer --k --side user => refused
+lapd answer --k 3 --k 3 => refused
+lapd answer --n200 3 --n200 4 => refused
+lapd answer --room 2 --room 2 => refused";
 
-// What words are to choose, with the recovery of the user and of the network.
-#[derive(Clone, Copy)]
-enum Wanted {
-    Answer(Side, Numbers, Recovery),
-    Pair(Numbers, Recovery, Recovery),
-    Loop(Numbers, Recovery, Recovery),
-    Bus(u8),
-    Net(&'static str),
-    User(&'static str),
-    Decode,
+const SHOWN: &str = "\
+lapd --help => a text
+lapd -h => a text
+lapd help => a text
+lapd help net => a text
+lapd answer --help => a text
+lapd answer -h => the short help
+lapd bus --help => a text
+lapd pair --help => a text
+lapd loop --help => a text
+lapd net --help => a text
+lapd net -h => the short help
+lapd user --help => a text
+lapd decode --help => a text
+lapd --version => a text
+lapd -V => a text";
+
+const TOLD: &str = "\
+lapd foo --side => error: unrecognized subcommand 'foo'~~Usage: lapd [COMMAND]~~For more information, try '--help'.~
+lapd anwser => error: unrecognized subcommand 'anwser'~~  tip: a similar subcommand exists: 'answer'~~Usage: lapd [COMMAND]~~For more information, try '--help'.~
+lapd answer --k 0 => error: invalid value '0' for '--k <FRAMES>': not a number from 1 to 127 in decimal digits~
+lapd pair --k 128 => error: invalid value '128' for '--k <FRAMES>': not a number from 1 to 127 in decimal digits~
+lapd answer --k 128 => error: invalid value '128' for '--k <FRAMES>': not a number from 1 to 127 in decimal digits~
+lapd answer --k 257 => error: invalid value '257' for '--k <FRAMES>': not a number from 1 to 127 in decimal digits~
+lapd answer --k  => error: invalid value '' for '--k <FRAMES>': not a number from 1 to 127 in decimal digits~
+lapd answer --k +3 => error: invalid value '+3' for '--k <FRAMES>': not a number from 1 to 127 in decimal digits~
+lapd answer --k -3 => error: invalid value '-3' for '--k <FRAMES>': not a number from 1 to 127 in decimal digits~
+lapd answer --k=three~ => error: invalid value 'three\\n' for '--k <FRAMES>': not a number from 1 to 127 in decimal digits~
+lapd answer --n200 0 => error: invalid value '0' for '--n200 <TIMES>': not a number from 1 to 100 in decimal digits~
+lapd answer --n200 101 --k 127 => error: invalid value '101' for '--n200 <TIMES>': not a number from 1 to 100 in decimal digits~
+lapd answer --room 0 => error: invalid value '0' for '--room <MESSAGES>': not a number from 1 to 1024 in decimal digits~
+lapd answer --room 1025 --n200 100 => error: invalid value '1025' for '--room <MESSAGES>': not a number from 1 to 1024 in decimal digits~
+lapd answer --room 1,024 => error: invalid value '1,024' for '--room <MESSAGES>': not a number from 1 to 1024 in decimal digits~
+lapd answer --room 18446744073709551617 => error: invalid value '18446744073709551617' for '--room <MESSAGES>': not a number from 1 to 1024 in decimal digits~
+lapd loop --n200 101 => error: invalid value '101' for '--n200 <TIMES>': not a number from 1 to 100 in decimal digits~
+lapd bus --terminals 0 => error: invalid value '0' for '--terminals <TERMINALS>': not a number from 1 to 127 in decimal digits~
+lapd bus --terminals 128 => error: invalid value '128' for '--terminals <TERMINALS>': not a number from 1 to 127 in decimal digits~
+lapd user --connect=a:1 --time => error: --time goes with --clock real~
+lapd net --listen=a:1 --clock=script --quiet => error: --quiet goes with --clock real~
+lapd net --listen=a:1 --terminals 1 => error: --terminals goes with --clock real~
+lapd net --listen=a:1 --pcap line.pcap => error: --pcap goes with --clock real~
+lapd user --connect=a:1 --gsmtap b:4729 => error: --gsmtap goes with --clock real~
+lapd net --listen=a:1 --clock=real --terminals=128 => error: invalid value '128' for '--terminals <TERMINALS>': not a number from 1 to 127 in decimal digits~
+lapd user --connect=a:1 --clock=real --gsmtap=b => error: invalid value 'b' for '--gsmtap <ADDRESS>': ADDRESS is an address and a port, as 127.0.0.1:4000~
+lapd net --listen foo => error: invalid value 'foo' for '--listen <ADDRESS>': ADDRESS is an address and a port, as 127.0.0.1:4000~
+lapd net --listen 127.0.0.1 => error: invalid value '127.0.0.1' for '--listen <ADDRESS>': ADDRESS is an address and a port, as 127.0.0.1:4000~
+lapd user --connect=127.0.0.1:65536 => error: invalid value '127.0.0.1:65536' for '--connect <ADDRESS>': ADDRESS is an address and a port, as 127.0.0.1:4000~
+lapd user --connect :80 => error: invalid value ':80' for '--connect <ADDRESS>': ADDRESS is an address and a port, as 127.0.0.1:4000~
+lapd user --connect=no_address => error: invalid value 'no address' for '--connect <ADDRESS>': ADDRESS is an address and a port, as 127.0.0.1:4000~
+lapd net --listen 127.0.0.1:4000 --tei 127 => error: invalid value '127' for '--tei <TEI>': not a number from 0 to 126 in decimal digits~
+lapd user --connect 127.0.0.1:4000 --tei 127 => error: invalid value '127' for '--tei <TEI>': not a number from 0 to 126 in decimal digits~
+lapd net --listen 127.0.0.1:4000 --k 0 => error: invalid value '0' for '--k <FRAMES>': not a number from 1 to 127 in decimal digits~
+lapd user --connect 127.0.0.1:4000 --k 128 => error: invalid value '128' for '--k <FRAMES>': not a number from 1 to 127 in decimal digits~
+lapd net --listen 127.0.0.1:4000 --n200 101 => error: invalid value '101' for '--n200 <TIMES>': not a number from 1 to 100 in decimal digits~
+lapd net --listen 127.0.0.1:4000 --room 1025 => error: invalid value '1025' for '--room <MESSAGES>': not a number from 1 to 1024 in decimal digits~
+lapd net --listen 127.0.0.1:4000 --t200 0 => error: invalid value '0' for '--t200 <MS>': not a number from 1 to 3600000 in decimal digits~
+lapd net --listen 127.0.0.1:4000 --t201 3600001 => error: invalid value '3600001' for '--t201 <MS>': not a number from 1 to 3600000 in decimal digits~
+lapd user --connect 127.0.0.1:4000 --t202 0 => error: invalid value '0' for '--t202 <MS>': not a number from 1 to 3600000 in decimal digits~
+lapd user --connect 127.0.0.1:4000 --t203 3600001 => error: invalid value '3600001' for '--t203 <MS>': not a number from 1 to 3600000 in decimal digits~
+lapd user --connect 127.0.0.1:4000 --seed 18446744073709551616 => error: invalid value '18446744073709551616' for '--seed <NUMBER>': not a number from 0 to 18446744073709551615 in decimal digits~
+lapd answer --tei 127 => error: invalid value '127' for '--tei <TEI>': not a number from 0 to 126 in decimal digits~";
+
+#[test]
+fn words_come_to(rt: HostRuntime) -> Result<(), Fail> {
+    let tables = [
+        (Check::Words, CHOICES),
+        (Check::Words, REFUSED),
+        (Check::Words, SHOWN),
+        (Check::Words, TOLD),
+    ];
+    tables_hold(rt.alloc(), &tables)
 }
 
-const ENQUIRY: Recovery = Recovery::Enquiry;
-
-const LAST: Recovery = Recovery::LastMessage;
-
-// A name, words, and what they choose.
-const CHOICES: &[(&str, &[&str], Wanted)] = &[
-    (
-        "no word",
-        &["lapd"],
-        Wanted::Answer(Side::Network, BASIC, ENQUIRY),
-    ),
-    (
-        "answer",
-        &["lapd", "answer"],
-        Wanted::Answer(Side::Network, BASIC, ENQUIRY),
-    ),
-    (
-        "answer as the network",
-        &["lapd", "answer", "--side", "net"],
-        Wanted::Answer(Side::Network, BASIC, ENQUIRY),
-    ),
-    (
-        "answer as the user",
-        &["lapd", "answer", "--side=user"],
-        Wanted::Answer(Side::User, BASIC, ENQUIRY),
-    ),
-    (
-        "answer as the user, with a window",
-        &["lapd", "answer", "--side", "user", "--k", "3"],
-        Wanted::Answer(Side::User, (3, 3, 512), ENQUIRY),
-    ),
-    (
-        "answer with the greatest numbers",
-        &[
-            "lapd", "answer", "--k", "127", "--n200", "100", "--room", "1024",
-        ],
-        Wanted::Answer(Side::Network, (127, 100, 1024), ENQUIRY),
-    ),
-    (
-        "answer with the least numbers",
-        &[
-            "lapd",
-            "answer",
-            "--room=1",
-            "--n200=1",
-            "--k=1",
-            "--side=user",
-        ],
-        Wanted::Answer(Side::User, (1, 1, 1), ENQUIRY),
-    ),
-    (
-        "answer with N200",
-        &["lapd", "answer", "--n200", "7"],
-        Wanted::Answer(Side::Network, (1, 7, 512), ENQUIRY),
-    ),
-    (
-        "answer with room",
-        &["lapd", "answer", "--room", "0002"],
-        Wanted::Answer(Side::Network, (1, 3, 2), ENQUIRY),
-    ),
-    (
-        "answer with a recovery",
-        &["lapd", "answer", "--recovery", "last"],
-        Wanted::Answer(Side::Network, BASIC, LAST),
-    ),
-    ("decode", &["lapd", "decode"], Wanted::Decode),
-    ("a bus", &["lapd", "bus"], Wanted::Bus(2)),
-    (
-        "a bus of one terminal",
-        &["lapd", "bus", "--terminals", "1"],
-        Wanted::Bus(1),
-    ),
-    (
-        "the greatest bus",
-        &["lapd", "bus", "--terminals=0127"],
-        Wanted::Bus(127),
-    ),
-    (
-        "two ends",
-        &["lapd", "pair"],
-        Wanted::Pair(BASIC, ENQUIRY, ENQUIRY),
-    ),
-    (
-        "two ends with numbers, and a recovery of the user",
-        &[
-            "lapd",
-            "pair",
-            "--k",
-            "7",
-            "--n200",
-            "2",
-            "--room",
-            "9",
-            "--recovery-user",
-            "last",
-        ],
-        Wanted::Pair((7, 2, 9), LAST, ENQUIRY),
-    ),
-    (
-        "two ends with a recovery each",
-        &[
-            "lapd",
-            "pair",
-            "--recovery-net=last",
-            "--recovery-user=enquiry",
-        ],
-        Wanted::Pair(BASIC, ENQUIRY, LAST),
-    ),
-    (
-        "a loop",
-        &["lapd", "loop"],
-        Wanted::Loop(BASIC, ENQUIRY, ENQUIRY),
-    ),
-    (
-        "a loop with numbers, and a recovery of the network",
-        &[
-            "lapd",
-            "loop",
-            "--k=7",
-            "--n200=2",
-            "--room=9",
-            "--recovery-net=last",
-        ],
-        Wanted::Loop((7, 2, 9), ENQUIRY, LAST),
-    ),
-    (
-        "the network side",
-        &["lapd", "net", "--listen", "127.0.0.1:7000"],
-        Wanted::Net("127.0.0.1:7000"),
-    ),
-    (
-        "the user side, to a name, which the system looks up",
-        &["lapd", "user", "--connect=no address:65535"],
-        Wanted::User("no address:65535"),
-    ),
-];
-
-// The parameters of these numbers, where they are in range.
-fn params(numbers: Numbers, recovery: Recovery) -> Option<Params> {
-    let params = Params::new(numbers.0, numbers.1, numbers.2)?;
-    Some(params.with_recovery(recovery))
-}
-
-// Whether this is what is to be done. What `net` and `user` are made with is looked at in `interfaces`.
-fn is_job(job: &Job, wanted: Wanted) -> bool {
-    match job {
-        Job::Answer(end) => is_answer(end, wanted),
-        Job::Pair { user, network } => is_pair(*user, *network, wanted),
-        Job::Loop { user, network } => is_loop(*user, *network, wanted),
-        Job::Bus { terminals } => matches!(wanted, Wanted::Bus(most) if most == *terminals),
-        Job::Net(_) => matches!(wanted, Wanted::Net(_)),
-        Job::User(_) => matches!(wanted, Wanted::User(_)),
-        Job::Decode(_) => matches!(wanted, Wanted::Decode),
+/// Whether words come to what the row says.
+pub(crate) fn words_hold(alloc: Global, row: &str) -> bool {
+    match row.split_once(" => ") {
+        Some((words, wanted)) => come_to(alloc, words, wanted),
+        None => false,
     }
 }
 
-// Whether this end of the link of SAPI 0 and TEI 64 is wanted.
-fn is_answer(end: &LinkEnd, wanted: Wanted) -> bool {
-    match wanted {
-        Wanted::Answer(side, numbers, recovery) => {
-            let is_link = end.sapi == Sapi::Call && end.tei.value() == 64;
-            is_link && end.side == side && Some(end.params) == params(numbers, recovery)
-        }
-        _ => false,
-    }
-}
-
-fn is_pair(user: Params, network: Params, wanted: Wanted) -> bool {
-    match wanted {
-        Wanted::Pair(numbers, of_user, of_network) => {
-            Some(user) == params(numbers, of_user) && Some(network) == params(numbers, of_network)
-        }
-        _ => false,
-    }
-}
-
-fn is_loop(user: Params, network: Params, wanted: Wanted) -> bool {
-    match wanted {
-        Wanted::Loop(numbers, of_user, of_network) => {
-            Some(user) == params(numbers, of_user) && Some(network) == params(numbers, of_network)
-        }
-        _ => false,
-    }
-}
-
-// The address, where there is to be one.
-fn address(wanted: Wanted) -> Option<&'static str> {
-    match wanted {
-        Wanted::Net(address) | Wanted::User(address) => Some(address),
-        _ => None,
-    }
-}
-
-// Whether this is what is wanted.
-fn is_wanted(chosen: &Invocation<'_>, wanted: Wanted, strict: bool) -> bool {
-    let is_so = chosen.address == address(wanted) && chosen.strict == strict;
-    is_so && is_job(&chosen.job, wanted)
-}
-
-// Whether the words choose this.
-fn chooses(alloc: Global, words: &[&str], wanted: Wanted, strict: bool) -> bool {
-    let chosen = parse_words(alloc, words);
-    match &chosen {
-        Ok(chosen) => is_wanted(chosen, wanted, strict),
+fn come_to(alloc: Global, words: &str, wanted: &str) -> bool {
+    match words_of(alloc, words) {
+        Ok(words) => are_said(alloc, words.as_slice(), wanted),
         Err(_) => false,
     }
 }
 
-#[test]
-fn words_choose(rt: HostRuntime) -> Result<(), Fail> {
-    for (row, words, wanted) in CHOICES {
-        let chosen = chooses(rt.alloc(), words, *wanted, false);
-        wants(chosen, row, "another choice")?;
+fn words_of(alloc: Global, row: &str) -> Result<Vec<String>, AllocError> {
+    let mut words = Vec::new(alloc);
+    push_words(alloc, &mut words, row)?;
+    Ok(words)
+}
+
+fn push_words(alloc: Global, words: &mut Vec<String>, row: &str) -> Result<(), AllocError> {
+    for word in row.split(' ') {
+        words.push(word.replace(alloc, "_", " ")?)?;
     }
     Ok(())
 }
 
-// Words by which the exit status tells of lines that were refused.
-const STRICT: &[(&str, &[&str], Wanted)] = &[
-    (
-        "answer, strictly",
-        &["lapd", "answer", "--strict", "--side", "user"],
-        Wanted::Answer(Side::User, BASIC, ENQUIRY),
-    ),
-    (
-        "the network side, strictly",
-        &["lapd", "net", "--listen=[::1]:0", "--strict"],
-        Wanted::Net("[::1]:0"),
-    ),
-    (
-        "octets, strictly",
-        &["lapd", "decode", "--strict"],
-        Wanted::Decode,
-    ),
-];
-
-#[test]
-fn words_choose_strictly(rt: HostRuntime) -> Result<(), Fail> {
-    for (row, words, wanted) in STRICT {
-        let chosen = chooses(rt.alloc(), words, *wanted, true);
-        wants(chosen, row, "another choice")?;
-    }
-    Ok(())
-}
-
-// What goes with the real clock where nothing is written for it.
-const BARE: LiveOptions<'static> = LiveOptions {
-    time: false,
-    quiet: false,
-    terminals: 1,
-    pcap: None,
-    gsmtap: None,
-};
-
-// A name, words, and what goes with the real clock that they choose; `None` where they choose the clock of the script.
-const CLOCKS: &[(&str, &[&str], Option<LiveOptions<'static>>)] = &[
-    ("no clock", &["lapd", "net", "--listen", "a:1"], None),
-    (
-        "the clock of the script",
-        &["lapd", "user", "--connect", "a:1", "--clock", "script"],
-        None,
-    ),
-    (
-        "the real clock",
-        &["lapd", "net", "--listen", "a:1", "--clock", "real"],
-        Some(BARE),
-    ),
-    (
-        "moments before lines",
-        &["lapd", "user", "--clock=real", "--time", "--connect=a:1"],
-        Some(LiveOptions { time: true, ..BARE }),
-    ),
-    (
-        "no trace lines",
-        &["lapd", "user", "--connect=a:1", "--quiet", "--clock=real"],
-        Some(LiveOptions {
-            quiet: true,
-            ..BARE
-        }),
-    ),
-    (
-        "terminals, a file and an address",
-        &[
-            "lapd",
-            "net",
-            "--listen=a:1",
-            "--clock=real",
-            "--terminals=127",
-            "--pcap",
-            "line.pcap",
-            "--gsmtap",
-            "b:4729",
-        ],
-        Some(LiveOptions {
-            terminals: 127,
-            pcap: Some("line.pcap"),
-            gsmtap: Some("b:4729"),
-            ..BARE
-        }),
-    ),
-];
-
-// Whether the words choose this clock.
-fn goes_by(alloc: Global, words: &[&str], wanted: Option<LiveOptions<'static>>) -> bool {
-    let chosen = parse_words(alloc, words);
-    match (&chosen, wanted) {
-        (Ok(chosen), Some(options)) => chosen.clock == Clock::Real(options),
-        (Ok(chosen), None) => chosen.clock == Clock::Script,
-        (Err(_), _) => false,
-    }
-}
-
-#[test]
-fn clocks_are_chosen(rt: HostRuntime) -> Result<(), Fail> {
-    for (row, words, wanted) in CLOCKS {
-        let chosen = goes_by(rt.alloc(), words, *wanted);
-        wants(chosen, row, "another clock, or other options")?;
-    }
-    Ok(())
-}
-
-// Words, and whether they choose objects for the lines of a side.
-const OBJECTS: &[(&[&str], bool)] = &[
-    (&["lapd", "net", "--listen=a:1"], false),
-    (&["lapd", "net", "--listen=a:1", "--json"], true),
-    (
-        &["lapd", "user", "--json", "--connect=a:1", "--clock=real"],
-        true,
-    ),
-    (&["lapd", "decode", "--json"], false),
-];
-
-#[test]
-fn objects_are_chosen(rt: HostRuntime) -> Result<(), Fail> {
-    for (words, wanted) in OBJECTS {
-        let chosen = match &parse_words(rt.alloc(), words) {
-            Ok(chosen) => chosen.json == *wanted,
-            Err(_) => false,
-        };
-        wants(chosen, "objects", "another choice")?;
-    }
-    Ok(())
-}
-
-// Words that the parser does not take.
-const FAULTS: &[&[&str]] = &[
-    &["lapd", "--side", "user"],
-    &["lapd", "--k", "3"],
-    &["lapd", "--"],
-    &["lapd", ""],
-    &["lapd", "answer", "--side", "user", "--side", "net"],
-    &["lapd", "answer", "--side"],
-    &["lapd", "answer", "--side", "other"],
-    &["lapd", "answer", "--recovery", "other"],
-    &["lapd", "answer", "more"],
-    &["lapd", "answer", "--version"],
-    &["lapd", "pair", "more"],
-    &["lapd", "pair", "--side", "user"],
-    &["lapd", "pair", "--recovery", "last"],
-    &["lapd", "pair", "--recovery-user", "other"],
-    &["lapd", "pair", "--recovery-net"],
-    &["lapd", "pair", "--k", "3", "--k", "3"],
-    &["lapd", "loop", "more"],
-    &["lapd", "loop", "--side", "user"],
-    &["lapd", "loop", "--recovery", "last"],
-    &["lapd", "loop", "--k"],
-    &["lapd", "net"],
-    &["lapd", "net", "--listen"],
-    &["lapd", "net", "--connect", "127.0.0.1:7000"],
-    &["lapd", "net", "--listen", "a:1", "--listen", "a:1"],
-    &["lapd", "user"],
-    &["lapd", "user", "--listen", "127.0.0.1:7000"],
-    &[
-        "lapd",
-        "user",
-        "--connect",
-        "a:1",
-        "--clock",
-        "real",
-        "--terminals",
-        "2",
-    ],
-    &["lapd", "net", "--listen", "a:1", "--clock", "other"],
-    &["lapd", "answer", "--clock", "real"],
-    &["lapd", "decode", "--side", "user"],
-    &["lapd", "decode", "--k", "3"],
-    &["lapd", "decode", "more"],
-    &["lapd", "--terminals", "3"],
-    &["lapd", "bus", "more"],
-    &["lapd", "bus", "--k", "3"],
-    &["lapd", "bus", "--terminals"],
-    &["lapd", "bus", "--terminals", "3", "--terminals", "3"],
-    &["lapd", "other"],
-    &["lapd", "help", "other"],
-    &["lapd", "--strict"],
-    &["lapd", "pair", "--strict", "--strict"],
-    &["lapd", "answer", "--k"],
-    &["lapd", "answer", "--k", "--side", "user"],
-    &["lapd", "answer", "--k", "3", "--k", "3"],
-    &["lapd", "answer", "--n200", "3", "--n200", "4"],
-    &["lapd", "answer", "--room", "2", "--room", "2"],
-];
-
-// Whether the parser does not take the words, and has a text for it.
-fn is_refused(alloc: Global, words: &[&str]) -> bool {
-    let chosen = parse_words(alloc, words);
-    matches!(&chosen, Err(NoInvocation::Refused(_)))
-}
-
-// The last of these words, which names a row.
-fn last<'a>(words: &'a [&'a str]) -> &'a str {
-    match words {
-        [.., word] => word,
-        [] => "",
-    }
-}
-
-#[test]
-fn parser_refuses(rt: HostRuntime) -> Result<(), Fail> {
-    for words in FAULTS {
-        let refused = is_refused(rt.alloc(), words);
-        wants(refused, last(words), "words are not refused")?;
-    }
-    Ok(())
-}
-
-// Words that ask for a text, and whether it is the short help of a command.
-const ASKED: &[(&[&str], bool)] = &[
-    (&["lapd", "--help"], false),
-    (&["lapd", "-h"], false),
-    (&["lapd", "help"], false),
-    (&["lapd", "help", "net"], false),
-    (&["lapd", "answer", "--help"], false),
-    (&["lapd", "answer", "-h"], true),
-    (&["lapd", "bus", "--help"], false),
-    (&["lapd", "pair", "--help"], false),
-    (&["lapd", "loop", "--help"], false),
-    (&["lapd", "net", "--help"], false),
-    (&["lapd", "net", "-h"], true),
-    (&["lapd", "user", "--help"], false),
-    (&["lapd", "decode", "--help"], false),
-    (&["lapd", "--version"], false),
-    (&["lapd", "-V"], false),
-];
-
-// Whether a text is shown, which is the short help of a command, or is not.
-fn is_shown(alloc: Global, words: &[&str], is_short: bool) -> bool {
+// Whether what the words come to is this.
+fn are_said(alloc: Global, words: &[String], wanted: &str) -> bool {
     let chosen = parse_words(alloc, words);
     match &chosen {
-        Err(NoInvocation::Shown(text)) => is_short
-            == text.as_str().trim_end().ends_with(help::SHORT),
-        _ => false,
+        Ok(chosen) => is_chosen(alloc, chosen, wanted),
+        Err(unchosen) => is_unchosen(alloc, unchosen, wanted),
     }
 }
 
-#[test]
-fn help_and_version_are_shown(rt: HostRuntime) -> Result<(), Fail> {
-    for (words, is_short) in ASKED {
-        let shown = is_shown(rt.alloc(), words, *is_short);
-        wants(shown, last(words), "a text is not shown, or another one")?;
+fn is_unchosen(alloc: Global, unchosen: &NoInvocation<'_>, wanted: &str) -> bool {
+    match unchosen {
+        NoInvocation::Shown(text) => is_shown(text.as_str(), wanted),
+        NoInvocation::Refused(_) if wanted == "refused" => true,
+        _ => is_said(alloc, unchosen, wanted),
+    }
+}
+
+// Whether this text is the short help of a command, or is not.
+fn is_shown(text: &str, wanted: &str) -> bool {
+    if text.trim_end().ends_with(help::SHORT) {
+        wanted == "the short help"
+    } else {
+        wanted == "a text"
+    }
+}
+
+fn is_chosen(alloc: Global, chosen: &Invocation<'_>, wanted: &str) -> bool {
+    let mut text = String::new(alloc);
+    let pushed = push_choice(&mut text, chosen);
+    pushed.is_ok() && text.as_str() == wanted
+}
+
+fn push_choice(text: &mut String, chosen: &Invocation<'_>) -> Result<(), AllocError> {
+    push_job(text, &chosen.job)?;
+    push_address(text, chosen.address)?;
+    push_clock(text, &chosen.clock)?;
+    text.push_str(if chosen.json { " json" } else { "" })?;
+    text.push_str(if chosen.strict { " strict" } else { "" })
+}
+
+fn push_job(text: &mut String, job: &Job) -> Result<(), AllocError> {
+    match job {
+        Job::Answer(end) => push_end(text, end),
+        Job::Bus { terminals } => write!(text, "bus {terminals}"),
+        Job::Pair { user, network } => push_ends(text, "pair", user, network),
+        Job::Loop { user, network } => push_ends(text, "loop", user, network),
+        Job::Net(interface) => push_interface(text, "net", interface),
+        Job::User(interface) => push_interface(text, "user", interface),
+        Job::Decode(_) => text.push_str("decode"),
+    }
+}
+
+fn push_end(text: &mut String, end: &LinkEnd) -> Result<(), AllocError> {
+    let side = match end.side {
+        Side::Network => "net",
+        Side::User => "user",
+    };
+    write!(
+        text,
+        "answer {side} {} {}",
+        end.sapi.value(),
+        end.tei.value()
+    )?;
+    push_params(text, &end.params)
+}
+
+fn push_ends(text: &mut String, job: &str, one: &Params, other: &Params) -> Result<(), AllocError> {
+    text.push_str(job)?;
+    push_params(text, one)?;
+    push_params(text, other)
+}
+
+fn push_params(text: &mut String, params: &Params) -> Result<(), AllocError> {
+    let recovery = match params.recovery() {
+        Recovery::Enquiry => "enquiry",
+        Recovery::LastMessage => "last",
+    };
+    let (k, n200, room) = (params.k(), params.n200(), params.room());
+    write!(text, " {k} {n200} {room} {recovery}")
+}
+
+fn push_interface(text: &mut String, job: &str, interface: &Interface) -> Result<(), AllocError> {
+    push_ends(text, job, &interface.params0, &interface.params16)?;
+    push_lengths(text, &interface.durations)?;
+    let packet = if interface.sapi16 {
+        "with-16"
+    } else {
+        "without-16"
+    };
+    write!(text, " {packet} {}", interface.seed)?;
+    for tei in interface.teis.as_slice() {
+        write!(text, " {}", tei.value())?;
     }
     Ok(())
 }
 
-// Words in the place of a command, and what is said.
-const UNKNOWN: &[(&[&str], &str)] = &[
-    (
-        &["lapd", "foo", "--side"],
-        "error: unrecognized subcommand 'foo'\n\nUsage: lapd [COMMAND]\n\nFor more information, try '--help'.\n",
-    ),
-    (
-        &["lapd", "anwser"],
-        "error: unrecognized subcommand 'anwser'\n\n  tip: a similar subcommand exists: 'answer'\n\n\
-         Usage: lapd [COMMAND]\n\nFor more information, try '--help'.\n",
-    ),
-];
-
-#[test]
-fn commands_that_are_none(rt: HostRuntime) -> Result<(), Fail> {
-    for (words, text) in UNKNOWN {
-        wants(says(rt.alloc(), words, text), last(words), "another text")?;
+fn push_lengths(text: &mut String, durations: &Durations) -> Result<(), AllocError> {
+    for timer in [Timer::T200, Timer::T201, Timer::T202, Timer::T203] {
+        write!(text, " {}", durations.of(timer))?;
     }
     Ok(())
 }
 
-// Words with a number that is none of its option's range, and what is said.
-const NUMBERS: &[(&[&str], &str)] = &[
-    (
-        &["lapd", "answer", "--k", "0"],
-        "error: invalid value '0' for '--k <FRAMES>': not a number from 1 to 127 in decimal digits\n",
-    ),
-    (
-        &["lapd", "pair", "--k", "128"],
-        "error: invalid value '128' for '--k <FRAMES>': not a number from 1 to 127 in decimal digits\n",
-    ),
-    (
-        &["lapd", "answer", "--k", "128"],
-        "error: invalid value '128' for '--k <FRAMES>': not a number from 1 to 127 in decimal digits\n",
-    ),
-    (
-        &["lapd", "answer", "--k", "257"],
-        "error: invalid value '257' for '--k <FRAMES>': not a number from 1 to 127 in decimal digits\n",
-    ),
-    (
-        &["lapd", "answer", "--k", ""],
-        "error: invalid value '' for '--k <FRAMES>': not a number from 1 to 127 in decimal digits\n",
-    ),
-    (
-        &["lapd", "answer", "--k", "+3"],
-        "error: invalid value '+3' for '--k <FRAMES>': not a number from 1 to 127 in decimal digits\n",
-    ),
-    (
-        &["lapd", "answer", "--k", "-3"],
-        "error: invalid value '-3' for '--k <FRAMES>': not a number from 1 to 127 in decimal digits\n",
-    ),
-    (
-        &["lapd", "answer", "--k=three\n"],
-        "error: invalid value 'three\\n' for '--k <FRAMES>': not a number from 1 to 127 in decimal digits\n",
-    ),
-    (
-        &["lapd", "answer", "--n200", "0"],
-        "error: invalid value '0' for '--n200 <TIMES>': not a number from 1 to 100 in decimal digits\n",
-    ),
-    (
-        &["lapd", "answer", "--n200", "101", "--k", "127"],
-        "error: invalid value '101' for '--n200 <TIMES>': not a number from 1 to 100 in decimal digits\n",
-    ),
-    (
-        &["lapd", "answer", "--room", "0"],
-        "error: invalid value '0' for '--room <MESSAGES>': not a number from 1 to 1024 in decimal digits\n",
-    ),
-    (
-        &["lapd", "answer", "--room", "1025", "--n200", "100"],
-        "error: invalid value '1025' for '--room <MESSAGES>': not a number from 1 to 1024 in decimal digits\n",
-    ),
-    (
-        &["lapd", "answer", "--room", "1,024"],
-        "error: invalid value '1,024' for '--room <MESSAGES>': not a number from 1 to 1024 in decimal digits\n",
-    ),
-    (
-        &["lapd", "answer", "--room", "18446744073709551617"],
-        "error: invalid value '18446744073709551617' for '--room <MESSAGES>': not a number from 1 to 1024 in decimal digits\n",
-    ),
-    (
-        &["lapd", "loop", "--n200", "101"],
-        "error: invalid value '101' for '--n200 <TIMES>': not a number from 1 to 100 in decimal digits\n",
-    ),
-    (
-        &["lapd", "bus", "--terminals", "0"],
-        "error: invalid value '0' for '--terminals <TERMINALS>': not a number from 1 to 127 in decimal digits\n",
-    ),
-    (
-        &["lapd", "bus", "--terminals", "128"],
-        "error: invalid value '128' for '--terminals <TERMINALS>': not a number from 1 to 127 in decimal digits\n",
-    ),
-];
-
-// Words with an option that goes with the real clock alone, and without that clock.
-const NOT_REAL: &[(&[&str], &str)] = &[
-    (
-        &["lapd", "user", "--connect=a:1", "--time"],
-        "error: --time goes with --clock real\n",
-    ),
-    (
-        &["lapd", "net", "--listen=a:1", "--clock=script", "--quiet"],
-        "error: --quiet goes with --clock real\n",
-    ),
-    (
-        &["lapd", "net", "--listen=a:1", "--terminals", "1"],
-        "error: --terminals goes with --clock real\n",
-    ),
-    (
-        &["lapd", "net", "--listen=a:1", "--pcap", "line.pcap"],
-        "error: --pcap goes with --clock real\n",
-    ),
-    (
-        &["lapd", "user", "--connect=a:1", "--gsmtap", "b:4729"],
-        "error: --gsmtap goes with --clock real\n",
-    ),
-    (
-        &[
-            "lapd",
-            "net",
-            "--listen=a:1",
-            "--clock=real",
-            "--terminals=128",
-        ],
-        "error: invalid value '128' for '--terminals <TERMINALS>': not a number from 1 to 127 in decimal digits\n",
-    ),
-    (
-        &[
-            "lapd",
-            "user",
-            "--connect=a:1",
-            "--clock=real",
-            "--gsmtap=b",
-        ],
-        "error: invalid value 'b' for '--gsmtap <ADDRESS>': ADDRESS is an address and a port, as 127.0.0.1:4000\n",
-    ),
-];
-
-#[test]
-fn options_of_the_real_clock(rt: HostRuntime) -> Result<(), Fail> {
-    for (words, text) in NOT_REAL {
-        wants(says(rt.alloc(), words, text), text, "another text is told")?;
-    }
-    Ok(())
-}
-
-// Whether this is said of the words, which choose nothing.
-pub(crate) fn says(alloc: Global, words: &[&str], text: &str) -> bool {
-    let chosen = parse_words(alloc, words);
-    match &chosen {
-        Err(unchosen) => is_said(alloc, unchosen, text),
-        Ok(_) => false,
+fn push_address(text: &mut String, address: Option<&str>) -> Result<(), AllocError> {
+    match address {
+        Some(address) => write!(text, " at {address}"),
+        None => Ok(()),
     }
 }
 
-#[test]
-fn numbers_out_of_range(rt: HostRuntime) -> Result<(), Fail> {
-    for (words, text) in NUMBERS {
-        wants(says(rt.alloc(), words, text), text, "another text is told")?;
+fn push_clock(text: &mut String, clock: &Clock<'_>) -> Result<(), AllocError> {
+    match clock {
+        Clock::Script => Ok(()),
+        Clock::Real(options) => push_options(text, options),
     }
-    Ok(())
 }
 
-// Words with something in the place of an address, and what is said.
-const ADDRESSES: &[(&[&str], &str)] = &[
-    (
-        &["lapd", "net", "--listen", "foo"],
-        "error: invalid value 'foo' for '--listen <ADDRESS>': ADDRESS is an address and a port, as 127.0.0.1:4000\n",
-    ),
-    (
-        &["lapd", "net", "--listen", "127.0.0.1"],
-        "error: invalid value '127.0.0.1' for '--listen <ADDRESS>': ADDRESS is an address and a port, as 127.0.0.1:4000\n",
-    ),
-    (
-        &["lapd", "user", "--connect=127.0.0.1:65536"],
-        "error: invalid value '127.0.0.1:65536' for '--connect <ADDRESS>': ADDRESS is an address and a port, as 127.0.0.1:4000\n",
-    ),
-    (
-        &["lapd", "user", "--connect", ":80"],
-        "error: invalid value ':80' for '--connect <ADDRESS>': ADDRESS is an address and a port, as 127.0.0.1:4000\n",
-    ),
-    (
-        &["lapd", "user", "--connect=no address"],
-        "error: invalid value 'no address' for '--connect <ADDRESS>': ADDRESS is an address and a port, as 127.0.0.1:4000\n",
-    ),
-];
-
-#[test]
-fn addresses_that_are_none(rt: HostRuntime) -> Result<(), Fail> {
-    for (words, text) in ADDRESSES {
-        wants(says(rt.alloc(), words, text), text, "another text is told")?;
-    }
-    Ok(())
+fn push_options(text: &mut String, options: &LiveOptions<'_>) -> Result<(), AllocError> {
+    let pcap = options.pcap.unwrap_or("-");
+    let gsmtap = options.gsmtap.unwrap_or("-");
+    write!(text, " real {} {pcap} {gsmtap}", options.terminals)?;
+    text.push_str(if options.time { " time" } else { "" })?;
+    text.push_str(if options.quiet { " quiet" } else { "" })
 }
 
 // A system that hands over these words.
@@ -730,35 +388,47 @@ fn reads_third(alloc: Global, env: &Words<'_>, text: &[u8]) -> bool {
     }
 }
 
-#[test]
-fn words_are_text(rt: HostRuntime) -> Result<(), Fail> {
+// Whether three words are read, of which the second is empty and the third long.
+fn long_words_are_read(alloc: Global) -> bool {
     let long = [b'1'; 1000];
     let env = Words {
         words: &[b"lapd", b"", &long],
     };
-    let read = reads_third(rt.alloc(), &env, &long);
-    wants(read, "three words", "they are cut, or not all are read")
+    reads_third(alloc, &env, &long)
 }
 
-// Why words are not read.
-fn fault_of(alloc: Global, env: &Words<'_>) -> Option<WordsFault> {
-    words(alloc, env).err()
-}
-
-#[test]
-fn words_that_are_no_text(rt: HostRuntime) -> Result<(), Fail> {
+// Whether words are not read of which the third is no text.
+fn no_text_is_refused(alloc: Global, fault: WordsFault) -> bool {
     let env = Words {
         words: &[b"lapd", b"answer", b"--k=\xff"],
     };
-    let fault = fault_of(rt.alloc(), &env);
-    let row = "the third word is no text";
-    wants(fault == Some(WordsFault::NotText(2)), row, "another fault")?;
+    is_fault(alloc, &env, fault)
+}
+
+#[test]
+fn words_are_read(rt: HostRuntime) -> Result<(), Fail> {
+    let alloc = rt.alloc();
+    let fault = WordsFault::NotText(2);
     let text = "error: argument 2 is not valid UTF-8";
-    wants(
-        is_said(rt.alloc(), &WordsFault::NotText(2), text),
-        row,
-        "another text",
-    )
+    let row = "the third word is no text";
+    all_hold(&[
+        (
+            long_words_are_read(alloc),
+            "three words",
+            "they are cut, or not all are read",
+        ),
+        (no_text_is_refused(alloc, fault), row, "another fault"),
+        (is_said(alloc, &fault, text), row, "another text"),
+    ])?;
+    no_row(other_end(alloc), "another text or status")
+}
+
+// Whether words are not read for this.
+fn is_fault(alloc: Global, env: &Words<'_>, fault: WordsFault) -> bool {
+    match words(alloc, env) {
+        Ok(_) => false,
+        Err(found) => found == fault,
+    }
 }
 
 // How a script ends, what is said of it, and the exit status.
@@ -780,11 +450,12 @@ fn is_end(alloc: Global, fault: &ScriptFault, text: &str, status: u8) -> bool {
     fault.status() == status && is_said(alloc, fault, text)
 }
 
-#[test]
-fn faults_are_said(rt: HostRuntime) -> Result<(), Fail> {
+// The first row of these that does not hold.
+fn other_end(alloc: Global) -> Option<&'static str> {
     for (fault, text, status) in ENDS {
-        let said = is_end(rt.alloc(), fault, text, *status);
-        wants(said, text, "another text or status")?;
+        if !is_end(alloc, fault, text, *status) {
+            return Some(*text);
+        }
     }
-    Ok(())
+    None
 }

@@ -19,27 +19,21 @@ pub(crate) fn to_itself(rt: &HostRuntime) -> io::Result<(TcpStream, TcpStream)> 
 /// What `loop` comes to where what goes in at the near end comes out at the far end.
 fn ended_over(alloc: Global, near: &TcpStream, far: &TcpStream, ends: &Ends) -> Ended {
     let port = Port::new(FromRead::new(far), FromWrite::new(near));
-    let (ended, _port) = loop_of(alloc, &MESSAGE, ends, port);
+    let (ended, _port) = loop_of(alloc, MESSAGE.4.as_bytes(), ends, port);
     ended
 }
 
 /// Whether `loop` ends well, and prints what `pair` prints.
 fn crosses(alloc: Global, near: &TcpStream, far: &TcpStream, ends: &Ends) -> bool {
-    let wanted = pair_of(alloc, &MESSAGE, ends);
+    let wanted = pair_of(alloc, &MESSAGE);
     let ended = ended_over(alloc, near, far, ends);
     ended.result == Ok(()) && are_same(ended.printed.as_slice(), wanted.printed.as_slice())
-}
-
-/// A message crosses from the near end to the far end.
-fn message_crosses(alloc: Global, near: &TcpStream, far: &TcpStream) -> Result<(), Fail> {
-    let ends = ends_of(&MESSAGE)?;
-    let crosses = crosses(alloc, near, far, &ends);
-    let what = "it ends otherwise, or prints another text";
-    wants(crosses, MESSAGE.0, what)
 }
 
 #[test]
 fn a_message_crosses_a_connection(rt: HostRuntime) -> Result<(), Fail> {
     let (near, far) = to_itself(&rt)?;
-    message_crosses(rt.alloc(), &near, &far)
+    let crosses = crosses(rt.alloc(), &near, &far, &ends_of(&MESSAGE));
+    let what = "it ends otherwise, or prints another text";
+    wants(crosses, MESSAGE.0, what)
 }

@@ -1,10 +1,16 @@
 //! Dialogues of a side with what comes through its port: what it prints, and what it sends.
 
+ghost use Rattle.std.specs.Prelude.{◌<◌, IfSome};
+ghost use Rattle.std.specs.List.{All};
+
 use crate::devices::{Devices, MemoryPort, Paper, SOUND, port_of};
-use crate::port::devices::calls_of;
-use crate::wants::{are_same, wants};
+use crate::port::devices::{Giver, Taker, calls_of};
+use crate::wants::{all_hold, are_same, no_row};
 use lapd_cli_script::ScriptFault;
-use lapd_cli_side_commands::{LineStyle, Port, SideRun, Sink, Source, basic_access, net, user};
+use lapd_cli_side_commands::{
+    Config, LineStyle, Port, SideRun, Sink, Source, basic_access, net, user,
+};
+use lapd_frame::Tei;
 use std::alloc::Global;
 use std::io::Write;
 use std::test::Fail;
@@ -49,34 +55,40 @@ impl Ended<'_> {
     }
 }
 
-/// Goes over a script as this side.
+/// How the lines of an interface are printed, and what its sides are made with.
+#[derive(Clone, Copy)]
+pub(crate) struct Access {
+    pub(crate) style: LineStyle,
+    pub(crate) config: Config,
+}
+
+/// Basic access, and lines of text.
+pub(crate) fn basic() -> Access {
+    Access {
+        style: LineStyle::Text,
+        config: basic_access(),
+    }
+}
+
+/// Goes over a script as this side, to which these TEIs are known as the network's, and which has this one as the user's.
 pub(crate) fn go_over<W: Write, S: Source, K: Sink>(
     alloc: Global,
     who: Who,
     mut script: &[u8],
     printed: W,
     port: Port<S, K>,
-) -> SideRun<W, S, K> {
-    let style = LineStyle::Text;
+    access: Access,
+    known: &[Tei],
+    fixed: Option<Tei>,
+) -> SideRun<W, S, K>
+    requires known { All (λ tei. tei < 127) known.now }
+    requires fixed { IfSome fixed (λ tei. tei < 127) }
+{
+    let Access { style, config } = access;
+    let script = &mut script;
     match who {
-        Who::Net => net(
-            alloc,
-            &mut script,
-            printed,
-            port,
-            style,
-            basic_access(),
-            &[],
-        ),
-        Who::User => user(
-            alloc,
-            &mut script,
-            printed,
-            port,
-            style,
-            basic_access(),
-            None,
-        ),
+        Who::Net => net(alloc, script, printed, port, style, config, known),
+        Who::User => user(alloc, script, printed, port, style, config, fixed),
     }
 }
 
@@ -88,7 +100,12 @@ pub(crate) fn play<'a>(
     port: MemoryPort<'a>,
     room: usize,
 ) -> Ended<'a> {
-    let run = go_over(alloc, who, script, Paper::with_room(room), port);
+    let printed = Paper::with_room(room);
+    ended_of(go_over(alloc, who, script, printed, port, basic(), &[], None))
+}
+
+/// What a run came to.
+pub(crate) fn ended_of<'a>(run: SideRun<Paper, Giver<'a>, Taker>) -> Ended<'a> {
     Ended {
         result: run.ended,
         printed: run.out,
@@ -99,19 +116,17 @@ pub(crate) fn play<'a>(
 /// How many octets come or go at most.
 pub(crate) const MOST: usize = 1024;
 
-/// The octets that these digits write, which are put here.
-pub(crate) fn octets_of<'a>(digits: &str, octets: &'a mut [u8; MOST]) -> Result<&'a [u8], Fail> {
-    let Some(front) = octets.get_mut(..digits.len() / 2) else {
-        return Err(Fail::new("a row has too many octets"));
-    };
+/// The octets that these digits write, which are put here, where they are octets and there is room.
+pub(crate) fn octets_of<'a>(digits: &str, octets: &'a mut [u8; MOST]) -> Option<&'a [u8]> {
+    let front = octets.get_mut(..digits.len() / 2)?;
     match hex::decode_to_slice(digits.as_bytes(), front) {
-        Ok(()) => Ok(front),
-        Err(_) => Err(Fail::new("a row has digits that are no octets")),
+        Ok(()) => Some(front),
+        Err(_) => None,
     }
 }
 
 /// A TEI is assigned, a link established, and its T203 expires.
-pub(crate) const WORKED_NET: Row = Row {
+const WORKED_NET: Row = Row {
     name: "the network side assigns a TEI",
     who: Who::Net,
     coming: "0008fcff030f123401ff000300817f",
@@ -130,7 +145,7 @@ pub(crate) const WORKED_NET: Row = Row {
 
 /// A TEI is asked for and got, a link established, and a message crosses it each way. The reference is the low sixteen bits of
 /// the first word of a Pcg32 that is seeded with 921.
-pub(crate) const WORKED_USER: Row = Row {
+const WORKED_USER: Row = Row {
     name: "the user side gets a TEI",
     who: Who::User,
     coming: "0008feff030f619902810003008173000400810102000602810002\
@@ -158,7 +173,7 @@ const FROM_NET: &str = "0008feff030f619902810003008173000400810102000602810002\
     08070003008173";
 
 /// The network's end of a dialogue of both: each of them gives a message, and the user releases the link.
-pub(crate) const BOTH_NET: Row = Row {
+const BOTH_NET: Row = Row {
     name: "the network's end of a dialogue",
     who: Who::Net,
     coming: FROM_USER,
@@ -182,7 +197,7 @@ pub(crate) const BOTH_NET: Row = Row {
 };
 
 /// The user's end of it.
-pub(crate) const BOTH_USER: Row = Row {
+const BOTH_USER: Row = Row {
     name: "the user's end of a dialogue",
     who: Who::User,
     coming: FROM_NET,
@@ -366,10 +381,31 @@ const ROWS: &[Row] = &[
     },
 ];
 
-/// Whether it ended well, with what the row says.
-fn is_as_said(ended: &Ended<'_>, row: &Row, going: &[u8]) -> bool {
+/// The dialogues. Their texts are long, so they are named in these three functions alone.
+fn rows() -> &'static [Row] {
+    ROWS
+}
+
+/// The worked dialogue of this side.
+pub(crate) fn worked(who: Who) -> Row {
+    match who {
+        Who::Net => WORKED_NET,
+        Who::User => WORKED_USER,
+    }
+}
+
+/// This side's end of a dialogue of both.
+pub(crate) fn of_both(who: Who) -> Row {
+    match who {
+        Who::Net => BOTH_NET,
+        Who::User => BOTH_USER,
+    }
+}
+
+/// Whether it ended well, with this printed and sent.
+pub(crate) fn is_as_said(ended: &Ended<'_>, printed: &str, going: &[u8]) -> bool {
     ended.result == Ok(())
-        && are_same(ended.printed.text.as_slice(), row.printed.as_bytes())
+        && are_same(ended.printed.text.as_slice(), printed.as_bytes())
         && are_same(ended.sent(), going)
 }
 
@@ -377,44 +413,46 @@ fn is_as_said(ended: &Ended<'_>, row: &Row, going: &[u8]) -> bool {
 fn ends_as_said(alloc: Global, row: &Row, coming: &[u8], going: &[u8], most: usize) -> bool {
     let port = port_of(coming, Devices { most, ..SOUND });
     let ended = play(alloc, row.who, row.script.as_bytes(), port, 2048);
-    is_as_said(&ended, row, going)
+    is_as_said(&ended, row.printed, going)
 }
 
-/// A row ends as is said, however many octets go through a device at a time.
-fn plays_row(alloc: Global, row: &Row) -> Result<(), Fail> {
+/// Whether a row ends as is said, however many octets go through a device at a time.
+fn plays_so(alloc: Global, row: &Row, coming: &[u8], going: &[u8]) -> bool {
+    ends_as_said(alloc, row, coming, going, 512)
+        && ends_as_said(alloc, row, coming, going, 7)
+        && ends_as_said(alloc, row, coming, going, 1)
+}
+
+fn row_holds(alloc: Global, row: &Row) -> bool {
     let (mut coming, mut going) = ([0; MOST], [0; MOST]);
-    let coming = octets_of(row.coming, &mut coming)?;
-    let going = octets_of(row.going, &mut going)?;
-    for most in [512, 7, 1] {
-        let as_said = ends_as_said(alloc, row, coming, going, most);
-        wants(as_said, row.name, "it ends otherwise")?;
+    let coming = octets_of(row.coming, &mut coming);
+    let going = octets_of(row.going, &mut going);
+    match (coming, going) {
+        (Some(coming), Some(going)) => plays_so(alloc, row, coming, going),
+        _ => false,
     }
-    Ok(())
 }
 
-#[test]
-fn dialogues_are_as_said(rt: HostRuntime) -> Result<(), Fail> {
-    for row in ROWS {
-        plays_row(rt.alloc(), row)?;
+/// The first row of these that does not hold.
+fn other_row(alloc: Global) -> Option<&'static str> {
+    for row in rows() {
+        if !row_holds(alloc, row) {
+            return Some(row.name);
+        }
     }
-    Ok(())
+    None
 }
 
-/// How often a row reads and writes.
-fn calls_in(alloc: Global, row: &Row) -> Result<(u64, u64), Fail> {
+/// Whether a row reads and writes so often.
+fn has_calls(alloc: Global, row: &Row, calls: (u64, u64)) -> bool {
     let mut coming = [0; MOST];
-    let port = port_of(octets_of(row.coming, &mut coming)?, SOUND);
-    Ok(play(alloc, row.who, row.script.as_bytes(), port, 2048).calls())
-}
-
-/// Each frame is written in one call of the device, and read in two.
-#[test]
-fn each_frame_is_one_write(rt: HostRuntime) -> Result<(), Fail> {
-    for (row, calls) in [(&WORKED_NET, (5, 3)), (&WORKED_USER, (8, 4))] {
-        let same = calls_in(rt.alloc(), row)? == calls;
-        wants(same, row.name, "another number of calls")?;
+    match octets_of(row.coming, &mut coming) {
+        Some(coming) => {
+            let script = row.script.as_bytes();
+            play(alloc, row.who, script, port_of(coming, SOUND), 2048).calls() == calls
+        }
+        None => false,
     }
-    Ok(())
 }
 
 /// What the network side prints as objects, where a request is refused, and then as in `WORKED_NET`.
@@ -429,20 +467,37 @@ const OBJECTS: &str = r#"{"refused":"B1 NoLink"}
 {"refused":"S1 End"}
 "#;
 
+/// Whether the network side prints them, where this comes.
+fn prints_objects(alloc: Global, coming: &[u8]) -> bool {
+    let script = b"give 0 65 01\nread\nread\ntick 10000\nread\n";
+    let access = Access {
+        style: LineStyle::Json,
+        ..basic()
+    };
+    let (printed, port) = (Paper::with_room(2048), port_of(coming, SOUND));
+    let run = go_over(alloc, Who::Net, script, printed, port, access, &[], None);
+    run.ended == Ok(()) && are_same(run.out.text.as_slice(), OBJECTS.as_bytes())
+}
+
+/// Whether it does, where what comes in `WORKED_NET` does.
+fn lines_are_objects(alloc: Global) -> bool {
+    let (row, mut octets) = (worked(Who::Net), [0; MOST]);
+    match octets_of(row.coming, &mut octets) {
+        Some(coming) => prints_objects(alloc, coming),
+        None => false,
+    }
+}
+
+/// Each frame is written in one call of the device, and read in two.
 #[test]
-fn lines_are_objects(rt: HostRuntime) -> Result<(), Fail> {
-    let mut octets = [0; MOST];
-    let port = port_of(octets_of(WORKED_NET.coming, &mut octets)?, SOUND);
-    let mut script = b"give 0 65 01\nread\nread\ntick 10000\nread\n".as_slice();
-    let run = net(
-        rt.alloc(),
-        &mut script,
-        Paper::with_room(2048),
-        port,
-        LineStyle::Json,
-        basic_access(),
-        &[],
-    );
-    let printed = are_same(run.out.text.as_slice(), OBJECTS.as_bytes());
-    wants(printed && run.ended == Ok(()), "objects", "what is printed")
+fn dialogues_are_as_said(rt: HostRuntime) -> Result<(), Fail> {
+    let alloc = rt.alloc();
+    no_row(other_row(alloc), "it ends otherwise")?;
+    let (net, user) = (worked(Who::Net), worked(Who::User));
+    let what = "another number of calls";
+    all_hold(&[
+        (has_calls(alloc, &net, (5, 3)), net.name, what),
+        (has_calls(alloc, &user, (8, 4)), user.name, what),
+        (lines_are_objects(alloc), "objects", "what is printed"),
+    ])
 }

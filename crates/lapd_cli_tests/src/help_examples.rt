@@ -1,53 +1,42 @@
 //! The examples of the help print what stands there.
 
-use crate::commands::scripts::answer_as;
+use crate::commands::scripts::{BASIC, Command, run};
 use crate::devices::{SOUND, port_of};
-use crate::dialogues::{BOTH_NET, BOTH_USER, MOST, Row, octets_of, play};
-use crate::wants::{are_same, wants};
-use lapd_cli_commands::{bus, decode, pair};
+use crate::dialogues::{MOST, Row, Who, octets_of, of_both, play};
+use crate::wants::{all_hold, are_same, no_row};
 use lapd_cli_options::help;
-use lapd_cli_script::ScriptFault;
-use lapd_frame::{Sapi, Side};
-use lapd_link::Params;
+use lapd_frame::Side;
+use lapd_link::Recovery;
 use std::alloc::{AllocError, Global};
 use std::test::Fail;
 
-// A command whose help has an example.
+// A text of the help that has an example.
 #[derive(Clone, Copy)]
-enum Command {
-    Answer(Side),
+enum Help {
+    Answer,
     Bus,
     Decode,
     Loop,
+    Net,
     Pair,
+    User,
 }
 
-// The text that ends its help. The texts are long, so they are named here alone.
-fn help_of(command: Command) -> &'static str {
-    match command {
-        Command::Answer(_) => help::ANSWER,
-        Command::Bus => help::BUS,
-        Command::Decode => help::DECODE,
-        Command::Loop => help::LOOP,
-        Command::Pair => help::PAIR,
+// The text itself. The texts are long, so they are named here alone.
+fn text_of(help: Help) -> &'static str {
+    match help {
+        Help::Answer => help::ANSWER,
+        Help::Bus => help::BUS,
+        Help::Decode => help::DECODE,
+        Help::Loop => help::LOOP,
+        Help::Net => help::NET,
+        Help::Pair => help::PAIR,
+        Help::User => help::USER,
     }
 }
 
-// What a script comes to under a command. What `loop` prints is what `pair` prints.
-fn run(
-    alloc: Global,
-    command: Command,
-    mut script: &[u8],
-    printed: &mut Vec<u8>,
-) -> Result<(), ScriptFault> {
-    let params = Params::basic(Sapi::Call);
-    match command {
-        Command::Answer(side) => answer_as(alloc, &mut script, printed, side, params),
-        Command::Bus => bus(alloc, &mut script, printed, 2),
-        Command::Decode => decode(alloc, &mut script, printed),
-        Command::Loop | Command::Pair => pair(alloc, &mut script, printed, params, params),
-    }
-}
+// What `loop` prints is what `pair` prints.
+const PAIR: Command = Command::Pair(BASIC, Recovery::Enquiry, Recovery::Enquiry);
 
 // An example: a text, how the line begins that parts it in two, and whether the example stands behind that line.
 type Example = (&'static str, &'static str, bool);
@@ -60,29 +49,38 @@ const NETWORK_BEGINS: &str = "The network side begins anew";
 const NO_LINE: &str = "no line";
 
 // A name, a command, and its example: how the line begins that parts its help in two, and whether the example stands behind.
-const EXAMPLES: &[(&str, Command, &str, bool)] = &[
+const EXAMPLES: &[(&str, Command, Help, &str, bool)] = &[
     (
         "the user answers",
-        Command::Answer(Side::User),
+        Command::Answer(Side::User, BASIC),
+        Help::Answer,
         NETWORK_ANSWERS,
         false,
     ),
     (
         "the network answers",
-        Command::Answer(Side::Network),
+        Command::Answer(Side::Network, BASIC),
+        Help::Answer,
         NETWORK_ANSWERS,
         true,
     ),
-    ("two ends", Command::Pair, NETWORK_BEGINS, false),
+    ("two ends", PAIR, Help::Pair, NETWORK_BEGINS, false),
     (
         "the network begins anew",
-        Command::Pair,
+        PAIR,
+        Help::Pair,
         NETWORK_BEGINS,
         true,
     ),
-    ("a loop", Command::Loop, NO_LINE, false),
-    ("a bus", Command::Bus, NO_LINE, false),
-    ("octets are decoded", Command::Decode, "Example. ", true),
+    ("a loop", PAIR, Help::Loop, NO_LINE, false),
+    ("a bus", Command::Bus(2), Help::Bus, NO_LINE, false),
+    (
+        "octets are decoded",
+        Command::Decode,
+        Help::Decode,
+        "Example. ",
+        true,
+    ),
 ];
 
 // Puts a line at the end of others.
@@ -122,9 +120,9 @@ fn is_printed(alloc: Global, example: &Example, printed: &[u8]) -> bool {
 }
 
 // Whether a script, run so, prints what the example prints.
-fn prints(alloc: Global, command: Command, script: &[u8], example: &Example) -> bool {
+fn prints(alloc: Global, command: Command, mut script: &[u8], example: &Example) -> bool {
     let mut printed = Vec::new(alloc);
-    let ended = run(alloc, command, script, &mut printed);
+    let ended = run(alloc, command, &mut script, &mut printed);
     ended == Ok(()) && is_printed(alloc, example, printed.as_slice())
 }
 
@@ -136,34 +134,52 @@ fn holds(alloc: Global, command: Command, example: &Example) -> bool {
     }
 }
 
+// The first of the examples that prints something else.
+fn other_example(alloc: Global) -> Option<&'static str> {
+    for (row, command, help, parted_by, behind) in EXAMPLES {
+        let example = (text_of(*help), *parted_by, *behind);
+        if !holds(alloc, *command, &example) {
+            return Some(*row);
+        }
+    }
+    None
+}
+
+// Whether a script as this side prints what the example prints, where this comes to it.
+fn side_prints(alloc: Global, who: Who, coming: &[u8], script: &[u8], example: &Example) -> bool {
+    let ended = play(alloc, who, script, port_of(coming, SOUND), 2048);
+    ended.result == Ok(()) && is_printed(alloc, example, ended.printed.text.as_slice())
+}
+
+// Whether the script of a side's example prints what the example prints, where the other side of a worked dialogue sends its octets.
+fn side_holds(alloc: Global, row: &Row, example: &Example) -> bool {
+    let mut coming = [0; MOST];
+    let coming = octets_of(row.coming, &mut coming);
+    match (lines_behind(alloc, example, "  < "), coming) {
+        (Ok(script), Some(coming)) => {
+            side_prints(alloc, row.who, coming, script.as_slice(), example)
+        }
+        _ => false,
+    }
+}
+
+// The example of a side, which is all of its text.
+fn of_side(help: Help) -> Example {
+    (text_of(help), NO_LINE, false)
+}
+
 #[test]
 fn examples_of_the_help(rt: HostRuntime) -> Result<(), Fail> {
-    for (row, command, parted_by, behind) in EXAMPLES {
-        let example = (help_of(*command), *parted_by, *behind);
-        let holds = holds(rt.alloc(), *command, &example);
-        wants(holds, row, "it ends otherwise, or prints something else")?;
-    }
-    Ok(())
-}
-
-// A script as this side, with what the other side of a worked dialogue sends, prints what the example prints.
-fn side_prints(alloc: Global, row: &Row, script: &[u8], example: &Example) -> Result<(), Fail> {
-    let mut coming = [0; MOST];
-    let port = port_of(octets_of(row.coming, &mut coming)?, SOUND);
-    let ended = play(alloc, row.who, script, port, 2048);
-    let printed = is_printed(alloc, example, ended.printed.text.as_slice());
+    let alloc = rt.alloc();
     let what = "an example of the help ends otherwise, or prints something else";
-    wants(printed && ended.result == Ok(()), row.name, what)
-}
-
-// The script of a side's example prints what the example prints.
-fn side_holds(alloc: Global, row: &Row, example: &Example) -> Result<(), Fail> {
-    let script = lines_behind(alloc, example, "  < ")?;
-    side_prints(alloc, row, script.as_slice(), example)
-}
-
-#[test]
-fn examples_of_sides(rt: HostRuntime) -> Result<(), Fail> {
-    side_holds(rt.alloc(), &BOTH_NET, &(help::NET, NO_LINE, false))?;
-    side_holds(rt.alloc(), &BOTH_USER, &(help::USER, NO_LINE, false))
+    no_row(other_example(alloc), what)?;
+    let (net, user) = (of_both(Who::Net), of_both(Who::User));
+    all_hold(&[
+        (side_holds(alloc, &net, &of_side(Help::Net)), net.name, what),
+        (
+            side_holds(alloc, &user, &of_side(Help::User)),
+            user.name,
+            what,
+        ),
+    ])
 }

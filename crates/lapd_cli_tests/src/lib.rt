@@ -29,6 +29,8 @@ mod port;
 #[cfg(test)]
 mod reasons;
 #[cfg(test)]
+mod rows;
+#[cfg(test)]
 mod scripts;
 #[cfg(test)]
 mod side_connections;

@@ -1,15 +1,17 @@
 //! Why a line is none of its command's: worked lines, and drawn ones, of each command. What calls a line bad is the command.
 
-use crate::commands::scripts::answer_as;
+use crate::commands::scripts::{BASIC, Command, run};
 use crate::devices::{Paper, SOUND, port_of};
 use crate::dialogues::{Who, play};
-use crate::wants::wants;
+use crate::rows::{Check, tables_hold};
+use crate::scripts::{MESSAGE, ends_of, loop_of};
+use crate::wants::no_row;
 use crate::wire::{Trouble, Wire};
 use arrayvec::ArrayVec;
-use lapd_cli_commands::{Params, bus, decode, loop_over, pair};
 use lapd_cli_console::{Script, reason};
 use lapd_cli_script::ScriptFault;
-use lapd_frame::{Sapi, Side};
+use lapd_frame::Side;
+use lapd_link::Recovery;
 use rand_core::{Rng, SeedableRng};
 use rand_pcg::Pcg32;
 use std::alloc::Global;
@@ -165,14 +167,10 @@ fn named(name: &str) -> Option<Script> {
 }
 
 /// The command and the line of a row.
-fn row_of(row: &str) -> Result<(Script, &str), Fail> {
-    let Some((name, line)) = row.split_once(": ") else {
-        return Err(Fail::new("a row has no colon"));
-    };
-    match named(name) {
-        Some(script) => Ok((script, line)),
-        None => Err(Fail::new("a row has no command")),
-    }
+fn row_of(row: &str) -> Option<(Script, &str)> {
+    let (name, line) = row.split_once(": ")?;
+    let script = named(name)?;
+    Some((script, line))
 }
 
 /// Whether this is the reason of a line, `None` for none.
@@ -192,81 +190,90 @@ fn agrees(alloc: Global, script: Script, line: &[u8]) -> bool {
     }
 }
 
+/// How a script of this line ends.
+fn ends(alloc: Global, script: Script, line: &[u8]) -> Result<(), ScriptFault> {
+    match script {
+        Script::Answer => ends_as(alloc, Command::Answer(Side::Network, BASIC), line),
+        Script::Bus => ends_as(alloc, Command::Bus(2), line),
+        Script::Decode => ends_as(alloc, Command::Decode, line),
+        Script::Loop => loop_as(alloc, line),
+        Script::Net => side_of(alloc, Who::Net, line),
+        Script::Pair => ends_as(
+            alloc,
+            Command::Pair(BASIC, Recovery::Enquiry, Recovery::Enquiry),
+            line,
+        ),
+        Script::User => side_of(alloc, Who::User, line),
+    }
+}
+
 /// Whether a command calls a script of this line bad.
 fn is_bad(alloc: Global, script: Script, line: &[u8]) -> bool {
-    let mut paper = Paper::with_room(2048);
-    let ended = match script {
-        Script::Answer => answer_to(alloc, line, &mut paper),
-        Script::Bus => bus_over(alloc, line, &mut paper),
-        Script::Decode => decode_of(alloc, line, &mut paper),
-        Script::Loop => loop_of(alloc, line, &mut paper),
-        Script::Net => play(alloc, Who::Net, line, port_of(&[], SOUND), 2048).result,
-        Script::Pair => pair_of(alloc, line, &mut paper),
-        Script::User => play(alloc, Who::User, line, port_of(&[], SOUND), 2048).result,
-    };
-    ended == Err(ScriptFault::BadLine(1))
+    ends(alloc, script, line) == Err(ScriptFault::BadLine(1))
 }
 
-fn answer_to(alloc: Global, mut line: &[u8], paper: &mut Paper) -> Result<(), ScriptFault> {
-    answer_as(
-        alloc,
-        &mut line,
-        paper,
-        Side::Network,
-        Params::basic(Sapi::Call),
-    )
+fn ends_as(alloc: Global, command: Command, mut line: &[u8]) -> Result<(), ScriptFault> {
+    run(alloc, command, &mut line, &mut Paper::with_room(2048))
 }
 
-fn bus_over(alloc: Global, mut line: &[u8], paper: &mut Paper) -> Result<(), ScriptFault> {
-    bus(alloc, &mut line, paper, 2)
+fn side_of(alloc: Global, who: Who, line: &[u8]) -> Result<(), ScriptFault> {
+    play(alloc, who, line, port_of(&[], SOUND), 2048).result
 }
 
-fn decode_of(alloc: Global, mut line: &[u8], paper: &mut Paper) -> Result<(), ScriptFault> {
-    decode(alloc, &mut line, paper)
-}
-
-fn pair_of(alloc: Global, mut line: &[u8], paper: &mut Paper) -> Result<(), ScriptFault> {
-    let params = Params::basic(Sapi::Call);
-    pair(alloc, &mut line, paper, params, params)
-}
-
-fn loop_of(alloc: Global, mut line: &[u8], paper: &mut Paper) -> Result<(), ScriptFault> {
-    let params = Params::basic(Sapi::Call);
+fn loop_as(alloc: Global, line: &[u8]) -> Result<(), ScriptFault> {
     let wire = Wire::new();
     let port = wire.port(512, Trouble::None, Trouble::None);
-    let (ended, _port) = loop_over(alloc, &mut line, paper, params, params, port);
-    ended
+    let (ended, _port) = loop_of(alloc, line, &ends_of(&MESSAGE), port);
+    ended.result
+}
+
+/// Whether the line of a row is bad, for its reason.
+pub(crate) fn reason_holds(alloc: Global, row: &str) -> bool {
+    match row.split_once(" => ") {
+        Some((front, reason)) => is_bad_for(alloc, front, reason),
+        None => false,
+    }
+}
+
+fn is_bad_for(alloc: Global, front: &str, reason: &str) -> bool {
+    match row_of(front) {
+        Some((script, line)) => {
+            let line = line.as_bytes();
+            is_reason(alloc, script, line, Some(reason)) && is_bad(alloc, script, line)
+        }
+        None => false,
+    }
+}
+
+/// Whether the line of a row is good, and has no reason.
+pub(crate) fn good_line_holds(alloc: Global, row: &str) -> bool {
+    match row_of(row) {
+        Some((script, line)) => {
+            let line = line.as_bytes();
+            is_reason(alloc, script, line, None) && !is_bad(alloc, script, line)
+        }
+        None => false,
+    }
 }
 
 #[test]
-fn bad_lines(rt: HostRuntime) -> Result<(), Fail> {
-    for row in BAD.lines() {
-        let Some((front, text)) = row.split_once(" => ") else {
-            return Err(Fail::new("a row has no arrow"));
-        };
-        let (script, line) = row_of(front)?;
-        let is_so = is_reason(rt.alloc(), script, line.as_bytes(), Some(text));
-        wants(is_so, row, "another reason")?;
-        let bad = is_bad(rt.alloc(), script, line.as_bytes());
-        wants(bad, row, "the command takes it")?;
-    }
+fn lines_have_reasons(rt: HostRuntime) -> Result<(), Fail> {
+    tables_hold(rt.alloc(), &[(Check::Reason, BAD), (Check::NoReason, GOOD)])
+}
+
+/// The first row of these that does not hold.
+fn other_reason(alloc: Global) -> Option<&'static str> {
     for (line, text) in UNSEEN {
-        let is_so = is_reason(rt.alloc(), Script::Decode, line, Some(text));
-        wants(is_so, text, "another reason")?;
+        if !is_reason(alloc, Script::Decode, line, Some(*text)) {
+            return Some(*text);
+        }
     }
-    Ok(())
+    None
 }
 
 #[test]
-fn good_lines(rt: HostRuntime) -> Result<(), Fail> {
-    for row in GOOD.lines() {
-        let (script, line) = row_of(row)?;
-        let is_so = is_reason(rt.alloc(), script, line.as_bytes(), None);
-        wants(is_so, row, "there is a reason")?;
-        let bad = is_bad(rt.alloc(), script, line.as_bytes());
-        wants(!bad, row, "the command calls it bad")?;
-    }
-    Ok(())
+fn octets_that_are_no_text(rt: HostRuntime) -> Result<(), Fail> {
+    no_row(other_reason(rt.alloc()), "another reason")
 }
 
 /// The line of this row of the good ones.
@@ -341,28 +348,41 @@ impl Lines {
     }
 }
 
-/// Fails the test where the command does not agree with the reason of the drawn line.
-fn agree_on(alloc: Global, script: Script, lines: &Lines) -> Result<(), Fail> {
-    let line = lines.line.as_slice();
-    if agrees(alloc, script, line) {
-        return Ok(());
+/// Whether the command agrees with the reasons of two drawn lines; the last line that was drawn is kept.
+fn agrees_on_both(alloc: Global, script: Script, lines: &mut Lines) -> bool {
+    lines.of_words();
+    if !agrees(alloc, script, lines.line.as_slice()) {
+        return false;
     }
-    Err(Fail::new(format_args!(
-        "{script}: '{}': a reason and no bad line, or none and one",
-        line.escape_ascii()
-    )))
+    lines.of_good_line();
+    agrees(alloc, script, lines.line.as_slice())
+}
+
+/// Whether the command agrees with the reasons of so many drawn lines.
+fn agrees_on_all(alloc: Global, script: Script, lines: &mut Lines) -> bool {
+    for _draw in 0..1000 {
+        if !agrees_on_both(alloc, script, lines) {
+            return false;
+        }
+    }
+    true
+}
+
+/// Fails the test where a command does not agree with the reason of a drawn line.
+fn all_agree(alloc: Global, lines: &mut Lines) -> Result<(), Fail> {
+    for script in SCRIPTS {
+        if !agrees_on_all(alloc, *script, lines) {
+            return Err(Fail::new(format_args!(
+                "{script}: '{}': a reason and no bad line, or none and one",
+                lines.line.as_slice().escape_ascii()
+            )));
+        }
+    }
+    Ok(())
 }
 
 #[test]
 fn drawn_lines(rt: HostRuntime) -> Result<(), Fail> {
     let mut lines = Lines::new();
-    for script in SCRIPTS {
-        for _draw in 0..1000 {
-            lines.of_words();
-            agree_on(rt.alloc(), *script, &lines)?;
-            lines.of_good_line();
-            agree_on(rt.alloc(), *script, &lines)?;
-        }
-    }
-    Ok(())
+    all_agree(rt.alloc(), &mut lines)
 }

@@ -1,8 +1,9 @@
 //! Scripts, of which `loop` prints what `pair` prints.
 
-use crate::wants::{are_same, wants};
+use crate::commands::scripts::{Command, params_of, run};
+use crate::wants::{all_hold, are_same, no_row};
 use crate::wire::{Trouble, Wire, WirePort};
-use lapd_cli_commands::{loop_over, pair};
+use lapd_cli_commands::loop_over;
 use lapd_cli_script::ScriptFault;
 use lapd_cli_side_commands::{FromRead, FromWrite, Port, Sink, Source};
 use lapd_link::{Params, Recovery};
@@ -85,27 +86,27 @@ pub(crate) struct Ended {
 pub(crate) type Ends = (Params, Params);
 
 /// What the ends of a row are made with.
-pub(crate) fn ends_of(row: &Row) -> Result<Ends, Fail> {
-    let params = Params::new(row.1, 3, 512).ok_or("a number is out of range")?;
-    Ok((params.with_recovery(row.2), params.with_recovery(row.3)))
+pub(crate) fn ends_of(row: &Row) -> Ends {
+    let params = params_of((row.1, 3, 512));
+    (params.with_recovery(row.2), params.with_recovery(row.3))
 }
 
 /// What `pair` comes to.
-pub(crate) fn pair_of(alloc: Global, row: &Row, ends: &Ends) -> Ended {
+pub(crate) fn pair_of(alloc: Global, row: &Row) -> Ended {
     let mut printed = Vec::new(alloc);
-    let result = pair(alloc, &mut row.4.as_bytes(), &mut printed, ends.0, ends.1);
+    let command = Command::Pair((row.1, 3, 512), row.2, row.3);
+    let result = run(alloc, command, &mut row.4.as_bytes(), &mut printed);
     Ended { result, printed }
 }
 
 /// What `loop` comes to over a port, and the port after it.
 pub(crate) fn loop_of<S: Source, K: Sink>(
     alloc: Global,
-    row: &Row,
+    mut script: &[u8],
     ends: &Ends,
     port: Port<S, K>,
 ) -> (Ended, Port<S, K>) {
     let mut printed = Vec::new(alloc);
-    let mut script = row.4.as_bytes();
     let (result, port) = loop_over(alloc, &mut script, &mut printed, ends.0, ends.1, port);
     (Ended { result, printed }, port)
 }
@@ -119,60 +120,56 @@ fn are_alike(one: &Ended, other: &Ended) -> bool {
 fn loops_alike(alloc: Global, row: &Row, ends: &Ends, most: usize, wanted: &Ended) -> bool {
     let wire = Wire::new();
     let port = wire.port(most, Trouble::None, Trouble::None);
-    let (ended, _port) = loop_of(alloc, row, ends, port);
+    let (ended, _port) = loop_of(alloc, row.4.as_bytes(), ends, port);
     are_alike(&ended, wanted)
 }
 
 /// Whether `loop` ends as is wanted, however many octets the sink takes at a time.
 fn loops_so(alloc: Global, row: &Row, ends: &Ends, wanted: &Ended) -> bool {
-    for most in [1, 2, 512] {
-        if !loops_alike(alloc, row, ends, most, wanted) {
-            return false;
-        }
-    }
-    true
+    loops_alike(alloc, row, ends, 1, wanted)
+        && loops_alike(alloc, row, ends, 2, wanted)
+        && loops_alike(alloc, row, ends, 512, wanted)
 }
 
 /// Whether `loop` ends as `pair` does.
 fn is_as_pair(alloc: Global, row: &Row, ends: &Ends) -> bool {
-    let wanted = pair_of(alloc, row, ends);
+    let wanted = pair_of(alloc, row);
     loops_so(alloc, row, ends, &wanted)
 }
 
-#[test]
-fn prints_what_pair_prints(rt: HostRuntime) -> Result<(), Fail> {
-    for row in ROWS {
-        let alike = is_as_pair(rt.alloc(), row, &ends_of(row)?);
-        wants(alike, row.0, "it ends otherwise")?;
+/// The rows, which are named here alone, since what a constant holds is long.
+fn rows() -> &'static [Row] {
+    ROWS
+}
+
+/// The first row of these that does not hold.
+fn other_row(alloc: Global) -> Option<&'static str> {
+    for row in rows() {
+        if !is_as_pair(alloc, row, &ends_of(row)) {
+            return Some(row.0);
+        }
     }
-    Ok(())
+    None
 }
 
 /// `settle` is a line of `pair` alone.
-#[test]
-fn settle_is_a_bad_line(rt: HostRuntime) -> Result<(), Fail> {
-    let row = (
-        MESSAGE.0,
-        1,
-        MESSAGE.2,
-        MESSAGE.3,
-        "establish user\nsettle\n",
-    );
-    let bad = is_bad_behind_a_frame(rt.alloc(), &row, &ends_of(&row)?);
-    wants(bad, "settle", "`loop` takes it, or prints something for it")
-}
+const SETTLE: Row = (
+    "settle",
+    1,
+    Recovery::Enquiry,
+    Recovery::Enquiry,
+    "establish user\nsettle\n",
+);
 
 /// Whether the second line is bad, and what the first one calls for is printed.
 fn is_bad_behind_a_frame(alloc: Global, row: &Row, ends: &Ends) -> bool {
     let mut printed = Vec::new(alloc);
-    let Ok(()) = printed.extend_from_slice(b"U>N SAPI 0 TEI 64 C SABME P=1\n") else {
-        return false;
-    };
+    let put = printed.extend_from_slice(b"U>N SAPI 0 TEI 64 C SABME P=1\n");
     let wanted = Ended {
         result: Err(ScriptFault::BadLine(2)),
         printed,
     };
-    loops_so(alloc, row, ends, &wanted)
+    put.is_ok() && loops_so(alloc, row, ends, &wanted)
 }
 
 /// What the worked script prints.
@@ -196,14 +193,8 @@ fn has_calls(port: &WirePort<'_>) -> bool {
 fn crosses(alloc: Global, ends: &Ends) -> bool {
     let wire = Wire::new();
     let port = wire.port(512, Trouble::None, Trouble::None);
-    let (ended, port) = loop_of(alloc, &MESSAGE, ends, port);
+    let (ended, port) = loop_of(alloc, MESSAGE.4.as_bytes(), ends, port);
     is_worked(&ended) && has_calls(&port)
-}
-
-#[test]
-fn a_message_crosses(rt: HostRuntime) -> Result<(), Fail> {
-    let crosses = crosses(rt.alloc(), &ends_of(&MESSAGE)?);
-    wants(crosses, MESSAGE.0, "another text, or number of calls")
 }
 
 /// The text of its frames.
@@ -220,16 +211,24 @@ fn has_text(port: &Port<FromRead<&[u8]>, FromWrite<Vec<u8>>>) -> bool {
 /// Whether the worked script ends well over these octets.
 fn text_crosses(alloc: Global, ends: &Ends) -> bool {
     let port = Port::new(FromRead::new(TEXT), FromWrite::new(Vec::new(alloc)));
-    let (ended, port) = loop_of(alloc, &MESSAGE, ends, port);
+    let (ended, port) = loop_of(alloc, MESSAGE.4.as_bytes(), ends, port);
     ended.result == Ok(()) && has_text(&port)
 }
 
 #[test]
-fn the_text_of_frames_crosses(rt: HostRuntime) -> Result<(), Fail> {
-    let crosses = text_crosses(rt.alloc(), &ends_of(&MESSAGE)?);
-    wants(
-        crosses,
-        MESSAGE.0,
-        "other octets are written, or some are left",
-    )
+fn scripts_cross(rt: HostRuntime) -> Result<(), Fail> {
+    let (alloc, ends) = (rt.alloc(), ends_of(&MESSAGE));
+    let bad = is_bad_behind_a_frame(alloc, &SETTLE, &ends);
+    let message = crosses(alloc, &ends);
+    let text = text_crosses(alloc, &ends);
+    no_row(other_row(alloc), "it ends otherwise than `pair`")?;
+    all_hold(&[
+        (bad, SETTLE.0, "`loop` takes it, or prints something for it"),
+        (message, MESSAGE.0, "another text, or number of calls"),
+        (
+            text,
+            MESSAGE.0,
+            "other octets are written, or some are left",
+        ),
+    ])
 }

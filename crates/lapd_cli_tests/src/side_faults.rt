@@ -2,14 +2,12 @@
 //! a front of the whole, and no device is called again.
 
 use crate::devices::{Devices, MemoryPort, SOUND, port_of};
-use crate::dialogues::{Ended, MOST, Row, WORKED_NET, WORKED_USER, Who, octets_of, play};
-use crate::wants::wants;
+use crate::dialogues::{Ended, MOST, Row, Who, octets_of, play, worked};
+use crate::wants::all_hold;
 use lapd_cli_script::ScriptFault;
 use lapd_cli_side_commands::PortFault;
 use std::alloc::Global;
 use std::test::Fail;
-
-const ROWS: &[Row] = &[WORKED_NET, WORKED_USER];
 
 /// How the trace lines of a side's own frames begin.
 fn own_front(who: Who) -> &'static [u8] {
@@ -136,70 +134,121 @@ fn ends_at(alloc: Global, row: &Row, coming: &[u8], going: &[u8], most: usize) -
     }
 }
 
-/// The input of a row ends after each octet.
-fn ends_after_each(alloc: Global, row: &Row) -> Result<(), Fail> {
-    let (mut coming, mut going) = ([0; MOST], [0; MOST]);
-    let coming = octets_of(row.coming, &mut coming)?;
-    let going = octets_of(row.going, &mut going)?;
+/// Whether it does so at each octet of the input.
+fn ends_at_each(alloc: Global, row: &Row, coming: &[u8], going: &[u8]) -> bool {
     for end in 0..coming.len() {
-        for most in [512, 1] {
-            let ends = ends_at(alloc, row, &coming[..end], going, most);
-            wants(ends, row.name, "it ends otherwise where the input ends")?;
+        let front = &coming[..end];
+        if !ends_at(alloc, row, front, going, 512) || !ends_at(alloc, row, front, going, 1) {
+            return false;
         }
     }
-    Ok(())
+    true
 }
 
-#[test]
-fn the_input_ends_after_each_octet(rt: HostRuntime) -> Result<(), Fail> {
-    for row in ROWS {
-        ends_after_each(rt.alloc(), row)?;
-    }
-    Ok(())
-}
-
-/// Each call of a row fails, where so many octets go through a device at a time.
-fn fails_at_each(
+/// Whether the script ends by a device fault at each of these calls, where this one of the two devices fails.
+fn calls_fail(
     alloc: Global,
     row: &Row,
-    coming: &[u8],
-    going: &[u8],
+    octets: (&[u8], &[u8]),
     most: usize,
-) -> Result<(), Fail> {
-    let sound = Devices { most, ..SOUND };
-    let (reads, writes) = played(alloc, row, coming, sound).calls();
-    for call in 1..=reads {
+    calls: u64,
+    reads: bool,
+) -> bool {
+    for call in 1..=calls {
         let devices = Devices {
-            read_fails: Some(call),
-            ..sound
+            most,
+            read_fails: if reads { Some(call) } else { None },
+            write_fails: if reads { None } else { Some(call) },
         };
-        let fails = fails_by(alloc, row, (coming, going), devices, PortFault::Device);
-        wants(fails, row.name, "it ends otherwise where a read fails")?;
+        if !fails_by(alloc, row, octets, devices, PortFault::Device) {
+            return false;
+        }
     }
-    for call in 1..=writes {
-        let devices = Devices {
-            write_fails: Some(call),
-            ..sound
-        };
-        let fails = fails_by(alloc, row, (coming, going), devices, PortFault::Device);
-        wants(fails, row.name, "it ends otherwise where a write fails")?;
-    }
-    Ok(())
+    true
 }
 
-/// Each call of a row fails.
-fn row_fails(alloc: Global, row: &Row) -> Result<(), Fail> {
-    let (mut coming, mut going) = ([0; MOST], [0; MOST]);
-    let coming = octets_of(row.coming, &mut coming)?;
-    let going = octets_of(row.going, &mut going)?;
-    fails_at_each(alloc, row, coming, going, 512)?;
-    fails_at_each(alloc, row, coming, going, 1)
+/// Whether it does so at each call that it makes, where so many octets go through a device at a time.
+fn fails_at_each(alloc: Global, row: &Row, octets: (&[u8], &[u8]), most: usize) -> bool {
+    let (coming, _) = octets;
+    let (reads, writes) = played(alloc, row, coming, Devices { most, ..SOUND }).calls();
+    calls_fail(alloc, row, octets, most, reads, true)
+        && calls_fail(alloc, row, octets, most, writes, false)
 }
+
+/// Whether a row ends where its text finds no more room than this.
+fn fills(alloc: Global, row: &Row, coming: &[u8], room: usize) -> bool {
+    let script = row.script.as_bytes();
+    let ended = play(alloc, row.who, script, port_of(coming, SOUND), room);
+    let front = row.printed.as_bytes().get(..room);
+    ended.result == Err(ScriptFault::Device) && front == Some(ended.printed.text.as_slice())
+}
+
+/// Whether it does so at each octet of its text.
+fn fills_each(alloc: Global, row: &Row, coming: &[u8]) -> bool {
+    for room in 0..row.printed.len() {
+        if !fills(alloc, row, coming, room) {
+            return false;
+        }
+    }
+    true
+}
+
+/// What befalls a side.
+#[derive(Clone, Copy)]
+enum Trouble {
+    /// The input ends after each octet.
+    Ends,
+    /// Each call fails.
+    Fails,
+    /// The text has room for each number of octets in turn.
+    NoRoom,
+}
+
+/// Whether a row ends as it should by this trouble.
+fn holds(alloc: Global, row: &Row, trouble: Trouble, octets: (&[u8], &[u8])) -> bool {
+    let (coming, going) = octets;
+    match trouble {
+        Trouble::Ends => ends_at_each(alloc, row, coming, going),
+        Trouble::Fails => {
+            fails_at_each(alloc, row, octets, 512) && fails_at_each(alloc, row, octets, 1)
+        }
+        Trouble::NoRoom => fills_each(alloc, row, coming),
+    }
+}
+
+fn row_holds(alloc: Global, row: &Row, trouble: Trouble) -> bool {
+    let (mut coming, mut going) = ([0; MOST], [0; MOST]);
+    let coming = octets_of(row.coming, &mut coming);
+    let going = octets_of(row.going, &mut going);
+    match (coming, going) {
+        (Some(coming), Some(going)) => holds(alloc, row, trouble, (coming, going)),
+        _ => false,
+    }
+}
+
+/// Each of the worked dialogues ends as it should by this trouble.
+fn both_hold(alloc: Global, trouble: Trouble, what: &str) -> Result<(), Fail> {
+    let (net, user) = (worked(Who::Net), worked(Who::User));
+    all_hold(&[
+        (row_holds(alloc, &net, trouble), net.name, what),
+        (row_holds(alloc, &user, trouble), user.name, what),
+    ])
+}
+
+/// What befalls a side, and what is then wrong.
+const TROUBLES: &[(Trouble, &str)] = &[
+    (Trouble::Ends, "it ends otherwise where the input ends"),
+    (
+        Trouble::Fails,
+        "it ends otherwise where a read fails, or a write",
+    ),
+    (Trouble::NoRoom, "it ends otherwise without room"),
+];
 
 #[test]
-fn each_call_fails(rt: HostRuntime) -> Result<(), Fail> {
-    for row in ROWS {
-        row_fails(rt.alloc(), row)?;
+fn each_trouble_ends_it(rt: HostRuntime) -> Result<(), Fail> {
+    for (trouble, what) in TROUBLES {
+        both_hold(rt.alloc(), *trouble, what)?;
     }
     Ok(())
 }
@@ -231,53 +280,46 @@ fn is_bad_length(alloc: Global, who: Who, coming: &[u8]) -> bool {
     ends_by(alloc, who, b"read", port, PortFault::BadLength, (1, 0))
 }
 
-#[test]
-fn lengths_that_no_frame_has(rt: HostRuntime) -> Result<(), Fail> {
-    for (row, coming) in [("a length of 2", [0, 2, 0]), ("a length of 265", [1, 9, 0])] {
-        let net = is_bad_length(rt.alloc(), Who::Net, &coming);
-        let user = is_bad_length(rt.alloc(), Who::User, &coming);
-        wants(net && user, row, "another fault of net, or of user")?;
-    }
-    Ok(())
-}
-
-#[test]
-fn no_write_takes_anything(rt: HostRuntime) -> Result<(), Fail> {
+/// Whether it ends so after 4,096 turns of a write that takes nothing.
+fn takes_nothing(alloc: Global) -> bool {
     let port = port_of(&[], Devices { most: 0, ..SOUND });
-    let ends = ends_by(
-        rt.alloc(),
+    let calls = (0, 4096);
+    ends_by(
+        alloc,
         Who::User,
         b"ask",
         port,
         PortFault::TooManyTurns,
-        (0, 4096),
-    );
-    wants(ends, "4,096 turns", "another fault")
-}
-
-/// Whether a row ends where its text finds no more room than this.
-fn fills(alloc: Global, row: &Row, coming: &[u8], room: usize) -> bool {
-    let script = row.script.as_bytes();
-    let ended = play(alloc, row.who, script, port_of(coming, SOUND), room);
-    let front = row.printed.as_bytes().get(..room);
-    ended.result == Err(ScriptFault::Device) && front == Some(ended.printed.text.as_slice())
-}
-
-/// The text of a row has room for each number of octets in turn.
-fn fills_each(alloc: Global, row: &Row) -> Result<(), Fail> {
-    let mut coming = [0; MOST];
-    let coming = octets_of(row.coming, &mut coming)?;
-    for room in 0..row.printed.len() {
-        let fills = fills(alloc, row, coming, room);
-        wants(fills, row.name, "it ends otherwise without room")?;
-    }
-    Ok(())
+        calls,
+    )
 }
 
 #[test]
-fn the_writer_fails(rt: HostRuntime) -> Result<(), Fail> {
-    for row in ROWS {
-        fills_each(rt.alloc(), row)?;
-    }
-    Ok(())
+fn bad_lengths_and_turns(rt: HostRuntime) -> Result<(), Fail> {
+    let alloc = rt.alloc();
+    let (short, long) = ([0, 2, 0], [1, 9, 0]);
+    let what = "another fault";
+    all_hold(&[
+        (
+            is_bad_length(alloc, Who::Net, &short),
+            "net, a length of 2",
+            what,
+        ),
+        (
+            is_bad_length(alloc, Who::User, &short),
+            "user, a length of 2",
+            what,
+        ),
+        (
+            is_bad_length(alloc, Who::Net, &long),
+            "net, a length of 265",
+            what,
+        ),
+        (
+            is_bad_length(alloc, Who::User, &long),
+            "user, a length of 265",
+            what,
+        ),
+        (takes_nothing(alloc), "4,096 turns", what),
+    ])
 }

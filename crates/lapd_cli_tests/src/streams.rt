@@ -1,52 +1,14 @@
 //! What is remembered of standard streams, and lines that are typed.
 
-use crate::commands::scripts::answer_as;
-use crate::devices::Paper;
-use crate::wants::{are_same, wants};
-use lapd_cli_commands::Params;
+use crate::commands::scripts::{BASIC, Command, run};
+use crate::devices::{Failing, Paper, Parts};
+use crate::wants::{all_hold, are_same, no_row};
 use lapd_cli_console::{KeptLines, Refusals, Script, Session, Watched};
 use lapd_cli_script::ScriptFault;
-use lapd_frame::{Sapi, Side};
-use std::alloc::Global;
+use lapd_frame::Side;
+use std::alloc::{AllocError, Global};
 use std::io::{self, ErrorKind, Read, Write};
 use std::test::Fail;
-
-/// Gives so many octets at each read, and then fails so.
-#[derive(Drop)]
-struct Parts<'a> {
-    octets: &'a [u8],
-    most: usize,
-    fault: Option<ErrorKind>,
-}
-
-impl Read for Parts<'_> {
-    fn read(&mut self, buf: &mut [u8]) -> io::Result<usize> {
-        let count = self.octets.len().min(self.most).min(buf.len());
-        let (part, rest) = self.octets.split_at(count);
-        buf[..count].copy_from_slice(part);
-        self.octets = rest;
-        match self.fault {
-            Some(kind) if count == 0 => Err(io::Error::from(kind)),
-            _ => Ok(count),
-        }
-    }
-}
-
-/// Takes nothing.
-#[derive(Drop)]
-struct Shut {
-    kind: ErrorKind,
-}
-
-impl Write for Shut {
-    fn write(&mut self, _octets: &[u8]) -> io::Result<usize> {
-        Err(io::Error::from(self.kind))
-    }
-
-    fn flush(&mut self) -> io::Result<()> {
-        Err(io::Error::from(self.kind))
-    }
-}
 
 /// Whether what is kept has the last line of what was read so far, the one before where it ended in the last part, and none
 /// behind them.
@@ -108,53 +70,62 @@ fn keeps(text: &[u8], most: usize) -> bool {
 }
 
 /// So many lines of 0 to 88 octets.
-fn long_text(alloc: Global, lines: u32) -> Result<Vec<u8>, Fail> {
+fn long_text(alloc: Global, lines: u32) -> Result<Vec<u8>, AllocError> {
     let mut text = Vec::new(alloc);
+    put_lines(&mut text, lines)?;
+    Ok(text)
+}
+
+fn put_lines(text: &mut Vec<u8>, lines: u32) -> Result<(), AllocError> {
     for number in 0..lines {
         for octet in 0..number.wrapping_mul(7) % 89 {
             text.push(b'a' + (octet % 26) as u8)?;
         }
         text.push(b'\n')?;
     }
-    Ok(text)
-}
-
-#[test]
-fn last_lines_are_kept(rt: HostRuntime) -> Result<(), Fail> {
-    let few = long_text(rt.alloc(), 30)?;
-    for (most, row) in [(2, "2"), (7, "7"), (100, "100")] {
-        wants(keeps(few.as_slice(), most), row, "other lines are kept")?;
-    }
-    let many = long_text(rt.alloc(), 400)?;
-    for (most, row) in [(8191, "8191"), (8192, "8192")] {
-        wants(keeps(many.as_slice(), most), row, "other lines are kept")?;
-    }
     Ok(())
 }
 
+/// Whether the last lines of a text are kept, in parts of each of these lengths.
+fn keeps_all(text: &[u8], lengths: &[usize]) -> bool {
+    for most in lengths {
+        if !keeps(text, *most) {
+            return false;
+        }
+    }
+    true
+}
+
+/// Whether they are, of a text of so many lines.
+fn keeps_long(alloc: Global, lines: u32, lengths: &[usize]) -> bool {
+    match long_text(alloc, lines) {
+        Ok(text) => keeps_all(text.as_slice(), lengths),
+        Err(_) => false,
+    }
+}
+
 /// A line of 10,000 octets, and one behind it.
-fn cut_text(alloc: Global) -> Result<Vec<u8>, Fail> {
+fn cut_text(alloc: Global) -> Result<Vec<u8>, AllocError> {
     let mut text = [b'a'; 10_000].to_vec(alloc)?;
     text.extend_from_slice(b"\nstate\n")?;
     Ok(text)
 }
 
-#[test]
-fn long_lines_are_cut(rt: HostRuntime) -> Result<(), Fail> {
-    let text = cut_text(rt.alloc())?;
-    let mut kept = KeptLines::new(text.as_slice());
-    let ended = answer_to(rt.alloc(), &mut kept, &mut io::sink());
-    wants(
-        ended == Err(ScriptFault::BadLine(1)),
-        "a long line",
-        "it is not bad",
-    )?;
-    let line = kept.line(1);
-    let is_so = is_line(line, text.get(..4096));
-    wants(is_so, "a long line", "another line is kept")?;
-    let line = kept.line(2);
-    let is_so = is_line(line, Some(b"state".as_slice()));
-    wants(is_so, "the next line", "it is not kept")
+/// Whether the first line of a text is bad, of which the front is kept, and the next one.
+fn cuts(alloc: Global, text: &[u8]) -> bool {
+    let mut kept = KeptLines::new(text);
+    let ended = answer_to(alloc, &mut kept, &mut io::sink());
+    ended == Err(ScriptFault::BadLine(1))
+        && is_line(kept.line(1), text.get(..4096))
+        && is_line(kept.line(2), Some(b"state".as_slice()))
+}
+
+/// Whether it is so of a line of 10,000 octets.
+fn long_line_is_cut(alloc: Global) -> bool {
+    match cut_text(alloc) {
+        Ok(text) => cuts(alloc, text.as_slice()),
+        Err(_) => false,
+    }
 }
 
 fn answer_to<R: Read, W: Write>(
@@ -162,39 +133,64 @@ fn answer_to<R: Read, W: Write>(
     script: &mut R,
     out: &mut W,
 ) -> Result<(), ScriptFault> {
-    answer_as(alloc, script, out, Side::Network, Params::basic(Sapi::Call))
+    run(alloc, Command::Answer(Side::Network, BASIC), script, out)
 }
 
-/// How a read failed after a line, as it is remembered.
-fn fault_of_read(alloc: Global, kind: ErrorKind) -> (Result<(), ScriptFault>, Option<ErrorKind>) {
+/// Whether a read that fails so after a line is a device fault, and this is remembered.
+fn remembers_read(alloc: Global, kind: ErrorKind, fault: Option<ErrorKind>) -> bool {
     let mut kept = KeptLines::new(Parts {
         octets: b"state\n",
         most: 8192,
         fault: Some(kind),
     });
     let ended = answer_to(alloc, &mut kept, &mut io::sink());
-    (ended, kept.fault())
+    ended == Err(ScriptFault::Device) && kept.fault() == fault
 }
 
-/// How a write failed, as it is remembered.
-fn fault_of_write(alloc: Global, kind: ErrorKind) -> (Result<(), ScriptFault>, Option<ErrorKind>) {
-    let mut out = Watched::new(Shut { kind });
+/// Whether a write that fails so is one, and is remembered.
+fn remembers_write(alloc: Global, kind: ErrorKind) -> bool {
+    let mut out = Watched::new(Failing(kind));
     let ended = answer_to(alloc, &mut b"state\n".as_slice(), &mut out);
-    (ended, out.fault())
+    ended == Err(ScriptFault::Device) && out.fault() == Some(kind)
 }
 
 #[test]
-fn faults_are_remembered(rt: HostRuntime) -> Result<(), Fail> {
-    let device = Err(ScriptFault::Device);
-    let (ended, fault) = fault_of_read(rt.alloc(), ErrorKind::PermissionDenied);
-    let is_so = ended == device && fault == Some(ErrorKind::PermissionDenied);
-    wants(is_so, "a read that fails", "its fault is not remembered")?;
-    let (ended, fault) = fault_of_read(rt.alloc(), ErrorKind::Interrupted);
-    let is_so = ended == device && fault.is_none();
-    wants(is_so, "a read that is interrupted", "a fault is remembered")?;
-    let (ended, fault) = fault_of_write(rt.alloc(), ErrorKind::BrokenPipe);
-    let is_so = ended == device && fault == Some(ErrorKind::BrokenPipe);
-    wants(is_so, "a closed pipe", "its fault is not remembered")
+fn lines_and_faults_are_kept(rt: HostRuntime) -> Result<(), Fail> {
+    let alloc = rt.alloc();
+    let denied = ErrorKind::PermissionDenied;
+    let what = "other lines are kept";
+    all_hold(&[
+        (
+            keeps_long(alloc, 30, &[2, 7, 100]),
+            "parts of 2, 7 and 100",
+            what,
+        ),
+        (
+            keeps_long(alloc, 400, &[8191, 8192]),
+            "parts of 8191 and 8192",
+            what,
+        ),
+        (
+            long_line_is_cut(alloc),
+            "a long line",
+            "it is not bad, or another line is kept",
+        ),
+        (
+            remembers_read(alloc, denied, Some(denied)),
+            "a read that fails",
+            "its fault is not remembered",
+        ),
+        (
+            remembers_read(alloc, ErrorKind::Interrupted, None),
+            "a read that is interrupted",
+            "a fault is remembered",
+        ),
+        (
+            remembers_write(alloc, ErrorKind::BrokenPipe),
+            "a closed pipe",
+            "its fault is not remembered",
+        ),
+    ])
 }
 
 /// Whether this is the first refusal of a text that is written in such parts.
@@ -211,35 +207,48 @@ fn refuses(text: &[u8], most: usize, first: Option<&[u8]>) -> bool {
     }
 }
 
-#[test]
-fn first_refusals(_rt: HostRuntime) -> Result<(), Fail> {
-    let text = b"state 4\nrefused L1 NotEstablished\nsend 00\nrefused L2 QueueFull\n".as_slice();
-    let first = b"refused L1 NotEstablished".as_slice();
-    let none =
-        b"state 4\ndata refused \nrefuse d\nrefused\n5x refused L1\n7 8 refused L1\n\nrefused L1".as_slice();
-    let behind = b"1566 refused B1 NoLink".as_slice();
-    let timed = b"12 0 64 established\n1566 refused B1 NoLink\nrefused L2 QueueFull\n".as_slice();
-    let object = br#"{"refused":"B1 NoLink","time":1566}"#.as_slice();
-    let objects = b"{\"line\":\"refused\"}\n{\"refused\":\"B1 NoLink\",\"time\":1566}\n".as_slice();
+/// A name, a text, and its first refusal.
+const REFUSED: &[(&str, &[u8], Option<&[u8]>)] = &[
+    (
+        "a refusal",
+        b"state 4\nrefused L1 NotEstablished\nsend 00\nrefused L2 QueueFull\n",
+        Some(b"refused L1 NotEstablished"),
+    ),
+    (
+        "no refusal",
+        b"state 4\ndata refused \nrefuse d\nrefused\n5x refused L1\n7 8 refused L1\n\nrefused L1",
+        None,
+    ),
+    (
+        "a refusal behind its moment",
+        b"12 0 64 established\n1566 refused B1 NoLink\nrefused L2 QueueFull\n",
+        Some(b"1566 refused B1 NoLink"),
+    ),
+    (
+        "an object of a refusal",
+        b"{\"line\":\"refused\"}\n{\"refused\":\"B1 NoLink\",\"time\":1566}\n",
+        Some(b"{\"refused\":\"B1 NoLink\",\"time\":1566}"),
+    ),
+];
+
+/// Whether this is the first refusal, however long the parts are in which a text is written.
+fn refuses_by_parts(text: &[u8], first: Option<&[u8]>) -> bool {
     for most in 1..70 {
-        wants(
-            refuses(text, most, Some(first)),
-            "a refusal",
-            "it is not noted",
-        )?;
-        wants(refuses(none, most, None), "no refusal", "one is noted")?;
-        wants(
-            refuses(timed, most, Some(behind)),
-            "a refusal behind its moment",
-            "another is noted",
-        )?;
-        wants(
-            refuses(objects, most, Some(object)),
-            "an object of a refusal",
-            "another is noted",
-        )?;
+        if !refuses(text, most, first) {
+            return false;
+        }
     }
-    Ok(())
+    true
+}
+
+/// The first row of these that does not hold.
+fn other_refusal() -> Option<&'static str> {
+    for (row, text, first) in REFUSED {
+        if !refuses_by_parts(text, *first) {
+            return Some(*row);
+        }
+    }
+    None
 }
 
 /// What is typed.
@@ -265,55 +274,66 @@ busy on|off, state
 not done: frame HEX: an odd number of digits
 ";
 
-/// What a session hands on, by reads of so many octets.
-fn handed_on(alloc: Global, most: usize, told: &mut Paper) -> Result<Vec<u8>, Fail> {
-    let mut session = Session::new(alloc, Script::Answer, TYPED, told);
-    let mut octets = Vec::new(alloc);
+/// Puts what a session hands on, by reads of so many octets, behind others.
+fn hand_on<R: Read>(session: &mut R, most: usize, octets: &mut Vec<u8>) -> io::Result<()> {
     let mut part = [0u8; 64];
     for _turn in 0..64 {
         let count = session.read(&mut part[..most.min(64)])?;
         octets.extend_from_slice(&part[..count])?;
     }
-    Ok(octets)
-}
-
-#[test]
-fn typed_lines(rt: HostRuntime) -> Result<(), Fail> {
-    for (most, row) in [(1, "1"), (5, "5"), (64, "64")] {
-        let mut told = Paper::with_room(2048);
-        let octets = handed_on(rt.alloc(), most, &mut told)?;
-        wants(
-            are_same(octets.as_slice(), HANDED_ON),
-            row,
-            "other lines are handed on",
-        )?;
-        wants(
-            are_same(told.text.as_slice(), TOLD),
-            row,
-            "another text is told",
-        )?;
-    }
     Ok(())
 }
 
-#[test]
-fn a_line_a_read(rt: HostRuntime) -> Result<(), Fail> {
-    let mut session = Session::new(rt.alloc(), Script::Answer, TYPED, io::sink());
+/// Whether a session tells and hands on what it should, by such reads.
+fn hands_on(alloc: Global, most: usize) -> bool {
+    let mut told = Paper::with_room(2048);
+    let mut octets = Vec::new(alloc);
+    let handed_on = {
+        let mut session = Session::new(alloc, Script::Answer, TYPED, &mut told);
+        hand_on(&mut session, most, &mut octets).is_ok()
+    };
+    handed_on && are_same(octets.as_slice(), HANDED_ON) && are_same(told.text.as_slice(), TOLD)
+}
+
+/// Whether the first read gives the first line.
+fn gives_a_line(alloc: Global) -> bool {
+    let mut session = Session::new(alloc, Script::Answer, TYPED, io::sink());
     let mut part = [0u8; 64];
-    let count = session.read(&mut part)?;
-    let is_so = is_line(part.get(..count), Some(b"state\n".as_slice()));
-    wants(is_so, "the first read", "it is not the first line")
+    match session.read(&mut part) {
+        Ok(count) => is_line(part.get(..count), Some(b"state\n".as_slice())),
+        Err(_) => false,
+    }
+}
+
+/// Whether a session of `answer` ends well, and prints what its lines call for.
+fn is_answered(alloc: Global) -> bool {
+    let mut printed = Paper::with_room(2048);
+    let mut session = Session::new(alloc, Script::Answer, TYPED, io::sink());
+    let ended = answer_to(alloc, &mut session, &mut printed);
+    ended == Ok(()) && are_same(printed.text.as_slice(), b"state 4\nstate 4\n")
 }
 
 #[test]
-fn a_session_of_answer(rt: HostRuntime) -> Result<(), Fail> {
-    let mut printed = Paper::with_room(2048);
-    let mut session = Session::new(rt.alloc(), Script::Answer, TYPED, io::sink());
-    let ended = answer_to(rt.alloc(), &mut session, &mut printed);
-    wants(ended == Ok(()), "a session", "it ends by a fault")?;
-    wants(
-        are_same(printed.text.as_slice(), b"state 4\nstate 4\n"),
-        "a session",
-        "it prints otherwise",
-    )
+fn refusals_and_typed_lines(rt: HostRuntime) -> Result<(), Fail> {
+    let alloc = rt.alloc();
+    no_row(
+        other_refusal(),
+        "another refusal is the first one, or there is none",
+    )?;
+    let what = "other lines are handed on, or another text is told";
+    all_hold(&[
+        (hands_on(alloc, 1), "reads of 1", what),
+        (hands_on(alloc, 5), "reads of 5", what),
+        (hands_on(alloc, 64), "reads of 64", what),
+        (
+            gives_a_line(alloc),
+            "the first read",
+            "it is not the first line",
+        ),
+        (
+            is_answered(alloc),
+            "a session",
+            "its end, or what it prints",
+        ),
+    ])
 }

@@ -10,6 +10,22 @@ pub(crate) fn wants(holds: bool, row: &str, what: &str) -> Result<(), Fail> {
     }
 }
 
+/// Fails the test at the first of these rows that does not hold, each with what is then wrong with it.
+pub(crate) fn all_hold(rows: &[(bool, &str, &str)]) -> Result<(), Fail> {
+    for (holds, row, what) in rows {
+        wants(*holds, row, what)?;
+    }
+    Ok(())
+}
+
+/// Fails the test where a table has a row that does not hold, which this is.
+pub(crate) fn no_row(row: Option<&str>, what: &str) -> Result<(), Fail> {
+    match row {
+        Some(row) => wants(false, row, what),
+        None => Ok(()),
+    }
+}
+
 /// Whether this is said of it.
 pub(crate) fn is_said<T: ToString>(alloc: Global, told: &T, text: &str) -> bool {
     let said = told.to_string(alloc);

@@ -1,133 +1,20 @@
 //! The command `bus`: scripts, and what they call for.
 
-use crate::wants::wants;
-use lapd_cli_commands::bus;
-use lapd_cli_script::ScriptFault;
-use std::alloc::Global;
-use std::test::Fail;
+/// Scripts over a bus of one terminal, as rows of `Check::Script`.
+pub(crate) const OF_ONE: &str = "\
+ask 0 abCD~hear-up 0~hear 0 0 0001~check 064~hear 1 0 5678~hear-up 0~t201~leave 0~ | 0 | up fcff030fabcd01ff~down feff030fabcd0281~terminal 0 got 64~down feff030f00000481~up fcff030f56780581~net in-use 64~terminal 0 gone 64~ | a check that is answered
+ask 0 0001~drop-up 0~drop-up 0~check 127~drop 0~leave 0~leave 1~hear 0 0 0001~ | 0 | up fcff030f000101ff~refused U1 NothingThere~refused U1 NothingThere~refused U1 NothingThere~refused U1 NothingThere~ | messages are dropped, and the group is not checked
+# note~~ask 18446744073709551615 0001~ | 0 | refused U1 NothingThere~ | a place that is a number, and names nothing";
 
-const DONE: Result<(), ScriptFault> = Ok(());
-
-/// A name, how many terminals there are, the script, how it ends, and what it calls for.
-type Script = (
-    &'static str,
-    u8,
-    &'static [u8],
-    Result<(), ScriptFault>,
-    &'static [u8],
-);
-
-const SCRIPTS: &[Script] = &[
-    ("nothing", 2, b"", DONE, b""),
-    (
-        "two terminals ask",
-        2,
-        b"ask 0 1234\nask 1 5678\nhear-up 0\nhear 0 1 0001\nhear 0 0 0002\nhear 0 0 0003\nhear-up 0\nhear 1 1 0004\n",
-        DONE,
-        b"up fcff030f123401ff\nup fcff030f567801ff\ndown feff030f12340281\nterminal 0 got 64\nrefused U2 HeardBefore\ndown feff030f56780283\nterminal 1 got 65\n",
-    ),
-    (
-        "a check in vain",
-        2,
-        b"check 64\nt201\nt201\nt201",
-        DONE,
-        b"down feff030f00000481\ndown feff030f00000481\nnet free 64\nrefused U1 NothingThere\n",
-    ),
-    (
-        "a terminal that nobody answers",
-        2,
-        b"ask 0 0001\nt202 0 0002\nt202 0 0003\nt202 0 0004\nt202 0 0005\n",
-        DONE,
-        b"up fcff030f000101ff\nup fcff030f000201ff\nup fcff030f000301ff\nterminal 0 failed\nrefused U1 NothingThere\n",
-    ),
-    (
-        "a check that is answered",
-        1,
-        b"ask 0 abCD\nhear-up 0\nhear 0 0 0001\ncheck 064\nhear 1 0 5678\nhear-up 0\nt201\nleave 0\n",
-        DONE,
-        b"up fcff030fabcd01ff\ndown feff030fabcd0281\nterminal 0 got 64\ndown feff030f00000481\nup fcff030f56780581\nnet in-use 64\nterminal 0 gone 64\n",
-    ),
-    (
-        "two terminals answer for one TEI",
-        2,
-        b"ask 0 0001\nask 1 0001\nhear-up 0\nhear 0 0 0002\nhear 0 1 0003\ncheck 64\nhear 1 0 0004\nhear 1 1 0005\nhear-up 1\nhear-up 1\nt201\nhear 2 0 0006\nhear 3 1 0007\n",
-        DONE,
-        b"up fcff030f000101ff\nup fcff030f000101ff\ndown feff030f00010281\nterminal 0 got 64\nterminal 1 got 64\ndown feff030f00000481\nup fcff030f00040581\nup fcff030f00050581\ndown feff030f00000681\ndown feff030f00000681\nnet doubled 64\nterminal 0 gone 64\nterminal 1 gone 64\n",
-    ),
-    (
-        "messages are dropped, and the group is not checked",
-        1,
-        b"ask 0 0001\ndrop-up 0\ndrop-up 0\ncheck 127\ndrop 0\nleave 0\nleave 1\nhear 0 0 0001\n",
-        DONE,
-        b"up fcff030f000101ff\nrefused U1 NothingThere\nrefused U1 NothingThere\nrefused U1 NothingThere\nrefused U1 NothingThere\n",
-    ),
-    (
-        "a place that is a number, and names nothing",
-        1,
-        b"# note\n\nask 18446744073709551615 0001\n",
-        DONE,
-        b"refused U1 NothingThere\n",
-    ),
-];
+/// Of two terminals.
+pub(crate) const OF_TWO: &str = "\
+ask 0 1234~ask 1 5678~hear-up 0~hear 0 1 0001~hear 0 0 0002~hear 0 0 0003~hear-up 0~hear 1 1 0004~ | 0 | up fcff030f123401ff~up fcff030f567801ff~down feff030f12340281~terminal 0 got 64~refused U2 HeardBefore~down feff030f56780283~terminal 1 got 65~ | two terminals ask
+check 64~t201~t201~t201 | 0 | down feff030f00000481~down feff030f00000481~net free 64~refused U1 NothingThere~ | a check in vain
+ask 0 0001~t202 0 0002~t202 0 0003~t202 0 0004~t202 0 0005~ | 0 | up fcff030f000101ff~up fcff030f000201ff~up fcff030f000301ff~terminal 0 failed~refused U1 NothingThere~ | a terminal that nobody answers
+ask 0 0001~ask 1 0001~hear-up 0~hear 0 0 0002~hear 0 1 0003~check 64~hear 1 0 0004~hear 1 1 0005~hear-up 1~hear-up 1~t201~hear 2 0 0006~hear 3 1 0007~ | 0 | up fcff030f000101ff~up fcff030f000101ff~down feff030f00010281~terminal 0 got 64~terminal 1 got 64~down feff030f00000481~up fcff030f00040581~up fcff030f00050581~down feff030f00000681~down feff030f00000681~net doubled 64~terminal 0 gone 64~terminal 1 gone 64~ | two terminals answer for one TEI
+ | 0 |  | nothing";
 
 /// Lines that are none of the command's.
-const BAD: &[&[u8]] = &[
-    b"ask 18446744073709551616 0001",
-    b"ask 0",
-    b"ask 0 1",
-    b"ask 0 00001",
-    b"ask 0 000g",
-    b"ask +0 0001",
-    b"ask  0 0001",
-    b"ask 0 0001 ",
-    b" ask 0 0001",
-    b"ASK 0 0001",
-    b"ask 0 0001 1",
-    b"hear 0 0",
-    b"drop",
-    b"drop x",
-    b"check 128",
-    b"check 999999999999999999999",
-    b"t201 0",
-    b"t203",
-    b"leave",
-    b"state",
-];
-
-/// Whether a script of a bus ends so, and calls for this.
-fn goes(
-    alloc: Global,
-    terminals: u8,
-    mut script: &[u8],
-    wanted: Result<(), ScriptFault>,
-    text: &[u8],
-) -> bool {
-    let mut out = Vec::new(alloc);
-    let ended = bus(alloc, &mut script, &mut out, terminals);
-    ended == wanted && out.as_slice() == text
-}
-
-#[test]
-fn scripts_are_done(rt: HostRuntime) -> Result<(), Fail> {
-    for (name, terminals, script, ended, text) in SCRIPTS {
-        wants(
-            goes(rt.alloc(), *terminals, script, *ended, text),
-            name,
-            "another text",
-        )?;
-    }
-    Ok(())
-}
-
-#[test]
-fn bad_lines_are_told(rt: HostRuntime) -> Result<(), Fail> {
-    for line in BAD {
-        let bad = Err(ScriptFault::BadLine(1));
-        wants(
-            goes(rt.alloc(), 2, line, bad, b""),
-            "a bad line",
-            "it is done",
-        )?;
-    }
-    Ok(())
-}
+pub(crate) const BAD: &str =
+    "ask 18446744073709551616 0001|ask 0|ask 0 1|ask 0 00001|ask 0 000g|ask +0 0001|ask  0 0001|ask 0 0001 | ask 0 0001|\
+    ASK 0 0001|ask 0 0001 1|hear 0 0|drop|drop x|check 128|check 999999999999999999999|t201 0|t203|leave|state";

@@ -1,9 +1,10 @@
 //! Readers and writers that give and take in parts, or fail.
 
-use crate::commands::scripts::{ANSWERS, SCRIPT, run};
-use crate::wants::wants;
-use lapd_cli_commands::decode;
+use crate::commands::scripts::{ANSWERS, BASIC, Command, SCRIPT, comes_to, run};
+use crate::devices::{Paper, Parts};
+use crate::wants::{all_hold, are_same, no_row, wants};
 use lapd_cli_script::ScriptFault;
+use lapd_frame::Side;
 use std::alloc::Global;
 use std::cell::Cell;
 use std::io;
@@ -12,12 +13,12 @@ use std::test::Fail;
 
 // Gives a part at each read, and then the end or a fault.
 #[derive(Drop)]
-struct Parts<'a> {
+struct Pieces<'a> {
     parts: &'a [&'a [u8]],
     fails: bool,
 }
 
-impl Read for Parts<'_> {
+impl Read for Pieces<'_> {
     fn read(&mut self, buf: &mut [u8]) -> io::Result<usize> {
         match self.parts {
             [part, rest @ ..] => {
@@ -28,25 +29,6 @@ impl Read for Parts<'_> {
             }
             [] if self.fails => Err(io::Error::from(ErrorKind::Other)),
             [] => Ok(0),
-        }
-    }
-}
-
-// Gives one octet at each read.
-#[derive(Drop)]
-struct Octets<'a> {
-    octets: &'a [u8],
-}
-
-impl Read for Octets<'_> {
-    fn read(&mut self, buf: &mut [u8]) -> io::Result<usize> {
-        match self.octets {
-            [octet, rest @ ..] if !buf.is_empty() => {
-                buf[0] = *octet;
-                self.octets = rest;
-                Ok(1)
-            }
-            _ => Ok(0),
         }
     }
 }
@@ -65,32 +47,6 @@ impl Read for Feeds {
         buf[0] = b'\n';
         self.left -= 1;
         Ok(1)
-    }
-}
-
-// Takes one octet at each write, and this many in all.
-#[derive(Drop)]
-struct Narrow {
-    taken: Vec<u8>,
-    room: usize,
-}
-
-impl Write for Narrow {
-    fn write(&mut self, buf: &[u8]) -> io::Result<usize> {
-        if self.taken.len() >= self.room {
-            return Err(io::Error::from(ErrorKind::Other));
-        }
-        match buf {
-            [octet, ..] => {
-                self.taken.push(*octet)?;
-                Ok(1)
-            }
-            [] => Ok(0),
-        }
-    }
-
-    fn flush(&mut self) -> io::Result<()> {
-        Ok(())
     }
 }
 
@@ -135,42 +91,44 @@ impl Read for Waiting<'_> {
     }
 }
 
-// The script is done, and prints the answers of `SCRIPT`.
-fn answers<R: Read>(alloc: Global, script: &mut R, row: &str) -> Result<(), Fail> {
-    let mut printed = Vec::new(alloc);
-    let ended = run(alloc, script, &mut printed);
-    let so = ended == Ok(()) && printed.as_slice() == ANSWERS;
-    wants(so, row, "its end, or its text")
-}
+const ANSWER: Command = Command::Answer(Side::Network, BASIC);
 
-#[test]
-fn joins_octets(rt: HostRuntime) -> Result<(), Fail> {
-    answers(rt.alloc(), &mut Octets { octets: SCRIPT }, "octets")
-}
+// A script that comes in parts, of which a line and a half come first.
+const IN_PARTS: &[&[u8]] = &[b"frame 00817f\nframe 00", b"8", b"153\nframe", b" 008153"];
 
-const A_LINE_AND_A_HALF: &[&[u8]] = &[b"frame 00817f\nframe 00", b"8", b"153\nframe", b" 008153"];
-
-#[test]
-fn joins_a_line_and_a_half(rt: HostRuntime) -> Result<(), Fail> {
-    let mut script = Parts {
-        parts: A_LINE_AND_A_HALF,
-        fails: false,
+// Whether parts come to this, where a read behind them fails, or where they end.
+fn parts_come_to(
+    alloc: Global,
+    command: Command,
+    parts: &[&[u8]],
+    fails: bool,
+    text: &[u8],
+) -> bool {
+    let mut script = Pieces { parts, fails };
+    let end = if fails {
+        Err(ScriptFault::Device)
+    } else {
+        Ok(())
     };
-    answers(rt.alloc(), &mut script, "a line and a half")
+    comes_to(alloc, command, &mut script, end, text)
 }
 
-#[test]
-fn reader_fails(rt: HostRuntime) -> Result<(), Fail> {
-    let mut printed = Vec::new(rt.alloc());
+// Whether a script comes to this that gives an octet a read.
+fn octets_come_to(alloc: Global, octets: &[u8], text: &[u8]) -> bool {
     let mut script = Parts {
-        parts: &[b"state\nframe 00", b"8153\nstate"],
-        fails: true,
+        octets,
+        most: 1,
+        fault: None,
     };
-    let ended = run(rt.alloc(), &mut script, &mut printed);
-    let text = printed.as_slice() == b"state 4\nsend 00811f\n".as_slice();
-    let so = ended == Err(ScriptFault::Device) && text;
-    wants(so, "reader", "the fault, or the text before it")
+    comes_to(alloc, ANSWER, &mut script, Ok(()), text)
 }
+
+const CUT: &[&[u8]] = &[b"state\nframe 00", b"8153\nstate"];
+
+// Two lines, the second in two parts, and a third that lacks its line feed.
+const SENT: &[&[u8]] = &[b"user\nnet 0281", b"0101\n", b"user"];
+
+const TRACE: &[u8] = b"U>N F1 TooShort\nN>U SAPI 0 TEI 64 C RR N(R)=0 P=1\nU>N F1 TooShort\n";
 
 // How many line feeds a script has, and how it ends: a million reads have to reach its end.
 const FEEDS: &[(u64, Result<(), ScriptFault>, &str)] = &[
@@ -179,51 +137,55 @@ const FEEDS: &[(u64, Result<(), ScriptFault>, &str)] = &[
     (u64::MAX, Err(ScriptFault::Device), "no end"),
 ];
 
+// The first row of these that does not hold.
+fn other_feeds(alloc: Global) -> Option<&'static str> {
+    for (feeds, wanted, row) in FEEDS {
+        if !comes_to(alloc, ANSWER, &mut Feeds { left: *feeds }, *wanted, b"") {
+            return Some(*row);
+        }
+    }
+    None
+}
+
 #[test]
 fn reads_a_million_times(rt: HostRuntime) -> Result<(), Fail> {
-    for (feeds, wanted, row) in FEEDS {
-        let mut script = Feeds { left: *feeds };
-        let ended = run(rt.alloc(), &mut script, &mut io::sink());
-        wants(ended == *wanted, row, "its end")?;
-    }
-    Ok(())
+    no_row(other_feeds(rt.alloc()), "its end")
 }
 
-#[test]
-fn writer_takes_octets(rt: HostRuntime) -> Result<(), Fail> {
-    let mut out = Narrow {
-        taken: Vec::new(rt.alloc()),
-        room: 1000,
+// Whether a writer takes what it has room for of a text, an octet a write, and then fails.
+fn takes(alloc: Global, command: Command, parts: &[&[u8]], room: usize, text: &[u8]) -> bool {
+    let mut out = Paper::of_octets(room, 1);
+    let mut script = Pieces {
+        parts,
+        fails: false,
     };
-    let mut script = SCRIPT;
-    let ended = run(rt.alloc(), &mut script, &mut out);
-    let so = ended == Ok(()) && out.taken.as_slice() == ANSWERS;
-    wants(so, "writer", "the end, or the text")
-}
-
-// The device fails in the middle of each line: what was answered before is there.
-#[test]
-fn writer_fails(rt: HostRuntime) -> Result<(), Fail> {
-    for room in [0, 6, 15, 40, 70] {
-        fails_with_room(rt.alloc(), room)?;
+    let ended = run(alloc, command, &mut script, &mut out);
+    match text.get(..room) {
+        Some(front) => ended == Err(ScriptFault::Device) && out.text.as_slice() == front,
+        None => ended == Ok(()) && out.text.as_slice() == text,
     }
-    Ok(())
 }
 
-fn fails_with_room(alloc: Global, room: usize) -> Result<(), Fail> {
-    let mut out = Narrow {
-        taken: Vec::new(alloc),
-        room,
-    };
-    let mut script = SCRIPT;
-    let ended = run(alloc, &mut script, &mut out);
-    let so = ended == Err(ScriptFault::Device) && is_front(&out, ANSWERS);
-    wants(so, "writer", "the fault, or what it took")
+// Whether it does so with each of these rooms.
+fn takes_all(
+    alloc: Global,
+    command: Command,
+    parts: &[&[u8]],
+    rooms: &[usize],
+    text: &[u8],
+) -> bool {
+    for room in rooms {
+        if !takes(alloc, command, parts, *room, text) {
+            return false;
+        }
+    }
+    true
 }
 
-// The device took as much of the text as it has room for.
-fn is_front(out: &Narrow, text: &[u8]) -> bool {
-    out.taken.len() == out.room && text.starts_with(out.taken.as_slice())
+// Whether writers take what they have room for. The device fails in the middle of each line: what was answered before is there.
+fn writers_take_octets(alloc: Global) -> bool {
+    let answer = takes_all(alloc, ANSWER, &[SCRIPT], &[0, 6, 15, 40, 70, 1000], ANSWERS);
+    answer && takes_all(alloc, Command::Decode, SENT, &[0, 15, 20, 49, 65], TRACE)
 }
 
 // Parts, and how many octets are to be printed before each is given.
@@ -235,45 +197,110 @@ const PARTS: &[(&[u8], usize)] = &[
     (b"ate", 32),
 ];
 
-#[test]
-fn answers_before_more_is_read(rt: HostRuntime) -> Result<(), Fail> {
+// Whether each line is answered before more is read.
+fn answers_each(alloc: Global) -> bool {
     let count = Cell::new(0);
     let mut script = Waiting {
         parts: PARTS,
         count: &count,
     };
-    let mut out = BufWriter::new(rt.alloc(), Counted { count: &count })?;
-    let ended = run(rt.alloc(), &mut script, &mut out);
-    let so = ended == Ok(()) && count.get() == 40;
-    wants(so, "parts", "the end, or how many octets are printed")
+    match BufWriter::new(alloc, Counted { count: &count }) {
+        Ok(mut out) => { run(alloc, ANSWER, &mut script, &mut out) == Ok(()) && count.get() == 40 }
+        Err(_) => false,
+    }
 }
 
+// Whether a frame of another link is answered, whose line has 20,000 digits and more, and then the state.
+fn is_not_mine(alloc: Global, digits: &str) -> bool {
+    match format!(in alloc; "frame 008303{digits}\nstate\n") {
+        Ok(script) => {
+            let mut script = script.as_bytes();
+            comes_to(alloc, ANSWER, &mut script, Ok(()), b"not-mine\nstate 4\n")
+        }
+        Err(_) => false,
+    }
+}
+
+// Whether it is so of 20,000 digits.
+fn long_line_is_not_mine(alloc: Global) -> bool {
+    match "a".repeat(alloc, 20_000) {
+        Ok(digits) => is_not_mine(alloc, digits.as_str()),
+        Err(_) => false,
+    }
+}
+
+// Whether lines that are notes, one of which is no text, are passed over.
+fn passes_over(alloc: Global) -> bool {
+    let mut script = b"\n# note\n\n#\xff\nstate\n#".as_slice();
+    comes_to(alloc, ANSWER, &mut script, Ok(()), b"state 4\n")
+}
+
+// Where a reader fails, the lines before are answered.
 #[test]
-fn long_lines(rt: HostRuntime) -> Result<(), Fail> {
-    let digits = "a".repeat(rt.alloc(), 20_000)?;
-    let script = format!(in rt.alloc(); "frame 008303{digits}\nstate\n")?;
-    is_not_mine(rt.alloc(), script.as_bytes())
+fn readers_give_parts(rt: HostRuntime) -> Result<(), Fail> {
+    let alloc = rt.alloc();
+    let what = "its end, or its text";
+    let decoded = TRACE.get(..50).unwrap_or(b"");
+    all_hold(&[
+        (octets_come_to(alloc, SCRIPT, ANSWERS), "octets", what),
+        (
+            parts_come_to(alloc, ANSWER, IN_PARTS, false, ANSWERS),
+            "a line and a half",
+            what,
+        ),
+        (
+            parts_come_to(alloc, ANSWER, CUT, true, b"state 4\nsend 00811f\n"),
+            "a reader of answer fails",
+            what,
+        ),
+        (
+            parts_come_to(alloc, Command::Decode, SENT, true, decoded),
+            "a reader of decode fails",
+            what,
+        ),
+        (passes_over(alloc), "lines that are passed over", what),
+        (
+            long_line_is_not_mine(alloc),
+            "a line of 20,000 octets",
+            what,
+        ),
+        (
+            answers_each(alloc),
+            "parts that wait",
+            "the end, or how many octets are printed",
+        ),
+        (
+            writers_take_octets(alloc),
+            "a writer",
+            "the end, or what it took",
+        ),
+    ])
 }
 
-// A frame of another link, and then the state.
-fn is_not_mine(alloc: Global, octets: &[u8]) -> Result<(), Fail> {
-    let mut printed = Vec::new(alloc);
-    let mut script = octets;
-    let ended = run(alloc, &mut script, &mut printed);
-    let text = printed.as_slice() == b"not-mine\nstate 4\n".as_slice();
-    let so = ended == Ok(()) && text;
-    wants(so, "a line of 20,000 octets", "the text")
+// Whether a script is done with ample memory, and the lines before are there where an allocation is refused, which end so.
+pub(crate) fn keeps_lines<R: Read>(
+    alloc: Global,
+    command: Command,
+    script: &mut R,
+    whole: &[u8],
+    ends: &[usize],
+) -> bool {
+    let Ok(mut printed) = Vec::with_capacity(alloc, 512) else {
+        return true;
+    };
+    let ended = run(alloc, command, script, &mut printed);
+    keeps_whole_lines(ended, printed.as_slice(), whole, ends)
 }
 
 // With ample memory the script is done; where an allocation is refused, the lines before are there.
-pub(crate) fn keeps_whole_lines(
+fn keeps_whole_lines(
     ended: Result<(), ScriptFault>,
     text: &[u8],
     whole: &[u8],
     ends: &[usize],
 ) -> bool {
     match ended {
-        Ok(()) => text == whole,
+        Ok(()) => are_same(text, whole),
         Err(ScriptFault::Memory) => whole.starts_with(text) && ends.contains(&text.len()),
         Err(_) => false,
     }
@@ -281,69 +308,27 @@ pub(crate) fn keeps_whole_lines(
 
 #[test]
 fn memory_runs_out(rt: HostRuntime) -> Result<(), Fail> {
-    let Ok(mut printed) = Vec::with_capacity(rt.alloc(), 128) else {
-        return Ok(());
-    };
-    let mut script = Parts {
+    let mut script = Pieces {
         parts: &[b"state\nframe 00", b"8153\n", b"frame 008153"],
         fails: false,
     };
-    let ended = run(rt.alloc(), &mut script, &mut printed);
-    let whole = b"state 4\nsend 00811f\nsend 00811f\n".as_slice();
-    let holds = keeps_whole_lines(ended, printed.as_slice(), whole, &[0, 8, 20]);
+    let whole = b"state 4\nsend 00811f\nsend 00811f\n";
+    let holds = keeps_lines(rt.alloc(), ANSWER, &mut script, whole, &[0, 8, 20]);
     wants(holds, "memory", "the text")
-}
-
-// Two lines, the second in two parts, and a third that lacks its line feed.
-const SENT: &[&[u8]] = &[b"user\nnet 0281", b"0101\n", b"user"];
-
-const TRACE: &[u8] = b"U>N F1 TooShort\nN>U SAPI 0 TEI 64 C RR N(R)=0 P=1\nU>N F1 TooShort\n";
-
-#[test]
-fn decodes_until_the_reader_fails(rt: HostRuntime) -> Result<(), Fail> {
-    let mut printed = Vec::new(rt.alloc());
-    let mut script = Parts {
-        parts: SENT,
-        fails: true,
-    };
-    let ended = decode(rt.alloc(), &mut script, &mut printed);
-    let text = printed.len() == 50 && TRACE.starts_with(printed.as_slice());
-    let so = ended == Err(ScriptFault::Device) && text;
-    wants(so, "reader", "the fault, or the text before it")
-}
-
-#[test]
-fn decodes_until_the_writer_fails(rt: HostRuntime) -> Result<(), Fail> {
-    for room in [0, 15, 20, 49, 65] {
-        decodes_with_room(rt.alloc(), room)?;
-    }
-    Ok(())
-}
-
-fn decodes_with_room(alloc: Global, room: usize) -> Result<(), Fail> {
-    let mut out = Narrow {
-        taken: Vec::new(alloc),
-        room,
-    };
-    let mut script = Parts {
-        parts: SENT,
-        fails: false,
-    };
-    let ended = decode(alloc, &mut script, &mut out);
-    let so = ended == Err(ScriptFault::Device) && is_front(&out, TRACE);
-    wants(so, "writer", "the fault, or what it took")
 }
 
 #[test]
 fn decodes_while_there_is_memory(rt: HostRuntime) -> Result<(), Fail> {
-    let Ok(mut printed) = Vec::with_capacity(rt.alloc(), 128) else {
-        return Ok(());
-    };
-    let mut script = Parts {
+    let mut script = Pieces {
         parts: SENT,
         fails: false,
     };
-    let ended = decode(rt.alloc(), &mut script, &mut printed);
-    let holds = keeps_whole_lines(ended, printed.as_slice(), TRACE, &[0, 16, 50]);
+    let holds = keeps_lines(
+        rt.alloc(),
+        Command::Decode,
+        &mut script,
+        TRACE,
+        &[0, 16, 50],
+    );
     wants(holds, "memory", "the text")
 }

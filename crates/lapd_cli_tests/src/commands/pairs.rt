@@ -1,17 +1,26 @@
 //! The command `pair`: scripts, and what they call for.
 
-use crate::commands::devices::keeps_whole_lines;
-use crate::commands::scripts::{push_lines, window};
+use crate::commands::devices::keeps_lines;
+use crate::commands::scripts::{BASIC, Command};
 use crate::wants::wants;
-use lapd_cli_commands::pair;
-use lapd_cli_script::ScriptFault;
-use lapd_link::{Params, Recovery};
-use std::alloc::Global;
+use lapd_link::Recovery;
 use std::test::Fail;
 
-/// Plays with a window of one frame, an empty line between two. Each is its name, lines, and, set in by four spaces, what
-/// each line calls for; and the two lines at the end.
-const PLAYS: &str = "\
+pub(crate) const PAIR: Command = Command::Pair(BASIC, Recovery::Enquiry, Recovery::Enquiry);
+
+/// A window of three frames, where T200 enquires.
+pub(crate) const WIDE: Command = Command::Pair((3, 3, 512), Recovery::Enquiry, Recovery::Enquiry);
+
+/// The same, where it sends the last message again.
+pub(crate) const LAST: Command = Command::Pair(
+    (3, 3, 512),
+    Recovery::LastMessage,
+    Recovery::LastMessage,
+);
+
+/// Plays with a window of one frame. Each is its name, lines, and, set in by four spaces, what each line calls for; and the two
+/// lines at the end.
+pub(crate) const PLAYS: &str = "\
 # a message is received and acknowledged
 establish user
     U>N SAPI 0 TEI 64 C SABME P=1
@@ -260,14 +269,8 @@ settle
     user: state 8, given 1, received 0, acknowledged 0, dropped 0
     net: state 7, given 0, received 0, acknowledged 0, dropped 0";
 
-#[test]
-fn plays_scripts(rt: HostRuntime) -> Result<(), Fail> {
-    let params = window(1)?;
-    plays_all(rt.alloc(), PLAYS, params)
-}
-
 /// A window of three frames, and the user sends its last message again.
-const WITH_LAST_MESSAGE: &str = "\
+pub(crate) const WITH_LAST_MESSAGE: &str = "\
 # two acknowledgements are lost, and the last message goes out again
 establish user
     U>N SAPI 0 TEI 64 C SABME P=1
@@ -304,14 +307,8 @@ deliver net
     user: state 7, given 3, received 0, acknowledged 2, dropped 0
     net: state 7, given 0, received 3, acknowledged 0, dropped 0";
 
-#[test]
-fn plays_scripts_with_last_message(rt: HostRuntime) -> Result<(), Fail> {
-    let params = window(3)?.with_recovery(Recovery::LastMessage);
-    plays_all(rt.alloc(), WITH_LAST_MESSAGE, params)
-}
-
 /// A window of three frames.
-const THREE_LOST: &str = "\
+pub(crate) const THREE_LOST: &str = "\
 # three I frames are lost, and the line settles
 establish user
     U>N SAPI 0 TEI 64 C SABME P=1
@@ -334,127 +331,27 @@ settle
     user: state 7, given 3, received 0, acknowledged 3, dropped 0
     net: state 7, given 0, received 3, acknowledged 0, dropped 0";
 
-#[test]
-fn plays_what_settles(rt: HostRuntime) -> Result<(), Fail> {
-    let enquiry = window(3)?;
-    plays_so(rt.alloc(), THREE_LOST, enquiry)?;
-    let last = enquiry.with_recovery(Recovery::LastMessage);
-    plays_so(rt.alloc(), THREE_LOST, last)
-}
-
-fn plays_all(alloc: Global, plays: &str, params: Params) -> Result<(), Fail> {
-    for play in plays.split("\n\n") {
-        plays_so(alloc, play, params)?;
-    }
-    Ok(())
-}
-
-fn plays_so(alloc: Global, play: &str, params: Params) -> Result<(), Fail> {
-    let mut script = String::new(alloc);
-    let mut text = String::new(alloc);
-    push_lines(play, &mut script, &mut text)?;
-    prints(alloc, play, params, script.as_str(), text.as_str())
-}
-
-fn prints(alloc: Global, play: &str, params: Params, script: &str, text: &str) -> Result<(), Fail> {
-    let mut printed = Vec::new(alloc);
-    let ended = pair(alloc, &mut script.as_bytes(), &mut printed, params, params);
-    let so = ended == Ok(()) && printed.as_slice() == text.as_bytes();
-    wants(so, play, "its end, or its text")
-}
-
 /// Lines that are none of the command's.
-const BAD_LINES: &[&str] = &[
-    "establish",
-    "establish user net",
-    "establish users",
-    "establish User",
-    "establish network",
-    " establish user",
-    "establish user ",
-    "establish  user",
-    "deliver",
-    "deliver net 0",
-    "lose net",
-    "lose net ",
-    "lose net +1",
-    "lose net -1",
-    "lose net 1a",
-    "lose net 0x1",
-    "lose net 1 1",
-    "lose net 18446744073709551616",
-    "lose net 99999999999999999999999999999999999999999",
-    "lose 0 net",
-    "expire user 200",
-    "expire200",
-    "expire201 user",
-    "t200 user",
-    "busy user",
-    "busy on user",
-    "busy user On",
-    "busy user on off",
-    "give 01 user",
-    "give user 0",
-    "give user 01 02",
-    "unit net 0g",
-    "restart",
-    "restart user net",
-    "settle ",
-    " settle",
-    "settle user",
-    "settle 9",
-    "settles",
-    "Settle",
-    "state",
-    "frame user 00817f",
-];
+pub(crate) const BAD: &str =
+    "establish|establish user net|establish users|establish User|establish network| establish user|\
+    establish user |establish  user|deliver|deliver net 0|lose net|lose net |lose net +1|lose net -1|\
+    lose net 1a|lose net 0x1|lose net 1 1|lose net 18446744073709551616|\
+    lose net 99999999999999999999999999999999999999999|lose 0 net|expire user 200|expire200|expire201 user|\
+    t200 user|busy user|busy on user|busy user On|busy user on off|give 01 user|give user 0|give user 01 02|\
+    unit net 0g|restart|restart user net|settle | settle|settle user|settle 9|settles|Settle|state|\
+    frame user 00817f";
 
-#[test]
-fn bad_lines(rt: HostRuntime) -> Result<(), Fail> {
-    for line in BAD_LINES {
-        is_bad(rt.alloc(), line)?;
-    }
-    Ok(())
-}
-
-fn is_bad(alloc: Global, line: &str) -> Result<(), Fail> {
-    let params = Params::new(1, 3, 1).unwrap();
-    let mut printed = Vec::new(alloc);
-    let ended = pair(alloc, &mut line.as_bytes(), &mut printed, params, params);
-    let bad = ended == Err(ScriptFault::BadLine(1)) && printed.is_empty();
-    wants(bad, line, "a bad line, which prints nothing")
-}
-
-/// After a bad line the two lines at the end are left out, and a place may have zeros in front.
-#[test]
-fn a_bad_line_ends_it(rt: HostRuntime) -> Result<(), Fail> {
-    ends_at_a_bad_line(rt.alloc())
-}
-
-fn ends_at_a_bad_line(alloc: Global) -> Result<(), Fail> {
-    let params = Params::new(1, 3, 1).unwrap();
-    let mut printed = Vec::new(alloc);
-    let mut script = LINES_TO_A_BAD_LINE;
-    let ended = pair(alloc, &mut script, &mut printed, params, params);
-    let text = printed.as_slice() == b"refused P1 NothingThere\n".as_slice();
-    let so = text && ended == Err(ScriptFault::BadLine(4));
-    wants(so, "line 4", "its end, or the text before it")
-}
-
-const LINES_TO_A_BAD_LINE: &[u8] =
-    b"# a note\nlose net 00018446744073709551615\n\nlose net one\nestablish user\n";
+/// A script, as a row of `Check::Script`: after a bad line the two lines at the end are left out, and a place may have zeros in
+/// front.
+pub(crate) const BEFORE_A_BAD_LINE: &str = "\
+# a note~lose net 00018446744073709551615~~lose net one~establish user~ | 4 | refused P1 NothingThere~";
 
 /// Where an allocation is refused, the lines before are answered, and nothing of that line.
 #[test]
 fn plays_while_there_is_memory(rt: HostRuntime) -> Result<(), Fail> {
-    let Ok(mut printed) = Vec::with_capacity(rt.alloc(), 512) else {
-        return Ok(());
-    };
-    let params = Params::new(1, 3, 512).unwrap();
-    let mut script = MESSAGE;
-    let ended = pair(rt.alloc(), &mut script, &mut printed, params, params);
     let ends = [0, 30, 73, 88, 138, 186];
-    let holds = keeps_whole_lines(ended, printed.as_slice(), MESSAGE_PLAYED, &ends);
+    let mut script = MESSAGE;
+    let holds = keeps_lines(rt.alloc(), PAIR, &mut script, MESSAGE_PLAYED, &ends);
     wants(holds, "memory", "the fault, or the text")
 }
 

@@ -2,7 +2,7 @@
 
 use crate::port::calls::{has_failed, reads};
 use crate::port::devices::{Giver, NO_TROUBLE, Taker, Trouble, calls_of, no_sink, source_of};
-use crate::wants::wants;
+use crate::wants::{all_hold, no_row};
 use lapd_port::{Port, PortFault, Source};
 use std::test::Fail;
 
@@ -103,15 +103,21 @@ const ROWS: &[Row] = &[
     ),
 ];
 
-#[test]
-fn inputs_are_read() -> Result<(), Fail> {
-    for (name, input, frames, fault) in ROWS {
-        for most in [1, 2, 3, 512] {
-            let source = source_of(input, most, NO_TROUBLE);
-            wants(ends_over(source, frames, *fault, 0), name, "another answer")?;
+/// Whether a port does so where its source gives so many octets a turn at most.
+fn ends_by_turns(row: &Row, most: usize) -> bool {
+    let (_, input, frames, fault) = *row;
+    ends_over(source_of(input, most, NO_TROUBLE), frames, fault, 0)
+}
+
+/// The first row of these that does not hold.
+fn other_input() -> Option<&'static str> {
+    for row in ROWS {
+        let few = ends_by_turns(row, 1) && ends_by_turns(row, 2) && ends_by_turns(row, 3);
+        if !few || !ends_by_turns(row, 512) {
+            return Some(row.0);
         }
     }
-    Ok(())
+    None
 }
 
 /// The text of two frames.
@@ -139,14 +145,15 @@ fn fault_behind(octets: usize) -> PortFault {
     }
 }
 
-#[test]
-fn the_input_ends_after_each_octet() -> Result<(), Fail> {
+/// Whether that is so behind each octet.
+fn ends_behind_each() -> bool {
     for end in 0..=TWO.len() {
         let source = source_of(&TWO[..end], 2, NO_TROUBLE);
-        let ends = ends_over(source, frames_within(end), fault_behind(end), 0);
-        wants(ends, "an end", "another answer")?;
+        if !ends_over(source, frames_within(end), fault_behind(end), 0) {
+            return false;
+        }
     }
-    Ok(())
+    true
 }
 
 /// Whether the port answers S4, and then S6, where the read behind so many octets fails. One octet comes a call.
@@ -159,12 +166,14 @@ fn fails_behind(octets: usize) -> bool {
     ends_over(source, frames_within(octets), PortFault::Device, 1)
 }
 
-#[test]
-fn each_read_fails() -> Result<(), Fail> {
+/// Whether that is so behind each octet.
+fn fails_behind_each() -> bool {
     for octets in 0..TWO.len() {
-        wants(fails_behind(octets), "a read", "not S4, one failure and S6")?;
+        if !fails_behind(octets) {
+            return false;
+        }
     }
-    Ok(())
+    true
 }
 
 /// A name, how many reads are interrupted, whether the frame is read, and in how many turns.
@@ -202,26 +211,46 @@ fn turns_hold(interrupted: u64, is_read: bool, turns: u64) -> bool {
     has_turns(source, is_read, turns)
 }
 
-#[test]
-fn reads_are_interrupted() -> Result<(), Fail> {
+/// The first row of these that does not hold.
+fn other_turns() -> Option<&'static str> {
     for (name, interrupted, is_read, turns) in TURNS {
-        let holds = turns_hold(*interrupted, *is_read, *turns);
-        wants(holds, name, "another answer, or other turns")?;
+        if !turns_hold(*interrupted, *is_read, *turns) {
+            return Some(*name);
+        }
     }
-    Ok(())
+    None
 }
 
 /// Whether the frame behind the length is read, an octet a turn.
-fn comes_whole(text: &[u8; 266]) -> bool {
+fn comes_whole(text: &[u8]) -> bool {
+    let frame = text.get(2..).unwrap_or(&[]);
     let mut port = Port::new(source_of(text, 1, NO_TROUBLE), no_sink());
-    reads(&mut port, Ok(&text[2..])) && port.source().trouble.calls == 266
+    reads(&mut port, Ok(frame)) && port.source().trouble.calls == 266
 }
 
-#[test]
-fn the_longest_frame_comes_an_octet_a_turn() -> Result<(), Fail> {
+/// Whether the longest frame is.
+fn longest_comes() -> bool {
     let mut text = [0xaa; 266];
     text[0] = 0x01;
     text[1] = 0x08;
-    let whole = comes_whole(&text);
-    wants(whole, "264 octets", "another frame, or not 266 turns")
+    comes_whole(&text)
+}
+
+#[test]
+fn frames_are_read() -> Result<(), Fail> {
+    no_row(other_input(), "another answer")?;
+    no_row(other_turns(), "another answer, or other turns")?;
+    all_hold(&[
+        (ends_behind_each(), "the input ends", "another answer"),
+        (
+            fails_behind_each(),
+            "a read fails",
+            "not S4, one failure and S6",
+        ),
+        (
+            longest_comes(),
+            "264 octets",
+            "another frame, or not 266 turns",
+        ),
+    ])
 }

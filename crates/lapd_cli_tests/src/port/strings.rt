@@ -3,7 +3,7 @@
 
 use crate::port::calls::reads;
 use crate::port::devices::{Giver, NO_TROUBLE, Taker, no_sink, source_of};
-use crate::wants::wants;
+use crate::wants::{all_hold, wants};
 use lapd_port::{Port, PortFault};
 use rand_core::{Rng, SeedableRng};
 use rand_pcg::Pcg32;
@@ -72,11 +72,6 @@ fn are_too_short() -> bool {
     all
 }
 
-#[test]
-fn strings_of_two_octets_are_too_short() -> Result<(), Fail> {
-    wants(are_too_short(), "up to two octets", "not S2")
-}
-
 /// Puts the addresses of a TEI into a stream, with each two octets behind them.
 fn put_fields(stream: &mut Vec<u8>) -> Result<(), AllocError> {
     for address in [0x00, 0x02] {
@@ -89,15 +84,11 @@ fn put_fields(stream: &mut Vec<u8>) -> Result<(), AllocError> {
     Ok(())
 }
 
-#[test]
-fn all_fields_come_out(rt: HostRuntime) -> Result<(), Fail> {
-    let mut stream = Vec::new(rt.alloc());
-    put_fields(&mut stream)?;
-    wants(
-        is_read(stream.as_slice(), 7),
-        "131,072 frames",
-        "another frame, or not S1",
-    )
+/// Whether these 131,072 frames are read.
+fn fields_are_read(alloc: Global) -> bool {
+    let mut stream = Vec::new(alloc);
+    let put = put_fields(&mut stream);
+    put.is_ok() && is_read(stream.as_slice(), 7)
 }
 
 /// Draws 0 to 300 octets and puts them into a stream.
@@ -118,39 +109,59 @@ fn drawn_are_read(stream: &mut Vec<u8>, random: &mut Pcg32) -> Result<bool, Allo
     Ok(is_read(stream.as_slice(), most + 1))
 }
 
-/// Draws all streams.
-fn draw_streams(stream: &mut Vec<u8>) -> Result<(), Fail> {
+/// Whether the strings of all streams are.
+fn all_drawn_are_read(stream: &mut Vec<u8>) -> bool {
     let mut random = Pcg32::seed_from_u64(921);
     for _ in 0..STRINGS / STRINGS_OF_STREAM {
-        let read = drawn_are_read(stream, &mut random)?;
-        wants(read, "drawn octets", "another frame, or not S2")?;
+        if !matches!(drawn_are_read(stream, &mut random), Ok(true)) {
+            return false;
+        }
     }
-    Ok(())
+    true
+}
+
+/// Draws all streams.
+fn streams_are_read(alloc: Global) -> bool {
+    let mut stream = Vec::new(alloc);
+    all_drawn_are_read(&mut stream)
+}
+
+/// Whether a string of this length is read, or is too long.
+fn is_length_read(stream: &mut Vec<u8>, len: usize) -> bool {
+    stream.clear();
+    let put = put(stream, [0xaa; MOST].get(..len).unwrap_or(&[]));
+    put.is_ok() && is_read(stream.as_slice(), 512)
+}
+
+/// Whether each length does so.
+fn lengths_are_read(stream: &mut Vec<u8>) -> bool {
+    for len in 0..=MOST {
+        if !is_length_read(stream, len) {
+            return false;
+        }
+    }
+    true
+}
+
+/// Whether they do so, in a new stream.
+fn are_lengths_read(alloc: Global) -> bool {
+    let mut stream = Vec::new(alloc);
+    lengths_are_read(&mut stream)
+}
+
+#[test]
+fn strings_come_out(rt: HostRuntime) -> Result<(), Fail> {
+    let alloc = rt.alloc();
+    let what = "another frame, or not S1 or S2 where it should be";
+    all_hold(&[
+        (are_too_short(), "up to two octets", what),
+        (fields_are_read(alloc), "131,072 frames", what),
+        (are_lengths_read(alloc), "0 to 300 octets", what),
+    ])
 }
 
 #[test]
 fn drawn_strings_come_out(rt: HostRuntime) -> Result<(), Fail> {
-    let mut stream = Vec::new(rt.alloc());
-    draw_streams(&mut stream)
-}
-
-/// Whether a string of each length is read, or is too long.
-fn lengths_are_read(alloc: Global) -> Result<bool, AllocError> {
-    let mut stream = Vec::new(alloc);
-    let mut all = true;
-    for len in 0..=MOST {
-        stream.clear();
-        put(&mut stream, [0xaa; MOST].get(..len).unwrap_or(&[]))?;
-        all = all && is_read(stream.as_slice(), 512);
-    }
-    Ok(all)
-}
-
-#[test]
-fn strings_of_each_length(rt: HostRuntime) -> Result<(), Fail> {
-    wants(
-        lengths_are_read(rt.alloc())?,
-        "0 to 300 octets",
-        "another frame, or not S2",
-    )
+    let read = streams_are_read(rt.alloc());
+    wants(read, "drawn octets", "another frame, or not S2")
 }

@@ -2,7 +2,7 @@
 
 use crate::port::calls::{has_failed, writes};
 use crate::port::devices::{Giver, NO_TROUBLE, Taker, Trouble, no_source, sink_of};
-use crate::wants::wants;
+use crate::wants::{all_hold, no_row};
 use lapd_port::{Port, PortFault, Sink};
 use std::test::Fail;
 
@@ -88,12 +88,14 @@ fn row_holds(row: &Row) -> bool {
     answers_over(sink_of(most, trouble), wanted, front, turns, 0)
 }
 
-#[test]
-fn frames_are_written() -> Result<(), Fail> {
+/// The first row of these that does not hold.
+fn other_row() -> Option<&'static str> {
     for row in ROWS {
-        wants(row_holds(row), row.0, "not so")?;
+        if !row_holds(row) {
+            return Some(row.0);
+        }
     }
-    Ok(())
+    None
 }
 
 /// Whether the port answers S4, and then S6, where the write behind so many octets fails. One octet goes a call.
@@ -106,28 +108,42 @@ fn fails_behind(octets: usize) -> bool {
     answers_over(sink_of(1, trouble), Err(PortFault::Device), octets, call, 1)
 }
 
-#[test]
-fn each_write_fails() -> Result<(), Fail> {
+/// Whether that is so behind each octet.
+fn fails_behind_each() -> bool {
     for octets in 0..TEXT.len() {
-        let fails = fails_behind(octets);
-        wants(fails, "a write", "not S4, the front, one failure and S6")?;
+        if !fails_behind(octets) {
+            return false;
+        }
     }
-    Ok(())
+    true
 }
 
 /// Whether a frame and the longest one are written, each in one turn.
-fn follow(text: &[u8; 271]) -> bool {
+fn write_both(text: &[u8]) -> bool {
     let mut port = Port::new(no_source(), sink_of(512, NO_TROUBLE));
     let first = writes(&mut port, FRAME, Ok(()));
     let second = writes(&mut port, &[0x02; 264], Ok(()));
     first && second && took(&port, text, 2)
 }
 
-#[test]
-fn frames_follow_one_another() -> Result<(), Fail> {
+/// Whether their text is written.
+fn follow() -> bool {
     let mut text = [0x02; 271];
     text[..5].copy_from_slice(TEXT);
     text[5] = 0x01;
     text[6] = 0x08;
-    wants(follow(&text), "a frame, and 264 octets", "another text")
+    write_both(&text)
+}
+
+#[test]
+fn frames_are_written() -> Result<(), Fail> {
+    no_row(other_row(), "not so")?;
+    all_hold(&[
+        (
+            fails_behind_each(),
+            "a write fails",
+            "not S4, the front, one failure and S6",
+        ),
+        (follow(), "a frame, and 264 octets", "another text"),
+    ])
 }
