@@ -9,77 +9,21 @@ use std::alloc::Global;
 use std::test::Fail;
 
 /// Of the network side.
-const BAD: &[&str] = &[
-    "tick 5",
-    "read 0",
-    "read 3600001",
-    "read 1 1",
-    "read ",
-    "run 0",
-    "run x",
-    "wait",
-    "wait 0",
-    "expect",
-    "expect 5",
-    "expect  5",
-    "expect a 0",
-    "expect a",
-    "expect a 3600001",
-    "state 0",
-    "state 0 128",
-    "state 1 64",
-    "state 0 64 1",
-    "stats 1",
-    "ask",
-    "establish 0",
-    "give 0 0801",
-    "check",
-    "Read",
-];
+const BAD: &str =
+    "tick 5|read 0|read 3600001|read 1 1|read |run 0|run x|wait|wait 0|expect|expect 5|expect  5|expect a 0|\
+    expect a|expect a 3600001|state 0|state 0 128|state 1 64|state 0 64 1|stats 1|ask|establish 0|give 0 0801|\
+    check|Read";
 
-const GOOD: &[&str] = &[
-    "read 1",
-    "read 3600000",
-    "run 1",
-    "wait 1",
-    "state",
-    "state 0 64",
-    "state 16 5",
-    "stats",
-    "establish 0 64",
-    "give 0 64 0801",
-    "check 64",
-    "unit 0 127 01",
-    "# tick",
-    "",
-    "run",
-    "read",
-];
+const GOOD: &str =
+    "read 1|read 3600000|run 1|wait 1|state|state 0 64|state 16 5|stats|establish 0 64|give 0 64 0801|\
+    check 64|unit 0 127 01|# tick||run|read";
 
 /// Of the user side.
-const BAD_OF_USER: &[&str] = &[
-    "tick 5",
-    "check 64",
-    "establish 0 64",
-    "give 0 64 0801",
-    "state 0 64",
-    "ask 1",
-    "release",
-    "establish 1",
-];
+const BAD_OF_USER: &str =
+    "tick 5|check 64|establish 0 64|give 0 64 0801|state 0 64|ask 1|release|establish 1";
 
-const GOOD_OF_USER: &[&str] = &[
-    "ask",
-    "establish 0",
-    "release 16",
-    "give 0 0801",
-    "unit 0 01",
-    "unit 16",
-    "state 0",
-    "state",
-    "stats",
-    "run 5",
-];
+const GOOD_OF_USER: &str =
+    "ask|establish 0|release 16|give 0 0801|unit 0 01|unit 16|state 0|state|stats|run 5";
 
 const STYLE: Style = Style {
     time: false,
@@ -87,13 +31,23 @@ const STYLE: Style = Style {
     lines: LineStyle::Text,
 };
 
-/// Whether each of these lines is bad, or each is good.
-fn are(alloc: Global, who: Who, lines: &[&str], bad: bool) -> Result<(), Fail> {
-    for line in lines {
-        let made = Made::new("5 close\n", None);
-        let played = play(alloc, who, line.as_bytes(), STYLE, made)?;
-        let is_bad = played.ended == Err(LiveStop::Script(ScriptFault::BadLine(1)));
-        wants(is_bad == bad, line, "it is, or is none, of its lines")?;
+/// Whether a line is bad, or good.
+fn is(alloc: Global, who: Who, line: &str, bad: bool) -> bool {
+    let made = Made::new("5 close\n", None);
+    match play(alloc, who, line.as_bytes(), STYLE, made) {
+        Ok(played) => {
+            let fault = LiveStop::Script(ScriptFault::BadLine(1));
+            (played.ended == Err(fault)) == bad
+        }
+        Err(_) => false,
+    }
+}
+
+/// Each of these lines is bad, or each is good.
+fn are(alloc: Global, who: Who, lines: &str, bad: bool) -> Result<(), Fail> {
+    for line in lines.split('|') {
+        let so = is(alloc, who, line, bad);
+        wants(so, line, "it is, or is none, of its lines")?;
     }
     Ok(())
 }

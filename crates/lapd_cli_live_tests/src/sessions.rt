@@ -2,7 +2,7 @@
 
 use crate::made::Made;
 use crate::played::{Who, made_live};
-use crate::wants::{are_same, wants};
+use crate::wants::{are_same, no_row};
 use lapd_cli_live::{LineStyle, LiveStop, Style, live_session};
 use std::alloc::{AllocError, Global};
 use std::io::{self, Read};
@@ -142,20 +142,38 @@ fn is_told(told: &[u8], wanted: &str) -> bool {
     }
 }
 
+/// Whether it ended well, with this printed and told.
+fn is_as_said(held: &Held, row: &Row) -> bool {
+    held.ended == Ok(())
+        && are_same(held.printed.as_slice(), row.printed.as_bytes())
+        && is_told(held.told.as_slice(), row.told)
+}
+
 /// Whether a row comes out.
-fn check_session(alloc: Global, row: &Row) -> Result<(), Fail> {
-    let held = hold(alloc, row)?;
-    let printed = are_same(held.printed.as_slice(), row.printed.as_bytes());
-    let told = is_told(held.told.as_slice(), row.told);
-    wants(held.ended == Ok(()), row.name, "it ends otherwise")?;
-    wants(printed, row.name, "other lines are printed")?;
-    wants(told, row.name, "something else is told")
+fn row_holds(alloc: Global, row: &Row) -> bool {
+    match hold(alloc, row) {
+        Ok(held) => is_as_said(&held, row),
+        Err(_) => false,
+    }
+}
+
+/// The rows. Their texts are long, so they are named here alone.
+fn rows() -> &'static [Row] {
+    ROWS
+}
+
+/// The first row of these that does not hold.
+fn other_row(alloc: Global) -> Option<&'static str> {
+    for row in rows() {
+        if !row_holds(alloc, row) {
+            return Some(row.name);
+        }
+    }
+    None
 }
 
 #[test]
 fn sessions_go_by_the_clock(rt: HostRuntime) -> Result<(), Fail> {
-    for row in ROWS {
-        check_session(rt.alloc(), row)?;
-    }
-    Ok(())
+    let what = "it ends otherwise, or something else is printed or told";
+    no_row(other_row(rt.alloc()), what)
 }

@@ -9,6 +9,14 @@ pub(crate) fn wants(holds: bool, row: &str, what: &str) -> Result<(), Fail> {
     }
 }
 
+/// Fails the test where a table has a row that does not hold, which this is.
+pub(crate) fn no_row(row: Option<&str>, what: &str) -> Result<(), Fail> {
+    match row {
+        Some(row) => wants(false, row, what),
+        None => Ok(()),
+    }
+}
+
 /// Whether these octets are the same. What calls it learns nothing of them, which makes it short to prove.
 pub(crate) fn are_same(one: &[u8], other: &[u8]) -> bool {
     one == other
