@@ -13,6 +13,7 @@ use crate::commands::pairs::{LAST, PAIR, WIDE};
 use crate::commands::scripts::{BASIC, Command};
 use crate::rows::{Check, tables_hold};
 use lapd_frame::Side;
+use lapd_link::Recovery;
 use std::test::Fail;
 
 /// How the network's end of the link of SAPI 16 and TEI 0 answers a SABME (Q.921 3.3.3, 3.3.4).
@@ -24,6 +25,9 @@ const USER: Command = Command::Answer(Side::User, BASIC);
 /// The network's end, with N200 of 1.
 const ONCE: Command = Command::Answer(Side::Network, (1, 1, 512));
 
+/// Two ends with room for one message.
+const SMALL: Command = Command::Pair((1, 3, 1), Recovery::Enquiry, Recovery::Enquiry);
+
 #[test]
 fn scripts_are_as_said(rt: HostRuntime) -> Result<(), Fail> {
     let tables = [
@@ -33,10 +37,10 @@ fn scripts_are_as_said(rt: HostRuntime) -> Result<(), Fail> {
         (Check::Script(Command::Bus(1)), buses::OF_ONE),
         (Check::Script(Command::Bus(2)), buses::OF_TWO),
         (Check::Script(Command::Decode), decodes::SCRIPTS),
-        (Check::Script(PAIR), pairs::BEFORE_A_BAD_LINE),
+        (Check::Script(SMALL), pairs::BEFORE_A_BAD_LINE),
         (Check::BadLine(answers::NETWORK), answers::BAD),
         (Check::BadLine(Command::Bus(2)), buses::BAD),
-        (Check::BadLine(PAIR), pairs::BAD),
+        (Check::BadLine(SMALL), pairs::BAD),
     ];
     tables_hold(rt.alloc(), &tables)
 }
