@@ -1,17 +1,17 @@
 //! Three hundred messages over a line that loses every tenth frame.
 
-use crate::made::new_pair;
-use crate::wants::{all_hold, wants};
+use crate::made::{NO_PAIR, new_pair};
+use crate::wants::is_right;
 use lapd_frame::Side;
-use lapd_link::Out;
+use lapd_link::{Out, Outs, Recovery};
 use lapd_pair::{Move, Pair, Received};
 use std::alloc::Global;
 use std::test::Fail;
 
 /// Frames are numbered from 1 as they come on the line, and one whose number is a multiple of ten is lost.
 #[derive(Drop)]
-struct Numbered {
-    pair: Pair,
+struct Numbered<'a> {
+    pair: &'a mut Pair,
     /// The number of the next frame.
     next: u64,
     to_user: Vec<u64>,
@@ -22,37 +22,69 @@ struct Numbered {
     numbered: bool,
 }
 
-impl Numbered {
-    fn new(alloc: Global) -> Result<Numbered, Fail> {
-        Ok(Numbered {
-            pair: new_pair(alloc, 127)?,
-            next: 1,
-            to_user: Vec::new(alloc),
-            to_network: Vec::new(alloc),
-            reported: false,
-            numbered: true,
-        })
-    }
-
-    /// The user side establishes the link.
-    fn establish(&mut self) {
-        let _ = self.makes(&Move::Establish(Side::User));
-        let _ = self.turn() && self.turn();
-    }
-
-    /// The user side gives three hundred messages.
-    fn give_all(&mut self, alloc: Global) -> Result<(), Fail> {
-        for number in 0..300u32 {
-            self.give(alloc, number)?;
+impl Numbered<'_> {
+    /// Makes a move, and numbers the frames that it puts on the line.
+    fn makes(&mut self, deed: &Move) -> bool {
+        let to = deed.side().other();
+        let before = self.pair.line(to).len();
+        match self.pair.apply(deed) {
+            Ok(outs) => {
+                self.reported = self.reported || has_report(&outs);
+                self.number_all(to, before);
+                true
+            }
+            Err(_) => false,
         }
-        Ok(())
     }
 
-    /// The user side gives the message of this number.
-    fn give(&mut self, alloc: Global, number: u32) -> Result<(), Fail> {
-        let message = octets_of(number).to_vec(alloc)?;
-        let given = self.makes(&Move::Give(Side::User, message));
-        wants(given, "every tenth", "a message is refused")
+    /// Numbers the frames on their way to this side, behind so many.
+    fn number_all(&mut self, to: Side, before: usize) {
+        for _ in before..self.pair.line(to).len() {
+            let number = self.next;
+            let pushed = self.numbers(to).push(number).is_ok();
+            self.numbered = self.numbered && pushed;
+            self.next = number.wrapping_add(1);
+        }
+    }
+
+    /// The numbers of the frames on their way to this side.
+    fn numbers(&mut self, to: Side) -> &mut Vec<u64> {
+        match to {
+            Side::User => &mut self.to_user,
+            Side::Network => &mut self.to_network,
+        }
+    }
+
+    /// The number of the first frame on its way to this side, which is taken off.
+    fn first(&mut self, to: Side) -> Option<u64> {
+        let numbers = self.numbers(to);
+        if numbers.is_empty() {
+            None
+        } else {
+            Some(numbers.remove(0))
+        }
+    }
+
+    /// Delivers the first frame on its way to this side, or loses it, where there is one.
+    fn passes(&mut self, to: Side) -> bool {
+        match self.first(to) {
+            Some(number) if number % 10 == 0 => self.makes(&Move::Lose(to, 0)),
+            Some(_) => self.makes(&Move::Deliver(to)),
+            None => false,
+        }
+    }
+
+    /// T200 of a side expires.
+    fn expires(&mut self, side: Side) -> bool {
+        self.makes(&Move::Expire200(side))
+    }
+
+    /// The first of these that is possible: a frame to the network, one to the user, T200 of the user, of the network.
+    fn turn(&mut self) -> bool {
+        self.passes(Side::Network)
+            || self.passes(Side::User)
+            || self.expires(Side::User)
+            || self.expires(Side::Network)
     }
 
     /// Makes one move after another, until none is possible, and tells whether there is such an end.
@@ -65,56 +97,55 @@ impl Numbered {
         false
     }
 
-    /// Makes a move, and numbers the frames that it puts on the line.
-    fn makes(&mut self, deed: &Move) -> bool {
-        let to = deed.side().other();
-        let before = self.pair.line(to).len();
-        let Ok(outs) = self.pair.apply(deed) else {
-            return false;
-        };
-        self.reported = self.reported || outs.iter().any(|out| matches!(out, Out::Report(_)));
-        for _ in before..self.pair.line(to).len() {
-            self.number_one(to);
+    /// The user side establishes the link.
+    fn establishes(&mut self) -> bool {
+        self.makes(&Move::Establish(Side::User)) && self.turn() && self.turn()
+    }
+
+    /// The user side gives the message of this number.
+    fn gives(&mut self, alloc: Global, number: u32) -> bool {
+        match octets_of(number).to_vec(alloc) {
+            Ok(message) => self.makes(&Move::Give(Side::User, message)),
+            Err(_) => false,
+        }
+    }
+
+    /// The user side gives three hundred messages.
+    fn gives_all(&mut self, alloc: Global) -> bool {
+        for number in 0..300u32 {
+            if !self.gives(alloc, number) {
+                return false;
+            }
         }
         true
     }
 
-    /// Numbers a frame on its way to this side.
-    fn number_one(&mut self, to: Side) {
-        let number = self.next;
-        let pushed = self.numbers(to).push(number);
-        self.numbered = self.numbered && pushed.is_ok();
-        self.next = number.wrapping_add(1);
-    }
-
-    /// The numbers of the frames on their way to this side.
-    fn numbers(&mut self, to: Side) -> &mut Vec<u64> {
-        match to {
-            Side::User => &mut self.to_user,
-            Side::Network => &mut self.to_network,
-        }
-    }
-
-    /// Delivers the first frame on its way to this side, or loses it, where there is one.
-    fn passes(&mut self, to: Side) -> bool {
-        let numbers = self.numbers(to);
-        if numbers.is_empty() {
-            return false;
-        }
-        if numbers.remove(0) % 10 == 0 {
-            self.makes(&Move::Lose(to, 0))
+    /// Plays all of it.
+    fn wrong(&mut self, alloc: Global) -> Option<&'static str> {
+        if !self.establishes() {
+            Some("no link is established")
+        } else if !self.gives_all(alloc) {
+            Some("a message is refused")
+        } else if !self.turn_to_the_end() {
+            Some("no end")
+        } else if !self.numbered {
+            Some("no memory for a number")
+        } else if self.reported {
+            Some("an error is reported")
         } else {
-            self.makes(&Move::Deliver(to))
+            None
         }
     }
+}
 
-    /// The first of these that is possible: a frame to the network, one to the user, T200 of the user, of the network.
-    fn turn(&mut self) -> bool {
-        self.passes(Side::Network)
-            || self.passes(Side::User)
-            || self.makes(&Move::Expire200(Side::User))
-            || self.makes(&Move::Expire200(Side::Network))
+/// Whether an error is reported.
+fn has_report(outs: &Outs) -> bool {
+    for out in outs.as_slice() {
+        if let Out::Report(_) = out {
+            return true;
+        }
     }
+    false
 }
 
 /// The octets of the message of this number.
@@ -134,35 +165,46 @@ fn are_in_order(received: &[Received]) -> bool {
     true
 }
 
-/// Whether all messages were received, in order.
-fn all_received(pair: &Pair) -> bool {
+/// What is wrong of a pair at the end: all messages are to be received, in order, and acknowledged, with nothing left out on
+/// the way.
+fn wrong_end(pair: &Pair) -> Option<&'static str> {
     let received = pair.received(Side::Network);
-    received.len() == 300 && are_in_order(received)
+    if received.len() != 300 || !are_in_order(received) {
+        Some("received in order")
+    } else if pair.acknowledged(Side::User) != 300 || pair.left() != 0 {
+        Some("acknowledged")
+    } else if pair.link(Side::User).window().vs().value() != 44 {
+        Some("V(S)")
+    } else {
+        None
+    }
 }
 
-/// Whether all messages are acknowledged, and nothing was left out on the way.
-fn all_acknowledged(pair: &Pair) -> bool {
-    let vs = pair.link(Side::User).window().vs().value();
-    pair.acknowledged(Side::User) == 300 && vs == 44 && pair.left() == 0
+/// Plays all of it with this pair.
+fn play(alloc: Global, pair: &mut Pair) -> Option<&'static str> {
+    let mut numbered = Numbered {
+        pair,
+        next: 1,
+        to_user: Vec::new(alloc),
+        to_network: Vec::new(alloc),
+        reported: false,
+        numbered: true,
+    };
+    numbered.wrong(alloc)
 }
 
-/// Plays all of it. (What is lent is not let go at each of its ends, which makes this short to prove.)
-fn play(alloc: Global, numbered: &mut Numbered) -> Result<(), Fail> {
-    numbered.establish();
-    numbered.give_all(alloc)?;
-    let ends = numbered.turn_to_the_end();
-    let row = "every tenth";
-    all_hold(&[
-        (numbered.numbered, row, "no memory for a number"),
-        (ends, row, "no end"),
-        (all_received(&numbered.pair), row, "received in order"),
-        (all_acknowledged(&numbered.pair), row, "acknowledged"),
-        (!numbered.reported, row, "an error is reported"),
-    ])
+/// Plays all of it with a new pair.
+fn wrong_of_new(alloc: Global) -> Option<&'static str> {
+    match new_pair(alloc, (127, 512, Recovery::Enquiry, Recovery::Enquiry)) {
+        Some(mut pair) => match play(alloc, &mut pair) {
+            None => wrong_end(&pair),
+            wrong => wrong,
+        },
+        None => Some(NO_PAIR),
+    }
 }
 
 #[test]
 fn every_tenth_frame_is_lost(rt: HostRuntime) -> Result<(), Fail> {
-    let mut numbered = Numbered::new(rt.alloc())?;
-    play(rt.alloc(), &mut numbered)
+    is_right("every tenth", wrong_of_new(rt.alloc()))
 }

@@ -1,16 +1,17 @@
 //! Moves that are refused: by which fault, and that a pair then shows all that it showed before.
 
-use crate::made::{moves, new_pair, params};
+use crate::made::{Ends, NO_PAIR, moves, new_pair};
 use crate::readers::digest;
-use crate::steps::{go_through, move_of};
-use crate::wants::all_hold;
+use crate::steps::move_of;
+use crate::wants::is_right;
+use lapd_link::Recovery::Enquiry;
 use lapd_pair::{Move, Pair};
 use std::alloc::Global;
 use std::test::Fail;
 
 /// Steps that lead to a place, and what is refused there. In the order of the tests: what is not there, a timer that does
 /// not run, what T200 waits for, and the link's refusals.
-const PLACES: &str = "\
+pub(crate) const PLACES: &str = "\
 new
 user deliver: refused P1 NothingThere
 net deliver: refused P1 NothingThere
@@ -63,12 +64,6 @@ user give 02: nothing
 user give 03: refused L2 QueueFull
 user give 03 times 261: refused L3 TooLong";
 
-#[test]
-fn refused_moves_change_nothing(rt: HostRuntime) -> Result<(), Fail> {
-    let params = params(1, 2)?;
-    go_through(rt.alloc(), params, params, PLACES)
-}
-
 /// Moves of which the second, fifth and sixth are refused.
 const SOME_MOVES: &str = "\
 user establish
@@ -80,13 +75,19 @@ net lose 0
 user give 0801
 net deliver";
 
-/// The moves of these lines.
-fn moves_of(alloc: Global, lines: &str) -> Result<Vec<Move>, Fail> {
-    let mut all = Vec::new(alloc);
+/// Puts the moves of these lines behind the others, and tells whether all are moves and there is memory for them.
+fn put_moves(alloc: Global, lines: &str, all: &mut Vec<Move>) -> bool {
     for line in lines.lines() {
-        all.push(move_of(alloc, line).ok_or("no move")?)?;
+        match move_of(alloc, line) {
+            Some(deed) => {
+                if all.push(deed).is_err() {
+                    return false;
+                }
+            }
+            None => return false,
+        }
     }
-    Ok(all)
+    true
 }
 
 /// Makes the moves one by one, and tells how many of them are refused.
@@ -100,35 +101,52 @@ fn refused_one_by_one(pair: &mut Pair, all: &[Move]) -> u64 {
 
 /// Checks that a run of one pair comes to what the moves come to one by one with the other, and that one of no moves
 /// changes nothing.
-fn run_alike(at_once: &mut Pair, in_turn: &mut Pair, all: &[Move]) -> Result<(), Fail> {
-    let run_counts = at_once.run(all) == Ok(3);
-    let turns_count = refused_one_by_one(in_turn, all) == 3;
-    let same = digest(at_once) == digest(in_turn);
-    let none_refused = at_once.run(&[]) == Ok(0);
-    let unchanged = digest(at_once) == digest(in_turn);
-    all_hold(&[
-        (run_counts, "a run", "how many are refused"),
-        (turns_count, "one by one", "how many are refused"),
-        (same, "a run", "it comes to something else"),
-        (none_refused, "no moves", "refused"),
-        (unchanged, "no moves", "changed"),
-    ])
+fn wrong_run(at_once: &mut Pair, in_turn: &mut Pair, all: &[Move]) -> Option<&'static str> {
+    if at_once.run(all) != Ok(3) {
+        Some("how many a run refuses")
+    } else if refused_one_by_one(in_turn, all) != 3 {
+        Some("how many are refused one by one")
+    } else if digest(at_once) != digest(in_turn) {
+        Some("a run comes to something else")
+    } else if at_once.run(&[]) != Ok(0) {
+        Some("a run of no moves: refused")
+    } else if digest(at_once) != digest(in_turn) {
+        Some("a run of no moves: changed")
+    } else {
+        None
+    }
 }
 
+/// What two ends with a window of seven frames are made with.
+const SEVEN: Ends = (7, 512, Enquiry, Enquiry);
+
 /// Runs a new pair beside this one.
-fn run_beside(alloc: Global, at_once: &mut Pair, all: &[Move]) -> Result<(), Fail> {
-    let mut in_turn = new_pair(alloc, 7)?;
-    run_alike(at_once, &mut in_turn, all)
+fn wrong_beside(alloc: Global, at_once: &mut Pair, all: &[Move]) -> Option<&'static str> {
+    match new_pair(alloc, SEVEN) {
+        Some(mut in_turn) => wrong_run(at_once, &mut in_turn, all),
+        None => Some(NO_PAIR),
+    }
 }
 
 /// Runs two new pairs.
-fn run_two(alloc: Global, all: &[Move]) -> Result<(), Fail> {
-    let mut at_once = new_pair(alloc, 7)?;
-    run_beside(alloc, &mut at_once, all)
+fn wrong_of_two(alloc: Global, all: &[Move]) -> Option<&'static str> {
+    match new_pair(alloc, SEVEN) {
+        Some(mut at_once) => wrong_beside(alloc, &mut at_once, all),
+        None => Some(NO_PAIR),
+    }
+}
+
+/// Makes the moves, and runs two new pairs.
+fn wrong_of_some(alloc: Global) -> Option<&'static str> {
+    let mut all = Vec::new(alloc);
+    if put_moves(alloc, SOME_MOVES, &mut all) {
+        wrong_of_two(alloc, all.as_slice())
+    } else {
+        Some("no move, or no memory")
+    }
 }
 
 #[test]
 fn a_run_counts_what_is_refused(rt: HostRuntime) -> Result<(), Fail> {
-    let all = moves_of(rt.alloc(), SOME_MOVES)?;
-    run_two(rt.alloc(), all.as_slice())
+    is_right("a run", wrong_of_some(rt.alloc()))
 }

@@ -1,18 +1,17 @@
 //! How the line of a pair settles: worked rows, and 200 runs of 500 drawn moves for each recovery at each side.
 
 use crate::draws::Draws;
-use crate::made::{moves, params};
-use crate::schedule::is_safe;
-use crate::steps::go_through;
-use crate::wants::wants;
+use crate::made::{NO_PAIR, moves, new_pair};
+use crate::schedule::{are_safe, is_made};
+use crate::wants::is_right;
 use lapd_frame::Side;
-use lapd_link::{Params, Recovery};
-use lapd_pair::{Move, Pair, PairFault, Settled};
+use lapd_link::Recovery;
+use lapd_pair::{Move, Pair, Settled};
 use std::alloc::Global;
 use std::test::Fail;
 
 /// Rows with a window of one frame.
-const OF_ONE_FRAME: &str = "\
+pub(crate) const OF_ONE_FRAME: &str = "\
 a new pair
 settle: 0 moves, at rest
 user shows: state 4
@@ -36,7 +35,7 @@ user shows: state 8, the other busy, begun, never sent
 net shows: state 7, begun";
 
 /// A row with a window of three frames.
-const OF_THREE_FRAMES: &str = "\
+pub(crate) const OF_THREE_FRAMES: &str = "\
 three I frames are lost
 user establish: 00817f
 net deliver: 008173
@@ -52,82 +51,86 @@ user shows: state 7, begun, acknowledged, acknowledged, acknowledged
 net shows: state 7, begun, 01, 02, 03
 settle: 0 moves, at rest";
 
-#[test]
-fn worked_lines_settle(rt: HostRuntime) -> Result<(), Fail> {
-    go_through_all(rt.alloc())
-}
-
-fn go_through_all(alloc: Global) -> Result<(), Fail> {
-    let one = params(1, 512)?;
-    let three = params(3, 512)?;
-    let last = three.with_recovery(Recovery::LastMessage);
-    go_through(alloc, one, one, OF_ONE_FRAME)?;
-    go_through(alloc, three, three, OF_THREE_FRAMES)?;
-    go_through(alloc, last, last, OF_THREE_FRAMES)
-}
-
 /// How many runs there are for each recovery at each side.
 const RUNS: u32 = 200;
 
 /// How many moves of a run are drawn.
 const MOVES: u32 = 500;
 
-/// What the user and the network are made with.
-type Ends = (Params, Params);
-
-/// Makes the runs, and looks at whether enough of them were quiet in the end.
-fn runs_settle(alloc: Global, row: &str, ends: &Ends) -> Result<(), Fail> {
-    let mut draws = Draws::new(alloc);
-    let mut quiet: u32 = 0;
-    for _ in 0..RUNS {
-        if settles_once(alloc, &mut draws, row, ends)? {
-            quiet = quiet.wrapping_add(1);
-        }
-    }
-    wants(quiet >= ENOUGH, row, "too few are quiet")
-}
-
 /// How many of the runs are to be quiet in the end.
 const ENOUGH: u32 = 180;
 
-/// Makes a run with a pair of its own, and tells whether it was quiet in the end.
-fn settles_once(alloc: Global, draws: &mut Draws, row: &str, ends: &Ends) -> Result<bool, Fail> {
-    let mut pair = Pair::new(alloc, ends.0, ends.1)?;
-    settles_after(draws, row, &mut pair)
-}
-
-fn settles_after(draws: &mut Draws, row: &str, pair: &mut Pair) -> Result<bool, Fail> {
-    for _ in 0..MOVES {
-        wants(is_made(draws, pair)?, row, "no memory")?;
+/// Makes the runs, and looks at whether enough of them were quiet in the end.
+fn wrong_so(alloc: Global, user: Recovery, network: Recovery) -> Option<&'static str> {
+    let mut draws = Draws::new(alloc);
+    let mut quiet: u32 = 0;
+    for _ in 0..RUNS {
+        match settles_once(alloc, &mut draws, user, network) {
+            Ok(was_quiet) => quiet = quiet.wrapping_add(u32::from(was_quiet)),
+            Err(what) => return Some(what),
+        }
     }
-    end_the_run(draws, pair)?;
-    let quiet = is_quiet(pair);
-    let what = "it settles otherwise, or is not safe";
-    wants(settles(pair, quiet), row, what)?;
-    Ok(quiet)
+    if quiet >= ENOUGH {
+        None
+    } else {
+        Some("too few are quiet")
+    }
 }
 
-/// Makes a drawn move, and tells whether there is memory for it.
-fn is_made(draws: &mut Draws, pair: &mut Pair) -> Result<bool, Fail> {
-    let deed = draws.draw()?;
-    Ok(pair.apply(&deed).err() != Some(PairFault::Memory))
+/// Makes a run with a pair of its own, and tells whether it was quiet in the end, or what is wrong.
+fn settles_once(
+    alloc: Global,
+    draws: &mut Draws,
+    user: Recovery,
+    network: Recovery,
+) -> Result<bool, &'static str> {
+    match new_pair(alloc, (7, 64, user, network)) {
+        Some(mut pair) => settles_after(draws, &mut pair),
+        None => Err(NO_PAIR),
+    }
 }
 
-/// All that is on the line is delivered, and the user establishes the link where an end is not in state 7. Then each side
-/// gives a message, and what is on the line is lost.
-fn end_the_run(draws: &mut Draws, pair: &mut Pair) -> Result<(), Fail> {
+fn settles_after(draws: &mut Draws, pair: &mut Pair) -> Result<bool, &'static str> {
+    for _ in 0..MOVES {
+        if !is_made(draws, pair) {
+            return Err("no memory");
+        }
+    }
     become_quiet(pair);
-    let _ = moves(pair, &draws.message(Side::User)?);
-    let _ = moves(pair, &draws.message(Side::Network)?);
+    if !gives(draws, pair, Side::User) || !gives(draws, pair, Side::Network) {
+        return Err("no memory for a message");
+    }
+    lose_all(pair);
+    let quiet = is_quiet(pair);
+    if settles(pair, quiet) {
+        Ok(quiet)
+    } else {
+        Err("it settles otherwise, or is not safe")
+    }
+}
+
+/// A side gives a message, and is refused or not. Whether there is memory for its octets.
+fn gives(draws: &mut Draws, pair: &mut Pair, side: Side) -> bool {
+    match draws.message(side) {
+        Some(deed) => {
+            let _ = moves(pair, &deed);
+            true
+        }
+        None => false,
+    }
+}
+
+/// What is on the line is lost.
+fn lose_all(pair: &mut Pair) {
     while_possible(
         pair,
         &Move::Lose(Side::User, 0),
         &Move::Lose(Side::Network, 0),
     );
-    Ok(())
 }
 
-/// Neither receiver is busy any more, and all is delivered, where need be behind an establishment.
+/// Neither receiver is busy any more, and all is delivered; where an end is not in state 7 then, the user establishes the link,
+/// and all is delivered again.
 fn become_quiet(pair: &mut Pair) {
     let _ = moves(pair, &Move::Busy(Side::User, false));
     let _ = moves(pair, &Move::Busy(Side::Network, false));
@@ -173,10 +176,7 @@ fn settles(pair: &mut Pair, quiet: bool) -> bool {
         return false;
     };
     let drained = pair.left() == 0 && dropped_of(pair) == dropped && is_soon(left, done);
-    done.moves <= left.saturating_add(4).saturating_mul(8)
-        && is_safe(pair, Side::User)
-        && is_safe(pair, Side::Network)
-        && (drained || !quiet)
+    done.moves <= left.saturating_add(4).saturating_mul(8) && are_safe(pair) && (drained || !quiet)
 }
 
 /// How many messages of each side were dropped.
@@ -189,30 +189,24 @@ fn is_soon(left: u64, done: Settled) -> bool {
     done.rest && done.moves <= left.saturating_mul(3).saturating_add(8)
 }
 
+/// What is wrong where the network recovers either way.
+fn wrong_with(alloc: Global, user: Recovery) -> Option<&'static str> {
+    match wrong_so(alloc, user, Recovery::Enquiry) {
+        None => wrong_so(alloc, user, Recovery::LastMessage),
+        wrong => wrong,
+    }
+}
+
 #[test]
-fn drawn_lines_settle_where_both_enquire(rt: HostRuntime) -> Result<(), Fail> {
-    let params = params(7, 64)?;
-    runs_settle(rt.alloc(), "both enquire", &(params, params))
+fn drawn_lines_settle_where_the_user_enquires(rt: HostRuntime) -> Result<(), Fail> {
+    is_right(
+        "the user enquires",
+        wrong_with(rt.alloc(), Recovery::Enquiry),
+    )
 }
 
 #[test]
 fn drawn_lines_settle_where_the_user_sends_its_last_message(rt: HostRuntime) -> Result<(), Fail> {
-    let params = params(7, 64)?;
-    let ends = (params.with_recovery(Recovery::LastMessage), params);
-    runs_settle(rt.alloc(), "the user sends its last message", &ends)
-}
-
-#[test]
-fn drawn_lines_settle_where_the_network_sends_its_last_message(
-    rt: HostRuntime,
-) -> Result<(), Fail> {
-    let params = params(7, 64)?;
-    let ends = (params, params.with_recovery(Recovery::LastMessage));
-    runs_settle(rt.alloc(), "the network sends its last message", &ends)
-}
-
-#[test]
-fn drawn_lines_settle_where_both_send_their_last_message(rt: HostRuntime) -> Result<(), Fail> {
-    let last = params(7, 64)?.with_recovery(Recovery::LastMessage);
-    runs_settle(rt.alloc(), "both send their last message", &(last, last))
+    let wrong = wrong_with(rt.alloc(), Recovery::LastMessage);
+    is_right("the user sends its last message", wrong)
 }

@@ -1,28 +1,28 @@
 //! What is known of a side of a pair, in text, as `state 7, begun, acknowledged, waiting, 01, 02`: its state, whether the other
 //! side is busy, its establishments, what became of each message that it was given, and the messages that it received.
 
-use crate::steps::{push_behind, push_octets};
+use crate::steps::is_hex;
 use lapd_frame::Side;
 use lapd_pair::{Ending, Fate, Pair, Received};
-use std::alloc::{AllocError, Global};
+use std::str::Split;
 
-/// Adds what is known of a side.
-pub(crate) fn push_shown(
-    alloc: Global,
-    pair: &Pair,
-    side: Side,
-    text: &mut String,
-) -> Result<(), AllocError> {
-    text.push_str(state_name(pair.link(side).state()))?;
-    if pair.link(side).window().peer_busy() {
-        text.push_str(", the other busy")?;
-    }
-    if !is_counted(pair, side) {
-        text.push_str(", counted otherwise")?;
-    }
-    push_begun(pair.begun(side), text)?;
-    push_fates(pair.fates(side), text)?;
-    push_received(alloc, pair.received(side), text)
+/// Whether this is what is known of a side, and what is counted is so by the fates.
+pub(crate) fn shows(pair: &Pair, side: Side, wanted: &str) -> bool {
+    let mut parts = wanted.split(", ");
+    shows_link(pair, side, &mut parts)
+        && is_counted(pair, side)
+        && is_left(pair)
+        && are_begun(pair.begun(side), &mut parts)
+        && are_fates(pair.fates(side), &mut parts)
+        && are_received(pair.received(side), &mut parts)
+        && parts.next().is_none()
+}
+
+/// Whether the next parts are those of a side's state and of the other's.
+fn shows_link(pair: &Pair, side: Side, parts: &mut Split<'_, &str>) -> bool {
+    let link = pair.link(side);
+    parts.next() == Some(state_name(link.state()))
+        && (!link.window().peer_busy() || parts.next() == Some("the other busy"))
 }
 
 /// The name of a state at the ends of the rows.
@@ -35,49 +35,60 @@ fn state_name(state: u8) -> &'static str {
     }
 }
 
-/// Whether the counts of a side, and of what is left, are those of the fates.
-fn is_counted(pair: &Pair, side: Side) -> bool {
+/// Whether the counts of a side are those of the fates.
+pub(crate) fn is_counted(pair: &Pair, side: Side) -> bool {
     let fates = pair.fates(side);
-    let others = pair.fates(side.other());
-    let left = count(fates, Ending::Waiting).wrapping_add(count(others, Ending::Waiting));
+    let (acknowledged, dropped) = ended(fates);
     pair.given(side).len() == fates.len()
-        && pair.acknowledged(side) == count(fates, Ending::Acked)
-        && pair.dropped(side) == count(fates, Ending::Dropped)
-        && pair.left() == left
+        && pair.acknowledged(side) == acknowledged
+        && pair.dropped(side) == dropped
 }
 
-/// How many messages ended so.
-fn count(fates: &[Fate], end: Ending) -> u64 {
-    let mut ended: u64 = 0;
+/// Whether the count of what is left is that of the fates.
+fn is_left(pair: &Pair) -> bool {
+    waiting(pair.fates(Side::User)).wrapping_add(waiting(pair.fates(Side::Network))) == pair.left()
+}
+
+/// How many messages wait.
+fn waiting(fates: &[Fate]) -> u64 {
+    let (acknowledged, dropped) = ended(fates);
+    (fates.len() as u64)
+        .wrapping_sub(acknowledged)
+        .wrapping_sub(dropped)
+}
+
+/// How many messages were acknowledged, and dropped.
+fn ended(fates: &[Fate]) -> (u64, u64) {
+    let mut acknowledged: u64 = 0;
+    let mut dropped: u64 = 0;
     for fate in fates {
-        ended = ended.wrapping_add(u64::from(fate.end == end));
+        match fate.end {
+            Ending::Waiting => {}
+            Ending::Acked => acknowledged = acknowledged.wrapping_add(1),
+            Ending::Dropped => dropped = dropped.wrapping_add(1),
+        }
     }
-    ended
+    (acknowledged, dropped)
 }
 
-/// Adds a word for each establishment.
-fn push_begun(begun: &[u64], text: &mut String) -> Result<(), AllocError> {
+/// Whether the next parts are `begun` for each establishment, which is the first thing that happened.
+fn are_begun(begun: &[u64], parts: &mut Split<'_, &str>) -> bool {
     for received in begun {
-        let is_first = *received == 0;
-        push_behind(
-            text,
-            ", ",
-            if is_first {
-                "begun"
-            } else {
-                "begun behind messages"
-            },
-        )?;
+        if *received > 0 || parts.next() != Some("begun") {
+            return false;
+        }
     }
-    Ok(())
+    true
 }
 
-/// Adds what became of each message.
-fn push_fates(fates: &[Fate], text: &mut String) -> Result<(), AllocError> {
+/// Whether the next parts tell what became of each message.
+fn are_fates(fates: &[Fate], parts: &mut Split<'_, &str>) -> bool {
     for fate in fates {
-        push_behind(text, ", ", fate_name(fate))?;
+        if parts.next() != Some(fate_name(fate)) {
+            return false;
+        }
     }
-    Ok(())
+    true
 }
 
 /// What became of a message that was last sent in the first establishment, or never.
@@ -91,17 +102,14 @@ fn fate_name(fate: &Fate) -> &'static str {
     }
 }
 
-/// Adds messages in hexadecimal, and which of them was not received in the first establishment.
-fn push_received(
-    alloc: Global,
-    received: &[Received],
-    text: &mut String,
-) -> Result<(), AllocError> {
+/// Whether the next parts are these messages in hexadecimal, each received in the first establishment.
+fn are_received(received: &[Received], parts: &mut Split<'_, &str>) -> bool {
     for message in received {
-        push_octets(alloc, message.octets.as_slice(), ", ", text)?;
-        if message.establishment != 1 {
-            text.push_str(" later")?;
+        match parts.next() {
+            Some(part) if message.establishment == 1 && is_hex(message.octets.as_slice(), part) =>
+                {}
+            _ => return false,
         }
     }
-    Ok(())
+    true
 }

@@ -1,18 +1,9 @@
 use std::test::Fail;
 
-/// Fails the test where this does not hold: `row` names the line of a table, and `what` is then wrong with it.
-pub(crate) fn wants(holds: bool, row: &str, what: &str) -> Result<(), Fail> {
-    if holds {
-        Ok(())
-    } else {
-        Err(Fail::new(format_args!("{row}: {what}")))
+/// Fails the test of this name, or of this row, where something is wrong.
+pub(crate) fn is_right(row: &str, wrong: Option<&str>) -> Result<(), Fail> {
+    match wrong {
+        Some(what) => Err(Fail::new(format_args!("{row}: {what}"))),
+        None => Ok(()),
     }
-}
-
-/// Fails the test at the first of these that does not hold.
-pub(crate) fn all_hold(checks: &[(bool, &str, &str)]) -> Result<(), Fail> {
-    for (holds, row, what) in checks {
-        wants(*holds, row, what)?;
-    }
-    Ok(())
 }

@@ -1,8 +1,10 @@
 //! Worked moves of a pair: what each comes to, and what is known of both sides at the end.
 
-use crate::made::params;
-use crate::steps::go_through;
-use lapd_link::Recovery;
+use crate::made::Ends;
+use crate::steps::{WrongStep, wrong_row};
+use crate::wants::is_right;
+use crate::{refusals, settles};
+use lapd_link::Recovery::{Enquiry, LastMessage};
 use std::alloc::Global;
 use std::test::Fail;
 
@@ -71,7 +73,7 @@ net deliver: nothing
 net give aa: 02810000aa
 user deliver: nothing
 user expire200: 00817f
-net deliver: tells Send(Answer, Ua { f: true }); Report(F); Dropped(1); Established; Stop(T200); Start(T203)
+net deliver: tells answer UA F=1; report F; dropped 1; established; stop T200; start T203
 user deliver: nothing
 user shows: state 7, begun
 net shows: state 7, begun, begun, dropped
@@ -85,7 +87,7 @@ user expire200: 00817f
 net lose 0: nothing
 user expire200: 00817f
 net lose 0: nothing
-user expire200: tells Report(G); Released
+user expire200: tells report G; released
 user expire200: refused P2 NotRunning
 user shows: state 4
 net shows: state 4";
@@ -153,7 +155,7 @@ user lose 0: nothing
 user expire200: 0081020102
 user expire200: refused P3 NotYet network 0
 net deliver: 00810905
-user deliver: tells Acknowledged(2); Stop(T200); Start(T203)
+user deliver: tells acknowledged 2; stop T200; start T203
 user give 03: 0081040003
 net deliver: 00810106
 user shows: state 7, begun, acknowledged, acknowledged, waiting
@@ -175,17 +177,35 @@ net deliver: 00810104
 user shows: state 7, begun, waiting, waiting
 net shows: state 7, begun, 01, 02";
 
-#[test]
-fn worked_moves(rt: HostRuntime) -> Result<(), Fail> {
-    go_through_all(rt.alloc())
+/// The tables of rows by number, each with what both ends are made with.
+fn table(number: u8) -> (Ends, &'static str) {
+    match number {
+        0 => ((1, 512, Enquiry, Enquiry), OF_ONE_FRAME),
+        1 => ((3, 512, Enquiry, Enquiry), OF_THREE_FRAMES),
+        2 => ((3, 512, LastMessage, Enquiry), WITH_LAST_MESSAGE),
+        3 => ((1, 2, Enquiry, Enquiry), refusals::PLACES),
+        4 => ((1, 512, Enquiry, Enquiry), settles::OF_ONE_FRAME),
+        5 => ((3, 512, Enquiry, Enquiry), settles::OF_THREE_FRAMES),
+        _ => ((3, 512, LastMessage, LastMessage), settles::OF_THREE_FRAMES),
+    }
 }
 
-/// Goes through all rows, each with room for 512 messages.
-fn go_through_all(alloc: Global) -> Result<(), Fail> {
-    let one = params(1, 512)?;
-    let three = params(3, 512)?;
-    let last = three.with_recovery(Recovery::LastMessage);
-    go_through(alloc, one, one, OF_ONE_FRAME)?;
-    go_through(alloc, three, three, OF_THREE_FRAMES)?;
-    go_through(alloc, last, three, WITH_LAST_MESSAGE)
+/// The first row of all tables that is wrong.
+fn wrong_table(alloc: Global) -> WrongStep {
+    for number in 0..7u8 {
+        let (ends, rows) = table(number);
+        let wrong = wrong_row(alloc, ends, rows);
+        if wrong.is_some() {
+            return wrong;
+        }
+    }
+    None
+}
+
+#[test]
+fn worked_moves(rt: HostRuntime) -> Result<(), Fail> {
+    match wrong_table(rt.alloc()) {
+        Some((row, step)) => is_right(row, Some(step)),
+        None => Ok(()),
+    }
 }
