@@ -1,8 +1,7 @@
 //! Counters modulo 128 (Q.921 3.5.2).
 
-use crate::wants::none_is_wrong;
+use crate::wants::first_of;
 use lapd_mod128::Seq;
-use std::test::Fail;
 
 /// The counter of a value that is in range.
 fn at(value: u8) -> Seq {
@@ -92,7 +91,7 @@ fn wrong_window() -> Option<&'static str> {
     }
 }
 
-#[test]
-fn counters_modulo_128() -> Result<(), Fail> {
-    none_is_wrong(&[wrong_value(), wrong_steps(), wrong_window()])
+/// What is wrong of counters.
+pub(crate) fn wrong() -> Option<&'static str> {
+    first_of(&[wrong_value(), wrong_steps(), wrong_window()])
 }

@@ -3,7 +3,7 @@
 //! `lapd_pair_tests`.
 //!
 //! They stand apart so that each crate is proved once. What a contract says is not tested again. A row shows that the
-//! definitions say what is meant, that a call can succeed, and what a value prints. `wants` fails a test with the row's
+//! definitions say what is meant, that a call can succeed, and what a value prints. `none_is_wrong` fails a test with the row's
 //! name.
 #![tactic(auto)]
 
@@ -19,6 +19,8 @@ mod queues;
 mod reports;
 #[cfg(test)]
 mod rows;
+#[cfg(test)]
+mod values;
 #[cfg(test)]
 mod wants;
 #[cfg(test)]

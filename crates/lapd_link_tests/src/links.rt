@@ -1,10 +1,9 @@
 //! A link that is made and led on by its own calls, what it is made with, and how its refusals read.
 
-use crate::wants::{none_is_wrong, prints};
+use crate::wants::{first_of, prints};
 use lapd_frame::{Control, Role, Sapi, Side, Tei};
 use lapd_link::{Event, Link, LinkFault, Out, Params, Timer};
 use std::alloc::Global;
-use std::test::Fail;
 
 /// Whether a link shows what it was made with.
 fn is_made_so(link: &Link, side: Side, room: u16) -> bool {
@@ -148,20 +147,26 @@ fn wrong_of(
 }
 
 /// Makes a link, and does this with it.
-fn does(alloc: Global, row: (Side, u16, Deeds)) -> Result<(), Fail> {
+fn wrong_anew(alloc: Global, row: (Side, u16, Deeds)) -> Option<&'static str> {
     let (side, room, _) = row;
-    let params = Params::new(7, 3, room).ok_or("a number is out of range")?;
-    let tei = Tei::new(126).ok_or("126 is a TEI")?;
-    let mut link = Link::new(alloc, side, Sapi::Packet, tei, params)?;
-    none_is_wrong(&[wrong_of(alloc, &mut link, row)])
+    match (Params::new(7, 3, room), Tei::new(126)) {
+        (Some(params), Some(tei)) => match Link::new(alloc, side, Sapi::Packet, tei, params) {
+            Ok(mut link) => wrong_of(alloc, &mut link, row),
+            Err(_) => Some("no link is made"),
+        },
+        _ => Some("a number is out of range"),
+    }
 }
 
-#[test]
-fn links(rt: HostRuntime) -> Result<(), Fail> {
+/// What is wrong of links.
+fn wrong_link(alloc: Global) -> Option<&'static str> {
     for row in LINKS {
-        does(rt.alloc(), *row)?;
+        let wrong = wrong_anew(alloc, *row);
+        if wrong.is_some() {
+            return wrong;
+        }
     }
-    Ok(())
+    None
 }
 
 /// k, N200 and room, and whether they are in range.
@@ -236,7 +241,12 @@ fn wrong_refusal(alloc: Global) -> Option<&'static str> {
     None
 }
 
-#[test]
-fn parameters_and_refusals(rt: HostRuntime) -> Result<(), Fail> {
-    none_is_wrong(&[wrong_range(), wrong_standard(), wrong_refusal(rt.alloc())])
+/// What is wrong of links, of what they are made with, and of their refusals.
+pub(crate) fn wrong(alloc: Global) -> Option<&'static str> {
+    first_of(&[
+        wrong_link(alloc),
+        wrong_range(),
+        wrong_standard(),
+        wrong_refusal(alloc),
+    ])
 }

@@ -1,5 +1,5 @@
 //! Tests of what octets are: address and control fields, frames, and their lines of text.
 
-mod fields;
-mod frames;
-mod traces;
+pub(crate) mod fields;
+pub(crate) mod frames;
+pub(crate) mod traces;

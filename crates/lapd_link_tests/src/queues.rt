@@ -1,9 +1,7 @@
 //! The I queue (Q.921 5.5, 5.6).
 
-use crate::wants::none_is_wrong;
 use lapd_queue::IQueue;
 use std::alloc::Global;
-use std::test::Fail;
 
 /// Puts a message of these octets at the end, and tells whether it was taken.
 fn puts(alloc: Global, queue: &mut IQueue, octets: &[u8]) -> bool {
@@ -231,18 +229,23 @@ fn wrong_of(alloc: Global, queue: &mut IQueue, deeds: Deeds) -> Option<&'static 
 }
 
 /// Makes a queue, and does this with it.
-fn does(alloc: Global, room: u16, deeds: Deeds) -> Result<(), Fail> {
+fn wrong_anew(alloc: Global, room: u16, deeds: Deeds) -> Option<&'static str> {
     if room == 0 || room > 1024 {
-        return Err(Fail::new("a queue has room for 1 to 1,024 messages"));
+        return Some("a queue has room for 1 to 1,024 messages");
     }
-    let mut queue = IQueue::new(alloc, room)?;
-    none_is_wrong(&[wrong_of(alloc, &mut queue, deeds)])
+    match IQueue::new(alloc, room) {
+        Ok(mut queue) => wrong_of(alloc, &mut queue, deeds),
+        Err(_) => Some("no queue is made"),
+    }
 }
 
-#[test]
-fn queues(rt: HostRuntime) -> Result<(), Fail> {
+/// What is wrong of queues.
+pub(crate) fn wrong(alloc: Global) -> Option<&'static str> {
     for (room, deeds) in QUEUES {
-        does(rt.alloc(), *room, *deeds)?;
+        let wrong = wrong_anew(alloc, *room, *deeds);
+        if wrong.is_some() {
+            return wrong;
+        }
     }
-    Ok(())
+    None
 }

@@ -1,10 +1,9 @@
 //! What is told of faults, timers and fields: their names, and what a frame reject says (Q.921 3.6.11, Figure 6).
 
-use crate::wants::{none_is_wrong, numbers, prints};
+use crate::wants::{first_of, numbers, prints};
 use lapd_frame::{FaultKind, FieldFault, FrameFault, FrmrInfo, Number, Sapi, Side, Tei};
 use lapd_timers::Timer;
 use std::alloc::Global;
-use std::test::Fail;
 
 /// Frame rejects as octets, and what they say, with these numbers.
 fn wrong_reject(zero: Number, one: Number, two: Number, last: Number) -> Option<&'static str> {
@@ -130,15 +129,25 @@ fn wrong_field(alloc: Global, tei: Tei, number: Number) -> Option<&'static str> 
     }
 }
 
-#[test]
-fn reports(rt: HostRuntime) -> Result<(), Fail> {
-    let [zero, one, two, last] = numbers()?;
-    let tei = Tei::new(64).ok_or("a TEI")?;
-    none_is_wrong(&[
+/// What is wrong of what is told, with these numbers.
+fn wrong_with(
+    alloc: Global,
+    [zero, one, two, last]: [Number; 4],
+    tei: Tei,
+) -> Option<&'static str> {
+    first_of(&[
         wrong_reject(zero, one, two, last),
-        wrong_fault(rt.alloc()),
-        wrong_fault_of_a_field(rt.alloc()),
-        wrong_timer(rt.alloc()),
-        wrong_field(rt.alloc(), tei, last),
+        wrong_fault(alloc),
+        wrong_fault_of_a_field(alloc),
+        wrong_timer(alloc),
+        wrong_field(alloc, tei, last),
     ])
+}
+
+/// What is wrong of what is told.
+pub(crate) fn wrong(alloc: Global) -> Option<&'static str> {
+    match (numbers(), Tei::new(64)) {
+        (Some(numbers), Some(tei)) => wrong_with(alloc, numbers, tei),
+        _ => Some("seven bits: no number"),
+    }
 }

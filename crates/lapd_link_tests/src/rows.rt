@@ -14,8 +14,10 @@ mod text;
 mod timer_recovery;
 mod transfer;
 
-use crate::rows::text::{Text, text_of, three_of};
-use crate::wants::wants;
+use crate::rows::scripts::wrong_script;
+use crate::rows::sent_frames::wrong_output;
+use crate::rows::text::{Text, three_of};
+use crate::wants::none_is_wrong;
 use lapd_cli_commands::Answerer;
 use lapd_cli_script::Command;
 use lapd_frame::Side;
@@ -31,19 +33,29 @@ struct Driven {
 }
 
 impl Driven {
-    /// A new link of this side, with a window of `k` frames, this N200 and room for so many messages, and this recovery.
+    /// A new link of this side, with a window of `k` frames, this N200 and room for so many messages, and this recovery; `None`
+    /// where a number is out of range or no memory is left.
     fn new(
         alloc: Global,
         side: Side,
         (k, n200, room): (u8, u8, u16),
         recovery: Recovery,
-    ) -> Result<Driven, Fail> {
-        let params = Params::new(k, n200, room).ok_or("a number is out of range")?;
-        let link = Answerer::new(alloc, side, params.with_recovery(recovery))?;
-        Ok(Driven {
-            link,
-            printed: Vec::new(alloc),
-        })
+    ) -> Option<Driven> {
+        match Params::new(k, n200, room) {
+            Some(params) => Driven::with(alloc, side, params.with_recovery(recovery)),
+            None => None,
+        }
+    }
+
+    /// A new link of this side, with these parameters.
+    fn with(alloc: Global, side: Side, params: Params) -> Option<Driven> {
+        match Answerer::new(alloc, side, params) {
+            Ok(link) => Some(Driven {
+                link,
+                printed: Vec::new(alloc),
+            }),
+            Err(_) => None,
+        }
     }
 
     /// The link.
@@ -102,14 +114,6 @@ impl Driven {
             }
             None => false,
         }
-    }
-
-    /// Fails the test where this does not hold, at this row, and tells what was printed and the condition.
-    fn wants(&self, holds: bool, row: &str) -> Result<(), Fail> {
-        let mut reached = condition_of(self.link());
-        reached.text(" after ");
-        reached.put(self.printed.as_slice());
-        wants(holds, row, text_of(reached.octets()))
     }
 }
 
@@ -178,41 +182,107 @@ fn put_queue(text: &mut Text, queue: &IQueue) {
     }
 }
 
-/// Checks a table: a line `at script | condition` leads to a place, and the lines up to the next one are rows that hold
-/// there. What stands before the first place says what it is.
-fn check_table(alloc: Global, table: &str) -> Result<(), Fail> {
+/// What is wrong where no link was made.
+const NO_LINK: &str = "no link is made";
+
+/// The tables by number.
+fn table(number: u8) -> &'static str {
+    match number {
+        0 => tei_assigned::ROWS,
+        1 => awaiting::ROWS,
+        2 => established::ROWS,
+        3 => transfer::ROWS,
+        _ => timer_recovery::ROWS,
+    }
+}
+
+/// The first row of a table that is wrong: a line `at script | condition` leads to a place, and the lines up to the next one
+/// are rows that hold there. What stands before the first place says what it is.
+fn wrong_in(alloc: Global, table: &'static str) -> Option<&'static str> {
     let mut parts = table.split("\nat ");
     let _ = parts.next();
     for part in parts {
-        let (place, rows) = part.split_once("\n").ok_or("a place has rows")?;
-        check_rows(alloc, place, rows)?;
-    }
-    Ok(())
-}
-
-/// Checks rows that hold at each of these places, a line a place.
-fn check_places(alloc: Global, places: &str, rows: &str) -> Result<(), Fail> {
-    for place in places.lines() {
-        check_rows(alloc, place, rows)?;
-    }
-    Ok(())
-}
-
-/// Checks rows of the state table, each `name | event | outputs | condition`, with `-` for no outputs and `=` for the
-/// condition before. For each one a new network link, with a window of two frames, N200 of 2 and room for three
-/// messages, is led to the place, `script | condition`. Empty lines and those that begin with `#` are no rows.
-fn check_rows(alloc: Global, place: &str, rows: &str) -> Result<(), Fail> {
-    for row in rows.lines() {
-        if !row.is_empty() && !row.starts_with("#") {
-            check_row(alloc, place, row)?;
+        let (place, rows) = part.split_once("\n").unwrap_or((part, part));
+        let wrong = wrong_at(alloc, place, rows);
+        if wrong.is_some() {
+            return wrong;
         }
     }
-    Ok(())
+    None
 }
 
-/// Checks a row at the place to which this leads a new link.
-fn check_row(alloc: Global, place: &str, row: &str) -> Result<(), Fail> {
-    let mut link = Driven::new(alloc, Side::Network, (2, 2, 3), Recovery::Enquiry)?;
-    let holds = link.keeps_to_at(place, row);
-    link.wants(holds, row)
+/// The first row that is wrong of all tables.
+fn wrong_of_tables(alloc: Global) -> Option<&'static str> {
+    for number in 0..5u8 {
+        let wrong = wrong_in(alloc, table(number));
+        if wrong.is_some() {
+            return wrong;
+        }
+    }
+    None
+}
+
+/// Places by number, a line a place, and rows that hold at each of them.
+fn places(number: u8) -> (&'static str, &'static str) {
+    match number {
+        0 => (every_state::NOT_ESTABLISHED, every_state::IN_EVERY_STATE),
+        1 => (every_state::ESTABLISHED, every_state::IN_EVERY_STATE),
+        2 => (
+            every_state::NOT_ESTABLISHED,
+            every_state::FRAMES_WITHOUT_ROW,
+        ),
+        _ => (every_state::NOT_ESTABLISHED, every_state::FAULTS_REPORTED),
+    }
+}
+
+/// The first row that is wrong at one of these places.
+fn wrong_at_places(alloc: Global, (places, rows): (&str, &'static str)) -> Option<&'static str> {
+    for place in places.lines() {
+        let wrong = wrong_at(alloc, place, rows);
+        if wrong.is_some() {
+            return wrong;
+        }
+    }
+    None
+}
+
+/// The first row that is wrong of those that hold in many states.
+fn wrong_of_every_state(alloc: Global) -> Option<&'static str> {
+    for number in 0..4u8 {
+        let wrong = wrong_at_places(alloc, places(number));
+        if wrong.is_some() {
+            return wrong;
+        }
+    }
+    None
+}
+
+/// The first row that is wrong at a place. A row of the state table is `name | event | outputs | condition`, with `-` for no
+/// outputs and `=` for the condition before. Empty lines and those that begin with `#` are no rows.
+fn wrong_at(alloc: Global, place: &str, rows: &'static str) -> Option<&'static str> {
+    for row in rows.lines() {
+        if !row.is_empty() && !row.starts_with("#") && !keeps(alloc, place, row) {
+            return Some(row);
+        }
+    }
+    None
+}
+
+/// Whether a row holds at the place to which `script | condition` leads a new network link, with a window of two frames, N200
+/// of 2 and room for three messages.
+fn keeps(alloc: Global, place: &str, row: &str) -> bool {
+    match Driven::new(alloc, Side::Network, (2, 2, 3), Recovery::Enquiry) {
+        Some(mut link) => link.keeps_to_at(place, row),
+        None => false,
+    }
+}
+
+#[test]
+fn rows_of_the_state_table(rt: HostRuntime) -> Result<(), Fail> {
+    none_is_wrong(&[
+        wrong_of_tables(rt.alloc()),
+        wrong_of_every_state(rt.alloc()),
+        wrong_script(rt.alloc()),
+        wrong_output(rt.alloc()),
+    ])
 }

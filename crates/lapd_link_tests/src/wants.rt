@@ -3,23 +3,27 @@ use std::alloc::Global;
 use std::fmt::Display;
 use std::test::Fail;
 
-/// Fails the test where this does not hold: `row` names the line of a table, and `what` is then wrong with it.
-pub(crate) fn wants(holds: bool, row: &str, what: &str) -> Result<(), Fail> {
-    if holds {
-        Ok(())
-    } else {
-        Err(Fail::new(format_args!("{row}: {what}")))
+/// Fails the test at the first row that is wrong: what looked at some rows says which of them is, if any.
+pub(crate) fn none_is_wrong(looked: &[Option<&'static str>]) -> Result<(), Fail> {
+    match first_of(looked) {
+        Some(row) => Err(Fail::new(row)),
+        None => Ok(()),
     }
 }
 
-/// Fails the test at the first row that is wrong: what looked at some rows says which of them is, if any.
-pub(crate) fn none_is_wrong(looked: &[Option<&str>]) -> Result<(), Fail> {
+/// The first row of these that is wrong.
+pub(crate) fn first_of(looked: &[Option<&'static str>]) -> Option<&'static str> {
     for wrong in looked {
-        if let Some(row) = wrong {
-            return Err(Fail::new(*row));
+        if wrong.is_some() {
+            return *wrong;
         }
     }
-    Ok(())
+    None
+}
+
+/// What is wrong, unless this holds.
+pub(crate) fn wrong_unless(holds: bool, what: &'static str) -> Option<&'static str> {
+    if holds { None } else { Some(what) }
 }
 
 /// Whether a value prints as this text.
@@ -31,14 +35,14 @@ pub(crate) fn prints(alloc: Global, value: impl Display + Drop, text: &str) -> b
 }
 
 /// The numbers 0, 1, 2 and 127.
-pub(crate) fn numbers() -> Result<[Number; 4], Fail> {
+pub(crate) fn numbers() -> Option<[Number; 4]> {
     match (
         Number::new(0),
         Number::new(1),
         Number::new(2),
         Number::new(127),
     ) {
-        (Some(zero), Some(one), Some(two), Some(last)) => Ok([zero, one, two, last]),
-        _ => Err(Fail::new("seven bits")),
+        (Some(zero), Some(one), Some(two), Some(last)) => Some([zero, one, two, last]),
+        _ => None,
     }
 }

@@ -1,9 +1,8 @@
 //! The state variables and conditions of one end (Q.921 5.6, 5.8).
 
-use crate::wants::none_is_wrong;
+use crate::wants::first_of;
 use lapd_frame::{Control, Number};
 use lapd_supervision::{Advance, Window};
-use std::test::Fail;
 
 /// The RR with this N(R).
 fn rr(nr: u8, pf: bool) -> Option<Control> {
@@ -261,10 +260,10 @@ fn wrong_when_cleared(mut window: Window) -> Option<&'static str> {
     }
 }
 
-#[test]
-fn state_variables_and_conditions() -> Result<(), Fail> {
+/// What is wrong of windows.
+pub(crate) fn wrong() -> Option<&'static str> {
     let four = with_four_outstanding();
-    none_is_wrong(&[
+    first_of(&[
         wrong_at_first(Window::new()),
         wrong_nr(four),
         wrong_gap(Window::new()),

@@ -1,12 +1,11 @@
 //! The address and control fields, octet by octet (Q.921 3.3 to 3.6).
 
-use crate::wants::{none_is_wrong, numbers};
+use crate::wants::{first_of, numbers};
 use lapd_frame::Control::{Disc, Dm, Frmr, I, Rej, Rnr, Rr, Sabme, Ua, Ui, Xid};
 use lapd_frame::FieldFault::{BadAddress, SapiNotServed, TooShort, Undefined};
 use lapd_frame::Role::{Answer, Command};
 use lapd_frame::Side::{Network, User};
 use lapd_frame::{Address, Control, FieldFault, Number, Role, Sapi, Side, Tei};
-use std::test::Fail;
 
 // ---- Numbers.
 
@@ -315,22 +314,37 @@ fn wrong_fault_of_address() -> Option<&'static str> {
     None
 }
 
-#[test]
-fn address_and_control_fields() -> Result<(), Fail> {
-    let [zero, one, _, last] = numbers()?;
+/// Fields of two octets, with these numbers.
+fn wrong_of_two_octets([zero, one, _, last]: [Number; 4]) -> Option<&'static str> {
     let three = [zero, one, last];
-    none_is_wrong(&[
-        wrong_number(),
-        wrong_sapi(),
-        wrong_with(0x00, zero, false, &three),
-        wrong_with(0x01, zero, true, &three),
-        wrong_with(0x02, one, false, &three),
-        wrong_with(0x03, one, true, &three),
-        wrong_with(0xfe, last, false, &three),
-        wrong_with(0xff, last, true, &three),
-        wrong_of_one_octet(),
-        wrong_fault_of_control(),
-        wrong_address(),
-        wrong_fault_of_address(),
-    ])
+    for (second, nr, pf) in [
+        (0x00, zero, false),
+        (0x01, zero, true),
+        (0x02, one, false),
+        (0x03, one, true),
+        (0xfe, last, false),
+        (0xff, last, true),
+    ] {
+        let wrong = wrong_with(second, nr, pf, &three);
+        if wrong.is_some() {
+            return wrong;
+        }
+    }
+    None
+}
+
+/// What is wrong of address and control fields.
+pub(crate) fn wrong() -> Option<&'static str> {
+    match numbers() {
+        Some(numbers) => first_of(&[
+            wrong_number(),
+            wrong_sapi(),
+            wrong_of_two_octets(numbers),
+            wrong_of_one_octet(),
+            wrong_fault_of_control(),
+            wrong_address(),
+            wrong_fault_of_address(),
+        ]),
+        None => Some("seven bits: no number"),
+    }
 }

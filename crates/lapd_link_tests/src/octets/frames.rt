@@ -1,6 +1,6 @@
 //! Frames both ways, and the first fault of octets that are none (Q.921 2.9, 3.6, Table 5).
 
-use crate::wants::{none_is_wrong, numbers, wants};
+use crate::wants::{first_of, numbers, wrong_unless};
 use lapd_frame::Control::{Disc, Dm, Frmr, I, Rej, Rnr, Rr, Sabme, Ua, Ui, Xid};
 use lapd_frame::FaultKind::{
     BadAddress, InfoNotPermitted, InfoTooLong, SapiNotServed, TooShort, Undefined, WrongSize,
@@ -11,7 +11,6 @@ use lapd_frame::{
     Address, Control, FaultKind, Frame, FrameFault, MOST_OCTETS, N201, Number, Role, Sapi, Side,
     Tei, one_frame, one_spelling, read, read_as_spelled, write,
 };
-use std::test::Fail;
 
 /// The address of SAPI 0 and TEI 64. (Were 64 no TEI, no row would hold.)
 fn address(role: Role) -> Address {
@@ -333,14 +332,10 @@ fn wrong_length(nr: Number, ns: Number) -> Option<&'static str> {
     }
 }
 
-#[test]
-fn frames() -> Result<(), Fail> {
-    read_as_spelled();
-    one_spelling();
-    one_frame();
-    wants(N201 == 260 && MOST_OCTETS == 264, "N201", "its value")?;
-    let [zero, one, _, _] = numbers()?;
-    none_is_wrong(&[
+/// What is wrong of frames, with these numbers.
+fn wrong_with([zero, one, _, _]: [Number; 4]) -> Option<&'static str> {
+    first_of(&[
+        wrong_unless(N201 == 260 && MOST_OCTETS == 264, "N201: its value"),
         wrong_numbered(zero),
         wrong_length(zero, one),
         wrong_unnumbered(),
@@ -348,4 +343,15 @@ fn frames() -> Result<(), Fail> {
         wrong_for_no_link(),
         wrong_for_a_link(),
     ])
+}
+
+/// What is wrong of frames.
+pub(crate) fn wrong() -> Option<&'static str> {
+    read_as_spelled();
+    one_spelling();
+    one_frame();
+    match numbers() {
+        Some(numbers) => wrong_with(numbers),
+        None => Some("seven bits: no number"),
+    }
 }

@@ -1,6 +1,6 @@
 //! Lines of text for every frame and fault, written by hand, and histories that overflow.
 
-use crate::wants::{none_is_wrong, prints, wants};
+use crate::wants::{first_of, none_is_wrong, prints, wrong_unless};
 use lapd_trace::{History, Side, line};
 use std::alloc::{AllocError, Global};
 use std::test::Fail;
@@ -137,10 +137,14 @@ fn wrong_line(alloc: Global, rows: &'static str) -> Option<&'static str> {
 }
 
 /// These words, and so many octets of information behind them, `5a` each.
-fn with_information(alloc: Global, words: &str, octets: usize) -> Result<String, AllocError> {
-    let mut text = "5a".repeat(alloc, octets)?;
-    text.insert_str(0, words)?;
-    Ok(text)
+fn with_information(alloc: Global, words: &str, octets: usize) -> Option<String> {
+    match "5a".repeat(alloc, octets) {
+        Ok(mut text) => match text.insert_str(0, words) {
+            Ok(()) => Some(text),
+            Err(_) => None,
+        },
+        Err(_) => None,
+    }
 }
 
 /// Whether an I frame of the user with so much information prints these words and its octets.
@@ -149,7 +153,7 @@ fn prints_long(alloc: Global, words: &str, octets: usize) -> bool {
         with_information(alloc, "00810204", octets),
         with_information(alloc, words, octets),
     ) {
-        (Ok(digits), Ok(text)) => prints_digits(alloc, digits.as_str(), text.as_str()),
+        (Some(digits), Some(text)) => prints_digits(alloc, digits.as_str(), text.as_str()),
         _ => false,
     }
 }
@@ -167,19 +171,17 @@ fn wrong_long_line(alloc: Global) -> Option<&'static str> {
     }
 }
 
-#[test]
-fn lines(rt: HostRuntime) -> Result<(), Fail> {
-    none_is_wrong(&[wrong_line(rt.alloc(), LINES), wrong_long_line(rt.alloc())])
-}
-
 // ---- Histories.
 
-/// Pushes the lines 0 to `pushed` - 1.
-fn push_numbers(alloc: Global, history: &mut History, pushed: u64) -> Result<(), Fail> {
+/// Pushes the lines 0 to `pushed` - 1, and tells whether there is memory for them.
+fn pushes_numbers(alloc: Global, history: &mut History, pushed: u64) -> bool {
     for number in 0..pushed {
-        history.push(number.to_string(alloc)?);
+        match number.to_string(alloc) {
+            Ok(line) => history.push(line),
+            Err(_) => return false,
+        }
     }
-    Ok(())
+    true
 }
 
 /// Whether the history holds the lines `first` to `pushed` - 1, in order.
@@ -194,24 +196,19 @@ fn holds_numbers(alloc: Global, history: &History, first: u64, pushed: u64) -> b
     number == pushed
 }
 
-/// A history of `room` lines, after the lines 0 to `pushed` - 1, keeps the last of them in order.
-fn keeps_the_last(alloc: Global, room: u16, pushed: u64) -> Result<(), Fail> {
+/// Whether a history of `room` lines, after the lines 0 to `pushed` - 1, keeps the last of them in order.
+fn keeps_the_last(alloc: Global, room: u16, pushed: u64) -> bool {
     if room == 0 || room > 1024 {
-        return Err(Fail::new("a history of 1 to 1,024 lines"));
+        return false;
     }
-    let mut history = History::new(alloc, usize::from(room))?;
-    push_numbers(alloc, &mut history, pushed)?;
-    let first = pushed.saturating_sub(u64::from(room));
-    let kept = holds_numbers(alloc, &history, first, pushed);
-    wants(kept, "a history", "which lines it keeps")
-}
-
-/// Pushes `a`, `b` and `c`.
-fn push_three(alloc: Global, history: &mut History) -> Result<(), Fail> {
-    for text in ["a", "b", "c"] {
-        history.push(String::from_str(alloc, text)?);
+    match History::new(alloc, usize::from(room)) {
+        Ok(mut history) => {
+            let first = pushed.saturating_sub(u64::from(room));
+            pushes_numbers(alloc, &mut history, pushed)
+                && holds_numbers(alloc, &history, first, pushed)
+        }
+        Err(_) => false,
     }
-    Ok(())
 }
 
 /// Whether the history holds these two lines, and no third.
@@ -220,31 +217,53 @@ fn holds_two(history: &History, first: &str, second: &str) -> bool {
     lines.next() == Some(first) && lines.next() == Some(second) && lines.next().is_none()
 }
 
-/// A history of two lines drops the first.
-fn drops_the_first(alloc: Global) -> Result<(), Fail> {
-    let mut history = History::new(alloc, 2)?;
-    push_three(alloc, &mut history)?;
-    let kept = holds_two(&history, "b", "c");
-    wants(kept, "of a, b and c", "not the last two")
+/// Pushes `a`, `b` and `c`, and tells whether there is memory for them.
+fn pushes_three(alloc: Global, history: &mut History) -> bool {
+    for text in ["a", "b", "c"] {
+        match String::from_str(alloc, text) {
+            Ok(line) => history.push(line),
+            Err(_) => return false,
+        }
+    }
+    true
+}
+
+/// Whether a history of two lines drops the first of `a`, `b` and `c`.
+fn drops_the_first(alloc: Global) -> bool {
+    match History::new(alloc, 2) {
+        Ok(mut history) => pushes_three(alloc, &mut history) && holds_two(&history, "b", "c"),
+        Err(_) => false,
+    }
 }
 
 /// Histories by their room, and how many lines are pushed.
-const HISTORIES: &[(u16, u64)] = &[
-    (1, 0),
-    (1, 1),
-    (1, 5),
-    (3, 2),
-    (3, 3),
-    (3, 1000),
-    (1024, 3000),
+const HISTORIES: &[(&str, u16, u64)] = &[
+    ("none of room for one", 1, 0),
+    ("one of room for one", 1, 1),
+    ("five of room for one", 1, 5),
+    ("two of room for three", 3, 2),
+    ("three of room for three", 3, 3),
+    ("1,000 of room for three", 3, 1000),
+    ("3,000 of room for 1,024", 1024, 3000),
 ];
 
-#[test]
-fn histories(rt: HostRuntime) -> Result<(), Fail> {
-    for (room, pushed) in HISTORIES {
-        keeps_the_last(rt.alloc(), *room, *pushed)?;
+/// Histories keep the last lines.
+fn wrong_history(alloc: Global) -> Option<&'static str> {
+    for (row, room, pushed) in HISTORIES {
+        if !keeps_the_last(alloc, *room, *pushed) {
+            return Some(row);
+        }
     }
-    drops_the_first(rt.alloc())
+    wrong_unless(drops_the_first(alloc), "of a, b and c: not the last two")
+}
+
+/// What is wrong of lines and histories.
+pub(crate) fn wrong(alloc: Global) -> Option<&'static str> {
+    first_of(&[
+        wrong_line(alloc, LINES),
+        wrong_long_line(alloc),
+        wrong_history(alloc),
+    ])
 }
 
 // ---- Memory that is refused: `tools/refuse-memory` refuses each allocation of a run in turn (docs/DEVELOPING.md).
@@ -299,22 +318,31 @@ fn history_at_last(alloc: Global, met: &mut Refusals) -> Result<History, AllocEr
     }
 }
 
-/// Puts each line into a history.
-fn push_told(alloc: Global, history: &mut History, met: &mut Refusals) -> Result<(), Fail> {
+/// Puts each line into a history, and tells whether each is the one that is wanted.
+fn pushes_told(alloc: Global, history: &mut History, met: &mut Refusals) -> bool {
     for (from, octets, text) in TOLD {
-        let printed = line_at_last(alloc, *from, octets, met)?;
-        wants(printed.as_str() == *text, text, "other text")?;
-        history.push(printed);
+        match line_at_last(alloc, *from, octets, met) {
+            Ok(printed) if printed.as_str() == *text => history.push(printed),
+            _ => return false,
+        }
     }
-    Ok(())
+    true
 }
 
 /// The history keeps the last two of these lines.
-fn keeps_told(alloc: Global, met: &mut Refusals) -> Result<(), Fail> {
-    let mut history = history_at_last(alloc, met)?;
-    push_told(alloc, &mut history, met)?;
-    let kept = holds_two(&history, TOLD[2].2, TOLD[3].2);
-    wants(kept, "of four lines", "not the last two")
+fn wrong_told(alloc: Global, met: &mut Refusals) -> Option<&'static str> {
+    match history_at_last(alloc, met) {
+        Ok(mut history) => wrong_unless(
+            pushes_told(alloc, &mut history, met)
+                && holds_two(
+                    &history,
+                    "U>N SAPI 0 TEI 64 C I N(S)=1 N(R)=2 P=0 info=0802",
+                    "U>N F3 SapiNotServed 04817f",
+                ),
+            "of four lines: other text, or not the last two",
+        ),
+        Err(_) => Some("no history is made"),
+    }
 }
 
 #[test]
@@ -323,10 +351,10 @@ fn lines_without_memory(rt: HostRuntime) -> Result<(), Fail> {
         lines: 0,
         histories: 0,
     };
-    keeps_told(rt.alloc(), &mut met)?;
+    let wrong = wrong_told(rt.alloc(), &mut met);
     let Refusals { lines, histories } = met;
     if lines > 0 || histories > 0 {
         println!(rt; "refused: {lines} to lines, {histories} to histories")?;
     }
-    Ok(())
+    none_is_wrong(&[wrong])
 }

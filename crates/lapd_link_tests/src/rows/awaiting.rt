@@ -1,10 +1,7 @@
 //! Rows of state 5, awaiting establishment, and of state 6, awaiting release.
 
-use crate::rows::check_table;
-use std::test::Fail;
-
 /// Each place with its rows.
-const ROWS: &str = "
+pub(super) const ROWS: &str = "
 # Layer 3 establishes.
 at establish | 5 L3I T200
 establish request | establish | - | =
@@ -131,8 +128,3 @@ UA F=1 | frame 028173 | stop T200; release-confirmed | 4 RC=2
 DM F=1 | frame 02811f | stop T200; release-confirmed | 4 RC=2
 DISC P=1 | frame 008153 | send 008173 | =
 ";
-
-#[test]
-fn rows_of_states_5_and_6(rt: HostRuntime) -> Result<(), Fail> {
-    check_table(rt.alloc(), ROWS)
-}

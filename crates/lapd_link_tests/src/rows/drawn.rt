@@ -4,12 +4,11 @@ mod events;
 mod plain;
 mod table;
 
-use crate::rows::Driven;
 use crate::rows::drawn::events::Draws;
 use crate::rows::drawn::plain::{K, N200, Plain, ROOM};
 use crate::rows::drawn::table::Table;
-use crate::rows::text::text_of;
-use crate::wants::wants;
+use crate::rows::{Driven, NO_LINK};
+use crate::wants::{none_is_wrong, wrong_unless};
 use lapd_frame::Side;
 use lapd_link::Recovery;
 use std::alloc::Global;
@@ -28,47 +27,54 @@ fn count(counts: &mut Counts, state: u8) {
     }
 }
 
-/// Draws an event, and does it with the link and by the table.
-fn turn(
+/// Draws an event, and does it with the link and by the table. Gives the event where the link does something else.
+fn wrong_turn(
     table: &mut Table,
     link: &mut Driven,
     plain: &mut Plain,
     draws: &mut Draws,
-) -> Result<(), Fail> {
+) -> Option<&'static str> {
     let (event, then) = draws.draw(plain);
     let done = link.does(draws.line.octets());
     plain.step(table, event, then);
-    let alike = done && link.has_printed(&plain.wanted) && plain.is_of(link.link());
-    wants(alike, event, text_of(link.printed.as_slice()))
+    wrong_unless(
+        done && link.has_printed(&plain.wanted) && plain.is_of(link.link()),
+        event,
+    )
 }
 
 /// Draws events, and does each with the link and by the table.
-fn follow(
+fn wrong_event(
     table: &mut Table,
     link: &mut Driven,
     plain: &mut Plain,
     counts: &mut Counts,
-) -> Result<(), Fail> {
+) -> Option<&'static str> {
     let mut draws = Draws::new(921);
     for _ in 0..EVENTS {
         count(counts, plain.state);
-        turn(table, link, plain, &mut draws)?;
+        let wrong = wrong_turn(table, link, plain, &mut draws);
+        if wrong.is_some() {
+            return wrong;
+        }
     }
-    Ok(())
+    None
 }
 
 /// Makes a link, and follows it.
-fn follow_anew(
+fn wrong_anew(
     alloc: Global,
     table: &mut Table,
     counts: &mut Counts,
     side: Side,
     recovery: Recovery,
-) -> Result<(), Fail> {
-    let mut link = Driven::new(alloc, side, (K, N200, ROOM), recovery)?;
+) -> Option<&'static str> {
     let last_again = recovery == Recovery::LastMessage;
     let mut plain = Plain::new(side == Side::Network, last_again);
-    follow(table, &mut link, &mut plain, counts)
+    match Driven::new(alloc, side, (K, N200, ROOM), recovery) {
+        Some(mut link) => wrong_event(table, &mut link, &mut plain, counts),
+        None => Some(NO_LINK),
+    }
 }
 
 /// Whether enough events came in each state.
@@ -81,20 +87,27 @@ fn are_lively(counts: &Counts) -> bool {
 }
 
 /// Follows links of both sides and both recoveries by the table, each row of which is taken.
-fn follow_all(alloc: Global, table: &mut Table) -> Result<(), Fail> {
-    table.read()?;
+fn wrong_of_all(alloc: Global, table: &mut Table) -> Option<&'static str> {
+    let mut wrong = table.read();
     let mut counts = [0; 9];
     for side in [Side::Network, Side::User] {
         for recovery in [Recovery::Enquiry, Recovery::LastMessage] {
-            follow_anew(alloc, table, &mut counts, side, recovery)?;
+            if wrong.is_none() {
+                wrong = wrong_anew(alloc, table, &mut counts, side, recovery);
+            }
         }
     }
-    wants(are_lively(&counts), "all events", "too few in a state")?;
-    table.are_met()
+    if wrong.is_some() {
+        wrong
+    } else if !are_lively(&counts) {
+        Some("all events: too few in a state")
+    } else {
+        table.never_taken()
+    }
 }
 
 #[test]
 fn links_follow_the_table(rt: HostRuntime) -> Result<(), Fail> {
     let mut table = Table::new(rt.alloc());
-    follow_all(rt.alloc(), &mut table)
+    none_is_wrong(&[wrong_of_all(rt.alloc(), &mut table)])
 }

@@ -1,10 +1,7 @@
 //! Rows of state 7, multiple frame established, with nothing to be acknowledged.
 
-use crate::rows::check_table;
-use std::test::Fail;
-
 /// Each place with its rows.
-const ROWS: &str = "
+pub(super) const ROWS: &str = "
 # The peer established the link.
 at frame 00817f | 7 T203
 establish request | establish | send 02817f; stop T203; start T200 | 5 L3I T200
@@ -176,8 +173,3 @@ DM F=0 | frame 02810f | report E; send 02817f; stop T203; start T200 | 5 T200
 establish request | establish | send 02817f; stop T203; start T200 | 5 L3I T200
 release request | release | send 028153; stop T203; start T200 | 6 own-busy T200
 ";
-
-#[test]
-fn rows_of_state_7(rt: HostRuntime) -> Result<(), Fail> {
-    check_table(rt.alloc(), ROWS)
-}

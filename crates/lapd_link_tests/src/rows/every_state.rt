@@ -1,10 +1,7 @@
 //! Rows that hold in every state, and those that hold wherever no link is established.
 
-use crate::rows::check_places;
-use std::test::Fail;
-
 /// Scripts that lead to each state, with and without layer 3, a release, messages and marks, and what they lead to.
-const NOT_ESTABLISHED: &str = "\
+pub(super) const NOT_ESTABLISHED: &str = "\
 - | 4
 establish; frame 02811f | 4 L3I
 establish | 5 L3I T200
@@ -17,7 +14,7 @@ establish; release; frame 028173; t200; t200 | 6 L3I RC=2 T200
 frame 00817f; busy on; release | 6 own-busy T200
 ";
 
-const ESTABLISHED: &str = "\
+pub(super) const ESTABLISHED: &str = "\
 frame 00817f | 7 T203
 establish; frame 028173 | 7 L3I T203
 frame 00817f; give 01; give 02; give 03 | 7 V(S)=2 T200 sent 01 02 unsent 03
@@ -29,7 +26,7 @@ establish; frame 028173; t203; t200 | 8 L3I RC=1 T200
 frame 00817f; give 01; give 02; give 03; t200 | 8 RC=1 V(S)=2 T200 sent 01 02 unsent 03
 ";
 
-const IN_EVERY_STATE: &str = "\
+pub(super) const IN_EVERY_STATE: &str = "\
 UI P=0 | frame 0081030a0b | unit 0a0b | =
 UI P=1 | frame 0081130a | unit 0a | =
 UI P=0 without information | frame 008103 | unit | =
@@ -45,7 +42,7 @@ XID response F=0 | frame 0281affe | - | =
 XID response F=1 | frame 0281bf | - | =
 ";
 
-const FRAMES_WITHOUT_ROW: &str = "\
+pub(super) const FRAMES_WITHOUT_ROW: &str = "\
 I P=0 | frame 0081000005 | - | =
 I P=1 | frame 0081000105 | - | =
 I P=1 out of sequence, N(R) not valid | frame 00810a0b | - | =
@@ -69,7 +66,7 @@ busy no longer | busy off | - | =
 T203 does not run | t203 | - | =
 ";
 
-const FAULTS_REPORTED: &str = "\
+pub(super) const FAULTS_REPORTED: &str = "\
 undefined control field | frame 008177 | report L | =
 reserved bit in an S frame | frame 00811100 | report L | =
 SABME as a response | frame 02817f | report L | =
@@ -83,15 +80,3 @@ I with 261 octets of information | frame 00810000+261*aa | report O | =
 UI with 261 octets of information | frame 008103+261*aa | report O | =
 XID with 261 octets of information | frame 0281bf+261*aa | report O | =
 ";
-
-#[test]
-fn rows_of_every_state(rt: HostRuntime) -> Result<(), Fail> {
-    check_places(rt.alloc(), NOT_ESTABLISHED, IN_EVERY_STATE)?;
-    check_places(rt.alloc(), ESTABLISHED, IN_EVERY_STATE)
-}
-
-#[test]
-fn rows_of_every_state_before_establishment(rt: HostRuntime) -> Result<(), Fail> {
-    check_places(rt.alloc(), NOT_ESTABLISHED, FRAMES_WITHOUT_ROW)?;
-    check_places(rt.alloc(), NOT_ESTABLISHED, FAULTS_REPORTED)
-}

@@ -1,11 +1,10 @@
 //! Worked scripts, each over one link from its beginning.
 
-use crate::rows::Driven;
 use crate::rows::text::Text;
+use crate::rows::{Driven, NO_LINK};
 use lapd_frame::Side;
 use lapd_link::Recovery;
 use std::alloc::Global;
-use std::test::Fail;
 
 impl Driven {
     /// Whether a line of a script holds: `event | outputs`, `= condition`, or a note.
@@ -95,40 +94,65 @@ fn put_longest_outputs(outs: &mut Text) -> u16 {
     count
 }
 
-/// Checks a script over a new link of this side, with a window of `k` frames, N200 of 3 and room for so many messages, and with
-/// this recovery.
-fn plays_anew(
-    alloc: Global,
-    side: Side,
-    (k, room): (u8, u16),
-    recovery: Recovery,
-    script: &str,
-) -> Result<(), Fail> {
-    let mut link = Driven::new(alloc, side, (k, 3, room), recovery)?;
-    plays_all(&mut link, script)
+/// A side, the window, the room and the recovery of a link.
+type Kind = (Side, u8, u16, Recovery);
+
+/// The scripts by number, an empty line between two, and the link that each is over.
+fn scripts(number: u8) -> (Kind, &'static str) {
+    match number {
+        0 => ((Side::User, 3, 512, Recovery::Enquiry), USER_SCRIPTS),
+        1 => ((Side::Network, 1, 512, Recovery::Enquiry), NETWORK_SCRIPTS),
+        2 => ((Side::Network, 1, 2, Recovery::Enquiry), FULL),
+        3 => ((Side::User, 127, 512, Recovery::Enquiry), LONGEST),
+        _ => (
+            (Side::User, 3, 512, Recovery::LastMessage),
+            LAST_MESSAGE_SCRIPTS,
+        ),
+    }
 }
 
-/// Checks scripts, an empty line between two, each over such a link.
-fn plays_each(
-    alloc: Global,
-    side: Side,
-    numbers: (u8, u16),
-    recovery: Recovery,
-    scripts: &str,
-) -> Result<(), Fail> {
+/// The first line of all scripts that is wrong.
+pub(super) fn wrong_script(alloc: Global) -> Option<&'static str> {
+    for number in 0..5u8 {
+        let wrong = wrong_of(alloc, scripts(number));
+        if wrong.is_some() {
+            return wrong;
+        }
+    }
+    None
+}
+
+/// The first line that is wrong of these scripts.
+fn wrong_of(alloc: Global, (kind, scripts): (Kind, &'static str)) -> Option<&'static str> {
     for script in scripts.split("\n\n") {
-        plays_anew(alloc, side, numbers, recovery, script)?;
+        let wrong = wrong_anew(alloc, kind, script);
+        if wrong.is_some() {
+            return wrong;
+        }
     }
-    Ok(())
+    None
 }
 
-/// Checks the lines of a script.
-fn plays_all(link: &mut Driven, script: &str) -> Result<(), Fail> {
-    for line in script.lines() {
-        let holds = link.plays(line);
-        link.wants(holds, line)?;
+/// The first line of a script that is wrong over a new link with N200 of 3.
+fn wrong_anew(
+    alloc: Global,
+    (side, k, room, recovery): Kind,
+    script: &'static str,
+) -> Option<&'static str> {
+    match Driven::new(alloc, side, (k, 3, room), recovery) {
+        Some(mut link) => wrong_line(&mut link, script),
+        None => Some(NO_LINK),
     }
-    Ok(())
+}
+
+/// The first line of a script that is wrong.
+fn wrong_line(link: &mut Driven, script: &'static str) -> Option<&'static str> {
+    for line in script.lines() {
+        if !link.plays(line) {
+            return Some(line);
+        }
+    }
+    None
 }
 
 /// Scripts, an empty line between two.
@@ -181,17 +205,6 @@ t200 | -
 = 4 L3I RC=3
 ";
 
-#[test]
-fn a_user_link_with_a_window_of_three(rt: HostRuntime) -> Result<(), Fail> {
-    plays_each(
-        rt.alloc(),
-        Side::User,
-        (3, 512),
-        Recovery::Enquiry,
-        USER_SCRIPTS,
-    )
-}
-
 /// Scripts, an empty line between two.
 const NETWORK_SCRIPTS: &str = "\
 # A peer that is not there is told so.
@@ -232,17 +245,6 @@ frame 00817f | send 008173; established; start T203
 = 7 V(R)=2 T203
 ";
 
-#[test]
-fn a_network_link(rt: HostRuntime) -> Result<(), Fail> {
-    plays_each(
-        rt.alloc(),
-        Side::Network,
-        (1, 512),
-        Recovery::Enquiry,
-        NETWORK_SCRIPTS,
-    )
-}
-
 const FULL: &str = "\
 # A network link whose peer is busy, with room for two messages.
 give 01 | refused L1 NotEstablished
@@ -255,11 +257,6 @@ give +261*03 | refused L3 TooLong
 = 7 peer-busy T200 unsent 01 02
 ";
 
-#[test]
-fn a_full_queue_refuses(rt: HostRuntime) -> Result<(), Fail> {
-    plays_each(rt.alloc(), Side::Network, (1, 2), Recovery::Enquiry, FULL)
-}
-
 const LONGEST: &str = "\
 # A user link with a window of 127 frames gives 134 outputs in the longest step, and then acknowledges all.
 establish | send 00817f; start T200
@@ -269,17 +266,6 @@ the longest step comes
 frame 008101fc | acknowledged 127; stop T200; start T203
 = 7 L3I V(S)=126 V(A)=126 V(R)=1 T203
 ";
-
-#[test]
-fn the_longest_step_has_134_outputs(rt: HostRuntime) -> Result<(), Fail> {
-    plays_anew(
-        rt.alloc(),
-        Side::User,
-        (127, 512),
-        Recovery::Enquiry,
-        LONGEST,
-    )
-}
 
 /// Scripts of the other recovery, an empty line between two.
 const LAST_MESSAGE_SCRIPTS: &str = "\
@@ -303,14 +289,3 @@ frame 00810500 | start T200
 t200 | send 00810101; start T200
 = 8 L3I RC=1 V(S)=1 peer-busy T200 sent 01
 ";
-
-#[test]
-fn the_last_message_goes_out_again(rt: HostRuntime) -> Result<(), Fail> {
-    plays_each(
-        rt.alloc(),
-        Side::User,
-        (3, 512),
-        Recovery::LastMessage,
-        LAST_MESSAGE_SCRIPTS,
-    )
-}

@@ -1,10 +1,9 @@
 //! What outputs put on the line, as octets of a user link with SAPI 0 and TEI 64 (Q.921 3.3 to 3.6).
 
-use crate::rows::Driven;
-use crate::wants::{none_is_wrong, wants};
+use crate::rows::{Driven, NO_LINK};
 use lapd_frame::{Control, Number, Role, Side, write};
 use lapd_link::{Link, Out, Recovery};
-use std::test::Fail;
+use std::alloc::Global;
 
 /// Whether an output puts these octets on the line.
 fn sends(link: &Link, out: Out, handed: &[u8], octets: &[u8]) -> bool {
@@ -68,18 +67,24 @@ fn wrong_without_frame(link: &Link, nr: Number) -> Option<&'static str> {
 }
 
 /// What is wrong of a user link that is established, and was given two messages.
-fn check_outputs(user: &mut Driven) -> Result<(), Fail> {
-    let [zero, five] = [Number::new(0), Number::new(5)];
-    let zero = zero.ok_or("seven bits")?;
-    let five = five.ok_or("seven bits")?;
-    let is_led = user.lead("establish; frame 008173; give 0102; give 0304");
-    wants(is_led, "a user link", "a bad line")?;
-    let link = user.link();
-    none_is_wrong(&[wrong_frame(link, five), wrong_without_frame(link, zero)])
+fn wrong_of_link(user: &mut Driven) -> Option<&'static str> {
+    match (
+        user.lead("establish; frame 008173; give 0102; give 0304"),
+        Number::new(0),
+        Number::new(5),
+    ) {
+        (true, Some(zero), Some(five)) => match wrong_frame(user.link(), five) {
+            None => wrong_without_frame(user.link(), zero),
+            wrong => wrong,
+        },
+        _ => Some("a user link: a bad line"),
+    }
 }
 
-#[test]
-fn outputs_are_frames(rt: HostRuntime) -> Result<(), Fail> {
-    let mut user = Driven::new(rt.alloc(), Side::User, (7, 3, 8), Recovery::Enquiry)?;
-    check_outputs(&mut user)
+/// What is wrong of what a user link puts on the line.
+pub(super) fn wrong_output(alloc: Global) -> Option<&'static str> {
+    match Driven::new(alloc, Side::User, (7, 3, 8), Recovery::Enquiry) {
+        Some(mut user) => wrong_of_link(&mut user),
+        None => Some(NO_LINK),
+    }
 }

@@ -1,10 +1,7 @@
 //! Rows of state 4, TEI assigned.
 
-use crate::rows::check_table;
-use std::test::Fail;
-
 /// Each place with its rows.
-const ROWS: &str = "
+pub(super) const ROWS: &str = "
 # A new link.
 at - | 4
 establish request | establish | send 02817f; start T200 | 5 L3I T200
@@ -42,8 +39,3 @@ busy | busy on | - | =
 data request | give 01 | refused L1 NotEstablished | =
 DISC P=1 | frame 008153 | send 00811f | =
 ";
-
-#[test]
-fn rows_of_state_4(rt: HostRuntime) -> Result<(), Fail> {
-    check_table(rt.alloc(), ROWS)
-}

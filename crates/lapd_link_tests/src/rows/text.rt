@@ -8,19 +8,15 @@ pub(super) struct Text {
     octets: ArrayVec<u8, 4096>,
 }
 
-/// Octets as the text that they are.
-pub(super) fn text_of(octets: &[u8]) -> &str {
-    match str::from_utf8(octets) {
-        Ok(text) => text,
-        Err(_) => "no text",
-    }
-}
-
 /// The three parts of a line, with ` | ` between them.
 pub(super) fn three_of(line: &str) -> Option<(&str, &str, &str)> {
-    let (first, rest) = line.split_once(" | ")?;
-    let (second, third) = rest.split_once(" | ")?;
-    Some((first, second, third))
+    match line.split_once(" | ") {
+        Some((first, rest)) => match rest.split_once(" | ") {
+            Some((second, third)) => Some((first, second, third)),
+            None => None,
+        },
+        None => None,
+    }
 }
 
 /// A digit of a hexadecimal number.

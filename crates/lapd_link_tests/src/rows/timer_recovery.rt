@@ -1,10 +1,7 @@
 //! Rows of state 8, timer recovery.
 
-use crate::rows::check_table;
-use std::test::Fail;
-
 /// Each place with its rows.
-const ROWS: &str = "
+pub(super) const ROWS: &str = "
 # T203 expired, and nothing is to be acknowledged.
 at frame 00817f; t203 | 8 T200
 establish request | establish | send 02817f; start T200 | 5 L3I T200
@@ -221,8 +218,3 @@ RR F=1 | frame 02810101 | stop T200; start T203 | 7 rejecting T203
 SABME P=1 | frame 00817f | send 008173; report F; stop T200; start T203 | 7 T203
 FRMR F=1 | frame 0281977f00020401 | report K; send 02817f; start T200 | 5 T200
 ";
-
-#[test]
-fn rows_of_state_8(rt: HostRuntime) -> Result<(), Fail> {
-    check_table(rt.alloc(), ROWS)
-}

@@ -1,10 +1,7 @@
 //! Rows of state 7, multiple frame established, with messages that wait or are to be acknowledged.
 
-use crate::rows::check_table;
-use std::test::Fail;
-
 /// Each place with its rows.
-const ROWS: &str = "
+pub(super) const ROWS: &str = "
 # Two of three messages are sent, and the window is closed.
 at frame 00817f; give 01; give 02; give 03 | 7 V(S)=2 T200 sent 01 02 unsent 03
 data request, the queue is full | give 04 | refused L2 QueueFull | =
@@ -184,8 +181,3 @@ I P=0, N(S) = V(R) | frame 0081020005 | - | =
 busy no longer | busy off \
     | send 00810102 | 7 V(S)=1 V(R)=1 peer-busy rejecting T200 sent 01
 ";
-
-#[test]
-fn rows_of_state_7_with_messages(rt: HostRuntime) -> Result<(), Fail> {
-    check_table(rt.alloc(), ROWS)
-}

@@ -169,14 +169,20 @@ impl Plain {
     /// Whether it is so; `None` where this is no condition of the table.
     fn is_so(&self, condition: &str) -> Option<bool> {
         match condition.split_once("=") {
-            Some((one, other)) => Some(self.number(one)? == self.number(other)?),
+            Some((one, other)) => match (self.number(one), self.number(other)) {
+                (Some(one), Some(other)) => Some(one == other),
+                _ => None,
+            },
             None => self.is_marked(condition),
         }
     }
 
     /// The number of this name.
     fn number(&self, name: &str) -> Option<u8> {
-        self.numbers.get(place_in(NUMBERS, name)?).copied()
+        match place_in(NUMBERS, name) {
+            Some(place) => self.numbers.get(place).copied(),
+            None => None,
+        }
     }
 
     /// Whether a mark is set, or numbers stand so.
@@ -195,7 +201,10 @@ impl Plain {
             self.outstanding() < K,
             steps(self.numbers[VA], self.numbers[NR]) <= self.outstanding(),
         ];
-        relations.get(place_in(RELATIONS, name)?).copied()
+        match place_in(RELATIONS, name) {
+            Some(place) => relations.get(place).copied(),
+            None => None,
+        }
     }
 
     /// Takes a step for an event, and for the one behind it, as far as the table has rows for them.

@@ -6,9 +6,7 @@
 
 use crate::rows::drawn::plain::Plain;
 use crate::rows::text::three_of;
-use crate::wants::wants;
 use std::alloc::Global;
-use std::test::Fail;
 
 /// What actions mean that are several.
 pub(super) const PROCEDURES: &str = "\
@@ -185,17 +183,20 @@ pub(super) struct Table {
 
 /// The row that a line is.
 fn row_of(line: &'static str) -> Option<Row> {
-    let (states, rest) = line.split_once(" | ")?;
-    let (event, rest) = rest.split_once(" | ")?;
-    let (conditions, actions, next) = three_of(rest)?;
-    Some(Row {
-        line,
-        states: states.trim(),
-        event: event.trim(),
-        conditions: conditions.trim(),
-        actions: actions.trim(),
-        next,
-    })
+    match three_of(line) {
+        Some((states, event, rest)) => match three_of(rest) {
+            Some((conditions, actions, next)) => Some(Row {
+                line,
+                states: states.trim(),
+                event: event.trim(),
+                conditions: conditions.trim(),
+                actions: actions.trim(),
+                next,
+            }),
+            None => None,
+        },
+        None => None,
+    }
 }
 
 impl Row {
@@ -222,22 +223,19 @@ impl Table {
         }
     }
 
-    /// Reads the rows.
-    pub(super) fn read(&mut self) -> Result<(), Fail> {
-        for line in TABLE.lines() {
-            if !line.is_empty() && !line.starts_with("#") {
-                self.rows.push(row_of(line).ok_or("a row has five parts")?)?;
-                self.met.push(0)?;
-            }
+    /// Takes a line as its next row, and tells whether it is one.
+    fn takes(&mut self, line: &'static str) -> bool {
+        match row_of(line) {
+            Some(row) => self.rows.push(row).is_ok() && self.met.push(0).is_ok(),
+            None => false,
         }
-        Ok(())
     }
 
-    /// Where the first row stands that fits.
-    fn place_of(&self, event: &str, plain: &Plain) -> Option<usize> {
-        for (place, row) in self.rows.iter().enumerate() {
-            if row.fits(event, plain) {
-                return Some(place);
+    /// Reads the rows, and gives the first line that is none.
+    pub(super) fn read(&mut self) -> Option<&'static str> {
+        for line in TABLE.lines() {
+            if !line.is_empty() && !line.starts_with("#") && !self.takes(line) {
+                return Some(line);
             }
         }
         None
@@ -245,18 +243,22 @@ impl Table {
 
     /// The row that is taken, which is counted; `None` where the table names none.
     pub(super) fn taken(&mut self, event: &str, plain: &Plain) -> Option<Row> {
-        let place = self.place_of(event, plain)?;
-        if let Some(met) = self.met.get_mut(place) {
-            *met = met.wrapping_add(1);
+        for (row, met) in self.rows.iter().zip(self.met.iter_mut()) {
+            if row.fits(event, plain) {
+                *met = met.wrapping_add(1);
+                return Some(*row);
+            }
         }
-        self.rows.get(place).copied()
+        None
     }
 
-    /// Fails the test at a row that was never taken.
-    pub(super) fn are_met(&self) -> Result<(), Fail> {
+    /// The first row that was never taken.
+    pub(super) fn never_taken(&self) -> Option<&'static str> {
         for (row, met) in self.rows.iter().zip(self.met.iter()) {
-            wants(*met > 0, row.line, "never taken")?;
+            if *met == 0 {
+                return Some(row.line);
+            }
         }
-        Ok(())
+        None
     }
 }
