@@ -59,6 +59,7 @@ impl HeldSide {
     /// # Errors
     ///
     /// `AllocError` where memory was refused. Nothing is changed.
+    #[inline(always)]
     fn set_aside(&mut self) -> Result<(), AllocError>
         ensures ok { OnOk result (self.new ≡ record self.old {
           backlog = waiting self.old;

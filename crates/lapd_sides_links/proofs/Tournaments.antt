@@ -1,11 +1,12 @@
 -- At node 1 stands the first of all that are entered, and a node that is won anew leaves the one above it.
-use Rattle.std.proofs.Common.{◌≡◌, ◌≢◌, ℕ, zero, suc, ◌+◌, ◌*◌, ◌/◌, ◌-◌, ◌<◌, ◌≤◌, List, length, replicate, drop, set, get_or, Option, Some, None, inl, inr, refl, sym, ap, subst, ◌∙◌, arith, ◌⊎◌}
+use Rattle.std.proofs.Common.{◌≡◌, ◌≢◌, ℕ, zero, suc, ◌+◌, ◌*◌, ◌/◌, ◌-◌, ◌<◌, ◌≤◌, List, length, replicate, drop, set, get_or, Option, Some, None, Bool, true, false, not, inl, inr, refl, sym, ap, subst, ◌∙◌, arith, ◌⊎◌}
+use Rattle.std.specs.Prelude.{is_some}
 use Rattle.std.proofs.lemmas.Bool.{cases_lt, cases_eq}
 use Rattle.std.proofs.lemmas.List.{get_or-drop, get_or_read, get_or-replicate, length-replicate, get_or_past, get_or-set_same, get_or-set_other, length-set}
 use Rattle.lapd_sides_links.specs.declared.running_timer.RunningTimer.{RunningTimer}
 use Rattle.lapd_sides_links.specs.Expiries.{IsNoLater, IsFirst}
 use Rattle.lapd_sides_links.specs.Places.{IsSooner}
-use Rattle.lapd_sides_links.specs.Tournament.{entry, IsEntered, IsWonAt, IsWonBut}
+use Rattle.lapd_sides_links.specs.Tournament.{entry, IsEntered, IsWonAt, IsWonBut, IsAlone, HasTop}
 use Rattle.lapd_sides_links.proofs.Order.{no_later_self, no_later_chained}
 
 -- ---- The one of two that goes on.
@@ -164,17 +165,106 @@ won_before nodes at first h is same = record {
   ];
 }
 
--- a place that is written
-pub place_entered : (nodes : List (Option RunningTimer)) (at : ℕ) (expiry : Option RunningTimer) → IsWonBut 0 nodes → 256 ≤ at → IsWonBut (at / 2) (set nodes at expiry)
-place_entered nodes at expiry h low = record {
+-- a place that is written, with those above it still to come
+pub place_written : (nodes : List (Option RunningTimer)) (at : ℕ) (expiry : Option RunningTimer) → IsWonBut (at / 2) nodes → 256 ≤ at → IsWonBut (at / 2) (set nodes at expiry)
+place_written nodes at expiry h low = record {
   size = length-set nodes at expiry ∙ h.size;
   won = λ n other least most. unchanged_node nodes at n expiry (λ q. omega (arith, q, low, most)) (λ q. other (omega (arith, q))) (λ q. other (omega (arith, q)))
-      (h.won n (λ q. omega (arith, q, least)) least most);
+      (h.won n other least most);
 }
+
+won_but : (nodes : List (Option RunningTimer)) (open_node : ℕ) → IsWonBut 0 nodes → IsWonBut open_node nodes
+won_but nodes open_node h = record {
+  size = h.size;
+  won = λ n other least most. h.won n (λ q. omega (arith, q, least)) least most;
+}
+
+pub place_entered : (nodes : List (Option RunningTimer)) (at : ℕ) (expiry : Option RunningTimer) → IsWonBut 0 nodes → 256 ≤ at → IsWonBut (at / 2) (set nodes at expiry)
+place_entered nodes at expiry h low = place_written nodes at expiry (won_but nodes (at / 2) h) low
+
+-- ---- One place alone.
+
+pub size_of : (nodes : List (Option RunningTimer)) (top : ℕ) → HasTop top nodes → length nodes ≡ 512
+size_of nodes top (inl x) = x.1.size
+size_of nodes top (inr x) = x.won.size
+
+the_one : (nodes : List (Option RunningTimer)) (place : ℕ) (e : RunningTimer) → IsAlone place nodes → IsEntered (drop 256 nodes) e → entry nodes place ≡ Some e
+the_one nodes place e h x =
+    let there : entry nodes (256 + x.at) ≡ Some e = sym (get_or-drop 256 nodes x.at None) ∙ x.there in
+    elim (cases_eq (256 + x.at) place) [
+      | inl own ↦ sym (ap (entry nodes) own) ∙ there
+      | inr differ ↦
+          let none = h.others (256 + x.at) (omega arith) differ in
+          let k : None ≡ Some e = sym none ∙ there in absurd (cc)
+    ]
+
+first_alone : (nodes : List (Option RunningTimer)) (place : ℕ) (first : Option RunningTimer) → entry nodes place ≡ first → IsAlone place nodes → IsFirst (IsEntered (drop 256 nodes)) first
+first_alone nodes place None is h = λ e x. let k : None ≡ Some e = sym is ∙ the_one nodes place e h x in absurd (cc)
+first_alone nodes place (Some a) is h = (
+  at_a_place nodes place a h.low is,
+  λ e x.
+      let k : Some a ≡ Some e = sym is ∙ the_one nodes place e h x in
+      let same : a ≡ e = cc in
+      subst (IsNoLater a) same (no_later_self a),
+)
+
+pub first_of_all : (nodes : List (Option RunningTimer)) (top : ℕ) (first : Option RunningTimer) → entry nodes top ≡ first → HasTop top nodes → IsFirst (IsEntered (drop 256 nodes)) first
+first_of_all nodes top first is (inl x) = first_of_entered nodes first (sym is ∙ ap (entry nodes) x.0) x.1
+first_of_all nodes top first is (inr x) = first_alone nodes top first is x
+
+-- that place is written
+alone_again : (nodes : List (Option RunningTimer)) (place : ℕ) (expiry : Option RunningTimer) → IsAlone place nodes → IsAlone place (set nodes place expiry)
+alone_again nodes place expiry h = record {
+  low = h.low;
+  high = h.high;
+  others = λ n low differ. get_or-set_other nodes place n expiry None differ ∙ h.others n low differ;
+  above = get_or-set_other nodes place (place / 2) expiry None (λ q. omega (arith, q, h.low)) ∙ h.above;
+  won = place_written nodes place expiry h.won h.low;
+}
+
+-- where no place has an expiry, any may have the first
+none_if : (nodes : List (Option RunningTimer)) (n : ℕ) (found : Option RunningTimer) → ((e : RunningTimer) → IsEntered (drop 256 nodes) e → ⊥) → 256 ≤ n → entry nodes n ≡ found → found ≡ None
+none_if nodes n None none low is = refl
+none_if nodes n (Some e) none low is = absurd (none e (at_a_place nodes n e low is))
+
+all_none : (nodes : List (Option RunningTimer)) (n : ℕ) → ((e : RunningTimer) → IsEntered (drop 256 nodes) e → ⊥) → 256 ≤ n → entry nodes n ≡ None
+all_none nodes n none low = none_if nodes n (entry nodes n) none low refl
+
+none_won : (nodes : List (Option RunningTimer)) (top : ℕ) → ((e : RunningTimer) → IsEntered (drop 256 nodes) e → ⊥) → HasTop top nodes → IsWonBut 0 nodes
+none_won nodes top none (inl x) = x.1
+none_won nodes top none (inr x) = record {
+  size = x.won.size;
+  won = λ n other least most. elim (cases_eq n (top / 2)) [
+    | inl own ↦ same_sooner None None None _ _ _ (all_none nodes (2 * n) none (omega (arith, own, x.low))) (all_none nodes (2 * n + 1) none (omega (arith, own, x.low)))
+        (ap (entry nodes) own ∙ x.above) refl
+    | inr differ ↦ x.won.won n differ least most
+  ];
+}
+
+sooner_of_none : (a b c : Option RunningTimer) → a ≡ None → b ≡ None → IsSooner a b c → c ≡ None
+sooner_of_none a b c p q h = let same : c ≡ b = subst (λ (o : Option RunningTimer). IsSooner o b c) p h in same ∙ q
+
+pub alone_anew : (nodes : List (Option RunningTimer)) (top place : ℕ) (expiry : Option RunningTimer) → ((e : RunningTimer) → IsEntered (drop 256 nodes) e → ⊥) → 256 ≤ place → place < 512
+    → HasTop top nodes → HasTop place (set nodes place expiry)
+alone_anew nodes top place expiry none low high h =
+    let won = none_won nodes top none h in
+    inr (alone_again nodes place expiry (record {
+      low = low;
+      high = high;
+      others = λ n least differ. all_none nodes n none least;
+      above = sooner_of_none _ _ _ (all_none nodes (2 * (place / 2)) none (omega (arith, low))) (all_none nodes (2 * (place / 2) + 1) none (omega (arith, low)))
+          (won.won (place / 2) (λ q. omega (arith, q, low)) (omega (arith, low)) (omega (arith, high)));
+      won = won_but nodes (place / 2) won;
+    }))
+
+pub none_first : (Among : RunningTimer → Type 0) (first : Option RunningTimer) (is : Bool) → is_some first ≡ not is → is ≡ true → IsFirst Among first → (e : RunningTimer) → Among e → ⊥
+none_first Among None is p q h = h
+none_first Among (Some a) true p q h = let k : true ≡ false = p in absurd (cc)
+none_first Among (Some a) false p q h = let k : false ≡ true = q in absurd (cc)
 
 -- ---- As it is made.
 
-none_at : (nodes : List (Option RunningTimer)) (n : ℕ) → nodes ≡ replicate 512 None → entry nodes n ≡ None
+pub none_at : (nodes : List (Option RunningTimer)) (n : ℕ) → nodes ≡ replicate 512 None → entry nodes n ≡ None
 none_at nodes n all = elim (cases_lt n 512) [
   | inl within ↦ ap (λ (xs : List (Option RunningTimer)). entry xs n) all ∙ get_or-replicate 512 n None None within
   | inr past ↦ get_or_past nodes n None (omega (arith, past, ap length all, length-replicate {A = Option RunningTimer} 512 None))
@@ -200,3 +290,6 @@ pub other_entry : (nodes settled : List (Option RunningTimer)) (place other : �
     → ((n : ℕ) → 256 ≤ n → entry settled n ≡ entry (set nodes (256 + place) expiry) n) → entry (drop 256 settled) other ≡ entry (drop 256 nodes) other
 other_entry nodes settled place other expiry differ same = get_or-drop 256 settled other None ∙ (same (256 + other) (omega arith)
     ∙ (get_or-set_other nodes (256 + place) (256 + other) expiry None (λ q. differ (omega (arith, q))) ∙ sym (get_or-drop 256 nodes other None)))
+
+pub places_kept : (nodes won : List (Option RunningTimer)) (other : ℕ) → ((n : ℕ) → 256 ≤ n → entry won n ≡ entry nodes n) → entry (drop 256 won) other ≡ entry (drop 256 nodes) other
+places_kept nodes won other same = get_or-drop 256 won other None ∙ (same (256 + other) (omega arith) ∙ sym (get_or-drop 256 nodes other None))

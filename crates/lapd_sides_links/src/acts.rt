@@ -212,6 +212,16 @@ pub(crate) fn remove_first<T: Drop>(items: &mut Vec<T>)
     if items.len() == 1 {
         items.clear();
     } else {
-        drop(items.remove(0));
+        remove_of_several(items);
     }
+}
+
+/// Lets the first of several go, and moves the others. It is rare, and in place it would take room and registers of its callers.
+#[inline(never)]
+fn remove_of_several<T: Drop>(items: &mut Vec<T>)
+    requires { 0 < length items.old.items }
+    ensures items { items.new.items ≡ drop 1 items.old.items }
+    ensures capacity { vec_capacity items.new ≡ vec_capacity items.old }
+{
+    drop(items.remove(0));
 }

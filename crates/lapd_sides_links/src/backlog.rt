@@ -44,6 +44,8 @@ impl Backlog {
     /// # Errors
     ///
     /// `AllocError` where memory was refused. Nothing is moved.
+    // It is rare, and in place it would take room and registers of its callers.
+    #[inline(never)]
     pub fn append(&mut self, acts: &mut Acts) -> Result<(), AllocError>
         ensures moved { OnOk result (self.new ≡ and_then self.old acts.old) }
         ensures left { OnOk result (acts.new ≡ no_effects) }

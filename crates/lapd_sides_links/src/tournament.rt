@@ -3,7 +3,7 @@
 ghost use Rattle.std.specs.Prelude.{◌≡◌, ◌≢◌, ◌≤◌, ◌<◌, ℕ, ◌/◌, None, IfOk, true};
 ghost use Rattle.lapd_sides_links.specs.Expiries.{IsFirst};
 ghost use Rattle.lapd_sides_links.specs.Places.{IsSooner};
-ghost use Rattle.lapd_sides_links.specs.Tournament.{entry, IsEntered, IsWonBut};
+ghost use Rattle.lapd_sides_links.specs.Tournament.{entry, IsEntered, IsWonBut, IsAlone, HasTop};
 
 use crate::RunningTimer;
 use crate::running_timer::is_no_later;
@@ -13,24 +13,31 @@ use std::marker::Model;
 /// How many places there are.
 pub const PLACES: usize = 256;
 
+/// The node above all others.
+const FIRST: usize = 1;
+
 /// A tournament of expiries, one or none at each of 256 places: of two the one that comes first goes on, up to the first of all. A
-/// change of one place is told to the eight above it alone.
+/// change of one place is told to the eight above it alone, and to none as long as all others are empty.
 #[derive(Drop)]
 pub struct Tournament {
-    /// Node 1 is the first of all. Under node n stand 2n and 2n + 1, down to 256 to 511, the places.
+    /// Under node n stand 2n and 2n + 1, down to 256 to 511, the places.
     nodes: Vec<Option<RunningTimer>>,
+    /// The first of all.
+    first: Option<RunningTimer>,
+    /// Where it stands: at node 1, or at the one place that is not empty.
+    top: usize,
 }
 
 impl Model for Tournament {
-    ghost use Rattle.std.specs.Prelude.{List, Option, drop};
+    ghost use Rattle.std.specs.Prelude.{◌≡◌, List, Option, drop};
     ghost use Rattle.lapd_sides_links.specs.declared.running_timer.RunningTimer.{RunningTimer};
-    ghost use Rattle.lapd_sides_links.specs.Tournament.{IsWonBut};
+    ghost use Rattle.lapd_sides_links.specs.Tournament.{entry, HasTop};
 
     ghost Value = { List (Option RunningTimer) };
 
     ghost view = { λ t. drop 256 t.nodes.items };
 
-    ghost invariant = { λ t. IsWonBut 0 t.nodes.items };
+    ghost invariant = { λ t. HasTop t.top t.nodes.items × (entry t.nodes.items t.top ≡ t.first) };
 }
 
 impl Tournament {
@@ -44,6 +51,8 @@ impl Tournament {
     {
         Ok(Tournament {
             nodes: Vec::from_array(alloc, [None; 2 * PLACES])?,
+            first: None,
+            top: FIRST,
         })
     }
 
@@ -51,7 +60,7 @@ impl Tournament {
     pub fn first(&self) -> Option<RunningTimer>
         ensures { IsFirst (IsEntered self.now) result }
     {
-        self.nodes[1]
+        self.first
     }
 
     /// Puts an expiry, or none, at a place, for what was there.
@@ -60,16 +69,56 @@ impl Tournament {
         ensures own { entry self.new place ≡ expiry }
         ensures others { (other : ℕ) → other ≢ place → entry self.new other ≡ entry self.old other }
     {
-        if is_same(&self.nodes[PLACES + place], &expiry) {
+        let own = PLACES + place;
+        if self.top == own {
+            self.nodes[own] = expiry;
+            self.first = expiry;
+            return;
+        }
+        if is_same(&self.nodes[own], &expiry) {
+            return;
+        }
+        if self.first.is_none() {
+            self.nodes[own] = expiry;
+            self.first = expiry;
+            self.top = own;
             return;
         }
         let nodes = self.nodes.as_mut_slice();
-        nodes[PLACES + place] = expiry;
-        settle(nodes, PLACES + place, expiry);
+        win_all(nodes, self.top);
+        nodes[own] = expiry;
+        settle(nodes, own, expiry);
+        self.first = nodes[FIRST];
+        self.top = FIRST;
     }
 }
 
+/// Lets the nodes above the one place that is not empty be won too, where the first of all stands there.
+#[inline(always)]
+fn win_all(nodes: &mut [Option<RunningTimer>], top: usize)
+    requires { HasTop top nodes.old }
+    ensures won { IsWonBut 0 nodes.new }
+    ensures places { (n : ℕ) → 256 ≤ n → entry nodes.new n ≡ entry nodes.old n }
+{
+    if top != FIRST {
+        win_above(nodes, top);
+    }
+}
+
+/// Lets the nodes above the one place that is not empty be won too.
+// It is rare, and `settle` stands in place where it is called.
+#[inline(never)]
+fn win_above(nodes: &mut [Option<RunningTimer>], place: usize)
+    requires { IsAlone place nodes.old }
+    ensures won { IsWonBut 0 nodes.new }
+    ensures places { (n : ℕ) → 256 ≤ n → entry nodes.new n ≡ entry nodes.old n }
+{
+    let alone = nodes[place];
+    settle(nodes, place, alone);
+}
+
 /// Lets the nodes above a place, at which this expiry or none was entered, be won anew, from below, up to one that stays as it is.
+#[inline(always)]
 fn settle(nodes: &mut [Option<RunningTimer>], place: usize, entered: Option<RunningTimer>)
     requires open { IsWonBut (place / 2) nodes.old }
     requires there { entry nodes.old place ≡ entered }
