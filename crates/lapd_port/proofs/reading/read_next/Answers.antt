@@ -1,4 +1,5 @@
-use Rattle.std.proofs.Common.{rules, Err, ap, ◌∙◌}
+use Rattle.std.proofs.Common.{rules, Err, ap, ◌∙◌, arith}
+use Rattle.std.proofs.lemmas.Grind.{common_steps}
 use Rattle.lapd_port.proofs.Parts.{part_of_frame, part_of_length, passes_part}
 use Rattle.lapd_port.proofs.Texts.{frame_read}
 use Rattle.lapd_port.proofs.Turning.{both_made, same_fault}
@@ -36,3 +37,6 @@ returns-then-branch-count-clause-next g c = search rules
 
 pub slice_bounds-fill-end-2 : goal.slice_bounds-fill-end-2
 slice_bounds-fill-end-2 g c = search rules
+
+pub returns-clause-behind : goal.returns-clause-behind
+returns-clause-behind g c = grind (arith, common_steps)

@@ -1,4 +1,5 @@
-use Rattle.std.proofs.Common.{rules, ap, ◌∙◌}
+use Rattle.std.proofs.Common.{rules, ap, ◌∙◌, arith}
+use Rattle.std.proofs.lemmas.Grind.{common_steps}
 use Rattle.lapd_port.specs.Device.{failures_after}
 use Rattle.lapd_port.proofs.Pieces.{IsLeft, left_after, left_kept}
 use Rattle.lapd_port.proofs.Turning.{made_some, with_turn}
@@ -27,3 +28,6 @@ loop-turn-preserved g c =
       ];
       turns = with_turn _ _ _ _ _ c.loop-turn.invariant.turns c.write.ensures.turn;
     }
+
+pub returns-then-is_empty-clause-text : goal.returns-then-is_empty-clause-text
+returns-then-is_empty-clause-text g c = grind (arith, common_steps)

@@ -1,5 +1,4 @@
-use Rattle.std.proofs.Common.{rules}
 use Rattle.lapd_cli_commands.proofs.answerer.Answerer.of_link.Goals as goal
 
 pub returns : goal.returns
-returns c = search rules
+returns c = record { setup = c.in_ok-link.ensures.setup; end = c.in_ok-link.ensures.end }
