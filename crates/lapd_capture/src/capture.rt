@@ -35,7 +35,7 @@ const ENHANCED_PACKET: usize = 6;
 const LEAST_BLOCK: usize = 12;
 
 /// How a file is laid out.
-#[derive(Clone, Copy, Debug, PartialEq, Eq)]
+#[derive(Clone, Copy)]
 pub(crate) enum Layout {
     /// pcap.
     Records,
@@ -44,7 +44,7 @@ pub(crate) enum Layout {
 }
 
 /// A capture in memory, and how far it is read. All places are those of its octets, from 0.
-#[derive(Debug, Drop)]
+#[derive(Drop)]
 pub struct Capture<'a> {
     octets: &'a [u8],
     place: usize,

@@ -2,7 +2,7 @@ ghost use Rattle.std.specs.Prelude.{◌≡◌};
 ghost use Rattle.lapd_capture.specs.Packet.{link_type_of};
 
 /// What stands before each frame of an interface (tcpdump's link types).
-#[derive(Clone, Copy, Debug, Default, PartialEq, Eq)]
+#[derive(Clone, Copy, Default, PartialEq, Eq)]
 pub enum LinkType {
     /// LINKTYPE_LINUX_LAPD, 177: 16 octets, which tell who sent the frame.
     LinuxLapd,

@@ -4,7 +4,7 @@ ghost use Rattle.lapd_capture.specs.Octets.{number_at};
 use byteorder::{BigEndian, ByteOrder, LittleEndian};
 
 /// In which order the octets of a number stand.
-#[derive(Clone, Copy, Debug, PartialEq, Eq)]
+#[derive(Clone, Copy)]
 pub enum Order {
     /// The highest first.
     Big,

@@ -54,7 +54,7 @@ pub struct Connections<'a> {
 }
 
 /// What is known of lines that are typed.
-#[derive(Clone, Copy, Debug, PartialEq, Eq)]
+#[derive(Clone, Copy, PartialEq, Eq)]
 enum Typing {
     /// None are.
     Never,

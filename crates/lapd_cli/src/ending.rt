@@ -21,7 +21,7 @@ const COMMAND_LINE: u8 = 2;
 const REFUSED: u8 = 5;
 
 /// Why a script was not done to its end.
-#[derive(Debug, Drop)]
+#[derive(Drop)]
 pub enum Stop {
     /// There is no connection.
     NoConnection(io::Error),
@@ -151,7 +151,7 @@ fn say_bad_line(rt: &HostRuntime, ending: &Ending<'_>) {
     if line.is_empty() {
         return;
     }
-    if ending.clock == Clock::Script {
+    if matches!(ending.clock, Clock::Script) {
         say_reason(rt, ending.script, line);
     } else {
         let side = side_of(ending.script);

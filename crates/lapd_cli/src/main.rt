@@ -63,7 +63,7 @@ fn do_lines(rt: &HostRuntime, chosen: &Invocation<'_>) -> ExitCode {
 fn has_forms(chosen: &Invocation<'_>) -> bool {
     match &chosen.job {
         Job::Decode(options) => !options.loose,
-        _ => chosen.clock == Clock::Script,
+        _ => matches!(chosen.clock, Clock::Script),
     }
 }
 

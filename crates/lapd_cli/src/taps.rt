@@ -12,7 +12,7 @@ use std::net::{SocketAddr, ToSocketAddrs, UdpSocket};
 use std::time::{SystemTime, UNIX_EPOCH};
 
 /// Why frames can't go where they were to.
-#[derive(Debug, Drop)]
+#[derive(Drop)]
 pub enum NoTaps {
     /// The file of the capture can't be made.
     File(io::Error),

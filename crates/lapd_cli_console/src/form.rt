@@ -3,7 +3,7 @@
 use std::fmt;
 
 /// What a word behind the first word of a line says.
-#[derive(Clone, Copy, Debug, PartialEq, Eq)]
+#[derive(Clone, Copy)]
 pub enum Argument {
     /// Octets in hexadecimal digits, which end the line. For no octets the word is left out.
     Hex,
@@ -78,7 +78,7 @@ impl fmt::Display for Argument {
 }
 
 /// The form of a line, as `give SIDE HEX`. Single spaces part its words.
-#[derive(Clone, Copy, Debug)]
+#[derive(Clone, Copy)]
 pub struct Form {
     /// The first word.
     pub word: &'static str,

@@ -3,7 +3,7 @@
 use std::fmt;
 
 /// A command of the program, which goes over a script.
-#[derive(Clone, Copy, Debug, PartialEq, Eq)]
+#[derive(Clone, Copy)]
 pub enum Script {
     /// `lapd answer`
     Answer,

@@ -32,7 +32,7 @@ pub enum CaptureStop {
 }
 
 /// What becomes of the frames of a capture.
-#[derive(Clone, Copy, Debug, PartialEq, Eq)]
+#[derive(Clone, Copy)]
 pub struct CaptureStyle {
     /// How each is printed.
     pub style: Style,

@@ -10,7 +10,7 @@ use lapd_frame::Side;
 use std::alloc::{AllocError, Global};
 
 /// The form of a line that tells octets and who sent them.
-#[derive(Clone, Copy, Debug, PartialEq, Eq)]
+#[derive(Clone, Copy)]
 pub enum LineForm {
     /// `SIDE HEX`, with one space between.
     Strict,
@@ -20,7 +20,7 @@ pub enum LineForm {
 }
 
 /// What a line tells.
-#[derive(Debug, Drop)]
+#[derive(Drop)]
 pub(crate) struct Sent {
     /// Who sent the octets.
     pub(crate) from: Side,

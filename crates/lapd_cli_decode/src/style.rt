@@ -7,7 +7,7 @@ use lapd_json::Packet;
 use std::alloc::{AllocError, Global};
 
 /// How a frame is printed.
-#[derive(Clone, Copy, Debug, PartialEq, Eq)]
+#[derive(Clone, Copy)]
 pub enum Style {
     /// As its trace line.
     Plain,

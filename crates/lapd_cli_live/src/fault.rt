@@ -4,7 +4,7 @@ use std::alloc::AllocError;
 use std::io;
 
 /// Why a side is served no longer.
-#[derive(Clone, Copy, Debug, PartialEq, Eq)]
+#[derive(Clone, Copy)]
 pub enum LiveFault {
     /// A line is none of the side's, the writer failed, or memory ran out.
     Line(LineFault),

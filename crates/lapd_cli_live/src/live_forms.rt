@@ -5,7 +5,7 @@ use memchr::memchr;
 use std::fmt;
 
 /// The form of a line.
-#[derive(Clone, Copy, Debug)]
+#[derive(Clone, Copy)]
 pub struct LiveForm {
     /// Its first word.
     pub word: &'static str,
@@ -63,7 +63,7 @@ const RANGES: &str =
 
 /// Why a line is none of a side's that is served with the real clock: it has not the form of its first word, or no line begins
 /// so.
-#[derive(Clone, Copy, Debug)]
+#[derive(Clone, Copy)]
 pub struct LiveReason<'l> {
     /// Whose line it is.
     pub side: Side,

@@ -28,7 +28,7 @@ pub struct LiveSide<O, W> {
 }
 
 /// What a turn, or several, came to.
-#[derive(Clone, Copy, Debug, PartialEq, Eq)]
+#[derive(Clone, Copy)]
 pub enum Came {
     /// A frame came, and was heard.
     Frame,

@@ -7,7 +7,7 @@ ghost use Rattle.lapd_cli_live.specs.Deeds.{Adds, Deed, HasRoom, Sends, waited};
 use lapd_port::{MOST_OCTETS, PortFault};
 
 /// What a wait came to.
-#[derive(Clone, Copy, Debug, PartialEq, Eq)]
+#[derive(Clone, Copy)]
 pub enum Woken {
     /// A frame of the other side came, whole, of so many octets. They stand at the front of the room that was lent.
     Frame(usize),

@@ -16,7 +16,7 @@ use std::io::Write;
 const MANAGEMENT: &str = "tei";
 
 /// Which lines are printed, and how.
-#[derive(Clone, Copy, Debug, PartialEq, Eq)]
+#[derive(Clone, Copy)]
 pub struct Style {
     /// Whether each line begins with the moment, in milliseconds since the start. Of an object it is the last member, `time`.
     pub time: bool,

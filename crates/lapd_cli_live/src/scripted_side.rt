@@ -10,7 +10,7 @@ use std::alloc::Global;
 use std::io::{self, Read, Write};
 
 /// How a script ends that is not done to its end.
-#[derive(Clone, Copy, Debug, PartialEq, Eq)]
+#[derive(Clone, Copy, PartialEq, Eq)]
 pub enum LiveStop {
     /// As any script.
     Script(ScriptFault),

@@ -39,7 +39,7 @@ pub enum Job {
 }
 
 /// By which clock a side goes.
-#[derive(Clone, Copy, Debug, PartialEq, Eq)]
+#[derive(Clone, Copy)]
 pub enum Clock<'a> {
     /// That of its script, which stands but for `tick`. All other commands have this one.
     Script,
@@ -48,7 +48,7 @@ pub enum Clock<'a> {
 }
 
 /// What goes with the real clock.
-#[derive(Clone, Copy, Debug, PartialEq, Eq)]
+#[derive(Clone, Copy)]
 pub struct LiveOptions<'a> {
     /// Whether each line begins with the moment, in milliseconds since the start.
     pub time: bool,
@@ -63,7 +63,7 @@ pub struct LiveOptions<'a> {
 }
 
 /// What `decode` takes and prints.
-#[derive(Clone, Copy, Debug, PartialEq, Eq)]
+#[derive(Clone, Copy)]
 pub struct DecodeOptions {
     /// Whether lines with more than single spaces in them, and those of libpri, are taken.
     pub loose: bool,

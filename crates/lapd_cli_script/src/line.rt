@@ -12,7 +12,7 @@ use std::marker::Model;
 ///
 /// [`Words::next_word`] reads the next one. [`Words::nothing`], [`Words::octets`] and [`Words::number`] read to the end of
 /// the line, so each consumes the words.
-#[derive(Debug, Drop)]
+#[derive(Drop)]
 pub struct Words<'a> {
     rest: Option<&'a [u8]>,
 }

@@ -43,7 +43,7 @@ impl ScriptFault {
 }
 
 /// How a command fails at a line.
-#[derive(Clone, Copy, Debug, PartialEq, Eq)]
+#[derive(Clone, Copy, PartialEq, Eq)]
 pub enum LineFault {
     /// The line is no line of the command.
     Bad,

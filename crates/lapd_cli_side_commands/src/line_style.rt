@@ -1,5 +1,5 @@
 /// How a side prints its lines.
-#[derive(Clone, Copy, Debug, PartialEq, Eq)]
+#[derive(Clone, Copy)]
 pub enum LineStyle {
     /// In words: a frame by its trace line.
     Text,

@@ -5,7 +5,7 @@ ghost use Rattle.std.specs.Prelude.{◌≡◌, IfOk, IfErr};
 use thiserror::Error;
 
 /// An option that takes an address and a port.
-#[derive(Clone, Copy, Debug, PartialEq, Eq)]
+#[derive(Clone, Copy, Debug)]
 pub struct AddressOption {
     /// Its long name, without the hyphens.
     pub name: &'static str,

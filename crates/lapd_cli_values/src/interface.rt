@@ -7,7 +7,7 @@ use lapd_link_rows::{Params, Tei};
 use lapd_timers::Durations;
 
 /// What a side of an interface is made with.
-#[derive(Debug, PartialEq, Eq, Drop)]
+#[derive(Drop)]
 pub struct Interface {
     /// What the links of SAPI 0 are made with.
     pub params0: Params,

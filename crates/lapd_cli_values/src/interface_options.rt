@@ -16,7 +16,7 @@ use lapd_timers::Durations;
 use std::alloc::{AllocError, Global};
 
 /// What was written for the options of an interface that each are given once at most, or the options' defaults.
-#[derive(Clone, Copy, Debug)]
+#[derive(Clone, Copy)]
 pub struct InterfaceOptions<'a> {
     /// Whether it is one at primary rate.
     pub pri: bool,
@@ -43,7 +43,7 @@ pub struct InterfaceOptions<'a> {
 }
 
 /// Why what was written for an interface chooses none.
-#[derive(Clone, Copy, Debug)]
+#[derive(Clone, Copy)]
 pub enum InterfaceFault<'a> {
     /// A number that is none of its option's range.
     OutOfRange(OutOfRange<'a>),

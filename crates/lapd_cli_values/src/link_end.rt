@@ -6,7 +6,7 @@ ghost use Rattle.lapd_frame.specs.declared.Sapi.TheVariants.{Management};
 use lapd_link_rows::{Params, Sapi, Side, Tei};
 
 /// One end of a link, as it is made.
-#[derive(Clone, Copy, Debug, PartialEq, Eq)]
+#[derive(Clone, Copy)]
 pub struct LinkEnd {
     /// Its side.
     pub side: Side,

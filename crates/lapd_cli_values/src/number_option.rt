@@ -6,7 +6,7 @@ ghost use Rattle.lapd_cli_values.specs.Options.{IsNumberFrom};
 use crate::numbers::number_of;
 
 /// An option that takes a number of a range, written in decimal digits alone.
-#[derive(Clone, Copy, Debug, PartialEq, Eq)]
+#[derive(Clone, Copy, Debug)]
 pub struct NumberOption {
     /// Its long name, without the hyphens.
     pub name: &'static str,

@@ -7,7 +7,7 @@ use lapd_frame::Sapi;
 use std::marker::Model;
 
 /// For which SAPIs an establishment is kept until the terminal has a TEI.
-#[derive(Clone, Copy, Debug)]
+#[derive(Clone, Copy)]
 pub struct KeptEstablishments {
     call: bool,
     packet: bool,

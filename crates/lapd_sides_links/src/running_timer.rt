@@ -9,7 +9,7 @@ use lapd_table::LinkId;
 use lapd_timers::Timer;
 
 /// A timer of a link or of TEI management that runs, with its deadline.
-#[derive(Clone, Copy, Debug)]
+#[derive(Clone, Copy)]
 pub struct RunningTimer {
     /// The moment at which it expires, in milliseconds.
     pub deadline: u64,

@@ -4,7 +4,7 @@ use crate::LinkId;
 
 /// A link that is there: its SAPI and TEI, and where it stands in its table. [`LinkTable::find`](crate::LinkTable::find) gives
 /// it, and it serves until that link is removed. So a program that does several things with one link finds it once.
-#[derive(Clone, Copy, Debug)]
+#[derive(Clone, Copy)]
 pub struct LinkKey {
     pub(crate) id: LinkId,
     pub(crate) place: usize,

@@ -24,7 +24,7 @@ pub enum AssignerEvent {
 }
 
 /// The TEI management of the network side (Q.921 5.3): the TEIs that are held, and the check that runs.
-#[derive(Clone, Copy, Debug, PartialEq, Eq)]
+#[derive(Clone, Copy, PartialEq, Eq)]
 pub struct Assigner {
     held: [bool; 127],
     check: Option<Check>,

@@ -6,7 +6,7 @@ use thiserror::Error;
 
 /// What may happen on a bus. Terminals and messages count from 0, messages in the order of sending among those on their way
 /// in that direction. Each reference is a fresh one, for the message that may be sent.
-#[derive(Clone, Copy, Debug, PartialEq, Eq)]
+#[derive(Clone, Copy)]
 pub enum BusMove {
     /// The terminal asks for a TEI, by this reference.
     Ask(usize, u16),

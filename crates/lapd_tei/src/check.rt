@@ -1,7 +1,7 @@
 use lapd_frame::Tei;
 
 /// How often terminals were asked in a check (Q.921 5.3.3.2).
-#[derive(Clone, Copy, Debug, PartialEq, Eq)]
+#[derive(Clone, Copy, PartialEq, Eq)]
 pub enum Round {
     /// Once.
     First,
@@ -10,7 +10,7 @@ pub enum Round {
 }
 
 /// How many terminals answered in a check.
-#[derive(Clone, Copy, Debug, PartialEq, Eq)]
+#[derive(Clone, Copy, PartialEq, Eq)]
 pub enum Responses {
     /// None.
     Nobody,
@@ -21,7 +21,7 @@ pub enum Responses {
 }
 
 /// A check of a TEI that runs (Q.921 5.3.3).
-#[derive(Clone, Copy, Debug, PartialEq, Eq)]
+#[derive(Clone, Copy, PartialEq, Eq)]
 pub struct Check {
     /// The TEI under check, 0 to 126.
     pub tei: Tei,

@@ -1,7 +1,7 @@
 use lapd_frame::Tei;
 
 /// What a terminal waits for a TEI for.
-#[derive(Clone, Copy, Debug, PartialEq, Eq)]
+#[derive(Clone, Copy, PartialEq, Eq)]
 pub enum Purpose {
     /// To have one: state 2, assign awaiting TEI.
     Assignment,
@@ -10,7 +10,7 @@ pub enum Purpose {
 }
 
 /// The state of a terminal's TEI management (Q.921 Annex B, Figures B.1 to B.4).
-#[derive(Clone, Copy, Debug, PartialEq, Eq)]
+#[derive(Clone, Copy, PartialEq, Eq)]
 pub enum Phase {
     /// State 1, TEI unassigned.
     Unassigned,

@@ -40,7 +40,7 @@ pub enum TerminalEvent {
 ///          |  +-------------- 4 TEI assigned <------------------------+
 ///          +----------------------------------------> 3 establish awaiting TEI
 /// ```
-#[derive(Clone, Copy, Debug, PartialEq, Eq)]
+#[derive(Clone, Copy, PartialEq, Eq)]
 pub struct Terminal {
     phase: Phase,
 }
