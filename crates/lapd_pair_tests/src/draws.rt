@@ -1,12 +1,13 @@
 //! Moves that are drawn.
 
+use crate::safe::are_safe;
 use lapd_frame::Side;
-use lapd_pair::Move;
+use lapd_pair::{Move, Pair};
 use rand_core::{Rng, SeedableRng};
 use rand_pcg::Pcg32;
 use std::alloc::Global;
 
-/// Draws moves of two ends, and counts the messages that they give.
+/// Draws moves of two ends, and counts the messages and unit data that they give.
 #[derive(Drop)]
 pub(crate) struct Draws {
     alloc: Global,
@@ -23,26 +24,53 @@ impl Draws {
         }
     }
 
+    /// Makes so many drawn moves, of which any may be refused and changes nothing then. Whether there is memory for each, and what
+    /// both sides received is safe, where it is looked at.
+    pub(crate) fn lead(&mut self, pair: &mut Pair, moves: u32, looks: bool) -> bool {
+        let mut holds = true;
+        for _ in 0..moves {
+            holds = holds && self.makes_one(pair, looks);
+        }
+        holds
+    }
+
+    /// Makes a drawn move.
+    fn makes_one(&mut self, pair: &mut Pair, looks: bool) -> bool {
+        match self.draw() {
+            Some(deed) => match pair.apply(&deed) {
+                Ok(_) => !looks || are_safe(pair),
+                Err(fault) => !fault.is_memory(),
+            },
+            None => false,
+        }
+    }
+
+    /// A side gives a message, and is refused or not. Whether there is memory for its octets.
+    pub(crate) fn gives(&mut self, pair: &mut Pair, side: Side) -> bool {
+        match self.message(side, false) {
+            Some(deed) => {
+                let _ = moves(pair, &deed);
+                true
+            }
+            None => false,
+        }
+    }
+
     /// A number below this one.
     fn below(&mut self, limit: u32) -> u32 {
         self.random.next_u32().checked_rem(limit).unwrap_or(0)
     }
 
-    /// One of the two sides.
-    fn side(&mut self) -> Side {
-        if self.below(2) == 0 {
+    /// A move of one of the sides; `None` where there is no memory for it.
+    fn draw(&mut self) -> Option<Move> {
+        let side = if self.below(2) == 0 {
             Side::User
         } else {
             Side::Network
-        }
-    }
-
-    /// A move of one of the sides; `None` where there is no memory for it. A message has its own number as its octets.
-    pub(crate) fn draw(&mut self) -> Option<Move> {
-        let side = self.side();
+        };
         match self.below(1000) {
-            0..180 => self.message(side),
-            975..985 => self.unit(side),
+            0..180 => self.message(side, false),
+            975..985 => self.message(side, true),
             drawn => Some(self.plain_move(side, drawn)),
         }
     }
@@ -61,21 +89,19 @@ impl Draws {
         }
     }
 
-    /// Unit data of three octets, sent by this side.
-    fn unit(&self, side: Side) -> Option<Move> {
-        match [0xff; 3].to_vec(self.alloc) {
-            Ok(octets) => Some(Move::Unit(side, octets)),
-            Err(_) => None,
-        }
-    }
-
-    /// The next message, given by this side.
-    pub(crate) fn message(&mut self, side: Side) -> Option<Move> {
+    /// The next message, given by this side, or unit data. It has its own number as its octets.
+    pub(crate) fn message(&mut self, side: Side, is_unit: bool) -> Option<Move> {
         let octets = self.messages.to_be_bytes();
         self.messages = self.messages.wrapping_add(1);
         match octets.to_vec(self.alloc) {
+            Ok(unit) if is_unit => Some(Move::Unit(side, unit)),
             Ok(message) => Some(Move::Give(side, message)),
             Err(_) => None,
         }
     }
+}
+
+/// Makes a move, and tells whether it was admitted.
+pub(crate) fn moves(pair: &mut Pair, deed: &Move) -> bool {
+    pair.apply(deed).is_ok()
 }

@@ -1,9 +1,11 @@
 //! Tests of two ends on a lossy line: moves of a `Pair` with the octets that they put on the line, refusals, memory that is
 //! refused, 10,000 drawn moves for each recovery at each side, and how a line settles.
 //!
-//! They stand apart from the other tests so that the check of either is short. `is_right` fails a test with the row's name.
+//! They stand apart from the other tests so that the check of either is short.
 #![tactic(auto)]
 
+#[cfg(test)]
+mod drawn;
 #[cfg(test)]
 mod draws;
 #[cfg(test)]
@@ -11,20 +13,12 @@ mod losses;
 #[cfg(test)]
 mod made;
 #[cfg(test)]
-mod memory;
+mod named;
 #[cfg(test)]
-mod readers;
+mod rows;
 #[cfg(test)]
-mod refusals;
-#[cfg(test)]
-mod schedule;
-#[cfg(test)]
-mod settles;
-#[cfg(test)]
-mod shown;
+mod safe;
 #[cfg(test)]
 mod steps;
 #[cfg(test)]
-mod wants;
-#[cfg(test)]
-mod worked;
+mod text;
