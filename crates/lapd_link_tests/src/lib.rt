@@ -20,6 +20,8 @@ mod reports;
 #[cfg(test)]
 mod rows;
 #[cfg(test)]
+mod text;
+#[cfg(test)]
 mod values;
 #[cfg(test)]
 mod wants;

@@ -1,252 +1,226 @@
-//! A link that is made and led on by its own calls, what it is made with, and how its refusals read.
+//! A link of packet communication that is led on by its own calls, and what links are made with.
 
-use crate::wants::{first_of, prints};
-use lapd_frame::{Control, Role, Sapi, Side, Tei};
-use lapd_link::{Event, Link, LinkFault, Out, Params, Timer};
+use crate::rows::condition_of;
+use crate::text::{Text, number_of, split};
+use lapd_frame::{Control, Number, Role, Sapi, Side, Tei, write};
+use lapd_link::{Event, Link, LinkFault, Out, Outs, Params, Recovery};
 use std::alloc::Global;
 
-/// Whether a link shows what it was made with.
-fn is_made_so(link: &Link, side: Side, room: u16) -> bool {
-    link.side() == side
-        && link.sapi() == Sapi::Packet
-        && link.tei().value() == 126
-        && link.room() == room
-}
+/// What is done with the link of SAPI 16 and TEI 126; what it puts on the line, with `-` for each output that puts nothing
+/// there, or why it refuses; and its condition.
+pub(crate) const ROWS: &str = "\
+# A new link is as it was made.
+link network 1 | network 16 126 1 4
+link network 2 | network 16 126 2 4
+link network 1024 | network 16 126 1024 4
 
-/// Whether a link is in state 4, with nothing that runs or waits.
-fn is_new(link: &Link) -> bool {
-    link.state() == 4 && link.rc() == 0 && link.queue().is_empty() && !runs(link)
-}
+# A new link establishes and is released, and hands back a message that comes early.
+link user 2 | user 16 126 2 4
+link give 6561726c79 | L1 NotEstablished 6561726c79 4
+link establish | 40fd7f - 5 L3I T200
+link give 6561726c79 | L5 LayerThreeEstablishing 6561726c79 5 L3I T200
+link release | 5 L3I RP T200
+link establish | L4 Releasing 5 L3I RP T200
 
-/// Whether a timer of the table runs.
-fn runs(link: &Link) -> bool {
-    link.running(Timer::T200)
-        || link.running(Timer::T201)
-        || link.running(Timer::T202)
-        || link.running(Timer::T203)
-}
+# Once the peer has established, two messages go out and stay in the queue.
+link network 512 | network 16 126 512 4
+link hear 02817f | for another link 4
+link hear 40fd7f | 40fd73 - - 7 T203
+link give 0801 | 42fd00000801 - - 7 V(S)=1 T200 sent 0801
+link give 0802 | 42fd02000802 7 V(S)=2 T200 sent 0801 0802
 
-/// A new link is as it was made.
-fn wrong_when_new(link: &Link, side: Side, room: u16) -> Option<&'static str> {
-    if is_made_so(link, side, room) && is_new(link) {
-        None
-    } else {
-        Some("a new link: side, SAPI, TEI, room or state")
-    }
-}
+# An RR, the second message and unit data are frames. A third message that is not there, a UA as a command, 261 octets and an
+# indication are none.
+link outputs | 40fd010b 42fd0a0a0802 42fd0309 - - - - 7 V(S)=2 T200 sent 0801 0802
+";
 
-/// Whether layer 3's request for establishment gives a SABME with P=1 and starts T200.
-fn establishes(link: &mut Link) -> bool {
-    let sabme = Out::Send(Role::Command, Control::Sabme { p: true });
-    match link.handle(Event::Establish) {
-        Ok(outs) => outs.as_slice() == [sabme, Out::Start(Timer::T200)].as_slice(),
-        Err(_) => false,
-    }
-}
+/// k, N200 and room, from which parameters are made where each is in its range, and those of basic access and primary rate.
+pub(crate) const PARAMETERS: &str = "\
+made of 1 1 1 | k=1 N200=1 room=1
+made of 127 100 1024 | k=127 N200=100 room=1024
+made of 7 3 512 | k=7 N200=3 room=512
+made of 0 3 512 | none
+made of 128 3 512 | none
+made of 255 3 512 | none
+made of 7 0 512 | none
+made of 7 101 512 | none
+made of 7 255 512 | none
+made of 7 3 0 | none
+made of 7 3 1025 | none
+made of 7 3 65535 | none
+made call | k=1 N200=3 room=512
+made packet | k=3 N200=3 room=512
+made management | k=1 N200=3 room=512
+made primary | k=7 N200=3 room=512
+made of 7 3 512 last | k=7 N200=3 room=512 last
+";
 
-/// Whether a message is handed back for this fault.
-fn hands_back(alloc: Global, link: &mut Link, fault: LinkFault) -> bool {
-    match b"early".to_vec(alloc) {
-        Ok(message) => match link.give(message) {
-            Ok(_) => false,
-            Err(back) => back.fault == fault && back.message.as_slice() == b"early".as_slice(),
-        },
-        Err(_) => false,
-    }
-}
-
-/// A new link establishes and is released, and hands back a message that comes early.
-fn wrong_when_led_on(alloc: Global, link: &mut Link) -> Option<&'static str> {
-    if !hands_back(alloc, link, LinkFault::NotEstablished) {
-        Some("state 4: a message is not handed back")
-    } else if !establishes(link) {
-        Some("state 4: no SABME")
-    } else if !hands_back(alloc, link, LinkFault::LayerThreeEstablishing) {
-        Some("state 5: a message is not handed back")
-    } else if link.handle(Event::Release).is_err() {
-        Some("state 5: refused")
-    } else if link.handle(Event::Establish).err() != Some(LinkFault::Releasing) {
-        Some("state 5: not refused")
-    } else {
-        None
-    }
-}
-
-/// Whether the peer's SABME comes.
-fn hears_sabme(link: &mut Link) -> bool {
-    match lapd_frame::read(b"\x40\xfd\x7f", Side::User) {
-        Ok(sabme) => {
-            link.side() == Side::Network
-                && link.is_for(&sabme.address())
-                && link.handle(Event::Heard(&sabme)).is_ok()
+/// Puts the parameters of this kind, or those made of these numbers.
+pub(crate) fn put_parameters(text: &mut Text, kind: &str, words: &str) {
+    let made = match kind {
+        "call" => Some(Params::basic(Sapi::Call)),
+        "packet" => Some(Params::basic(Sapi::Packet)),
+        "management" => Some(Params::basic(Sapi::Management)),
+        "primary" => Some(Params::primary()),
+        _ => parameters_of(words),
+    };
+    match made {
+        Some(made) => {
+            text.shown(" k=", &made.k());
+            text.shown(" N200=", &made.n200());
+            text.shown(" room=", &made.room());
+            text.mark(" last", made.recovery() == Recovery::LastMessage);
         }
-        Err(_) => false,
+        None => text.put(" none"),
     }
 }
 
-/// Whether the link takes a message.
-fn takes(alloc: Global, link: &mut Link, message: &[u8]) -> bool {
-    match message.to_vec(alloc) {
-        Ok(message) => link.give(message).is_ok(),
-        Err(_) => false,
-    }
-}
-
-/// Whether the two first messages are sent, and wait with others to be acknowledged.
-fn holds(link: &Link, first: &[u8], second: &[u8]) -> bool {
-    let queue = link.queue();
-    queue.get(0) == Some(first) && queue.get(1) == Some(second) && queue.sent() == queue.len()
-}
-
-/// Once the peer has established, two messages go out and stay in the queue.
-fn wrong_with_messages(alloc: Global, link: &mut Link) -> Option<&'static str> {
-    if !hears_sabme(link) {
-        Some("a SABME comes: not for the link, or refused")
-    } else if link.state() != 7 {
-        Some("a SABME came: not established")
-    } else if !takes(alloc, link, &[8, 1]) || !takes(alloc, link, &[8, 2]) {
-        Some("a message: refused")
-    } else if !holds(link, &[8, 1], &[8, 2]) {
-        Some("two messages: not sent")
-    } else if !link.running(Timer::T200) {
-        Some("two messages: no T200")
+/// The parameters of `k n200 room`, where `last` stands behind with the recovery of the last message.
+pub(crate) fn parameters_of(words: &str) -> Option<Params> {
+    let (k, rest) = split(words, " ");
+    let (n200, rest) = split(rest, " ");
+    let (room, last) = split(rest, " ");
+    let recovery = if last == "last" {
+        Recovery::LastMessage
     } else {
-        None
+        Recovery::Enquiry
+    };
+    let (k, n200) = (number_of(k) & 0xff, number_of(n200) & 0xff);
+    match Params::new(k as u8, n200 as u8, number_of(room)) {
+        Some(params) => Some(params.with_recovery(recovery)),
+        None => None,
     }
 }
 
-/// What is done with a new link.
-#[derive(Clone, Copy)]
-enum Deeds {
-    Show,
-    LeadOn,
-    TakeMessages,
-}
-
-/// Links for packet communication and TEI 126 by their side and room, and what is done with them.
-const LINKS: &[(Side, u16, Deeds)] = &[
-    (Side::Network, 1, Deeds::Show),
-    (Side::Network, 2, Deeds::Show),
-    (Side::Network, 512, Deeds::Show),
-    (Side::Network, 1024, Deeds::Show),
-    (Side::User, 2, Deeds::LeadOn),
-    (Side::Network, 512, Deeds::TakeMessages),
-];
-
-/// What is wrong of a new link where this is done with it.
-fn wrong_of(
-    alloc: Global,
-    link: &mut Link,
-    (side, room, deeds): (Side, u16, Deeds),
-) -> Option<&'static str> {
-    match deeds {
-        Deeds::Show => wrong_when_new(link, side, room),
-        Deeds::LeadOn => wrong_when_led_on(alloc, link),
-        Deeds::TakeMessages => wrong_with_messages(alloc, link),
-    }
-}
-
-/// Makes a link, and does this with it.
-fn wrong_anew(alloc: Global, row: (Side, u16, Deeds)) -> Option<&'static str> {
-    let (side, room, _) = row;
+/// A new link of this side and room.
+pub(crate) fn new_link(alloc: Global, side: Side, room: u16) -> Option<Link> {
     match (Params::new(7, 3, room), Tei::new(126)) {
-        (Some(params), Some(tei)) => match Link::new(alloc, side, Sapi::Packet, tei, params) {
-            Ok(mut link) => wrong_of(alloc, &mut link, row),
-            Err(_) => Some("no link is made"),
+        (Some(params), Some(tei)) => Link::new(alloc, side, Sapi::Packet, tei, params).ok(),
+        _ => None,
+    }
+}
+
+/// Does a deed with a link.
+pub(crate) fn put(text: &mut Text, alloc: Global, link: &mut Link, deed: &str, word: &str) {
+    match deed {
+        "network" => renew(text, alloc, link, Side::Network, number_of(word)),
+        "user" => renew(text, alloc, link, Side::User, number_of(word)),
+        "establish" => establish(text, link),
+        "release" => release(text, link),
+        "hear" => hear(text, alloc, link, word),
+        "give" => give(text, alloc, link, word),
+        _ => put_frames(text, link),
+    }
+    text.put(" ");
+    text.put_octets(condition_of(link).octets());
+}
+
+/// Makes a new link of this side and room, and puts what it shows of them.
+fn renew(text: &mut Text, alloc: Global, link: &mut Link, side: Side, room: u16) {
+    if let Some(made) = new_link(alloc, side, room) {
+        *link = made;
+    }
+    text.shown(" ", &link.side());
+    text.shown(" ", &link.sapi());
+    text.shown(" ", &link.tei());
+    text.shown(" ", &link.room());
+}
+
+/// Layer 3 asks for establishment.
+fn establish(text: &mut Text, link: &mut Link) {
+    let answer = link.handle(Event::Establish);
+    put_answer(text, link, answer);
+}
+
+/// Layer 3 asks for release.
+fn release(text: &mut Text, link: &mut Link) {
+    let answer = link.handle(Event::Release);
+    put_answer(text, link, answer);
+}
+
+/// Octets of the other side come.
+fn hear(text: &mut Text, alloc: Global, link: &mut Link, digits: &str) {
+    match hex::decode(alloc, digits) {
+        Ok(octets) => hear_octets(text, link, octets.as_slice()),
+        Err(_) => text.put(" no octets"),
+    }
+}
+
+/// A frame of the user comes, where it is for the link.
+fn hear_octets(text: &mut Text, link: &mut Link, octets: &[u8]) {
+    match lapd_frame::read(octets, Side::User) {
+        Ok(frame) if link.side() == Side::Network && link.is_for(&frame.address()) => {
+            let answer = link.handle(Event::Heard(&frame));
+            put_answer(text, link, answer);
+        }
+        _ => text.put(" for another link"),
+    }
+}
+
+/// Layer 3 gives a message; what is handed back is put.
+fn give(text: &mut Text, alloc: Global, link: &mut Link, digits: &str) {
+    match hex::decode(alloc, digits) {
+        Ok(message) => match link.give(message) {
+            Ok(outs) => put_outs(text, link, &outs),
+            Err(back) => {
+                text.shown(" ", &back.fault);
+                text.put(" ");
+                text.hex(back.message.as_slice());
+            }
         },
-        _ => Some("a number is out of range"),
+        Err(_) => text.put(" no octets"),
     }
 }
 
-/// What is wrong of links.
-fn wrong_link(alloc: Global) -> Option<&'static str> {
-    for row in LINKS {
-        let wrong = wrong_anew(alloc, *row);
-        if wrong.is_some() {
-            return wrong;
+/// Puts what outputs put on the line, or why there are none.
+fn put_answer(text: &mut Text, link: &Link, answer: Result<Outs, LinkFault>) {
+    match answer {
+        Ok(outs) => put_outs(text, link, &outs),
+        Err(fault) => text.shown(" ", &fault),
+    }
+}
+
+/// Puts what outputs put on the line.
+fn put_outs(text: &mut Text, link: &Link, outs: &Outs) {
+    for out in outs.as_slice() {
+        put_out(text, link, *out, &[]);
+    }
+}
+
+/// Puts what an output puts on the line, where these octets were handed in, or `-` for nothing.
+fn put_out(text: &mut Text, link: &Link, out: Out, handed: &[u8]) {
+    let mut octets = [0; 264];
+    text.put(" ");
+    match link.frame(&out, handed) {
+        Some(frame) => {
+            let length = write(&frame, link.side(), &mut octets);
+            text.hex(&octets[..length]);
         }
-    }
-    None
-}
-
-/// k, N200 and room, and whether they are in range.
-const RANGES: &[(&str, u8, u8, u16, bool)] = &[
-    ("k=1 N200=1 room=1", 1, 1, 1, true),
-    ("k=127 N200=100 room=1024", 127, 100, 1024, true),
-    ("k=7 N200=3 room=512", 7, 3, 512, true),
-    ("k=0 N200=3 room=512", 0, 3, 512, false),
-    ("k=128 N200=3 room=512", 128, 3, 512, false),
-    ("k=255 N200=3 room=512", 255, 3, 512, false),
-    ("k=7 N200=0 room=512", 7, 0, 512, false),
-    ("k=7 N200=101 room=512", 7, 101, 512, false),
-    ("k=7 N200=255 room=512", 7, 255, 512, false),
-    ("k=7 N200=3 room=0", 7, 3, 0, false),
-    ("k=7 N200=3 room=1025", 7, 3, 1025, false),
-    ("k=7 N200=3 room=65535", 7, 3, 65535, false),
-];
-
-/// Whether parameters are these.
-fn are(params: Params, k: u8, n200: u8, room: u16) -> bool {
-    params.k() == k && params.n200() == n200 && params.room() == room
-}
-
-/// Ranges of parameters.
-fn wrong_range() -> Option<&'static str> {
-    for (row, k, n200, room, good) in RANGES {
-        let made = match Params::new(*k, *n200, *room) {
-            Some(params) => are(params, *k, *n200, *room),
-            None => false,
-        };
-        if made != *good {
-            return Some(row);
-        }
-    }
-    None
-}
-
-/// Parameters of basic access and primary rate.
-fn wrong_standard() -> Option<&'static str> {
-    if !are(Params::basic(Sapi::Call), 1, 3, 512) {
-        Some("basic access, call control: other numbers")
-    } else if !are(Params::basic(Sapi::Packet), 3, 3, 512) {
-        Some("basic access, packets: other numbers")
-    } else if !are(Params::basic(Sapi::Management), 1, 3, 512) {
-        Some("basic access, management: other numbers")
-    } else if !are(Params::primary(), 7, 3, 512) {
-        Some("primary rate: other numbers")
-    } else {
-        None
+        None => text.put("-"),
     }
 }
 
-/// The refusals.
-const REFUSALS: &[(LinkFault, &str)] = &[
-    (LinkFault::NotEstablished, "L1 NotEstablished"),
-    (LinkFault::QueueFull, "L2 QueueFull"),
-    (LinkFault::TooLong, "L3 TooLong"),
-    (LinkFault::Releasing, "L4 Releasing"),
-    (
-        LinkFault::LayerThreeEstablishing,
-        "L5 LayerThreeEstablishing",
-    ),
-];
-
-/// Names of refusals.
-fn wrong_refusal(alloc: Global) -> Option<&'static str> {
-    for (fault, name) in REFUSALS {
-        if fault.name() != *name || !prints(alloc, *fault, name) {
-            return Some(name);
-        }
+/// An I frame with this number in both places and P=0.
+fn i_frame(number: Number) -> Control {
+    Control::I {
+        ns: number,
+        nr: number,
+        p: false,
     }
-    None
 }
 
-/// What is wrong of links, of what they are made with, and of their refusals.
-pub(crate) fn wrong(alloc: Global) -> Option<&'static str> {
-    first_of(&[
-        wrong_link(alloc),
-        wrong_range(),
-        wrong_standard(),
-        wrong_refusal(alloc),
-    ])
+/// Puts what seven outputs put on the line.
+fn put_frames(text: &mut Text, link: &Link) {
+    let Some(nr) = Number::new(5) else {
+        return;
+    };
+    let ready = Out::Send(Role::Answer, Control::Rr { nr, pf: true });
+    let command = Out::Send(Role::Command, Control::Ua { f: true });
+    put_out(text, link, ready, &[]);
+    put_out(text, link, Out::SendMessage(1, i_frame(nr)), &[]);
+    put_out(text, link, Out::SendUnit, b"\x09");
+    put_out(text, link, Out::SendMessage(2, i_frame(nr)), &[]);
+    put_out(text, link, command, &[]);
+    put_out(text, link, Out::SendUnit, &[0; 261]);
+    put_out(text, link, Out::Up, b"\x01");
 }

@@ -1,11 +1,90 @@
-//! What is told of faults, timers and fields: their names, and what a frame reject says (Q.921 3.6.11, Figure 6).
+//! What is told of faults, timers and sides: their names, and what a frame reject says (Q.921 3.6.11, Figure 6).
 
-use crate::wants::{first_of, numbers, prints};
-use lapd_frame::{FaultKind, FieldFault, FrameFault, FrmrInfo, Number, Sapi, Side, Tei};
+use crate::text::Text;
+use lapd_frame::{FaultKind, FieldFault, FrameFault, FrmrInfo, Number, Side};
+use lapd_link::LinkFault;
 use lapd_timers::Timer;
-use std::alloc::Global;
+use std::fmt::Display;
 
-/// Frame rejects as octets, and what they say, with these numbers.
+/// How faults of frames and of fields, refusals of a link, timers and sides print, and the other sides of these. (What `name` gives
+/// stands in the lines of frames and of links.)
+pub(crate) const NAMES: &str = "\
+names faults | F1 TooShort, F2 BadAddress, F3 SapiNotServed, F4 Undefined, F5 InfoNotPermitted, F6 WrongSize, F7 InfoTooLong,
+names fields | F1 TooShort, F2 BadAddress, F3 SapiNotServed, F4 Undefined,
+names frames | F2 BadAddress, F6 WrongSize,
+names refusals | L1 NotEstablished, L2 QueueFull, L3 TooLong, L4 Releasing, L5 LayerThreeEstablishing,
+names timers | T200, T201, T202, T203,
+names sides | network, user, user, network,
+";
+
+const FAULTS: &[FaultKind] = &[
+    FaultKind::TooShort,
+    FaultKind::BadAddress,
+    FaultKind::SapiNotServed,
+    FaultKind::Undefined,
+    FaultKind::InfoNotPermitted,
+    FaultKind::WrongSize,
+    FaultKind::InfoTooLong,
+];
+
+const FIELD_FAULTS: &[FieldFault] = &[
+    FieldFault::TooShort,
+    FieldFault::BadAddress,
+    FieldFault::SapiNotServed,
+    FieldFault::Undefined,
+];
+
+const REFUSALS: &[LinkFault] = &[
+    LinkFault::NotEstablished,
+    LinkFault::QueueFull,
+    LinkFault::TooLong,
+    LinkFault::Releasing,
+    LinkFault::LayerThreeEstablishing,
+];
+
+const TIMERS: &[Timer] = &[Timer::T200, Timer::T201, Timer::T202, Timer::T203];
+
+/// This fault of a frame that is for no link.
+fn of_frame(kind: FaultKind) -> FrameFault {
+    let address = None;
+    FrameFault { kind, address }
+}
+
+/// Puts how the values of a kind print.
+pub(crate) fn put_names(text: &mut Text, kind: &str) {
+    match kind {
+        "faults" => put_all(text, FAULTS),
+        "fields" => put_all(text, FIELD_FAULTS),
+        "frames" => put_all(
+            text,
+            &[
+                of_frame(FaultKind::BadAddress),
+                of_frame(FaultKind::WrongSize),
+            ],
+        ),
+        "refusals" => put_all(text, REFUSALS),
+        "timers" => put_all(text, TIMERS),
+        _ => put_all(
+            text,
+            &[
+                Side::Network,
+                Side::User,
+                Side::Network.other(),
+                Side::User.other(),
+            ],
+        ),
+    }
+}
+
+/// Puts how each of these values prints.
+fn put_all<T: Display>(text: &mut Text, values: &[T]) {
+    for value in values {
+        text.shown(" ", value);
+        text.put(",");
+    }
+}
+
+/// What is wrong of frame rejects, as octets and what they say, with the numbers 0, 1, 2 and 127.
 fn wrong_reject(zero: Number, one: Number, two: Number, last: Number) -> Option<&'static str> {
     let sabme = FrmrInfo {
         rejected: [0x7f, 0x00],
@@ -46,108 +125,15 @@ fn wrong_reject(zero: Number, one: Number, two: Number, last: Number) -> Option<
     }
 }
 
-const FAULTS: &[(FaultKind, &str)] = &[
-    (FaultKind::TooShort, "F1 TooShort"),
-    (FaultKind::BadAddress, "F2 BadAddress"),
-    (FaultKind::SapiNotServed, "F3 SapiNotServed"),
-    (FaultKind::Undefined, "F4 Undefined"),
-    (FaultKind::InfoNotPermitted, "F5 InfoNotPermitted"),
-    (FaultKind::WrongSize, "F6 WrongSize"),
-    (FaultKind::InfoTooLong, "F7 InfoTooLong"),
-];
-
-/// Names of the faults.
-fn wrong_fault(alloc: Global) -> Option<&'static str> {
-    for (kind, name) in FAULTS {
-        let (kind, address) = (*kind, None);
-        let named = kind.name() == *name && prints(alloc, kind, name);
-        if !named || !prints(alloc, FrameFault { kind, address }, name) {
-            return Some(name);
-        }
-    }
-    None
-}
-
-const FAULTS_OF_FIELDS: &[(FieldFault, FaultKind, &str)] = &[
-    (FieldFault::TooShort, FaultKind::TooShort, "F1 TooShort"),
-    (
-        FieldFault::BadAddress,
-        FaultKind::BadAddress,
-        "F2 BadAddress",
-    ),
-    (
-        FieldFault::SapiNotServed,
-        FaultKind::SapiNotServed,
-        "F3 SapiNotServed",
-    ),
-    (FieldFault::Undefined, FaultKind::Undefined, "F4 Undefined"),
-];
-
-/// Faults of fields are those of frames, and print as they do.
-fn wrong_fault_of_a_field(alloc: Global) -> Option<&'static str> {
-    for (fault, kind, name) in FAULTS_OF_FIELDS {
-        if FaultKind::from(*fault) != *kind || !prints(alloc, *fault, name) {
-            return Some(name);
-        }
-    }
-    None
-}
-
-const TIMERS: &[(Timer, &str)] = &[
-    (Timer::T200, "T200"),
-    (Timer::T201, "T201"),
-    (Timer::T202, "T202"),
-    (Timer::T203, "T203"),
-];
-
-/// Names of the timers.
-fn wrong_timer(alloc: Global) -> Option<&'static str> {
-    for (timer, name) in TIMERS {
-        if timer.name() != *name || !prints(alloc, *timer, name) {
-            return Some(name);
-        }
-    }
-    None
-}
-
-/// Fields as text, with these numbers.
-fn wrong_field(alloc: Global, tei: Tei, number: Number) -> Option<&'static str> {
-    if !prints(alloc, tei, "64") {
-        Some("TEI 64: other text is printed")
-    } else if !prints(alloc, number, "127") {
-        Some("number 127: other text is printed")
-    } else if !prints(alloc, Sapi::Management, "63") {
-        Some("SAPI 63: other text is printed")
-    } else if !prints(alloc, Side::Network, "network") {
-        Some("network: other text is printed")
-    } else if !prints(alloc, Side::User.other(), "network") {
-        Some("the other of the user: other text is printed")
-    } else if !prints(alloc, Side::Network.other(), "user") {
-        Some("the other of the network: other text is printed")
-    } else {
-        None
-    }
-}
-
-/// What is wrong of what is told, with these numbers.
-fn wrong_with(
-    alloc: Global,
-    [zero, one, two, last]: [Number; 4],
-    tei: Tei,
-) -> Option<&'static str> {
-    first_of(&[
-        wrong_reject(zero, one, two, last),
-        wrong_fault(alloc),
-        wrong_fault_of_a_field(alloc),
-        wrong_timer(alloc),
-        wrong_field(alloc, tei, last),
-    ])
-}
-
-/// What is wrong of what is told.
-pub(crate) fn wrong(alloc: Global) -> Option<&'static str> {
-    match (numbers(), Tei::new(64)) {
-        (Some(numbers), Some(tei)) => wrong_with(alloc, numbers, tei),
+/// What is wrong of frame rejects.
+pub(crate) fn wrong() -> Option<&'static str> {
+    match (
+        Number::new(0),
+        Number::new(1),
+        Number::new(2),
+        Number::new(127),
+    ) {
+        (Some(zero), Some(one), Some(two), Some(last)) => wrong_reject(zero, one, two, last),
         _ => Some("seven bits: no number"),
     }
 }

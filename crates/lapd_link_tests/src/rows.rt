@@ -8,41 +8,43 @@ mod drawn;
 mod established;
 mod every_state;
 mod scripts;
-mod sent_frames;
 mod tei_assigned;
-mod text;
 mod timer_recovery;
 mod transfer;
 
-use crate::rows::scripts::wrong_script;
-use crate::rows::sent_frames::wrong_output;
-use crate::rows::text::{Text, three_of};
+use crate::links::parameters_of;
+use crate::rows::every_state::{
+    ESTABLISHED, FAULTS_REPORTED, FRAMES_WITHOUT_ROW, IN_EVERY_STATE, NOT_ESTABLISHED,
+};
+use crate::text::{Subject, Text, split, with_octets, wrong_row};
 use crate::wants::none_is_wrong;
 use lapd_cli_commands::Answerer;
 use lapd_cli_script::Command;
 use lapd_frame::Side;
-use lapd_link::{IQueue, Link, Params, Recovery, Timer, Window};
+use lapd_link::{IQueue, Link, Params, Timer, Window};
 use std::alloc::Global;
 use std::test::Fail;
 
 /// A link that lines lead on, and what it printed for the last one.
 #[derive(Drop)]
 struct Driven {
+    alloc: Global,
     link: Answerer,
     printed: Vec<u8>,
 }
 
 impl Driven {
-    /// A new link of this side, with a window of `k` frames, this N200 and room for so many messages, and this recovery; `None`
-    /// where a number is out of range or no memory is left.
-    fn new(
-        alloc: Global,
-        side: Side,
-        (k, n200, room): (u8, u8, u16),
-        recovery: Recovery,
-    ) -> Option<Driven> {
-        match Params::new(k, n200, room) {
-            Some(params) => Driven::with(alloc, side, params.with_recovery(recovery)),
+    /// A new link of `side k n200 room`, where `last` stands behind with the recovery of the last message; `None` where a number is
+    /// out of range or no memory is left.
+    fn new(alloc: Global, words: &str) -> Option<Driven> {
+        let (side, numbers) = split(words, " ");
+        let side = if side == "user" {
+            Side::User
+        } else {
+            Side::Network
+        };
+        match parameters_of(numbers) {
+            Some(params) => Driven::with(alloc, side, params),
             None => None,
         }
     }
@@ -51,6 +53,7 @@ impl Driven {
     fn with(alloc: Global, side: Side, params: Params) -> Option<Driven> {
         match Answerer::new(alloc, side, params) {
             Ok(link) => Some(Driven {
+                alloc,
                 link,
                 printed: Vec::new(alloc),
             }),
@@ -74,85 +77,59 @@ impl Driven {
         self.printed.as_slice() == text.octets()
     }
 
-    /// Does the lines of a script, `; ` between them, or `-` for none, whatever they call for.
+    /// Does the lines of a script, `; ` between them, whatever they call for.
     fn lead(&mut self, script: &str) -> bool {
-        for line in script.split("; ") {
-            if line != "-" && !self.does(written_out(line).octets()) {
-                return false;
-            }
+        let mut rest = script;
+        let mut done = true;
+        for _ in 0..16 {
+            let (line, behind) = split(rest, "; ");
+            done = done && (line.is_empty() || self.does(line.as_bytes()));
+            rest = behind;
         }
-        true
+        done
     }
 
-    /// Whether a line calls for these outputs, `; ` between them, or `-` for none.
+    /// Whether a line calls for these outputs.
     fn gives(&mut self, line: &str, outs: &str) -> bool {
-        self.does(written_out(line).octets()) && self.has_printed(&lines_of(outs))
+        self.does(line.as_bytes()) && is_told(self.printed.as_slice(), outs)
     }
 
     /// Whether it is in this condition.
     fn is_in(&self, condition: &str) -> bool {
-        condition_of(self.link()).octets() == written_out(condition).octets()
+        condition_of(self.link()).is(condition)
     }
 
-    /// Whether a row holds in the condition before.
-    fn keeps_to(&mut self, before: &str, row: &str) -> bool {
-        match row.split_once(" | ") {
-            Some((_, rest)) => match three_of(rest) {
-                Some((event, outs, "=")) => self.gives(event, outs) && self.is_in(before),
-                Some((event, outs, after)) => self.gives(event, outs) && self.is_in(after),
-                None => false,
-            },
-            None => false,
-        }
+    /// Whether an event calls for these outputs, and leaves the link in this condition, where a script led to one.
+    fn keeps_to(&mut self, [script, before, event, outs, after]: [&str; 5]) -> bool {
+        self.lead(script) && self.is_in(before) && self.gives(event, outs) && self.is_in(after)
     }
+}
 
-    /// Whether a row holds at the place to which this leads a new link.
-    fn keeps_to_at(&mut self, place: &str, row: &str) -> bool {
-        match place.split_once(" | ") {
-            Some((script, condition)) => {
-                self.lead(script) && self.is_in(condition) && self.keeps_to(condition, row)
+/// Whether printed lines are these outputs, `; ` between them, or `-` for none.
+fn is_told(printed: &[u8], outs: &str) -> bool {
+    let mut text = Text::new();
+    match printed {
+        [lines @ .., _] => {
+            for octet in lines {
+                if *octet == b'\n' {
+                    text.put("; ");
+                } else {
+                    text.put_octets(&[*octet]);
+                }
             }
-            None => false,
         }
+        _ => text.put("-"),
     }
-}
-
-/// A row's text with each octet written out, and no `+` between parts. `260*aa` is `aa` 260 times.
-fn written_out(text: &str) -> Text {
-    let mut whole = Text::new();
-    put_written_out(&mut whole, text);
-    whole
-}
-
-/// Puts a row's text behind, with each octet written out.
-fn put_written_out(whole: &mut Text, text: &str) {
-    for part in text.split("+") {
-        match part.split_once("*") {
-            Some((count, octet)) => whole.run(octet, if count == "260" { 260 } else { 261 }),
-            None => whole.text(part),
-        }
-    }
-}
-
-/// Outputs as the lines that are printed for them.
-fn lines_of(outs: &str) -> Text {
-    let mut lines = Text::new();
-    for out in outs.split("; ") {
-        if out != "-" {
-            put_written_out(&mut lines, out);
-            lines.text("\n");
-        }
-    }
-    lines
+    text.is(outs)
 }
 
 /// The state and all that is not 0, not false and not empty, as in `7 V(S)=1 T200 sent 01 unsent 02`.
-fn condition_of(link: &Link) -> Text {
+pub(crate) fn condition_of(link: &Link) -> Text {
     let mut text = Text::new();
-    text.named("", u16::from(link.state()), "");
+    text.shown("", &link.state());
     text.mark(" L3I", link.layer3_initiated());
     text.mark(" RP", link.release_pending());
-    text.named(" RC=", u16::from(link.rc()), "");
+    text.named(" RC=", u16::from(link.rc()));
     put_window(&mut text, &link.window());
     text.mark(" T200", link.running(Timer::T200));
     text.mark(" T203", link.running(Timer::T203));
@@ -161,10 +138,10 @@ fn condition_of(link: &Link) -> Text {
 }
 
 /// V(S), V(A) and V(R) and the marks.
-fn put_window(text: &mut Text, window: &Window) {
-    text.named(" V(S)=", u16::from(window.vs().value()), "");
-    text.named(" V(A)=", u16::from(window.va().value()), "");
-    text.named(" V(R)=", u16::from(window.vr().value()), "");
+pub(crate) fn put_window(text: &mut Text, window: &Window) {
+    text.named(" V(S)=", u16::from(window.vs().value()));
+    text.named(" V(A)=", u16::from(window.va().value()));
+    text.named(" V(R)=", u16::from(window.vr().value()));
     text.mark(" peer-busy", window.peer_busy());
     text.mark(" own-busy", window.own_busy());
     text.mark(" rejecting", window.rejecting());
@@ -172,117 +149,93 @@ fn put_window(text: &mut Text, window: &Window) {
 }
 
 /// The messages, those sent first.
-fn put_queue(text: &mut Text, queue: &IQueue) {
+pub(crate) fn put_queue(text: &mut Text, queue: &IQueue) {
     let sent = queue.sent();
     for place in 0..queue.len() {
         text.mark(" sent", place == 0 && sent > 0);
         text.mark(" unsent", place == sent);
-        text.text(" ");
+        text.put(" ");
         text.hex(queue.at(place));
     }
 }
 
-/// What is wrong where no link was made.
-const NO_LINK: &str = "no link is made";
-
-/// The tables by number.
-fn table(number: u8) -> &'static str {
-    match number {
-        0 => tei_assigned::ROWS,
-        1 => awaiting::ROWS,
-        2 => established::ROWS,
-        3 => transfer::ROWS,
-        _ => timer_recovery::ROWS,
-    }
+/// A place, and rows that hold there: a line `at script | condition` leads to a place, and the lines up to the next one are rows
+/// of it.
+///
+/// A row of the state table is `name | event | outputs | condition`, with `-` for no outputs and `=` for the condition before.
+#[derive(Drop)]
+struct Place {
+    alloc: Global,
+    place: &'static str,
 }
 
-/// The first row of a table that is wrong: a line `at script | condition` leads to a place, and the lines up to the next one
-/// are rows that hold there. What stands before the first place says what it is.
-fn wrong_in(alloc: Global, table: &'static str) -> Option<&'static str> {
-    let mut parts = table.split("\nat ");
-    let _ = parts.next();
-    for part in parts {
-        let (place, rows) = part.split_once("\n").unwrap_or((part, part));
-        let wrong = wrong_at(alloc, place, rows);
-        if wrong.is_some() {
-            return wrong;
+impl Subject for Place {
+    fn keeps(&mut self, row: &'static str) -> bool {
+        match row.strip_prefix("at ") {
+            Some(place) => {
+                self.place = place;
+                true
+            }
+            None => keeps(self.alloc, self.place, row),
         }
     }
-    None
 }
 
-/// The first row that is wrong of all tables.
-fn wrong_of_tables(alloc: Global) -> Option<&'static str> {
-    for number in 0..5u8 {
-        let wrong = wrong_in(alloc, table(number));
-        if wrong.is_some() {
-            return wrong;
-        }
-    }
-    None
-}
-
-/// Places by number, a line a place, and rows that hold at each of them.
-fn places(number: u8) -> (&'static str, &'static str) {
-    match number {
-        0 => (every_state::NOT_ESTABLISHED, every_state::IN_EVERY_STATE),
-        1 => (every_state::ESTABLISHED, every_state::IN_EVERY_STATE),
-        2 => (
-            every_state::NOT_ESTABLISHED,
-            every_state::FRAMES_WITHOUT_ROW,
-        ),
-        _ => (every_state::NOT_ESTABLISHED, every_state::FAULTS_REPORTED),
-    }
-}
-
-/// The first row that is wrong at one of these places.
-fn wrong_at_places(alloc: Global, (places, rows): (&str, &'static str)) -> Option<&'static str> {
-    for place in places.lines() {
-        let wrong = wrong_at(alloc, place, rows);
-        if wrong.is_some() {
-            return wrong;
-        }
-    }
-    None
-}
-
-/// The first row that is wrong of those that hold in many states.
-fn wrong_of_every_state(alloc: Global) -> Option<&'static str> {
-    for number in 0..4u8 {
-        let wrong = wrong_at_places(alloc, places(number));
-        if wrong.is_some() {
-            return wrong;
-        }
-    }
-    None
-}
-
-/// The first row that is wrong at a place. A row of the state table is `name | event | outputs | condition`, with `-` for no
-/// outputs and `=` for the condition before. Empty lines and those that begin with `#` are no rows.
-fn wrong_at(alloc: Global, place: &str, rows: &'static str) -> Option<&'static str> {
-    for row in rows.lines() {
-        if !row.is_empty() && !row.starts_with("#") && !keeps(alloc, place, row) {
-            return Some(row);
-        }
-    }
-    None
-}
-
-/// Whether a row holds at the place to which `script | condition` leads a new network link, with a window of two frames, N200
-/// of 2 and room for three messages.
+/// Whether a row holds at a place.
 fn keeps(alloc: Global, place: &str, row: &str) -> bool {
-    match Driven::new(alloc, Side::Network, (2, 2, 3), Recovery::Enquiry) {
-        Some(mut link) => link.keeps_to_at(place, row),
+    match with_octets(alloc, row, "+260*aa", 260) {
+        Some(row) => holds(alloc, parts_of(place, row.as_str())),
         None => false,
     }
 }
 
+/// The script of a place and its condition, and the event of a row, its outputs and the condition behind it.
+fn parts_of<'a>(place: &'a str, row: &'a str) -> [&'a str; 5] {
+    let (script, before) = split(place, " | ");
+    let (_, rest) = split(row, " | ");
+    let (event, rest) = split(rest, " | ");
+    let (outs, after) = split(rest, " | ");
+    let after = if after == "=" { before } else { after };
+    [script, before, event, outs, after]
+}
+
+/// Whether a row holds over a new network link, with a window of two frames, N200 of 2 and room for three messages.
+fn holds(alloc: Global, parts: [&str; 5]) -> bool {
+    match Driven::new(alloc, "network 2 2 3") {
+        Some(mut link) => link.keeps_to(parts),
+        None => false,
+    }
+}
+
+/// The first row that is wrong of a table, from its first place on.
+fn wrong_in(alloc: Global, table: &'static str) -> Option<&'static str> {
+    wrong_row(&mut Place { alloc, place: "" }, table)
+}
+
+/// The first row that is wrong at one of these places.
+fn wrong_at(alloc: Global, places: &'static str, rows: &'static str) -> Option<&'static str> {
+    for place in places.lines() {
+        let wrong = wrong_row(&mut Place { alloc, place }, rows);
+        if wrong.is_some() {
+            return wrong;
+        }
+    }
+    None
+}
+
 #[test]
 fn rows_of_the_state_table(rt: HostRuntime) -> Result<(), Fail> {
+    let alloc = rt.alloc();
     none_is_wrong(&[
-        wrong_of_tables(rt.alloc()),
-        wrong_of_every_state(rt.alloc()),
-        wrong_script(rt.alloc()),
-        wrong_output(rt.alloc()),
+        wrong_in(alloc, tei_assigned::rows()),
+        wrong_in(alloc, awaiting::rows()),
+        wrong_in(alloc, established::rows()),
+        wrong_in(alloc, transfer::rows()),
+        wrong_in(alloc, timer_recovery::rows()),
+        wrong_at(alloc, NOT_ESTABLISHED, IN_EVERY_STATE),
+        wrong_at(alloc, ESTABLISHED, IN_EVERY_STATE),
+        wrong_at(alloc, NOT_ESTABLISHED, FRAMES_WITHOUT_ROW),
+        wrong_at(alloc, NOT_ESTABLISHED, FAULTS_REPORTED),
+        scripts::wrong(alloc),
     ])
 }

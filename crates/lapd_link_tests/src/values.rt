@@ -1,20 +1,91 @@
 //! The test of all that is no row of the state table: what octets and counters are, and what windows, queues and links do.
 
 use crate::octets::{fields, frames, traces};
-use crate::wants::none_is_wrong;
+use crate::text::{Subject, Text, split, wrong_row};
+use crate::wants::{first_of, none_is_wrong};
 use crate::{counters, links, queues, reports, windows};
+use lapd_frame::Side;
+use lapd_link::Link;
+use lapd_queue::IQueue;
+use lapd_supervision::Window;
+use std::alloc::Global;
 use std::test::Fail;
+
+/// A window, a queue and a link, with which deeds are done.
+#[derive(Drop)]
+struct Bench {
+    alloc: Global,
+    window: Window,
+    queue: IQueue,
+    link: Link,
+}
+
+impl Bench {
+    /// New ones; `None` where no memory is left.
+    fn new(alloc: Global) -> Option<Bench> {
+        match (IQueue::new(alloc, 1), links::new_link(alloc, Side::User, 1)) {
+            (Ok(queue), Some(link)) => Some(Bench {
+                alloc,
+                window: Window::new(),
+                queue,
+                link,
+            }),
+            _ => None,
+        }
+    }
+
+    /// Does a deed, and puts what it comes to.
+    fn put(&mut self, text: &mut Text, subject: &str, words: &str) {
+        let (deed, rest) = split(words, " ");
+        match subject {
+            "counter" => counters::put(text, deed, rest),
+            "window" => windows::put(text, &mut self.window, deed, rest),
+            "queue" => queues::put(text, self.alloc, &mut self.queue, deed, rest),
+            "link" => links::put(text, self.alloc, &mut self.link, deed, rest),
+            "made" => links::put_parameters(text, deed, rest),
+            _ => reports::put_names(text, deed),
+        }
+    }
+}
+
+impl Subject for Bench {
+    /// A row is the name of a subject, a deed with it, ` |`, and what the deed comes to.
+    fn keeps(&mut self, row: &'static str) -> bool {
+        let (words, wanted) = split(row, " |");
+        let (subject, deed) = split(words, " ");
+        let mut text = Text::new();
+        self.put(&mut text, subject, deed);
+        text.is(wanted)
+    }
+}
+
+/// The first row of deeds that is wrong.
+fn wrong_deed(alloc: Global) -> Option<&'static str> {
+    match Bench::new(alloc) {
+        Some(mut bench) => wrong_of(&mut bench),
+        None => Some("no queue and no link is made"),
+    }
+}
+
+/// The first row of deeds with these that is wrong.
+fn wrong_of(bench: &mut Bench) -> Option<&'static str> {
+    first_of(&[
+        wrong_row(bench, counters::ROWS),
+        wrong_row(bench, windows::ROWS),
+        wrong_row(bench, queues::ROWS),
+        wrong_row(bench, links::ROWS),
+        wrong_row(bench, links::PARAMETERS),
+        wrong_row(bench, reports::NAMES),
+    ])
+}
 
 #[test]
 fn values(rt: HostRuntime) -> Result<(), Fail> {
     none_is_wrong(&[
-        counters::wrong(),
-        windows::wrong(),
         fields::wrong(),
-        frames::wrong(),
+        frames::wrong(rt.alloc()),
         traces::wrong(rt.alloc()),
-        reports::wrong(rt.alloc()),
-        queues::wrong(rt.alloc()),
-        links::wrong(rt.alloc()),
+        reports::wrong(),
+        wrong_deed(rt.alloc()),
     ])
 }

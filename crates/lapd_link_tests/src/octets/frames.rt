@@ -1,357 +1,348 @@
-//! Frames both ways, and the first fault of octets that are none (Q.921 2.9, 3.6, Table 5).
+//! Octets, the frames that they are, and the first fault of octets that are none (Q.921 2.9, 3.3 to 3.6, Table 5), as lines of
+//! text.
 
-use crate::wants::{first_of, numbers, wrong_unless};
-use lapd_frame::Control::{Disc, Dm, Frmr, I, Rej, Rnr, Rr, Sabme, Ua, Ui, Xid};
-use lapd_frame::FaultKind::{
-    BadAddress, InfoNotPermitted, InfoTooLong, SapiNotServed, TooShort, Undefined, WrongSize,
-};
-use lapd_frame::Role::{Answer, Command};
-use lapd_frame::Side::{Network, User};
+use crate::text::{Subject, Text, split, with_octets, wrong_row};
 use lapd_frame::{
-    Address, Control, FaultKind, Frame, FrameFault, MOST_OCTETS, N201, Number, Role, Sapi, Side,
-    Tei, one_frame, one_spelling, read, read_as_spelled, write,
+    Address, Control, FaultKind, Frame, FrameFault, MOST_OCTETS, N201, Role, Side, one_frame,
+    one_spelling, read, read_as_spelled, write,
 };
+use lapd_trace::line;
+use std::alloc::Global;
 
-/// The address of SAPI 0 and TEI 64. (Were 64 no TEI, no row would hold.)
-fn address(role: Role) -> Address {
-    Address {
-        sapi: Sapi::Call,
-        tei: Tei::new(64).unwrap_or(Tei::group()),
-        role,
-    }
+/// Octets in hexadecimal, and their lines, which tell who sent them; behind the line of a fault that is of a link, its address.
+/// First each control field of each role with each value of the P/F bit.
+const LINES: &str = "\
+00810204 | U>N SAPI 0 TEI 64 C I N(S)=1 N(R)=2 P=0
+0081feff | U>N SAPI 0 TEI 64 C I N(S)=127 N(R)=127 P=1
+00810100 | U>N SAPI 0 TEI 64 C RR N(R)=0 P=0
+00810101 | U>N SAPI 0 TEI 64 C RR N(R)=0 P=1
+02810114 | U>N SAPI 0 TEI 64 R RR N(R)=10 F=0
+02810101 | U>N SAPI 0 TEI 64 R RR N(R)=0 F=1
+00810502 | U>N SAPI 0 TEI 64 C RNR N(R)=1 P=0
+00810503 | U>N SAPI 0 TEI 64 C RNR N(R)=1 P=1
+028105c8 | U>N SAPI 0 TEI 64 R RNR N(R)=100 F=0
+028105c9 | U>N SAPI 0 TEI 64 R RNR N(R)=100 F=1
+00810912 | U>N SAPI 0 TEI 64 C REJ N(R)=9 P=0
+00810913 | U>N SAPI 0 TEI 64 C REJ N(R)=9 P=1
+028109c6 | U>N SAPI 0 TEI 64 R REJ N(R)=99 F=0
+028109c7 | U>N SAPI 0 TEI 64 R REJ N(R)=99 F=1
+00816f | U>N SAPI 0 TEI 64 C SABME P=0
+00817f | U>N SAPI 0 TEI 64 C SABME P=1
+02810f | U>N SAPI 0 TEI 64 R DM F=0
+02811f | U>N SAPI 0 TEI 64 R DM F=1
+008103 | U>N SAPI 0 TEI 64 C UI P=0
+008113 | U>N SAPI 0 TEI 64 C UI P=1
+008143 | U>N SAPI 0 TEI 64 C DISC P=0
+008153 | U>N SAPI 0 TEI 64 C DISC P=1
+028163 | U>N SAPI 0 TEI 64 R UA F=0
+028173 | U>N SAPI 0 TEI 64 R UA F=1
+0281877f00020401 | U>N SAPI 0 TEI 64 R FRMR F=0 info=7f00020401
+0281977f00020401 | U>N SAPI 0 TEI 64 R FRMR F=1 info=7f00020401
+0081affe | U>N SAPI 0 TEI 64 C XID P=0 info=fe
+0081bf | U>N SAPI 0 TEI 64 C XID P=1
+0281af | U>N SAPI 0 TEI 64 R XID F=0
+0281bf | U>N SAPI 0 TEI 64 R XID F=1
+401302040802 | U>N SAPI 16 TEI 9 C I N(S)=1 N(R)=2 P=0 info=0802
+42010101 | U>N SAPI 16 TEI 0 R RR N(R)=0 F=1
+fcff030f1234ff81 | U>N SAPI 63 TEI 127 C UI P=0 info=0f1234ff81
+02810204 | N>U SAPI 0 TEI 64 C I N(S)=1 N(R)=2 P=0
+0281feff | N>U SAPI 0 TEI 64 C I N(S)=127 N(R)=127 P=1
+02810100 | N>U SAPI 0 TEI 64 C RR N(R)=0 P=0
+02810101 | N>U SAPI 0 TEI 64 C RR N(R)=0 P=1
+00810114 | N>U SAPI 0 TEI 64 R RR N(R)=10 F=0
+00810101 | N>U SAPI 0 TEI 64 R RR N(R)=0 F=1
+02810502 | N>U SAPI 0 TEI 64 C RNR N(R)=1 P=0
+02810503 | N>U SAPI 0 TEI 64 C RNR N(R)=1 P=1
+008105c8 | N>U SAPI 0 TEI 64 R RNR N(R)=100 F=0
+008105c9 | N>U SAPI 0 TEI 64 R RNR N(R)=100 F=1
+02810912 | N>U SAPI 0 TEI 64 C REJ N(R)=9 P=0
+02810913 | N>U SAPI 0 TEI 64 C REJ N(R)=9 P=1
+008109c6 | N>U SAPI 0 TEI 64 R REJ N(R)=99 F=0
+008109c7 | N>U SAPI 0 TEI 64 R REJ N(R)=99 F=1
+02816f | N>U SAPI 0 TEI 64 C SABME P=0
+02817f | N>U SAPI 0 TEI 64 C SABME P=1
+00810f | N>U SAPI 0 TEI 64 R DM F=0
+00811f | N>U SAPI 0 TEI 64 R DM F=1
+028103 | N>U SAPI 0 TEI 64 C UI P=0
+028113 | N>U SAPI 0 TEI 64 C UI P=1
+028143 | N>U SAPI 0 TEI 64 C DISC P=0
+028153 | N>U SAPI 0 TEI 64 C DISC P=1
+008163 | N>U SAPI 0 TEI 64 R UA F=0
+008173 | N>U SAPI 0 TEI 64 R UA F=1
+0081877f00020401 | N>U SAPI 0 TEI 64 R FRMR F=0 info=7f00020401
+0081977f00020401 | N>U SAPI 0 TEI 64 R FRMR F=1 info=7f00020401
+0281affe | N>U SAPI 0 TEI 64 C XID P=0 info=fe
+0281bf | N>U SAPI 0 TEI 64 C XID P=1
+0081af | N>U SAPI 0 TEI 64 R XID F=0
+0081bf | N>U SAPI 0 TEI 64 R XID F=1
+42c713 | N>U SAPI 16 TEI 99 C UI P=1
+40010909 | N>U SAPI 16 TEI 0 R REJ N(R)=4 F=1
+feff030f12340281 | N>U SAPI 63 TEI 127 C UI P=0 info=0f12340281
+
+# Numbers and the P bit at their edges, in each field of two octets.
+00810000 | U>N SAPI 0 TEI 64 C I N(S)=0 N(R)=0 P=0
+00810200 | U>N SAPI 0 TEI 64 C I N(S)=1 N(R)=0 P=0
+0081fe00 | U>N SAPI 0 TEI 64 C I N(S)=127 N(R)=0 P=0
+00810500 | U>N SAPI 0 TEI 64 C RNR N(R)=0 P=0
+00810900 | U>N SAPI 0 TEI 64 C REJ N(R)=0 P=0
+00810001 | U>N SAPI 0 TEI 64 C I N(S)=0 N(R)=0 P=1
+00810201 | U>N SAPI 0 TEI 64 C I N(S)=1 N(R)=0 P=1
+0081fe01 | U>N SAPI 0 TEI 64 C I N(S)=127 N(R)=0 P=1
+00810501 | U>N SAPI 0 TEI 64 C RNR N(R)=0 P=1
+00810901 | U>N SAPI 0 TEI 64 C REJ N(R)=0 P=1
+00810002 | U>N SAPI 0 TEI 64 C I N(S)=0 N(R)=1 P=0
+00810202 | U>N SAPI 0 TEI 64 C I N(S)=1 N(R)=1 P=0
+0081fe02 | U>N SAPI 0 TEI 64 C I N(S)=127 N(R)=1 P=0
+00810102 | U>N SAPI 0 TEI 64 C RR N(R)=1 P=0
+00810902 | U>N SAPI 0 TEI 64 C REJ N(R)=1 P=0
+00810003 | U>N SAPI 0 TEI 64 C I N(S)=0 N(R)=1 P=1
+00810203 | U>N SAPI 0 TEI 64 C I N(S)=1 N(R)=1 P=1
+0081fe03 | U>N SAPI 0 TEI 64 C I N(S)=127 N(R)=1 P=1
+00810103 | U>N SAPI 0 TEI 64 C RR N(R)=1 P=1
+00810903 | U>N SAPI 0 TEI 64 C REJ N(R)=1 P=1
+008100fe | U>N SAPI 0 TEI 64 C I N(S)=0 N(R)=127 P=0
+008102fe | U>N SAPI 0 TEI 64 C I N(S)=1 N(R)=127 P=0
+0081fefe | U>N SAPI 0 TEI 64 C I N(S)=127 N(R)=127 P=0
+008101fe | U>N SAPI 0 TEI 64 C RR N(R)=127 P=0
+008105fe | U>N SAPI 0 TEI 64 C RNR N(R)=127 P=0
+008109fe | U>N SAPI 0 TEI 64 C REJ N(R)=127 P=0
+008100ff | U>N SAPI 0 TEI 64 C I N(S)=0 N(R)=127 P=1
+008102ff | U>N SAPI 0 TEI 64 C I N(S)=1 N(R)=127 P=1
+008101ff | U>N SAPI 0 TEI 64 C RR N(R)=127 P=1
+008105ff | U>N SAPI 0 TEI 64 C RNR N(R)=127 P=1
+008109ff | U>N SAPI 0 TEI 64 C REJ N(R)=127 P=1
+
+# Information, and other addresses.
+00810500 | N>U SAPI 0 TEI 64 R RNR N(R)=0 F=0
+00810900 | N>U SAPI 0 TEI 64 R REJ N(R)=0 F=0
+008100000801 | U>N SAPI 0 TEI 64 C I N(S)=0 N(R)=0 P=0 info=0801
+fcff030f123401ff | U>N SAPI 63 TEI 127 C UI P=0 info=0f123401ff
+fc81af | N>U SAPI 63 TEI 64 R XID F=0
+fc8103 | U>N SAPI 63 TEI 64 C UI P=0
+428103 | N>U SAPI 16 TEI 64 C UI P=0
+428173 | U>N SAPI 16 TEI 64 R UA F=1
+000103 | U>N SAPI 0 TEI 0 C UI P=0
+000303 | U>N SAPI 0 TEI 1 C UI P=0
+00ff03 | U>N SAPI 0 TEI 127 C UI P=0
+
+# Fewer octets than an address and a control field have, first with wrong extension bits; then half a field of two octets.
+ | U>N F1 TooShort
+00 | U>N F1 TooShort 00
+0081 | U>N F1 TooShort 0081
+0180 | U>N F1 TooShort 0180
+008100 | U>N F1 TooShort 008100
+008102 | U>N F1 TooShort 008102
+0081fe | U>N F1 TooShort 0081fe
+008101 | U>N F1 TooShort 008101
+008105 | U>N F1 TooShort 008105
+008109 | U>N F1 TooShort 008109
+00810d | U>N F1 TooShort 00810d
+008111 | U>N F1 TooShort 008111
+028100 | U>N F1 TooShort 028100
+048100 | U>N F1 TooShort 048100
+
+# A wrong extension bit, also before half a field and before the service access point.
+01817f | U>N F2 BadAddress 01817f
+01817f | N>U F2 BadAddress 01817f
+00807f | U>N F2 BadAddress 00807f
+03807f | U>N F2 BadAddress 03807f
+04807f | U>N F2 BadAddress 04807f
+05817f | U>N F2 BadAddress 05817f
+058100 | U>N F2 BadAddress 058100
+
+# A service access point that is not served, before the control field and the information.
+04817f | U>N F3 SapiNotServed 04817f
+04817f | N>U F3 SapiNotServed 04817f
+3c817f | U>N F3 SapiNotServed 3c817f
+44817f | U>N F3 SapiNotServed 44817f
+faff7f | U>N F3 SapiNotServed faff7f
+04811100 | U>N F3 SapiNotServed 04811100
+04817f00 | U>N F3 SapiNotServed 04817f00
+
+# No such S frame, then reserved bits of RR, RNR and REJ.
+00810d00 | U>N F4 Undefined 00810d00 | SAPI 0 TEI 64 C
+00811100 | U>N F4 Undefined 00811100 | SAPI 0 TEI 64 C
+00812100 | U>N F4 Undefined 00812100 | SAPI 0 TEI 64 C
+00814100 | U>N F4 Undefined 00814100 | SAPI 0 TEI 64 C
+00818100 | U>N F4 Undefined 00818100 | SAPI 0 TEI 64 C
+00811500 | U>N F4 Undefined 00811500 | SAPI 0 TEI 64 C
+00811900 | U>N F4 Undefined 00811900 | SAPI 0 TEI 64 C
+0081f100 | U>N F4 Undefined 0081f100 | SAPI 0 TEI 64 C
+
+# No such U frame, alone and with an octet behind it.
+008107 | U>N F4 Undefined 008107 | SAPI 0 TEI 64 C
+00810b | U>N F4 Undefined 00810b | SAPI 0 TEI 64 C
+008123 | U>N F4 Undefined 008123 | SAPI 0 TEI 64 C
+00812f | U>N F4 Undefined 00812f | SAPI 0 TEI 64 C
+008147 | U>N F4 Undefined 008147 | SAPI 0 TEI 64 C
+00816b | U>N F4 Undefined 00816b | SAPI 0 TEI 64 C
+008183 | U>N F4 Undefined 008183 | SAPI 0 TEI 64 C
+0081e3 | U>N F4 Undefined 0081e3 | SAPI 0 TEI 64 C
+0081ff | U>N F4 Undefined 0081ff | SAPI 0 TEI 64 C
+00810700 | U>N F4 Undefined 00810700 | SAPI 0 TEI 64 C
+0281ff00 | U>N F4 Undefined 0281ff00 | SAPI 0 TEI 64 R
+40c900c9 | N>U F4 Undefined 40c900c9 | SAPI 16 TEI 100 R
+
+# Commands sent as responses, then responses sent as commands.
+02817f | U>N F4 Undefined 02817f | SAPI 0 TEI 64 R
+00817f | N>U F4 Undefined 00817f | SAPI 0 TEI 64 R
+02810000 | U>N F4 Undefined 02810000 | SAPI 0 TEI 64 R
+028103 | U>N F4 Undefined 028103 | SAPI 0 TEI 64 R
+02815300 | U>N F4 Undefined 02815300 | SAPI 0 TEI 64 R
+008163 | U>N F4 Undefined 008163 | SAPI 0 TEI 64 C
+008173 | U>N F4 Undefined 008173 | SAPI 0 TEI 64 C
+02811f00 | N>U F4 Undefined 02811f00 | SAPI 0 TEI 64 C
+02819700 | N>U F4 Undefined 02819700 | SAPI 0 TEI 64 C
+
+# Information in SABME, DISC, DM and UA.
+00817f00 | U>N F5 InfoNotPermitted 00817f00 | SAPI 0 TEI 64 C
+00816f01 | U>N F5 InfoNotPermitted 00816f01 | SAPI 0 TEI 64 C
+00814300 | U>N F5 InfoNotPermitted 00814300 | SAPI 0 TEI 64 C
+02811f00 | U>N F5 InfoNotPermitted 02811f00 | SAPI 0 TEI 64 R
+028173abcdef | U>N F5 InfoNotPermitted 028173abcdef | SAPI 0 TEI 64 R
+00817300 | N>U F5 InfoNotPermitted 00817300 | SAPI 0 TEI 64 R
+
+# An S frame of five octets; a frame reject with none, one, four and six octets of information.
+0081010000 | U>N F6 WrongSize 0081010000 | SAPI 0 TEI 64 C
+0081010100 | U>N F6 WrongSize 0081010100 | SAPI 0 TEI 64 C
+028197 | U>N F6 WrongSize 028197 | SAPI 0 TEI 64 R
+008187 | N>U F6 WrongSize 008187 | SAPI 0 TEI 64 R
+00819700 | N>U F6 WrongSize 00819700 | SAPI 0 TEI 64 R
+0281977f000204 | U>N F6 WrongSize 0281977f000204 | SAPI 0 TEI 64 R
+008197010203040506 | N>U F6 WrongSize 008197010203040506 | SAPI 0 TEI 64 R
+
+# N201 octets of information are a frame, and one more is F7.
+008113+260*aa | U>N SAPI 0 TEI 64 C UI P=1 info=+260*aa
+0081af+260*aa | U>N SAPI 0 TEI 64 C XID P=0 info=+260*aa
+0281bf+260*aa | U>N SAPI 0 TEI 64 R XID F=1 info=+260*aa
+00810200+260*aa | U>N SAPI 0 TEI 64 C I N(S)=1 N(R)=0 P=0 info=+260*aa
+008113aa+260*aa | U>N F7 InfoTooLong 008113aa+260*aa | SAPI 0 TEI 64 C
+0081afaa+260*aa | U>N F7 InfoTooLong 0081afaa+260*aa | SAPI 0 TEI 64 C
+0281bfaa+260*aa | U>N F7 InfoTooLong 0281bfaa+260*aa | SAPI 0 TEI 64 R
+00810200aa+260*aa | U>N F7 InfoTooLong 00810200aa+260*aa | SAPI 0 TEI 64 C
+00810204+100000*aa | U>N F7 InfoTooLong 00810204+100000*aa | SAPI 0 TEI 64 C
+
+# A fault of the field or of the information is looked for before the length.
+028113aa+260*aa | U>N F4 Undefined 028113aa+260*aa | SAPI 0 TEI 64 R
+00817faa+260*aa | U>N F5 InfoNotPermitted 00817faa+260*aa | SAPI 0 TEI 64 C
+028197aa+260*aa | U>N F6 WrongSize 028197aa+260*aa | SAPI 0 TEI 64 R
+00810100aa+260*aa | U>N F6 WrongSize 00810100aa+260*aa | SAPI 0 TEI 64 C
+";
+
+/// The octets of a row of text, and what it says of them.
+#[derive(Drop)]
+struct Octets {
+    alloc: Global,
 }
 
-// ---- Frames.
-
-/// Whether the frame has these parts.
-fn has_parts(frame: &Frame<'_>, address: Address, control: Control, info: &[u8]) -> bool {
-    frame.address() == address && frame.control() == control && frame.info() == info
-}
-
-/// Whether the frame is written as these octets, with nothing changed behind them.
-fn is_written(frame: &Frame<'_>, from: Side, octets: &[u8]) -> bool {
-    let untouched = [0x5a; MOST_OCTETS];
-    let mut out = untouched;
-    let length = write(frame, from, &mut out);
-    if length != octets.len() || length > MOST_OCTETS {
-        return false;
-    }
-    &out[..length] == octets && out[length..] == untouched[length..]
-}
-
-/// Whether these octets are the frame of these parts, with this head before the information, and the frame is written as them.
-fn is_frame(octets: &[u8], head: usize, from: Side, address: Address, control: Control) -> bool {
-    match (read(octets, from), octets.get(head..)) {
-        (Ok(frame), Some(info)) => {
-            has_parts(&frame, address, control, info) && is_written(&frame, from, octets)
+impl Subject for Octets {
+    fn keeps(&mut self, row: &'static str) -> bool {
+        let (mark, count) = if row.contains("+100000*aa") {
+            ("+100000*aa", 100_000)
+        } else {
+            ("+260*aa", 260)
+        };
+        match with_octets(self.alloc, row, mark, count) {
+            Some(row) => is_so(self.alloc, row.as_str()),
+            None => false,
         }
-        _ => false,
     }
 }
 
-/// Frames of SAPI 0 and TEI 64 with a control field of one octet.
-const UNNUMBERED: [(&str, &[u8], Side, Role, Control); 7] = [
-    ("SABME", b"\x00\x81\x7f", User, Command, Sabme { p: true }),
-    (
-        "SABME",
-        b"\x02\x81\x7f",
-        Network,
-        Command,
-        Sabme { p: true },
-    ),
-    ("DISC", b"\x00\x81\x53", User, Command, Disc { p: true }),
-    ("UA", b"\x00\x81\x73", Network, Answer, Ua { f: true }),
-    ("DM", b"\x00\x81\x1f", Network, Answer, Dm { f: true }),
-    ("XID", b"\x02\x81\xbf", User, Answer, Xid { pf: true }),
-    (
-        "FRMR",
-        b"\x00\x81\x97\x7f\x00\x02\x04\x01",
-        Network,
-        Answer,
-        Frmr { f: true },
-    ),
-];
-
-/// Whether these parts are a frame with this control field.
-fn is_made(address: Address, control: Control, info: &[u8]) -> bool {
-    match Frame::new(address, control, info) {
-        Ok(frame) => frame.control() == control,
+/// Whether octets are what a row says of them, behind ` | `.
+fn is_so(alloc: Global, row: &str) -> bool {
+    let (digits, told) = split(row, " | ");
+    match hex::decode(alloc, digits) {
+        Ok(octets) => are_so(alloc, octets.as_slice(), told),
         Err(_) => false,
     }
 }
 
-/// Frames with a control field of one octet both ways, which are also made of their parts.
-fn wrong_unnumbered() -> Option<&'static str> {
-    for (row, octets, from, role, control) in UNNUMBERED {
-        let info = octets.get(3..).unwrap_or(&[]);
-        let field = control;
-        let made = is_made(address(role), field, info);
-        if !made || !is_frame(octets, 3, from, address(role), control) {
-            return Some(row);
-        }
-    }
-    None
-}
-
-/// Whether these octets with a control field of two octets are the frame of SAPI 0 and TEI 64.
-fn is_numbered(octets: &[u8], from: Side, role: Role, control: Control) -> bool {
-    is_frame(octets, 4, from, address(role), control)
-}
-
-/// Frames with a control field of two octets both ways, with this number in both places.
-fn wrong_numbered(zero: Number) -> Option<&'static str> {
-    let (nr, ns) = (zero, zero);
-    let rr = b"\x02\x81\x01\x01";
-    let i = b"\x00\x81\x00\x00\x08\x01";
-    if !is_numbered(rr, Network, Command, Rr { nr, pf: true }) {
-        Some("RR command")
-    } else if !is_numbered(rr, User, Answer, Rr { nr, pf: true }) {
-        Some("RR response")
-    } else if !is_numbered(b"\x00\x81\x05\x00", Network, Answer, Rnr { nr, pf: false }) {
-        Some("RNR")
-    } else if !is_numbered(b"\x00\x81\x09\x00", Network, Answer, Rej { nr, pf: false }) {
-        Some("REJ")
-    } else if !is_numbered(i, User, Command, I { ns, nr, p: false }) {
-        Some("I")
+/// Whether the line of these octets is this one, and what is read of them is a frame, or a fault with the address behind ` | `.
+fn are_so(alloc: Global, octets: &[u8], told: &str) -> bool {
+    let (text, address) = split(told, " | ");
+    let from = if text.starts_with("U") {
+        Side::User
     } else {
-        None
-    }
-}
-
-/// A management frame to the group.
-fn wrong_to_the_group() -> Option<&'static str> {
-    let octets = b"\xfc\xff\x03\x0f\x12\x34\x01\xff";
-    let address = Address {
-        sapi: Sapi::Management,
-        tei: Tei::group(),
-        role: Command,
+        Side::Network
     };
-    if is_frame(octets, 3, User, address, Ui { p: false }) {
-        None
-    } else {
-        Some("identity request")
-    }
+    prints(alloc, from, octets, text) && is_read(octets, from, address)
 }
 
-// ---- Octets that are no frame.
-
-/// Whether these octets of this side are no frame, for this fault, which is of the link of this address.
-fn is_no_frame(octets: &[u8], from: Side, kind: FaultKind, address: Option<Address>) -> bool {
-    read(octets, from).err() == Some(FrameFault { kind, address })
-}
-
-/// Octets of the user, which are for no link, and their fault.
-const FOR_NO_LINK: &[(&str, &[u8], FaultKind)] = &[
-    ("no octet", b"", TooShort),
-    ("one octet", b"\x00", TooShort),
-    ("an address alone", b"\x00\x81", TooShort),
-    ("two octets with wrong EA bits", b"\x01\x80", TooShort),
-    ("EA=1 in the first octet", b"\x01\x81\x7f", BadAddress),
-    ("EA=0 in the second octet", b"\x00\x80\x7f", BadAddress),
-    (
-        "EA=1 in the first octet, SAPI 1",
-        b"\x05\x81\x7f",
-        BadAddress,
-    ),
-    ("SAPI 1", b"\x04\x81\x7f", SapiNotServed),
-    // A short I or S field: after the extension bits, before the service access point.
-    ("half an RR", b"\x00\x81\x01", TooShort),
-    ("half an S field that is none", b"\x00\x81\x0d", TooShort),
-    (
-        "half an S field with a reserved bit",
-        b"\x00\x81\x11",
-        TooShort,
-    ),
-    ("half an I field", b"\x02\x81\x00", TooShort),
-    ("half an I field, SAPI 1", b"\x04\x81\x00", TooShort),
-    (
-        "half an I field, EA=1 in the first octet",
-        b"\x05\x81\x00",
-        BadAddress,
-    ),
-    // The service access point before the control field and the information.
-    ("a reserved bit, SAPI 1", b"\x04\x81\x11\x00", SapiNotServed),
-    (
-        "SABME and an octet, SAPI 1",
-        b"\x04\x81\x7f\x00",
-        SapiNotServed,
-    ),
-];
-
-fn wrong_for_no_link() -> Option<&'static str> {
-    for (row, octets, kind) in FOR_NO_LINK {
-        if !is_no_frame(octets, User, *kind, None) {
-            return Some(row);
+/// Whether the line of these octets is this text, and memory was taken for it once.
+fn prints(alloc: Global, from: Side, octets: &[u8], text: &str) -> bool {
+    match line(alloc, from, octets) {
+        Ok(printed) => {
+            let room = octets.len().wrapping_mul(2).wrapping_add(43);
+            printed.as_str() == text && printed.capacity() == room
         }
+        Err(_) => false,
     }
-    None
 }
 
-/// Octets for the link of SAPI 0 and TEI 64, who sent them and as what, and their fault.
-const FOR_A_LINK: &[(&str, &[u8], Side, Role, FaultKind)] = &[
-    (
-        "a reserved bit",
-        b"\x00\x81\x11\x00",
-        User,
-        Command,
-        Undefined,
-    ),
-    (
-        "no such S frame",
-        b"\x00\x81\x0d\x00",
-        User,
-        Command,
-        Undefined,
-    ),
-    ("no such U frame", b"\x00\x81\x6b", User, Command, Undefined),
-    // Commands sent as responses, then responses sent as commands.
-    ("SABME", b"\x02\x81\x7f", User, Answer, Undefined),
-    ("SABME", b"\x00\x81\x7f", Network, Answer, Undefined),
-    ("I", b"\x02\x81\x00\x00", User, Answer, Undefined),
-    ("UI", b"\x02\x81\x03", User, Answer, Undefined),
-    ("DISC", b"\x02\x81\x53\x00", User, Answer, Undefined),
-    ("UA", b"\x00\x81\x73", User, Command, Undefined),
-    ("DM", b"\x02\x81\x1f\x00", Network, Command, Undefined),
-    ("FRMR", b"\x02\x81\x97\x00", Network, Command, Undefined),
-    // Information in SABME, DISC, DM and UA.
-    (
-        "SABME",
-        b"\x00\x81\x7f\x00",
-        User,
-        Command,
-        InfoNotPermitted,
-    ),
-    ("DISC", b"\x00\x81\x43\x00", User, Command, InfoNotPermitted),
-    ("DM", b"\x02\x81\x1f\x00", User, Answer, InfoNotPermitted),
-    ("UA", b"\x00\x81\x73\x00", Network, Answer, InfoNotPermitted),
-    // An S frame of five octets; a frame reject with one, none and six octets of information.
-    (
-        "RR of five octets",
-        b"\x00\x81\x01\x00\x00",
-        User,
-        Command,
-        WrongSize,
-    ),
-    (
-        "FRMR with one octet",
-        b"\x00\x81\x97\x00",
-        Network,
-        Answer,
-        WrongSize,
-    ),
-    (
-        "FRMR with none",
-        b"\x00\x81\x87",
-        Network,
-        Answer,
-        WrongSize,
-    ),
-    (
-        "FRMR with six",
-        b"\x00\x81\x97\x01\x02\x03\x04\x05\x06",
-        Network,
-        Answer,
-        WrongSize,
-    ),
-];
-
-fn wrong_for_a_link() -> Option<&'static str> {
-    for (row, octets, from, role, kind) in FOR_A_LINK {
-        if !is_no_frame(octets, *from, *kind, Some(address(*role))) {
-            return Some(row);
+/// Whether these octets are a frame that is written as them, as is the one made of the fields in them; or have a fault with this
+/// address, for which nothing is made of these fields.
+fn is_read(octets: &[u8], from: Side, address: &str) -> bool {
+    match (read(octets, from), made(octets, from)) {
+        (Ok(frame), Some(Ok(made))) => {
+            is_written(&frame, from, octets) && is_written(&made, from, octets)
         }
-    }
-    None
-}
-
-// ---- N201 octets of information, and one more.
-
-/// This head, and octets of information behind it, `aa` each.
-fn with_information(head: &[u8]) -> [u8; 265] {
-    let mut frame = [0xaa; 265];
-    for (octet, place) in head.iter().zip(frame.iter_mut()) {
-        *place = *octet;
-    }
-    frame
-}
-
-/// Whether these parts are no frame, for this fault.
-fn is_not_made(address: Address, control: Control, info: &[u8], kind: FaultKind) -> bool {
-    Frame::new(address, control, info).err() == Some(kind)
-}
-
-/// Whether behind this head of the user, one octet more than N201 is this fault.
-fn is_refused(head: &[u8], role: Role, control: Control, kind: FaultKind) -> bool {
-    let link = address(role);
-    let frame = with_information(head);
-    let octets = frame.get(..head.len().wrapping_add(261)).unwrap_or(&[]);
-    let same = Some(address(role));
-    is_not_made(link, control, &[0xaa; 261], kind) && is_no_frame(octets, User, kind, same)
-}
-
-/// Whether behind this head of the user, N201 octets are a frame, and one more is F7.
-fn is_bounded(head: &[u8], role: Role, control: Control) -> bool {
-    let frame = with_information(head);
-    let octets = frame.get(..head.len().wrapping_add(260)).unwrap_or(&[]);
-    let field = control;
-    is_refused(head, role, field, InfoTooLong)
-        && is_frame(octets, head.len(), User, address(role), control)
-}
-
-/// Heads of the user: behind four of them N201 octets are a frame, and one more is F7; and a fault of the others is looked for
-/// before the length.
-fn wrong_length(nr: Number, ns: Number) -> Option<&'static str> {
-    if !is_bounded(b"\x00\x81\x13", Command, Ui { p: true }) {
-        Some("008113")
-    } else if !is_bounded(b"\x00\x81\xaf", Command, Xid { pf: false }) {
-        Some("0081af")
-    } else if !is_bounded(b"\x02\x81\xbf", Answer, Xid { pf: true }) {
-        Some("0281bf")
-    } else if !is_bounded(b"\x00\x81\x02\x00", Command, I { ns, nr, p: false }) {
-        Some("00810200")
-    } else if !is_refused(b"\x02\x81\x13", Answer, Ui { p: true }, Undefined) {
-        Some("028113")
-    } else if !is_refused(
-        b"\x00\x81\x7f",
-        Command,
-        Sabme { p: true },
-        InfoNotPermitted,
-    ) {
-        Some("00817f")
-    } else if !is_refused(b"\x02\x81\x97", Answer, Frmr { f: true }, WrongSize) {
-        Some("028197")
-    } else if !is_refused(
-        b"\x00\x81\x01\x00",
-        Command,
-        Rr { nr, pf: false },
-        WrongSize,
-    ) {
-        Some("00810100")
-    } else {
-        None
+        (Err(fault), Some(Err(kind))) => fault.kind == kind && has_address(&fault, address),
+        (Err(fault), None) => has_address(&fault, address),
+        _ => false,
     }
 }
 
-/// What is wrong of frames, with these numbers.
-fn wrong_with([zero, one, _, _]: [Number; 4]) -> Option<&'static str> {
-    first_of(&[
-        wrong_unless(N201 == 260 && MOST_OCTETS == 264, "N201: its value"),
-        wrong_numbered(zero),
-        wrong_length(zero, one),
-        wrong_unnumbered(),
-        wrong_to_the_group(),
-        wrong_for_no_link(),
-        wrong_for_a_link(),
-    ])
+/// Whether the frame is written as these octets, with nothing changed behind them.
+fn is_written(frame: &Frame<'_>, from: Side, octets: &[u8]) -> bool {
+    let mut out = [0x5a; MOST_OCTETS];
+    let length = write(frame, from, &mut out);
+    out.get(..length) == Some(octets) && out.get(length..) == [0x5a; MOST_OCTETS].get(length..)
+}
+
+/// The frame that is made of the fields in these octets, or why none is; `None` where they have neither an address nor a control
+/// field.
+fn made<'a>(octets: &'a [u8], from: Side) -> Option<Result<Frame<'a>, FaultKind>> {
+    match octets {
+        [first, second, behind @ ..] => {
+            match (
+                Address::read([*first, *second], from),
+                Control::read(behind),
+            ) {
+                (Ok(address), Ok((control, length))) => {
+                    let info = behind.get(length..).unwrap_or(&[]);
+                    Some(Frame::new(address, control, info))
+                }
+                (Err(fault), Ok(_)) | (Ok(_), Err(fault)) => Some(Err(FaultKind::from(fault))),
+                _ => None,
+            }
+        }
+        _ => None,
+    }
+}
+
+/// Whether a fault has this address, or none where there is no text.
+fn has_address(fault: &FrameFault, wanted: &str) -> bool {
+    let mut text = Text::new();
+    if let Some(address) = fault.address {
+        text.shown("SAPI ", &address.sapi);
+        text.shown(" TEI ", &address.tei);
+        text.put(if address.role == Role::Command {
+            " C"
+        } else {
+            " R"
+        });
+    }
+    text.is(wanted)
 }
 
 /// What is wrong of frames.
-pub(crate) fn wrong() -> Option<&'static str> {
+pub(crate) fn wrong(alloc: Global) -> Option<&'static str> {
     read_as_spelled();
     one_spelling();
     one_frame();
-    match numbers() {
-        Some(numbers) => wrong_with(numbers),
-        None => Some("seven bits: no number"),
+    if N201 != 260 || MOST_OCTETS != 264 {
+        return Some("N201: its value");
     }
+    wrong_row(&mut Octets { alloc }, LINES)
 }

@@ -1,13 +1,17 @@
 //! Rows of state 5, awaiting establishment, and of state 6, awaiting release.
 
 /// Each place with its rows.
-pub(super) const ROWS: &str = "
+pub(super) fn rows() -> &'static str {
+    ROWS
+}
+
+const ROWS: &str = "
 # Layer 3 establishes.
 at establish | 5 L3I T200
 establish request | establish | - | =
 release request | release | - | 5 L3I RP T200
 data request | give 01 | refused L5 LayerThreeEstablishing | =
-data request of 261 octets | give +261*aa | refused L3 TooLong | =
+data request of 261 octets | give aa+260*aa | refused L3 TooLong | =
 SABME P=0 | frame 00816f | send 008163 | =
 SABME P=1 | frame 00817f | send 008173 | =
 DISC P=0 | frame 008143 | send 00810f | =
@@ -31,7 +35,7 @@ at establish; release | 5 L3I RP T200
 establish request | establish | refused L4 Releasing | =
 release request | release | - | =
 data request | give 01 | refused L4 Releasing | =
-data request of 261 octets | give +261*aa | refused L3 TooLong | =
+data request of 261 octets | give aa+260*aa | refused L3 TooLong | =
 SABME P=0 | frame 00816f | send 008163 | =
 SABME P=1 | frame 00817f | send 008173 | =
 DISC P=0 | frame 008143 | send 00810f | =
@@ -63,7 +67,7 @@ establish request | establish | - | 5 L3I T200
 release request | release | - | 5 RP T200
 data request | give 01 | - | 5 T200 unsent 01
 data request of 260 octets | give +260*aa | - | 5 T200 unsent +260*aa
-data request of 261 octets | give +261*aa | refused L3 TooLong | =
+data request of 261 octets | give aa+260*aa | refused L3 TooLong | =
 SABME P=1 | frame 00817f | send 008173 | =
 DISC P=1 | frame 008153 | send 00811f | =
 UA F=1, V(S) = V(A) | frame 028173 | stop T200; start T203 | 7 T203
@@ -76,7 +80,7 @@ at frame 00817f; frame 02810f; give 01; give 02; give 03 | 5 T200 unsent 01 02 0
 establish request | establish | dropped 3 | 5 L3I T200
 release request | release | dropped 3 | 5 RP T200
 data request, the queue is full | give 04 | refused L2 QueueFull | =
-data request of 261 octets | give +261*aa | refused L3 TooLong | =
+data request of 261 octets | give aa+260*aa | refused L3 TooLong | =
 SABME P=1 | frame 00817f | send 008173 | =
 UA F=1, V(S) = V(A) | frame 028173 \
     | stop T200; start T203; send 0281000001; stop T203; start T200; send 0281020002 \
@@ -110,7 +114,7 @@ at frame 00817f; release | 6 T200
 establish request | establish | refused L4 Releasing | =
 release request | release | - | =
 data request | give 01 | refused L4 Releasing | =
-data request of 261 octets | give +261*aa | refused L3 TooLong | =
+data request of 261 octets | give aa+260*aa | refused L3 TooLong | =
 SABME P=0 | frame 00816f | send 00810f | =
 SABME P=1 | frame 00817f | send 00811f | =
 DISC P=0 | frame 008143 | send 008163 | =

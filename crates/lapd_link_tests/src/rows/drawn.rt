@@ -4,28 +4,17 @@ mod events;
 mod plain;
 mod table;
 
+use crate::rows::Driven;
 use crate::rows::drawn::events::Draws;
-use crate::rows::drawn::plain::{K, N200, Plain, ROOM};
-use crate::rows::drawn::table::Table;
-use crate::rows::{Driven, NO_LINK};
-use crate::wants::{none_is_wrong, wrong_unless};
-use lapd_frame::Side;
-use lapd_link::Recovery;
+use crate::rows::drawn::plain::Plain;
+use crate::rows::drawn::table::{TABLE, Table};
+use crate::text::wrong_row;
+use crate::wants::none_is_wrong;
 use std::alloc::Global;
 use std::test::Fail;
 
 /// How many events each link gets.
 const EVENTS: u32 = 50_000;
-
-/// How many events came in a state.
-type Counts = [u32; 9];
-
-/// Counts an event that comes in this state.
-fn count(counts: &mut Counts, state: u8) {
-    if let Some(count) = counts.get_mut(usize::from(state)) {
-        *count = count.wrapping_add(1);
-    }
-}
 
 /// Draws an event, and does it with the link and by the table. Gives the event where the link does something else.
 fn wrong_turn(
@@ -34,25 +23,21 @@ fn wrong_turn(
     plain: &mut Plain,
     draws: &mut Draws,
 ) -> Option<&'static str> {
+    table.count(plain.state);
     let (event, then) = draws.draw(plain);
-    let done = link.does(draws.line.octets());
+    let done = link.does(plain.line.octets());
     plain.step(table, event, then);
-    wrong_unless(
-        done && link.has_printed(&plain.wanted) && plain.is_of(link.link()),
-        event,
-    )
+    if done && link.has_printed(&plain.wanted) && plain.is_of(link.link()) {
+        None
+    } else {
+        Some(event)
+    }
 }
 
 /// Draws events, and does each with the link and by the table.
-fn wrong_event(
-    table: &mut Table,
-    link: &mut Driven,
-    plain: &mut Plain,
-    counts: &mut Counts,
-) -> Option<&'static str> {
+fn wrong_event(table: &mut Table, link: &mut Driven, plain: &mut Plain) -> Option<&'static str> {
     let mut draws = Draws::new(921);
     for _ in 0..EVENTS {
-        count(counts, plain.state);
         let wrong = wrong_turn(table, link, plain, &mut draws);
         if wrong.is_some() {
             return wrong;
@@ -62,52 +47,44 @@ fn wrong_event(
 }
 
 /// Makes a link, and follows it.
-fn wrong_anew(
-    alloc: Global,
-    table: &mut Table,
-    counts: &mut Counts,
-    side: Side,
-    recovery: Recovery,
-) -> Option<&'static str> {
-    let last_again = recovery == Recovery::LastMessage;
-    let mut plain = Plain::new(side == Side::Network, last_again);
-    match Driven::new(alloc, side, (K, N200, ROOM), recovery) {
-        Some(mut link) => wrong_event(table, &mut link, &mut plain, counts),
-        None => Some(NO_LINK),
+fn wrong_anew(alloc: Global, table: &mut Table, words: &str) -> Option<&'static str> {
+    let mut plain = Plain::new(words.starts_with("network"), words.ends_with("last"));
+    match Driven::new(alloc, words) {
+        Some(mut link) => wrong_event(table, &mut link, &mut plain),
+        None => Some("no link is made"),
     }
 }
 
-/// Whether enough events came in each state.
-fn are_lively(counts: &Counts) -> bool {
-    match counts {
-        [_, _, _, _, four, five, six, seven, eight] => {
-            *four > 1_000 && *five > 1_000 && *six > 200 && *seven > 50_000 && *eight > 20_000
+/// Follows links of both sides and both recoveries by the table, each row of which is taken, and enough in each state.
+fn wrong_of(alloc: Global, table: &mut Table) -> Option<&'static str> {
+    for words in [
+        "network 127 3 200",
+        "network 127 3 200 last",
+        "user 127 3 200",
+        "user 127 3 200 last",
+    ] {
+        let wrong = wrong_anew(alloc, table, words);
+        if wrong.is_some() {
+            return wrong;
         }
     }
-}
-
-/// Follows links of both sides and both recoveries by the table, each row of which is taken.
-fn wrong_of_all(alloc: Global, table: &mut Table) -> Option<&'static str> {
-    let mut wrong = table.read();
-    let mut counts = [0; 9];
-    for side in [Side::Network, Side::User] {
-        for recovery in [Recovery::Enquiry, Recovery::LastMessage] {
-            if wrong.is_none() {
-                wrong = wrong_anew(alloc, table, &mut counts, side, recovery);
-            }
-        }
-    }
-    if wrong.is_some() {
-        wrong
-    } else if !are_lively(&counts) {
-        Some("all events: too few in a state")
-    } else {
+    if table.is_lively() {
         table.never_taken()
+    } else {
+        Some("all events: too few in a state")
+    }
+}
+
+/// Reads the table, and follows links by it.
+fn wrong(alloc: Global, table: &mut Table) -> Option<&'static str> {
+    match wrong_row(table, TABLE) {
+        None => wrong_of(alloc, table),
+        wrong => wrong,
     }
 }
 
 #[test]
 fn links_follow_the_table(rt: HostRuntime) -> Result<(), Fail> {
     let mut table = Table::new(rt.alloc());
-    none_is_wrong(&[wrong_of_all(rt.alloc(), &mut table)])
+    none_is_wrong(&[wrong(rt.alloc(), &mut table)])
 }

@@ -1,7 +1,11 @@
 //! Rows of state 7, multiple frame established, with nothing to be acknowledged.
 
 /// Each place with its rows.
-pub(super) const ROWS: &str = "
+pub(super) fn rows() -> &'static str {
+    ROWS
+}
+
+const ROWS: &str = "
 # The peer established the link.
 at frame 00817f | 7 T203
 establish request | establish | send 02817f; stop T203; start T200 | 5 L3I T200
@@ -36,7 +40,7 @@ information in UA | frame 02817300 \
     | report M; send 02817f; stop T203; start T200 | 5 T200
 S frame of five octets | frame 0281010100 \
     | report N; send 02817f; stop T203; start T200 | 5 T200
-I with 261 octets of information | frame 00810000+261*aa \
+I with 261 octets of information | frame 00810000aa+260*aa \
     | report O; send 02817f; stop T203; start T200 | 5 T200
 
 I P=0, N(S) = V(R), N(R) = V(S) | frame 0081000005 \

@@ -2,7 +2,7 @@
 
 /// Scripts that lead to each state, with and without layer 3, a release, messages and marks, and what they lead to.
 pub(super) const NOT_ESTABLISHED: &str = "\
-- | 4
+state | 4
 establish; frame 02811f | 4 L3I
 establish | 5 L3I T200
 establish; release | 5 L3I RP T200
@@ -34,8 +34,8 @@ UI P=1 of 260 octets | frame 008113+260*aa | unit +260*aa | =
 unit data request | unit 0a0b | send 0281030a0b | =
 unit data request of no octets | unit | send 028103 | =
 unit data request of 260 octets | unit +260*aa | send 028103+260*aa | =
-unit data request of 261 octets | unit +261*aa | refused L3 TooLong | =
-data request of 261 octets | give +261*aa | refused L3 TooLong | =
+unit data request of 261 octets | unit aa+260*aa | refused L3 TooLong | =
+data request of 261 octets | give aa+260*aa | refused L3 TooLong | =
 XID command P=0 | frame 0081affe | - | =
 XID command P=1 | frame 0081bf | - | =
 XID response F=0 | frame 0281affe | - | =
@@ -76,7 +76,7 @@ information in SABME | frame 00817f00 | report M | =
 information in DM | frame 02811f00 | report M | =
 S frame of five octets | frame 0081010000 | report N | =
 FRMR with four octets of information | frame 0281877f000204 | report N | =
-I with 261 octets of information | frame 00810000+261*aa | report O | =
-UI with 261 octets of information | frame 008103+261*aa | report O | =
-XID with 261 octets of information | frame 0281bf+261*aa | report O | =
+I with 261 octets of information | frame 00810000aa+260*aa | report O | =
+UI with 261 octets of information | frame 008103aa+260*aa | report O | =
+XID with 261 octets of information | frame 0281bfaa+260*aa | report O | =
 ";

@@ -1,14 +1,18 @@
 //! Rows of state 4, TEI assigned.
 
 /// Each place with its rows.
-pub(super) const ROWS: &str = "
+pub(super) fn rows() -> &'static str {
+    ROWS
+}
+
+const ROWS: &str = "
 # A new link.
-at - | 4
+at state | 4
 establish request | establish | send 02817f; start T200 | 5 L3I T200
 release request | release | release-confirmed | =
 data request | give 01 | refused L1 NotEstablished | =
 data request of 260 octets | give +260*aa | refused L1 NotEstablished | =
-data request of 261 octets | give +261*aa | refused L3 TooLong | =
+data request of 261 octets | give aa+260*aa | refused L3 TooLong | =
 busy | busy on | - | =
 busy no longer | busy off | - | =
 T200 does not run | t200 | - | =

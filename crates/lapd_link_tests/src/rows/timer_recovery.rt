@@ -1,14 +1,18 @@
 //! Rows of state 8, timer recovery.
 
 /// Each place with its rows.
-pub(super) const ROWS: &str = "
+pub(super) fn rows() -> &'static str {
+    ROWS
+}
+
+const ROWS: &str = "
 # T203 expired, and nothing is to be acknowledged.
 at frame 00817f; t203 | 8 T200
 establish request | establish | send 02817f; start T200 | 5 L3I T200
 release request | release | send 028153; start T200 | 6 T200
 data request | give 01 | - | 8 T200 unsent 01
 data request of 260 octets | give +260*aa | - | 8 T200 unsent +260*aa
-data request of 261 octets | give +261*aa | refused L3 TooLong | =
+data request of 261 octets | give aa+260*aa | refused L3 TooLong | =
 busy | busy on | send 00810500 | 8 own-busy T200
 not busy | busy off | - | =
 T200, RC below N200 | t200 | send 02810101; start T200 | 8 RC=1 T200
@@ -31,7 +35,7 @@ reserved bit in an S frame | frame 00811100 | report L; send 02817f; start T200 
 information in DISC | frame 00815300 | report M; send 02817f; start T200 | 5 T200
 FRMR with six octets of information | frame 0281977f0002040100 \
     | report N; send 02817f; start T200 | 5 T200
-XID with 261 octets of information | frame 0081af+261*aa \
+XID with 261 octets of information | frame 0081afaa+260*aa \
     | report O; send 02817f; start T200 | 5 T200
 
 I P=0, N(S) = V(R) | frame 0081000005 | data 05; send 00810102 | 8 V(R)=1 T200
@@ -77,7 +81,7 @@ RNR response F=1 | frame 02810503 | report J; send 02817f; start T200 | 5 T200
 # T200 expired, with two of three messages sent.
 at frame 00817f; give 01; give 02; give 03; t200 | 8 RC=1 V(S)=2 T200 sent 01 02 unsent 03
 data request, the queue is full | give 04 | refused L2 QueueFull | =
-data request of 261 octets | give +261*aa | refused L3 TooLong | =
+data request of 261 octets | give aa+260*aa | refused L3 TooLong | =
 establish request | establish | dropped 3; send 02817f; start T200 | 5 L3I V(S)=2 T200
 release request | release | dropped 3; send 028153; start T200 | 6 V(S)=2 T200
 T200, RC below N200 | t200 \

@@ -1,11 +1,15 @@
 //! Rows of state 7, multiple frame established, with messages that wait or are to be acknowledged.
 
 /// Each place with its rows.
-pub(super) const ROWS: &str = "
+pub(super) fn rows() -> &'static str {
+    ROWS
+}
+
+const ROWS: &str = "
 # Two of three messages are sent, and the window is closed.
 at frame 00817f; give 01; give 02; give 03 | 7 V(S)=2 T200 sent 01 02 unsent 03
 data request, the queue is full | give 04 | refused L2 QueueFull | =
-data request of 261 octets | give +261*aa | refused L3 TooLong | =
+data request of 261 octets | give aa+260*aa | refused L3 TooLong | =
 establish request | establish | dropped 3; send 02817f; start T200 | 5 L3I V(S)=2 T200
 release request | release | dropped 3; send 028153; start T200 | 6 V(S)=2 T200
 busy | busy on | send 00810500 | 7 V(S)=2 own-busy T200 sent 01 02 unsent 03

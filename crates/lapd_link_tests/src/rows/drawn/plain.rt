@@ -1,37 +1,25 @@
 //! One end of a link as plain numbers, and what the words of the table do to it.
 
 use crate::rows::drawn::table::{FRAMES, PROCEDURES, Table};
-use crate::rows::text::{Text, meaning, place_in};
-use lapd_link::{Link, Timer, Window};
+use crate::text::{Text, split};
+use lapd_link::{Link, Timer};
 
 /// The window of the links that are looked at.
-pub(super) const K: u8 = 127;
+const K: u8 = 127;
 
 /// How often a frame is sent again.
-pub(super) const N200: u8 = 3;
+const N200: u8 = 3;
 
 /// How many messages the queue has room for.
-pub(super) const ROOM: u16 = 200;
+const ROOM: u16 = 200;
 
-/// The numbers of an end, of the frame that it hears, and of the table.
-const NUMBERS: &[&str] = &[
-    "V(S)", "V(A)", "V(R)", "RC", "N(S)", "N(R)", "N200", "0", "1",
-];
-
-const VS: usize = 0;
-
-const VA: usize = 1;
-
-const VR: usize = 2;
-
-const RC: usize = 3;
-
-const NS: usize = 4;
-
-const NR: usize = 5;
-
-/// The marks of an end and of what it hears.
-const MARKS: &[&str] = &[
+/// The names of values, of which a mark is 1 or 0: what a link shows of its end, the frame that it hears, what is found by several
+/// numbers, and what stays.
+const NAMES: &[&str] = &[
+    "V(S)",
+    "V(A)",
+    "V(R)",
+    "RC",
     "peer busy",
     "own busy",
     "rejecting",
@@ -40,34 +28,57 @@ const MARKS: &[&str] = &[
     "RP",
     "T200",
     "T203",
+    "N(S)",
+    "N(R)",
     "P",
     "command",
     "long",
+    "full",
+    "unsent",
+    "open",
+    "valid",
     "the last again",
+    "N200",
+    "0",
+    "1",
 ];
 
-const OWN_BUSY: usize = 1;
+const VS: usize = 0;
 
-const ACK_PENDING: usize = 3;
+const VA: usize = 1;
 
-const P: usize = 8;
+const VR: usize = 2;
 
-const COMMAND: usize = 9;
+const OWN_BUSY: usize = 5;
 
-const LONG: usize = 10;
+const ACK_PENDING: usize = 7;
 
-const LAST_AGAIN: usize = 11;
+const NS: usize = 12;
 
-/// What is found by several numbers.
-const RELATIONS: &[&str] = &["full", "unsent", "open", "valid"];
+const NR: usize = 13;
+
+const P: usize = 14;
+
+const COMMAND: usize = 15;
+
+const LONG: usize = 16;
+
+const FULL: usize = 17;
+
+const UNSENT: usize = 18;
+
+const OPEN: usize = 19;
+
+const VALID: usize = 20;
+
+const LAST_AGAIN: usize = 21;
 
 /// An end of a link, and what it hears. Its messages are numbers, each one more than the one before.
 #[derive(Drop)]
 pub(super) struct Plain {
     pub(super) network: bool,
     pub(super) state: u8,
-    numbers: [u8; 9],
-    marks: [bool; 12],
+    values: [u8; 25],
     /// The information that it hears, in hexadecimal.
     info: &'static str,
     /// The number of the first message in the queue.
@@ -76,19 +87,10 @@ pub(super) struct Plain {
     queued: u16,
     /// How many of them are sent.
     sent: u16,
+    /// The line or the frame that was put together last.
+    pub(super) line: Text,
     /// What is to be printed for the last step.
     pub(super) wanted: Text,
-}
-
-/// A frame that is heard.
-#[derive(Clone, Copy)]
-pub(super) struct Heard {
-    pub(super) command: bool,
-    pub(super) p: bool,
-    pub(super) ns: u8,
-    pub(super) nr: u8,
-    /// Whether there are 261 octets of information.
-    pub(super) long: bool,
 }
 
 /// The steps of one from a number to another.
@@ -96,52 +98,81 @@ fn steps(from: u8, to: u8) -> u8 {
     to.wrapping_sub(from) % 128
 }
 
+/// Where a value of this name stands.
+fn place_of(name: &str) -> Option<usize> {
+    for (place, known) in NAMES.iter().enumerate() {
+        if *known == name {
+            return Some(place);
+        }
+    }
+    None
+}
+
+/// What stands behind a name in a text of lines `name | meaning`.
+fn meaning(text: &'static str, name: &str) -> Option<&'static str> {
+    for line in text.lines() {
+        let (known, meaning) = split(line, " | ");
+        if known == name {
+            return Some(meaning);
+        }
+    }
+    None
+}
+
 impl Plain {
     /// An end in state 4.
     pub(super) fn new(network: bool, last_again: bool) -> Plain {
-        let mut marks = [false; 12];
-        marks[LAST_AGAIN] = last_again;
+        let mut values = [0; 25];
+        values[LAST_AGAIN] = u8::from(last_again);
+        values[22] = N200;
+        values[24] = 1;
         Plain {
             network,
             state: 4,
-            numbers: [0, 0, 0, 0, 0, 0, N200, 0, 1],
-            marks,
+            values,
             info: "",
             first: 0,
             queued: 0,
             sent: 0,
+            line: Text::new(),
             wanted: Text::new(),
         }
     }
 
     /// How many I frames are outstanding.
     pub(super) fn outstanding(&self) -> u8 {
-        steps(self.numbers[VA], self.numbers[VS])
+        steps(self.values[VA], self.values[VS])
     }
 
     /// The number that lies so many steps behind V(A).
     pub(super) fn behind_va(&self, count: u8) -> u8 {
-        self.numbers[VA].wrapping_add(count) % 128
+        self.values[VA].wrapping_add(count) % 128
     }
 
     /// V(R).
     pub(super) fn vr(&self) -> u8 {
-        self.numbers[VR]
+        self.values[VR]
     }
 
-    /// The number of the next message that is given.
-    pub(super) fn next_message(&self) -> u32 {
-        self.first.wrapping_add(u32::from(self.queued))
-    }
-
-    /// Hears this.
-    pub(super) fn hear(&mut self, heard: &Heard, info: &'static str) {
-        self.numbers[NS] = heard.ns;
-        self.numbers[NR] = heard.nr;
-        self.marks[P] = heard.p;
-        self.marks[COMMAND] = heard.command;
-        self.marks[LONG] = heard.long;
+    /// Hears N(S), N(R), P, whether it is a command and whether it is long, and information.
+    pub(super) fn hear(&mut self, heard: [u8; 5], info: &'static str) {
+        let [ns, nr, p, command, long] = heard;
+        self.values[NS] = ns;
+        self.values[NR] = nr;
+        self.values[P] = p;
+        self.values[COMMAND] = command;
+        self.values[LONG] = long;
         self.info = info;
+    }
+
+    /// Finds how numbers stand.
+    fn relate(&mut self) {
+        let outstanding = self.outstanding();
+        let passed = steps(self.values[VA], self.values[NR]);
+        self.values[FULL] = u8::from(self.queued == ROOM);
+        self.values[UNSENT] = u8::from(self.sent < self.queued);
+        self.values[OPEN] = u8::from(outstanding < K);
+        self.values[VALID] = u8::from(passed <= outstanding);
     }
 
     /// Whether its state is one of these digits.
@@ -151,11 +182,18 @@ impl Plain {
 
     /// Whether all of these conditions hold, with `, ` between them, or `-` for none.
     pub(super) fn meets(&self, conditions: &str) -> bool {
-        let mut all = true;
-        for condition in conditions.split(", ") {
-            all = all && (condition == "-" || self.holds(condition));
+        let mut rest = conditions;
+        for _ in 0..8 {
+            let (condition, behind) = split(rest, ", ");
+            if condition != "-" && !self.holds(condition) {
+                return false;
+            }
+            if behind.is_empty() {
+                return true;
+            }
+            rest = behind;
         }
-        all
+        false
     }
 
     /// Whether a condition holds.
@@ -168,42 +206,27 @@ impl Plain {
 
     /// Whether it is so; `None` where this is no condition of the table.
     fn is_so(&self, condition: &str) -> Option<bool> {
-        match condition.split_once("=") {
-            Some((one, other)) => match (self.number(one), self.number(other)) {
-                (Some(one), Some(other)) => Some(one == other),
-                _ => None,
-            },
-            None => self.is_marked(condition),
+        let (one, other) = condition.split_once("=").unwrap_or((condition, "1"));
+        match (self.value(one), self.value(other)) {
+            (Some(one), Some(other)) => Some(one == other),
+            _ => None,
         }
     }
 
-    /// The number of this name.
-    fn number(&self, name: &str) -> Option<u8> {
-        match place_in(NUMBERS, name) {
-            Some(place) => self.numbers.get(place).copied(),
+    /// The value of this name.
+    fn value(&self, name: &str) -> Option<u8> {
+        match place_of(name) {
+            Some(place) => self.values.get(place).copied(),
             None => None,
         }
     }
 
-    /// Whether a mark is set, or numbers stand so.
-    fn is_marked(&self, name: &str) -> Option<bool> {
-        match place_in(MARKS, name) {
-            Some(place) => self.marks.get(place).copied(),
-            None => self.relates(name),
-        }
-    }
-
-    /// Whether numbers stand so.
-    fn relates(&self, name: &str) -> Option<bool> {
-        let relations = [
-            self.queued == ROOM,
-            self.sent < self.queued,
-            self.outstanding() < K,
-            steps(self.numbers[VA], self.numbers[NR]) <= self.outstanding(),
-        ];
-        match place_in(RELATIONS, name) {
-            Some(place) => relations.get(place).copied(),
-            None => None,
+    /// The value of this name becomes this one.
+    fn set(&mut self, name: &str, value: u8) {
+        if let Some(place) = place_of(name) {
+            if let Some(old) = self.values.get_mut(place) {
+                *old = value;
+            }
         }
     }
 
@@ -221,6 +244,7 @@ impl Plain {
 
     /// Does what the row for this event says, and tells whether there is one.
     fn does(&mut self, table: &mut Table, event: &str) -> bool {
+        self.relate();
         match table.taken(event, self) {
             Some(row) => {
                 self.act_all(row.actions);
@@ -231,191 +255,233 @@ impl Plain {
         }
     }
 
-    /// Does actions, with `, ` between them, or `-` for none.
+    /// Does actions and procedures, with `, ` between them.
     fn act_all(&mut self, actions: &str) {
-        for action in actions.split(", ") {
-            match meaning(PROCEDURES, action) {
-                Some(several) => self.act_several(several),
-                None => self.act(action),
+        let mut rest = actions;
+        for _ in 0..8 {
+            let (action, behind) = split(rest, ", ");
+            self.act_several(meaning(PROCEDURES, action).unwrap_or(action));
+            if behind.is_empty() {
+                return;
             }
+            rest = behind;
         }
     }
 
-    /// Does the actions of a procedure.
+    /// Does actions, with `, ` between them.
     fn act_several(&mut self, actions: &str) {
-        for action in actions.split(", ") {
+        let mut rest = actions;
+        for _ in 0..12 {
+            let (action, behind) = split(rest, ", ");
             self.act(action);
+            if behind.is_empty() {
+                return;
+            }
+            rest = behind;
         }
     }
 
-    /// Does an action.
+    /// Does an action, or nothing for `-`.
     fn act(&mut self, action: &str) {
-        if let Some(mark) = action.strip_prefix("set ") {
-            self.mark(mark, true);
-        } else if let Some(mark) = action.strip_prefix("clear ") {
-            self.mark(mark, false);
-        } else if let Some((number, value)) = action.split_once(":=") {
-            self.assign(number, self.number(value).unwrap_or(255));
-        } else if let Some(number) = action.strip_suffix("+1") {
-            self.assign(
-                number,
-                self.number(number).unwrap_or(255).wrapping_add(1) % 128,
-            );
-        } else {
-            self.act_on_timers(action);
+        let (word, rest) = split(action, " ");
+        match word {
+            "-" => {}
+            "set" => self.set(rest, 1),
+            "clear" => self.set(rest, 0),
+            "RC:=0" => self.set("RC", 0),
+            "RC:=1" => self.set("RC", 1),
+            "START" => self.start(rest),
+            "STOP" => self.stop(rest),
+            _ => self.act_on_numbers(action),
         }
     }
 
-    /// Sets or clears the mark of this name.
-    fn mark(&mut self, name: &str, is_set: bool) {
-        if let Some(place) = place_in(MARKS, name) {
-            if let Some(mark) = self.marks.get_mut(place) {
-                *mark = is_set;
-            }
-        }
-    }
-
-    /// The number of this name becomes this one.
-    fn assign(&mut self, name: &str, value: u8) {
-        if let Some(place) = place_in(NUMBERS, name) {
-            if let Some(number) = self.numbers.get_mut(place) {
-                *number = value;
-            }
-        }
-    }
-
-    /// Starts a timer, or stops it where it runs; or does another action.
-    fn act_on_timers(&mut self, action: &str) {
-        if let Some(timer) = action.strip_prefix("START ") {
-            self.mark(timer, true);
-            self.wanted.text("start ");
-            self.wanted.line(timer);
-        } else if let Some(timer) = action.strip_prefix("STOP ") {
-            self.stop(timer);
-        } else if !self.act_on_messages(action) {
-            self.print(action);
-        }
+    /// Starts a timer.
+    fn start(&mut self, timer: &str) {
+        self.set(timer, 1);
+        self.put_line("start ", timer);
     }
 
     /// Stops a timer where it runs.
     fn stop(&mut self, timer: &str) {
-        if self.is_marked(timer) == Some(true) {
-            self.mark(timer, false);
-            self.wanted.text("stop ");
-            self.wanted.line(timer);
+        if self.value(timer) == Some(1) {
+            self.set(timer, 0);
+            self.put_line("stop ", timer);
         }
     }
 
-    /// Puts a message into the queue or takes messages out, and tells whether the action does that.
-    fn act_on_messages(&mut self, action: &str) -> bool {
-        match action.as_bytes() {
-            b"QUEUE" => self.queued = self.queued.wrapping_add(1),
-            b"ACK" => self.acknowledge(),
-            b"BACK" => self.go_back(),
-            _ => return action == "DISCARD" && self.discard(),
+    /// A number goes one on; or does another action.
+    fn act_on_numbers(&mut self, action: &str) {
+        match action.strip_suffix("+1") {
+            Some(name) => {
+                let value = self.value(name).unwrap_or(255);
+                self.set(name, value.wrapping_add(1) % 128);
+            }
+            None => self.act_on_messages(action),
         }
-        true
+    }
+
+    /// Puts a message into the queue or takes messages out, or does another action.
+    fn act_on_messages(&mut self, action: &str) {
+        match action {
+            "QUEUE" => self.queued = self.queued.wrapping_add(1),
+            "ACK" => self.acknowledge(),
+            "BACK" => self.go_back(),
+            "DISCARD" => self.discard(),
+            "UP" => self.put_information("data"),
+            "UNIT UP" => self.put_information("unit"),
+            _ => self.print(action),
+        }
     }
 
     /// Drops all messages.
-    fn discard(&mut self) -> bool {
-        self.wanted.named("dropped ", self.queued, "\n");
-        self.lose(self.queued);
+    fn discard(&mut self) {
+        self.put_count("dropped ", self.queued);
         self.sent = 0;
-        true
     }
 
-    /// So many messages leave the queue.
-    fn lose(&mut self, count: u16) {
+    /// So many messages leave the queue, which is printed where there are some.
+    fn put_count(&mut self, word: &str, count: u16) {
+        self.wanted.named(word, count);
+        self.wanted.mark("\n", count > 0);
         self.first = self.first.wrapping_add(u32::from(count));
         self.queued = self.queued.wrapping_sub(count);
     }
 
     /// V(A) = N(R), and the messages that it passes leave the queue.
     fn acknowledge(&mut self) {
-        let nr = self.numbers[NR];
-        let count = u16::from(steps(self.numbers[VA], nr));
-        self.numbers[VA] = nr;
-        self.lose(count);
+        let count = u16::from(steps(self.values[VA], self.values[NR]));
+        self.values[VA] = self.values[NR];
         self.sent = self.sent.wrapping_sub(count);
-        self.wanted.named("acknowledged ", count, "\n");
+        self.put_count("acknowledged ", count);
     }
 
     /// The same; then V(S) = N(R), and all that is left is unsent.
     fn go_back(&mut self) {
         self.acknowledge();
-        self.numbers[VS] = self.numbers[NR];
+        self.values[VS] = self.values[NR];
         self.sent = 0;
     }
 
-    /// Sends a frame or hands on information; anything else is a line that is printed.
+    /// Sends a frame; anything else is a line that is printed.
     fn print(&mut self, action: &str) {
-        if let Some(words) = meaning(FRAMES, action) {
-            self.wanted.text("send ");
-            self.put_words(words);
-            self.wanted.text("\n");
-        } else if action == "UP" {
-            self.put_information("data");
-        } else if action == "UNIT UP" {
-            self.put_information("unit");
-        } else if action != "-" {
-            self.wanted.line(action);
+        match meaning(FRAMES, action) {
+            Some(words) => {
+                self.put_words(words);
+                self.wanted.put("send ");
+                self.wanted.put_octets(self.line.octets());
+                self.wanted.put("\n");
+            }
+            None => self.put_line("", action),
         }
+    }
+
+    /// Prints a line of two parts.
+    fn put_line(&mut self, word: &str, rest: &str) {
+        self.wanted.put(word);
+        self.wanted.put(rest);
+        self.wanted.put("\n");
     }
 
     /// The information that was heard goes up.
-    fn put_information(&mut self, name: &str) {
-        self.wanted.text(name);
-        self.wanted.information(self.info);
-        self.wanted.text("\n");
+    fn put_information(&mut self, word: &str) {
+        self.wanted.put(word);
+        self.wanted.mark(" ", !self.info.is_empty());
+        self.wanted.put(self.info);
+        self.wanted.put("\n");
     }
 
-    /// Puts together a frame.
-    fn put_words(&mut self, words: &str) {
-        for word in words.split(" ") {
+    /// Puts together the line of an event, or a frame that is sent, of words: octets, to which `+` adds P, and letters.
+    ///
+    /// `C` and `R` are the address of a command and of a response, `c`, `r` and `e` those of the peer, and of either; `V0`, `V1` and
+    /// `V+` are N(R)=V(R) with this P or F; `?` is RR, or RNR where own receiver busy is set; `S` and `s` are V(S) and the number
+    /// before it as N(S), `n` the N(S) and `N` the N(R) with P that were drawn; `M`, `m` and `G` are the message that is sent next,
+    /// the one that was sent last, and the one that is given next; `I` is information, `J` the same behind a space, `L` 261 octets,
+    /// and `_` a space.
+    pub(super) fn put_words(&mut self, words: &str) {
+        self.line.clear();
+        let mut rest = words;
+        for _ in 0..8 {
+            let (word, behind) = split(rest, " ");
             self.put_word(word);
+            if behind.is_empty() {
+                return;
+            }
+            rest = behind;
         }
     }
 
-    /// Puts a part of a frame behind the others: a letter, or octets, where `+` adds F=P.
+    /// Puts a word behind the others.
     fn put_word(&mut self, word: &str) {
         match word.as_bytes() {
             [b'V', pf] => self.put_nr(*pf),
             [letter] => self.put_letter(*letter),
-            _ => self.wanted.part(word, self.marks[P]),
+            [first, second, b'+'] => {
+                let octet = first.wrapping_add(self.values[P]);
+                self.line.put_octets(&[octet, *second]);
+            }
+            octets => self.line.put_octets(octets),
         }
     }
 
     /// Puts N(R)=V(R) behind with P or F, which acknowledges what has come.
     fn put_nr(&mut self, pf: u8) {
-        let pf = pf == b'1' || (pf == b'+' && self.marks[P]);
-        self.wanted
-            .octet(self.numbers[VR].wrapping_mul(2) | u8::from(pf));
-        self.marks[ACK_PENDING] = false;
+        let pf = if pf == b'+' {
+            self.values[P]
+        } else {
+            pf.wrapping_sub(b'0')
+        };
+        self.line.octet(self.values[VR].wrapping_mul(2) | pf);
+        self.values[ACK_PENDING] = 0;
     }
 
     /// Puts what a letter stands for behind.
     fn put_letter(&mut self, letter: u8) {
         match letter {
-            b'C' => self.wanted.address(self.network),
-            b'R' => self.wanted.address(!self.network),
-            b'?' => self
-                .wanted
-                .octet(if self.marks[OWN_BUSY] { 0x05 } else { 0x01 }),
-            b'S' => self.wanted.octet(self.numbers[VS].wrapping_mul(2)),
-            b's' => self
-                .wanted
-                .octet(self.numbers[VS].wrapping_sub(1).wrapping_mul(2)),
+            b'C' | b'r' => self.put_address(self.network),
+            b'R' | b'c' => self.put_address(!self.network),
+            b'e' => self.put_address((self.values[COMMAND] == 1) != self.network),
+            b'?' => self.line.octet(1 | self.values[OWN_BUSY].wrapping_mul(4)),
+            b'S' => self.put_doubled(self.values[VS]),
+            b's' => self.put_doubled(self.values[VS].wrapping_sub(1)),
+            b'n' => self.put_doubled(self.values[NS]),
+            b'N' => self
+                .line
+                .octet(self.values[NR].wrapping_mul(2) | self.values[P]),
             b'M' => self.put_next_message(),
             b'm' => self.put_message(self.sent.wrapping_sub(1)),
-            _ => self.wanted.text(self.info),
+            b'G' => self.put_message(self.queued),
+            b'J' => {
+                self.line.mark(" ", !self.info.is_empty());
+                self.line.put(self.info);
+            }
+            b'L' => self.put_long(),
+            b'_' => self.line.put(" "),
+            _ => self.line.put(self.info),
+        }
+    }
+
+    /// Puts the address of a frame behind, whose C/R bit is this.
+    fn put_address(&mut self, is_set: bool) {
+        self.line.put(if is_set { "0281" } else { "0081" });
+    }
+
+    /// Puts a number behind where P is 0, or where none is.
+    fn put_doubled(&mut self, number: u8) {
+        self.line.octet(number.wrapping_mul(2));
+    }
+
+    /// Puts 261 octets behind.
+    fn put_long(&mut self) {
+        for _ in 0..261u16 {
+            self.line.put("aa");
         }
     }
 
     /// Puts the message behind that stands at a place of the queue.
     fn put_message(&mut self, place: u16) {
         let number = self.first.wrapping_add(u32::from(place));
-        self.wanted.message(number);
+        self.line.hex(&number.to_be_bytes());
     }
 
     /// Puts the message behind that is sent next.
@@ -426,32 +492,24 @@ impl Plain {
 
     /// Whether a link is at this end.
     pub(super) fn is_of(&self, link: &Link) -> bool {
-        let runs = [link.running(Timer::T200), link.running(Timer::T203)];
-        let begun = [link.layer3_initiated(), link.release_pending()];
-        self.is_at(&link.window(), begun, runs)
-            && link.state() == self.state
-            && link.rc() == self.numbers[RC]
-            && link.queue().len() == self.queued
-            && link.queue().sent() == self.sent
-    }
-
-    /// Whether a window is at these numbers and marks, and the marks are these.
-    fn is_at(&self, window: &Window, [l3i, rp]: [bool; 2], [t200, t203]: [bool; 2]) -> bool {
-        let numbers = [
+        let window = link.window();
+        let shown = [
             window.vs().value(),
             window.va().value(),
             window.vr().value(),
+            link.rc(),
+            u8::from(window.peer_busy()),
+            u8::from(window.own_busy()),
+            u8::from(window.rejecting()),
+            u8::from(window.ack_pending()),
+            u8::from(link.layer3_initiated()),
+            u8::from(link.release_pending()),
+            u8::from(link.running(Timer::T200)),
+            u8::from(link.running(Timer::T203)),
         ];
-        let marks = [
-            window.peer_busy(),
-            window.own_busy(),
-            window.rejecting(),
-            window.ack_pending(),
-            l3i,
-            rp,
-            t200,
-            t203,
-        ];
-        self.numbers.starts_with(&numbers) && self.marks.starts_with(&marks)
+        self.values.starts_with(&shown)
+            && link.state() == self.state
+            && link.queue().len() == self.queued
+            && link.queue().sent() == self.sent
     }
 }

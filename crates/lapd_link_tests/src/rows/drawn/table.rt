@@ -5,19 +5,17 @@
 //! of each step is the event `end` for as long as a row of it fits.
 
 use crate::rows::drawn::plain::Plain;
-use crate::rows::text::three_of;
+use crate::text::{Subject, split};
 use std::alloc::Global;
 
 /// What actions mean that are several.
 pub(super) const PROCEDURES: &str = "\
 CLEAR | clear peer busy, clear own busy, clear rejecting, clear ack pending
-ZERO | V(S):=0, V(A):=0, V(R):=0
+ZERO | clear V(S), clear V(A), clear V(R)
 EST | clear peer busy, clear own busy, clear rejecting, clear ack pending, clear RP, RC:=0, SABME, STOP T203, START T200
 ";
 
-/// The frames that are sent: `C` and `R` are the address of a command and of a response, `+` adds F=P, `V0`, `V1` and `V+` are
-/// N(R)=V(R) with this P or F, `?` is RR, or RNR where own receiver busy is set, `S` and `s` are V(S) and the number before it as
-/// N(S), `M` and `m` the message that is sent next and the one that was sent last, and `I` the information of the request.
+/// The frames that are sent, of the words that [`Plain::put_words`] puts together.
 pub(super) const FRAMES: &str = "\
 UA | R 63+
 DM | R 0f+
@@ -34,7 +32,7 @@ UI | C 03 I
 ";
 
 /// The rows.
-const TABLE: &str = "\
+pub(super) const TABLE: &str = "\
 # All states.
 45678 | UI | - | UNIT UP | =
 45678 | XID | - | - | =
@@ -163,7 +161,7 @@ const TABLE: &str = "\
 78 | end | ack pending | RR | =
 ";
 
-/// A row of the table.
+/// A row of the table, and how often it was taken.
 #[derive(Clone, Copy)]
 pub(super) struct Row {
     line: &'static str,
@@ -172,30 +170,30 @@ pub(super) struct Row {
     conditions: &'static str,
     pub(super) actions: &'static str,
     next: &'static str,
+    met: u32,
 }
 
-/// The rows, and how often each was taken.
+/// The rows, and how many events came in each state.
 #[derive(Drop)]
 pub(super) struct Table {
     rows: Vec<Row>,
-    met: Vec<u32>,
+    counts: [u32; 9],
 }
 
 /// The row that a line is.
-fn row_of(line: &'static str) -> Option<Row> {
-    match three_of(line) {
-        Some((states, event, rest)) => match three_of(rest) {
-            Some((conditions, actions, next)) => Some(Row {
-                line,
-                states: states.trim(),
-                event: event.trim(),
-                conditions: conditions.trim(),
-                actions: actions.trim(),
-                next,
-            }),
-            None => None,
-        },
-        None => None,
+fn row_of(line: &'static str) -> Row {
+    let (states, rest) = split(line, " | ");
+    let (event, rest) = split(rest, " | ");
+    let (conditions, rest) = split(rest, " | ");
+    let (actions, next) = split(rest, " | ");
+    Row {
+        line,
+        states,
+        event,
+        conditions,
+        actions,
+        next,
+        met: 0,
     }
 }
 
@@ -214,38 +212,28 @@ impl Row {
     }
 }
 
+impl Subject for Table {
+    /// Takes a line as its next row, where it is one.
+    fn keeps(&mut self, row: &'static str) -> bool {
+        let row = row_of(row);
+        !row.next.is_empty() && self.rows.push(row).is_ok()
+    }
+}
+
 impl Table {
-    /// The table, with no row taken.
+    /// A table without rows.
     pub(super) fn new(alloc: Global) -> Table {
         Table {
             rows: Vec::new(alloc),
-            met: Vec::new(alloc),
+            counts: [0; 9],
         }
-    }
-
-    /// Takes a line as its next row, and tells whether it is one.
-    fn takes(&mut self, line: &'static str) -> bool {
-        match row_of(line) {
-            Some(row) => self.rows.push(row).is_ok() && self.met.push(0).is_ok(),
-            None => false,
-        }
-    }
-
-    /// Reads the rows, and gives the first line that is none.
-    pub(super) fn read(&mut self) -> Option<&'static str> {
-        for line in TABLE.lines() {
-            if !line.is_empty() && !line.starts_with("#") && !self.takes(line) {
-                return Some(line);
-            }
-        }
-        None
     }
 
     /// The row that is taken, which is counted; `None` where the table names none.
     pub(super) fn taken(&mut self, event: &str, plain: &Plain) -> Option<Row> {
-        for (row, met) in self.rows.iter().zip(self.met.iter_mut()) {
+        for row in self.rows.iter_mut() {
             if row.fits(event, plain) {
-                *met = met.wrapping_add(1);
+                row.met = row.met.wrapping_add(1);
                 return Some(*row);
             }
         }
@@ -254,11 +242,24 @@ impl Table {
 
     /// The first row that was never taken.
     pub(super) fn never_taken(&self) -> Option<&'static str> {
-        for (row, met) in self.rows.iter().zip(self.met.iter()) {
-            if *met == 0 {
+        for row in self.rows.iter() {
+            if row.met == 0 {
                 return Some(row.line);
             }
         }
         None
+    }
+
+    /// Counts an event that comes in this state.
+    pub(super) fn count(&mut self, state: u8) {
+        if let Some(count) = self.counts.get_mut(usize::from(state)) {
+            *count = count.wrapping_add(1);
+        }
+    }
+
+    /// Whether enough events came in each state.
+    pub(super) fn is_lively(&self) -> bool {
+        let [_, _, _, _, four, five, six, seven, eight] = self.counts;
+        four > 1_000 && five > 1_000 && six > 200 && seven > 50_000 && eight > 20_000
     }
 }
