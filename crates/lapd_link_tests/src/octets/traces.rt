@@ -83,26 +83,44 @@ const TOLD: &[(Side, &[u8], &str)] = &[
     (Side::User, b"\x04\x81\x7f", "U>N F3 SapiNotServed 04817f"),
 ];
 
+/// How often memory was refused: to a line, and to a history.
+#[derive(Clone, Copy)]
+struct Refusals {
+    lines: u32,
+    histories: u32,
+}
+
 /// A line, at the second try where the first finds no memory.
-fn line_at_last(alloc: Global, from: Side, octets: &[u8]) -> Result<String, AllocError> {
+fn line_at_last(
+    alloc: Global,
+    from: Side,
+    octets: &[u8],
+    met: &mut Refusals,
+) -> Result<String, AllocError> {
     match line(alloc, from, octets) {
         Ok(printed) => Ok(printed),
-        Err(AllocError) => line(alloc, from, octets),
+        Err(AllocError) => {
+            met.lines = met.lines.saturating_add(1);
+            line(alloc, from, octets)
+        }
     }
 }
 
 /// A history of two lines, at the second try where the first finds no memory.
-fn history_at_last(alloc: Global) -> Result<History, AllocError> {
+fn history_at_last(alloc: Global, met: &mut Refusals) -> Result<History, AllocError> {
     match History::new(alloc, 2) {
         Ok(history) => Ok(history),
-        Err(AllocError) => History::new(alloc, 2),
+        Err(AllocError) => {
+            met.histories = met.histories.saturating_add(1);
+            History::new(alloc, 2)
+        }
     }
 }
 
 /// Puts each line into a history, and tells whether each is the one that is wanted.
-fn pushes_told(alloc: Global, history: &mut History) -> bool {
+fn pushes_told(alloc: Global, history: &mut History, met: &mut Refusals) -> bool {
     for (from, octets, text) in TOLD {
-        match line_at_last(alloc, *from, octets) {
+        match line_at_last(alloc, *from, octets, met) {
             Ok(printed) if printed.as_str() == *text => history.push(printed),
             _ => return false,
         }
@@ -127,10 +145,10 @@ U>N F3 SapiNotServed 04817f
 ";
 
 /// The history keeps the last two of these lines.
-fn wrong_told(alloc: Global) -> Option<&'static str> {
-    match history_at_last(alloc) {
+fn wrong_told(alloc: Global, met: &mut Refusals) -> Option<&'static str> {
+    match history_at_last(alloc, met) {
         Ok(mut history) => {
-            if pushes_told(alloc, &mut history) && lines_of(&history).is(LAST_TWO) {
+            if pushes_told(alloc, &mut history, met) && lines_of(&history).is(LAST_TWO) {
                 None
             } else {
                 Some("of four lines: other text, or not the last two")
@@ -142,5 +160,14 @@ fn wrong_told(alloc: Global) -> Option<&'static str> {
 
 #[test]
 fn lines_without_memory(rt: HostRuntime) -> Result<(), Fail> {
-    none_is_wrong(&[wrong_told(rt.alloc())])
+    let mut met = Refusals {
+        lines: 0,
+        histories: 0,
+    };
+    let wrong = wrong_told(rt.alloc(), &mut met);
+    let Refusals { lines, histories } = met;
+    if lines > 0 || histories > 0 {
+        println!(rt; "refused: {lines} to lines, {histories} to histories")?;
+    }
+    none_is_wrong(&[wrong])
 }
