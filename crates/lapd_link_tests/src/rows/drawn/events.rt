@@ -174,8 +174,8 @@ impl Draws {
                 ns = plain.vr();
             }
         }
-        let command = self.octet_below(2);
-        let p = self.octet_below(2);
+        let command = 1u8.wrapping_sub(self.octet_below(2));
+        let p = 1u8.wrapping_sub(self.octet_below(2));
         let info = INFORMATION.get(usize::from(self.octet_below(4)));
         plain.hear(
             [ns, nr, p, command, u8::from(long)],
