@@ -41,6 +41,10 @@ queue acknowledge 3 |
 # The largest queue takes 1,024 messages, and hands one more back.
 queue room 1024 | 1024
 queue fill | 1024 1024
+
+# A thousand messages go through a queue with room for three, each at the first place in turn.
+queue room 3 | 3
+queue pass | 1000
 ";
 
 /// Does a deed with a queue.
@@ -52,6 +56,7 @@ pub(crate) fn put(text: &mut Text, alloc: Global, queue: &mut IQueue, deed: &str
         "acknowledge" => text.mark(" none", !acknowledges(queue, number_of(word))),
         "back" => queue.go_back(),
         "discard" => text.shown(" ", &queue.discard()),
+        "pass" => pass(text, alloc, queue),
         _ => fill(text, alloc, queue),
     }
     put_queue(text, queue);
@@ -123,4 +128,28 @@ fn fill(text: &mut Text, alloc: Global, queue: &mut IQueue) {
     }
     text.shown(" ", &taken);
     text.shown(" ", &queue.discard());
+}
+
+/// Messages are put, sent and acknowledged one by one: how many of a thousand went through is put.
+fn pass(text: &mut Text, alloc: Global, queue: &mut IQueue) {
+    let mut passed = 0u16;
+    for number in 0..1000u16 {
+        if passes(alloc, queue, &number.to_be_bytes()) {
+            passed = passed.wrapping_add(1);
+        }
+    }
+    text.shown(" ", &passed);
+}
+
+/// Whether a message goes through the queue, at its first place.
+fn passes(alloc: Global, queue: &mut IQueue, octets: &[u8]) -> bool {
+    match octets.to_vec(alloc) {
+        Ok(message) => {
+            queue.put(message).is_ok()
+                && queue.get(0) == Some(octets)
+                && sends(queue)
+                && acknowledges(queue, 1)
+        }
+        Err(_) => false,
+    }
 }
