@@ -5,16 +5,10 @@ mod discards;
 mod drawn;
 mod watch;
 
-ghost use Rattle.std.specs.Prelude.{◌<◌, IfOk};
-ghost use Rattle.std.specs.List.{All};
-
-use crate::calls::{config, octets_of, tei};
-use crate::hostile::drawn::{Draws, MOST, fronts, put};
+use crate::hostile::drawn::{Draws, MOST, behind, fronts};
 use crate::hostile::watch::Watch;
-use crate::talks::side_of;
-use crate::wants::none_is_wrong;
-use lapd_sides::{EitherSide, NetSide, Tei};
-use std::alloc::{AllocError, Global};
+use crate::talk::octets_of;
+use std::alloc::Global;
 use std::test::Fail;
 
 /// Octets that have come, from either side: frames of links and of TEI management, and what is no frame.
@@ -65,73 +59,12 @@ const STRINGS: u32 = 100_000;
 
 const STRINGS_OF_SIDE: u32 = 1_000;
 
-/// A network side with a link for TEI 64 and each SAPI, such a user side, and a network side with a link for every TEI and SAPI.
-const NETWORK: &str = "net 64 packets";
-
-const USER: &str = "user 64 packets";
-
-const ALL: &str = "all";
-
-/// Every TEI that a link can have.
-fn every_tei(alloc: Global) -> Result<Vec<Tei>, AllocError>
-    ensures { IfOk result (λ known. All (λ tei. tei < 127) known.items) }
-{
-    let mut known = Vec::new(alloc);
-    for number in 0..127 {
-        known.push(tei(number))?;
-    }
-    Ok(known)
-}
-
-/// A network side with a link for every TEI and SAPI.
-fn side_of_all(alloc: Global) -> Result<EitherSide, AllocError> {
-    let known = every_tei(alloc)?;
-    let side = NetSide::new(alloc, config(true), known.as_slice())?;
-    Ok(EitherSide::Network(side))
-}
-
-/// The side that these words name.
-fn side_with(alloc: Global, links: &str) -> Result<EitherSide, AllocError> {
-    match links {
-        ALL => side_of_all(alloc),
-        _ => side_of(alloc, links),
-    }
-}
-
 /// Octets that have come.
 fn come() -> &'static str {
     COME
 }
 
 impl Watch {
-    /// A new side is watched, which these words name, and its link is led to this state.
-    fn begin_anew(&mut self, links: &str, state: u8) {
-        match side_with(self.alloc(), links) {
-            Ok(side) => self.begin(side, state),
-            Err(_) => self.fail("no memory"),
-        }
-    }
-
-    /// No octets come, each octet alone, and each two.
-    fn hear_two_octets(&mut self) {
-        self.hear(&[]);
-        for first in 0..=u8::MAX {
-            self.hear(&[first]);
-            for second in 0..=u8::MAX {
-                self.hear(&[first, second]);
-            }
-        }
-    }
-
-    /// Behind this octet and the TEI of the link each two octets come.
-    fn hear_fields(&mut self, address: u8) {
-        for first in 0..=u8::MAX {
-            for second in 0..=u8::MAX {
-                self.hear(&[address, 0x81, first, second]);
-            }
-        }
-    }
-
     /// Each front of these octets comes, the shortest first.
     fn hear_fronts(&mut self, octets: &[u8]) {
         for len in 0..=octets.len() {
@@ -139,40 +72,49 @@ impl Watch {
         }
     }
 
-    /// Each front of the octets comes that are written in hexadecimal.
-    fn hear_line(&mut self, line: &str) {
-        match octets_of(self.alloc(), line) {
+    /// A new side is watched, and each front of the octets comes that are written in hexadecimal.
+    fn hear_line(&mut self, links: &str, state: u8, line: &str) {
+        self.begin(links, state);
+        match octets_of(self.alloc, line) {
             Some(octets) => self.hear_fronts(octets.as_slice()),
-            None => self.fail("no octets"),
+            None => self.wrong.put("no memory;"),
         }
     }
 
-    /// Strings of all lengths come that begin as frames do.
-    fn hear_long_strings(&mut self) {
-        for front in fronts() {
-            let mut octets = [0xab; MOST];
-            put(&mut octets, front);
-            self.hear_fronts(&octets);
+    /// No octets come, each octet alone, and each two; and behind each octet of SAPI 0 and the TEI of the link each two.
+    fn hear_two_octets(&mut self) {
+        self.hear(&[]);
+        for first in 0..=u8::MAX {
+            self.hear(&[first]);
+            for second in 0..=u8::MAX {
+                self.hear(&[first, second]);
+                self.hear(&[0x00, 0x81, first, second]);
+                self.hear(&[0x02, 0x81, first, second]);
+            }
         }
     }
 
     /// Strings come that are counted through: each octets of `COME` and each front of them to a new side each, and then all
-    /// others to one.
+    /// others to one, and strings of all lengths that begin as frames do.
     fn hear_all(&mut self, links: &str, state: u8) {
         for line in come().lines() {
-            self.begin_anew(links, state);
-            self.hear_line(line);
+            self.hear_line(links, state, line);
         }
-        self.begin_anew(links, state);
+        self.begin(links, state);
         self.hear_two_octets();
-        self.hear_fields(0x00);
-        self.hear_fields(0x02);
-        self.hear_long_strings();
+        for front in fronts() {
+            self.hear_fronts(behind(front, &[0xab; MOST]).as_slice());
+        }
     }
 
-    /// Strings come that are drawn. The link is led to its state again and again.
-    fn hear_drawn(&mut self, draws: &mut Draws) {
-        for number in 0..STRINGS_OF_SIDE {
+    /// Strings come that are drawn, to new sides whose link is led to state 4 and 7 in turn, again and again.
+    fn hear_drawn(&mut self, links: &str) {
+        let mut draws = Draws::new(921);
+        for number in 0..STRINGS {
+            if number % STRINGS_OF_SIDE == 0 {
+                let half = number / STRINGS_OF_SIDE % 2;
+                self.begin(links, if half == 0 { 4 } else { 7 });
+            }
             if number % 8 == 0 {
                 self.lead();
             }
@@ -180,51 +122,34 @@ impl Watch {
         }
     }
 
-    /// Strings that are drawn come to new sides, whose link is led to state 4 and 7 in turn.
-    fn hear_all_drawn(&mut self, links: &str) {
-        let mut draws = Draws::new(921);
-        for _ in 0..STRINGS / STRINGS_OF_SIDE / 2 {
-            self.begin_anew(links, 4);
-            self.hear_drawn(&mut draws);
-            self.begin_anew(links, 7);
-            self.hear_drawn(&mut draws);
-        }
+    /// All strings come to the side that these words name.
+    fn hear_everything(&mut self, links: &str) {
+        self.hear_all(links, 4);
+        self.hear_all(links, 7);
+        self.hear_drawn(links);
     }
 }
 
-/// A side that is watched.
-fn watched(alloc: Global) -> Result<Watch, AllocError> {
-    Watch::new(alloc, side_of(alloc, NETWORK)?)
+/// All strings come to the side that these words name. Fails where all is not well.
+fn strings_come(alloc: Global, links: &str) -> Result<(), Fail> {
+    let mut watch = Watch::new(alloc)?;
+    watch.hear_everything(links);
+    watch.end()
 }
 
+/// It has a link for TEI 64 and each SAPI.
 #[test]
 fn strings_come_to_a_network_side(rt: HostRuntime) -> Result<(), Fail> {
-    let mut watch = watched(rt.alloc())?;
-    watch.hear_all(NETWORK, 4);
-    watch.hear_all(NETWORK, 7);
-    none_is_wrong(&[watch.wrong()])
+    strings_come(rt.alloc(), "net 64 packets")
 }
 
 #[test]
 fn strings_come_to_a_user_side(rt: HostRuntime) -> Result<(), Fail> {
-    let mut watch = watched(rt.alloc())?;
-    watch.hear_all(USER, 4);
-    watch.hear_all(USER, 7);
-    none_is_wrong(&[watch.wrong()])
+    strings_come(rt.alloc(), "user 64 packets")
 }
 
+/// It has a link for every TEI and SAPI.
 #[test]
 fn strings_come_to_a_side_of_all_links(rt: HostRuntime) -> Result<(), Fail> {
-    let mut watch = watched(rt.alloc())?;
-    watch.hear_all(ALL, 7);
-    none_is_wrong(&[watch.wrong()])
-}
-
-#[test]
-fn drawn_strings_come_to_sides(rt: HostRuntime) -> Result<(), Fail> {
-    let mut watch = watched(rt.alloc())?;
-    watch.hear_all_drawn(NETWORK);
-    watch.hear_all_drawn(USER);
-    watch.hear_all_drawn(ALL);
-    none_is_wrong(&[watch.wrong()])
+    strings_come(rt.alloc(), "net all packets")
 }

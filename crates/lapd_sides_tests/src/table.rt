@@ -1,17 +1,14 @@
-//! Tests of a table of links: which links are there, octets that come for them, and refused memory.
-
-mod memory;
-mod steps;
+//! A table of the network side's links, led by words.
 
 ghost use Rattle.std.specs.Prelude.{◌≢◌, ◌<◌, IsTrue};
 
-use crate::table::memory::wrong_link;
-use crate::table::steps::{Tables, steps};
-use crate::text::wrong;
-use crate::wants::none_is_wrong;
-use lapd_frame::{Sapi, Side};
-use lapd_table::{LinkId, LinkTable};
-use std::test::Fail;
+use crate::stage::Stage;
+use crate::talk::{behind_link, link_of, octets_of};
+use crate::text::{Text, split};
+use lapd_frame::{Frame, MOST_OCTETS, Sapi, Side};
+use lapd_link::{Event, Link, Out, Params};
+use lapd_table::{LinkId, LinkTable, TableFault};
+use std::alloc::Global;
 
 /// Whether a link can have this id: it is not for management, nor for the group.
 fn is_of_link(id: LinkId) -> bool
@@ -23,13 +20,134 @@ fn is_of_link(id: LinkId) -> bool
     }
 }
 
-#[test]
-fn tables_go_as_said(rt: HostRuntime) -> Result<(), Fail> {
-    none_is_wrong(&[wrong(&mut Tables::new(rt.alloc()), steps())])
+impl Text {
+    /// Puts what a link gave behind: its frames as octets, and other outputs by their names.
+    fn outs(&mut self, link: Option<&Link>, outs: &[Out]) {
+        let Some(link) = link else {
+            return self.put("no link");
+        };
+        for out in outs {
+            match link.frame(out, &[]) {
+                Some(frame) => self.frame(&frame),
+                None => self.out(out),
+            }
+        }
+    }
+
+    /// Puts the octets of a frame behind.
+    fn frame(&mut self, frame: &Frame<'_>) {
+        let mut room = [0; MOST_OCTETS];
+        let len = lapd_frame::write(frame, Side::Network, &mut room);
+        self.hex(room.get(..len).unwrap_or(&[]));
+        self.put(";");
+    }
 }
 
-#[test]
-fn links_without_memory(rt: HostRuntime) -> Result<(), Fail> {
-    let mut table = LinkTable::new(rt.alloc(), Side::Network);
-    none_is_wrong(&[wrong_link(rt.alloc(), &mut table)])
+/// Writes what a link comes to that is added, with the parameters of primary rate access.
+fn put_added(alloc: Global, table: &mut LinkTable, id: &LinkId, text: &mut Text) {
+    if !is_of_link(*id) {
+        return text.put("no link has this id");
+    }
+    match Link::new(alloc, table.side(), id.sapi, id.tei, Params::primary()) {
+        Ok(link) => match table.add(link) {
+            Ok(()) => text.put("done"),
+            Err((fault, _)) => text.refused(&fault, None),
+        },
+        Err(_) => text.put("no memory"),
+    }
+}
+
+/// Writes whether a link is taken out.
+fn put_removed(table: &mut LinkTable, id: &LinkId, text: &mut Text) {
+    match table.remove(*id) {
+        Some(_) => text.put("done"),
+        None => text.refused(&TableFault::NoLink, None),
+    }
+}
+
+/// Octets come: the link that they are for, and what it does, are written, or why there is none.
+fn put_heard(table: &mut LinkTable, octets: &[u8], text: &mut Text) {
+    match table.dispatch(octets) {
+        Ok((id, outs)) => {
+            text.tell("", &id);
+            text.outs(table.link(id), outs.as_slice());
+        }
+        Err(fault) => text.refused(&fault, None),
+    }
+}
+
+/// Writes the links that are there, in their order.
+fn put_links(table: &LinkTable, text: &mut Text) {
+    match table.ids() {
+        Ok(ids) => {
+            for id in ids.as_slice() {
+                text.tell("", id);
+            }
+        }
+        Err(_) => text.put("no memory"),
+    }
+}
+
+/// A link is asked to be established: what it does is written.
+fn put_establishment(table: &mut LinkTable, id: &LinkId, text: &mut Text) {
+    if table.link(*id).is_none() {
+        return text.put("no link");
+    }
+    match table.handle(*id, Event::Establish) {
+        Ok(outs) => text.outs(table.link(*id), outs.as_slice()),
+        Err(fault) => text.refused(&fault, None),
+    }
+}
+
+/// A message is given: that it is taken is written, or why it is handed back.
+fn put_given(table: &mut LinkTable, id: &LinkId, message: Vec<u8>, text: &mut Text) {
+    if table.link(*id).is_none() {
+        return text.put("no link");
+    }
+    match table.give(*id, message) {
+        Ok(_) => text.put("taken"),
+        Err(refused) => text.refused(&refused.fault, Some(refused.message.as_slice())),
+    }
+}
+
+impl Stage {
+    /// A table begins, octets of the user side come to it, or the links that are there are written.
+    pub(crate) fn step_of_table(&mut self, words: &str, text: &mut Text) {
+        let (word, behind) = split(words, " ");
+        match word {
+            "new" => self.table = LinkTable::new(self.alloc, Side::Network),
+            "hear" => self.hear(behind, text),
+            "links" => put_links(&self.table, text),
+            "memory" => text.tell("", &TableFault::Memory),
+            _ => match link_of(behind) {
+                Some(id) => self.step_of_link(word, &id, behind_link(behind), text),
+                None => text.put("no link has these numbers"),
+            },
+        }
+    }
+
+    /// A link is added or taken out, asked to be established, given a message, or shown.
+    fn step_of_link(&mut self, word: &str, id: &LinkId, digits: &str, text: &mut Text) {
+        match word {
+            "add" => put_added(self.alloc, &mut self.table, id, text),
+            "remove" => put_removed(&mut self.table, id, text),
+            "establish" => put_establishment(&mut self.table, id, text),
+            "give" => self.give(id, digits, text),
+            _ => text.link(self.table.link(*id)),
+        }
+    }
+
+    fn hear(&mut self, digits: &str, text: &mut Text) {
+        match octets_of(self.alloc, digits) {
+            Some(octets) => put_heard(&mut self.table, octets.as_slice(), text),
+            None => text.put("no memory"),
+        }
+    }
+
+    fn give(&mut self, id: &LinkId, digits: &str, text: &mut Text) {
+        match octets_of(self.alloc, digits) {
+            Some(octets) => put_given(&mut self.table, id, octets, text),
+            None => text.put("no memory"),
+        }
+    }
 }

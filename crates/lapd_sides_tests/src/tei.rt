@@ -1,30 +1,169 @@
-//! Tests of timers and of TEI management, as text: moves and events, and what they call for.
+//! Timers and TEI management (Q.921 5.3), led by words.
 
-mod assigners;
-mod buses;
-mod given;
-mod messages;
-mod moves;
-mod outs;
-mod runs;
-mod terminals;
-mod timers;
+use crate::shows::name_of;
+use crate::talk::{octets_of, tei};
+use crate::text::{Text, number_of, numbers_of, split};
+use lapd_frame::Side;
+use lapd_tei::{Assigner, AssignerEvent, Tei, TeiKind, TeiMessage, Terminal, TerminalEvent};
+use lapd_timers::{Durations, Timer, TimerSet};
+use std::alloc::Global;
 
-use crate::tei::messages::Messages;
-use crate::tei::runs::Runs;
-use crate::text::wrong;
-use crate::wants::none_is_wrong;
-use lapd_tei::Terminal;
-use std::test::Fail;
+/// The timer of this name.
+fn timer_of(name: &str) -> Option<Timer> {
+    match name {
+        "T200" => Some(Timer::T200),
+        "T201" => Some(Timer::T201),
+        "T202" => Some(Timer::T202),
+        "T203" => Some(Timer::T203),
+        _ => None,
+    }
+}
 
-#[test]
-fn timers_and_tei_management_go_as_said(rt: HostRuntime) -> Result<(), Fail> {
-    let alloc = rt.alloc();
-    none_is_wrong(&[
-        wrong(&mut timers::new_timers(), timers::steps()),
-        wrong(&mut Terminal::new(None), terminals::steps()),
-        wrong(&mut assigners::begun(""), assigners::steps()),
-        wrong(&mut Messages { alloc }, messages::steps()),
-        wrong(&mut Runs { alloc }, runs::steps()),
-    ])
+/// Makes timers anew, starts or stops one of them, or writes the timer that is due, or which durations are taken.
+pub(crate) fn step_of_timers(timers: &mut TimerSet, words: &str, text: &mut Text) {
+    let (word, behind) = split(words, " ");
+    match word {
+        "new" => *timers = TimerSet::new(Durations::standard()),
+        "due" => text.told("", timers.due(number_of(behind))),
+        "durations" => put_durations(behind, text),
+        _ => put_timed(timers, word, behind, text),
+    }
+}
+
+/// Starts or stops a timer, and writes which run then.
+fn put_timed(timers: &mut TimerSet, word: &str, behind: &str, text: &mut Text) {
+    let (name, now) = split(behind, " ");
+    match timer_of(name) {
+        Some(timer) if word == "start" => timers.start(timer, number_of(now)),
+        Some(timer) => timers.stop(timer),
+        None => text.put("no timer"),
+    }
+    text.timers(Some(timers));
+}
+
+/// Writes the durations that are made of these numbers.
+fn put_durations(words: &str, text: &mut Text) {
+    let [t200, t201, t202, t203] = numbers_of(words);
+    match Durations::new(t200, t201, t202, t203) {
+        Some(durations) => {
+            for timer in [Timer::T200, Timer::T201, Timer::T202, Timer::T203] {
+                text.put(timer.name());
+                text.tell(" ", &durations.of(timer));
+            }
+        }
+        None => text.put("refused"),
+    }
+}
+
+/// The kind of this name.
+fn kind_of(name: &str) -> Option<TeiKind> {
+    for number in 1..8 {
+        match TeiKind::new(number) {
+            Some(kind) if name_of(kind) == name => return Some(kind),
+            _ => {}
+        }
+    }
+    None
+}
+
+/// The message that these words write: its kind, Ri and Ai.
+fn message_of(words: &str) -> Option<TeiMessage> {
+    let (name, behind) = split(words, " ");
+    let [ri, ai, _, _] = numbers_of(behind);
+    Some(TeiMessage {
+        ri: (ri & 0xffff) as u16,
+        kind: kind_of(name)?,
+        ai: (ai & 0xff) as u8,
+    })
+}
+
+/// Writes what is read from the information of a frame; or the octets in which a side sends a message, and what is read from
+/// them again.
+pub(crate) fn step_of_messages(alloc: Global, words: &str, text: &mut Text) {
+    let (word, behind) = split(words, " ");
+    match word {
+        "user" => put_sent(behind, Side::User, text),
+        "net" => put_sent(behind, Side::Network, text),
+        _ => match octets_of(alloc, behind) {
+            Some(octets) => put_read(octets.as_slice(), text),
+            None => text.put("no memory"),
+        },
+    }
+}
+
+fn put_read(info: &[u8], text: &mut Text) {
+    match TeiMessage::read(info) {
+        Ok(message) => text.message(&message),
+        Err(fault) => text.put(fault.name()),
+    }
+}
+
+fn put_sent(words: &str, from: Side, text: &mut Text) {
+    if let Some(message) = message_of(words) {
+        if message.ai <= 127 {
+            let octets = message.frame(from);
+            text.hex(&octets);
+            text.put(" ");
+            put_read(&octets[3..], text);
+        }
+    }
+}
+
+/// The reference that a word writes, or 0.
+fn reference_of(word: &str) -> u16 {
+    word.parse::<u16>().unwrap_or(0)
+}
+
+/// The event of a terminal that these words name. What is answered to a message that is heard has the reference 7.
+fn terminal_event(words: &str) -> Option<TerminalEvent> {
+    let (word, behind) = split(words, " ");
+    match word {
+        "ask" => Some(TerminalEvent::Ask(reference_of(behind))),
+        "want" => Some(TerminalEvent::Want(reference_of(behind))),
+        "T202" => Some(TerminalEvent::T202(reference_of(behind))),
+        "leave" => Some(TerminalEvent::Leave),
+        _ => Some(TerminalEvent::Heard(message_of(words)?, 7)),
+    }
+}
+
+/// A terminal begins, with TEI 64 or with none, or an event comes to it. Its outputs are written, and what it shows then.
+pub(crate) fn step_of_terminal(terminal: &mut Terminal, words: &str, text: &mut Text) {
+    match words {
+        "begins" => *terminal = Terminal::new(None),
+        "begins 64" => *terminal = Terminal::new(Some(tei(64))),
+        _ => match terminal_event(words) {
+            Some(event) => text.tei_outs(terminal.handle(event).as_slice()),
+            None => text.put("no event"),
+        },
+    }
+    text.terminal(terminal);
+}
+
+/// An assigner that knows of these TEIs.
+fn begun(known: &str) -> Assigner {
+    match known {
+        "64" => Assigner::new(&[tei(64)]),
+        "64 3 64" => Assigner::new(&[tei(64), tei(3), tei(64)]),
+        _ => Assigner::new(&[]),
+    }
+}
+
+/// The event of an assigner that these words name.
+fn assigner_event(words: &str) -> Option<AssignerEvent> {
+    let (word, behind) = split(words, " ");
+    match word {
+        "check" => Some(AssignerEvent::Check(Tei::new((number_of(behind) & 0xff) as u8)?)),
+        "T201" => Some(AssignerEvent::T201),
+        _ => Some(AssignerEvent::Heard(message_of(words)?)),
+    }
+}
+
+/// An assigner begins that knows of some TEIs, or an event comes to it. Its outputs are written, and what it shows then.
+pub(crate) fn step_of_assigner(assigner: &mut Assigner, words: &str, text: &mut Text) {
+    if let Some(known) = words.strip_prefix("begins") {
+        *assigner = begun(known.trim_start());
+    } else if let Some(event) = assigner_event(words) {
+        text.tei_outs(assigner.handle(event).as_slice());
+    }
+    text.assigner(assigner);
 }

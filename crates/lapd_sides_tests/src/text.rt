@@ -1,4 +1,4 @@
-//! Steps as text, and text that is put together piece by piece.
+//! Text that is put together piece by piece, and words that are taken apart.
 
 use arrayvec::ArrayVec;
 use lapd_cli_script::put_hex;
@@ -10,15 +10,6 @@ use std::io::Write;
 pub(crate) struct Text {
     octets: ArrayVec<u8, 4096>,
 }
-
-/// What is led through steps, which are text.
-pub(crate) trait Led {
-    /// Does a step, and writes what it comes to.
-    fn step(&mut self, words: &str, text: &mut Text);
-}
-
-/// The row and the line of a step that comes to something else than the line says.
-pub(crate) type Wrong<'a> = Option<(&'a str, &'a str)>;
 
 impl Text {
     /// No text.
@@ -53,26 +44,51 @@ impl Text {
         let _ = put_hex(octets, &mut self.octets);
     }
 
-    /// Puts a value behind as it prints.
-    pub(crate) fn shown<T: Display>(&mut self, value: &T) {
+    /// Puts a value behind a word as it prints.
+    pub(crate) fn shown<T: Display>(&mut self, word: &str, value: &T) {
+        self.put(word);
         let _ = write!(self.octets, "{value}");
     }
 
-    /// Puts a number behind a word.
-    pub(crate) fn number(&mut self, word: &str, number: u64) {
-        self.put(word);
-        self.shown(&number);
+    /// Puts a value behind a word as it prints, and `;` behind it.
+    pub(crate) fn tell<T: Display>(&mut self, word: &str, value: &T) {
+        self.shown(word, value);
+        self.put(";");
     }
 
-    /// Puts a number behind a word, or `none`.
-    pub(crate) fn optional(&mut self, word: &str, number: Option<u64>) {
-        match number {
-            Some(number) => self.number(word, number),
-            None => {
-                self.put(word);
-                self.put("none");
-            }
+    /// Puts a value behind a word as it prints, and `;` behind it, where there is one.
+    pub(crate) fn told<T: Display + Copy>(&mut self, word: &str, value: Option<T>) {
+        if let Some(value) = value {
+            self.tell(word, &value);
         }
+    }
+
+    /// Puts octets behind in hexadecimal digits, and for many that are aa at their end, their number, as in `[261]`.
+    pub(crate) fn octets(&mut self, octets: &[u8]) {
+        let mut run = 0usize;
+        for octet in octets {
+            run = if *octet == 0xaa {
+                run.wrapping_add(1)
+            } else {
+                0
+            };
+        }
+        if run < 100 {
+            return self.hex(octets);
+        }
+        self.hex(octets.get(..octets.len().wrapping_sub(run)).unwrap_or(&[]));
+        self.shown("[", &run);
+        self.put("]");
+    }
+
+    /// Puts behind why something is refused, and the octets that are handed back, where there are some.
+    pub(crate) fn refused<T: Display>(&mut self, fault: &T, message: Option<&[u8]>) {
+        self.shown("refused ", fault);
+        if let Some(octets) = message {
+            self.put(" ");
+            self.octets(octets);
+        }
+        self.put(";");
     }
 }
 
@@ -81,40 +97,25 @@ pub(crate) fn split<'a>(text: &'a str, mark: &str) -> (&'a str, &'a str) {
     text.split_once(mark).unwrap_or((text, ""))
 }
 
-/// The number that a word writes.
-pub(crate) fn number_of(word: &str) -> Option<u64> {
-    word.parse::<u64>().ok()
+/// The number that a word writes, or the greatest.
+pub(crate) fn number_of(word: &str) -> u64 {
+    word.parse::<u64>().unwrap_or(u64::MAX)
 }
 
-/// The SAPI, the TEI or the octet that a word writes.
-pub(crate) fn small_number(word: &str) -> Option<u8> {
-    word.parse::<u8>().ok()
+/// The number of 32 bits that a word writes, or the greatest.
+fn small_number_of(word: &str) -> u32 {
+    word.parse::<u32>().unwrap_or(u32::MAX)
 }
 
-/// Whether a step comes to something else than its line says behind `: `.
-fn is_wrong<L: Led>(led: &mut L, line: &str) -> bool {
-    let (words, wanted) = split(line, ": ");
-    let mut text = Text::new();
-    led.step(words, &mut text);
-    !text.is(wanted)
-}
-
-/// Leads it through the steps of a row: the first line that is wrong.
-fn wrong_line<'a, L: Led>(led: &mut L, row: &'a str) -> Option<&'a str> {
-    for line in row.lines() {
-        if !line.starts_with("#") && is_wrong(led, line) {
-            return Some(line);
-        }
-    }
-    None
-}
-
-/// Leads it through rows, an empty line between two, each with its name behind `#` in the first line: the first that is wrong.
-pub(crate) fn wrong<'a, L: Led>(led: &mut L, rows: &'a str) -> Wrong<'a> {
-    for row in rows.split("\n\n") {
-        if let Some(line) = wrong_line(led, row) {
-            return Some((split(row, "\n").0, line));
-        }
-    }
-    None
+/// The numbers that the first four words write, each as `small_number_of` says.
+pub(crate) fn numbers_of(words: &str) -> [u32; 4] {
+    let (first, rest) = split(words, " ");
+    let (second, rest) = split(rest, " ");
+    let (third, fourth) = split(rest, " ");
+    [
+        small_number_of(first),
+        small_number_of(second),
+        small_number_of(third),
+        small_number_of(fourth),
+    ]
 }

@@ -1,5 +1,6 @@
 //! Octets that are drawn, and those that stand at their front.
 
+use arrayvec::ArrayVec;
 use rand_core::{Rng, SeedableRng};
 use rand_pcg::Pcg32;
 
@@ -33,18 +34,19 @@ pub(super) fn fronts() -> &'static [&'static [u8]] {
     FRONTS
 }
 
+/// These octets at the front, and behind them the octets that stand there in a string.
+pub(super) fn behind(front: &[u8], string: &[u8; MOST]) -> ArrayVec<u8, MOST> {
+    let mut octets = ArrayVec::new();
+    let _ = octets.try_extend_from_slice(front);
+    let _ = octets.try_extend_from_slice(string.get(front.len()..).unwrap_or(&[]));
+    octets
+}
+
 /// Draws of octets.
 #[derive(Drop)]
 pub(super) struct Draws {
     random: Pcg32,
-    octets: [u8; MOST],
-}
-
-/// Puts these octets at the front.
-pub(super) fn put(octets: &mut [u8; MOST], front: &[u8]) {
-    for (place, octet) in octets.iter_mut().zip(front.iter()) {
-        *place = *octet;
-    }
+    octets: ArrayVec<u8, MOST>,
 }
 
 impl Draws {
@@ -52,7 +54,7 @@ impl Draws {
     pub(super) fn new(seed: u64) -> Draws {
         Draws {
             random: Pcg32::seed_from_u64(seed),
-            octets: [0; MOST],
+            octets: ArrayVec::new(),
         }
     }
 
@@ -64,15 +66,16 @@ impl Draws {
 
     /// 0 to 300 octets. Of every two strings one has a front, and of every two of these one has 10 octets at most.
     pub(super) fn draw(&mut self) -> &[u8] {
-        self.random.fill_bytes(&mut self.octets);
+        let mut string = [0; MOST];
+        self.random.fill_bytes(&mut string);
         let sort = self.below(4);
-        let most = if sort == 0 { 10 } else { MOST };
-        if sort < 2 {
-            let fronts = fronts();
-            let front = self.below(fronts.len());
-            put(&mut self.octets, fronts.get(front).copied().unwrap_or(&[]));
-        }
-        let len = self.below(most + 1);
-        self.octets.get(..len).unwrap_or(&[])
+        let front = if sort < 2 {
+            self.below(fronts().len())
+        } else {
+            usize::MAX
+        };
+        self.octets = behind(fronts().get(front).copied().unwrap_or(&[]), &string);
+        let len = self.below(if sort == 0 { 11 } else { MOST + 1 });
+        self.octets.as_slice().get(..len).unwrap_or(&[])
     }
 }

@@ -1,14 +1,22 @@
-//! All that the readers of a side show, as one number, so that "unchanged" can be looked at without memory.
+//! All that readers show, as one number, so that "unchanged" can be looked at without memory.
 
 use lapd_link::{IQueue, Link, Timer, Window};
 use lapd_sides::{Assigner, EitherSide, LinkId, Sapi, Tei, Terminal, TimerSet};
+use lapd_table::LinkTable;
+use lapd_tei::Bus;
 
-/// All that its readers show, as one number.
-pub(crate) fn digest(side: &EitherSide) -> u64 {
-    let all = with_timers(with_management(side.discarded(), side), side.timers(None));
-    let mut all = with_links(all, side, Sapi::Call);
-    all = with_links(all, side, Sapi::Packet);
-    all
+/// How many places there are for links: those of SAPI 0, then those of SAPI 16, by rising TEI.
+pub(crate) const PLACES: usize = 256;
+
+/// The link that stands at a place.
+pub(crate) fn id_at(place: usize) -> LinkId {
+    let sapi = if place < 128 {
+        Sapi::Call
+    } else {
+        Sapi::Packet
+    };
+    let tei = Tei::new((place % 128) as u8).unwrap_or(Tei::group());
+    LinkId { sapi, tei }
 }
 
 /// One number more (the hash FNV-1a, by words).
@@ -16,11 +24,43 @@ fn with(all: u64, number: u64) -> u64 {
     (all ^ number).wrapping_mul(0x0000_0100_0000_01b3)
 }
 
-fn with_management(all: u64, side: &EitherSide) -> u64 {
-    match side {
+/// All that the readers of a side show.
+pub(crate) fn with_side(all: u64, side: &EitherSide) -> u64 {
+    let mut all = with_timers(with(all, side.discarded()), side.timers(None));
+    all = match side {
         EitherSide::Network(side) => with_assigner(all, side.assigner()),
-        EitherSide::User(side) => with_terminal(all, side.terminal()),
+        EitherSide::User(side) => with_terminal(all, Some(side.terminal())),
+    };
+    for place in 0..PLACES {
+        all = with(all, at_place(side, place));
     }
+    all
+}
+
+/// All that is seen of the link at a place, and of its timers; 0 where it is not there.
+pub(crate) fn at_place(side: &EitherSide, place: usize) -> u64 {
+    match side.table().link(id_at(place)) {
+        Some(link) => with_timers(of_link(link), side.timers(Some(id_at(place)))),
+        None => 0,
+    }
+}
+
+/// All links of a table.
+pub(crate) fn with_table(all: u64, table: &LinkTable) -> u64 {
+    let mut all = all;
+    for place in 0..PLACES {
+        if let Some(link) = table.link(id_at(place)) {
+            all = with(with(all, of_link(link)), place as u64);
+        }
+    }
+    all
+}
+
+/// A bus of two terminals.
+pub(crate) fn with_bus(all: u64, bus: &Bus) -> u64 {
+    let all = with_terminal(all, bus.terminal(0));
+    let all = with_terminal(all, bus.terminal(1));
+    with_assigner(all, bus.assigner())
 }
 
 fn with_assigner(all: u64, assigner: &Assigner) -> u64 {
@@ -33,7 +73,10 @@ fn with_assigner(all: u64, assigner: &Assigner) -> u64 {
     all
 }
 
-fn with_terminal(all: u64, terminal: &Terminal) -> u64 {
+fn with_terminal(all: u64, terminal: Option<&Terminal>) -> u64 {
+    let Some(terminal) = terminal else {
+        return with(all, 1);
+    };
     let all = with(all, u64::from(terminal.state()));
     let all = with_tei(all, terminal.tei());
     let all = with(all, u64::from(terminal.count()));
@@ -51,33 +94,16 @@ fn with_timers(all: u64, timers: Option<&TimerSet>) -> u64 {
     let Some(timers) = timers else {
         return with(all, 1);
     };
-    let all = with_deadline(all, timers.deadline(Timer::T200));
-    let all = with_deadline(all, timers.deadline(Timer::T201));
-    let all = with_deadline(all, timers.deadline(Timer::T202));
-    with_deadline(all, timers.deadline(Timer::T203))
-}
-
-fn with_deadline(all: u64, deadline: Option<u64>) -> u64 {
-    with(all, deadline.unwrap_or(u64::MAX))
-}
-
-/// The links of this SAPI, and their timers.
-fn with_links(all: u64, side: &EitherSide, sapi: Sapi) -> u64 {
     let mut all = all;
-    for number in 0..128 {
-        if let Some(tei) = Tei::new(number) {
-            all = with_link(all, side.table().link(LinkId { sapi, tei }));
-            all = with_timers(all, side.timers(Some(LinkId { sapi, tei })));
-        }
+    for timer in [Timer::T200, Timer::T201, Timer::T202, Timer::T203] {
+        all = with(all, timers.deadline(timer).unwrap_or(u64::MAX));
     }
     all
 }
 
-fn with_link(all: u64, link: Option<&Link>) -> u64 {
-    let Some(link) = link else {
-        return with(all, 1);
-    };
-    let all = with(all, u64::from(link.state()));
+/// All that the readers of a link show.
+pub(crate) fn of_link(link: &Link) -> u64 {
+    let all = with(0, u64::from(link.state()));
     let all = with(all, u64::from(link.rc()));
     let all = with(all, u64::from(link.running(Timer::T200)));
     let all = with(all, u64::from(link.running(Timer::T203)));

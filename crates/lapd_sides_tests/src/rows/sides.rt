@@ -1,10 +1,12 @@
-//! Dialogues of a side with the line, layer 3 and its clock, as text.
+//! Dialogues of sides with the line, layer 3 and their clocks.
 //!
-//! The first line names a row. The second is the side: `net` or `user`, with `64` where it knows of TEI 64 or has
-//! it, and with `packets` where it serves SAPI 16. Then comes a line for each call (`call_of`), and behind `: ` what it gives,
-//! or nothing; or for what is shown then (`shown` of `readers`), or for whether the next moment is exact (`is_exact` of `talks`).
+//! A side begins: `net` or `user`, with `64` where it knows of TEI 64 or has it, and with `packets` where it serves SAPI 16.
+//! Then comes a line for each call: its moment, what is done, the SAPI and the TEI where it names a link, and octets; and
+//! behind `: ` a refusal, frames and primitives, each with `;` behind it, or `none` where nothing is due. `shows` is what the
+//! readers of the side show, and `shows 0 64` those of a link. `exact` is whether nothing is due before the next moment, and
+//! something at it. `requests` is the TEI that each of 63 Requests is given, and what is answered to one more.
 
-const NETWORK: &str = "\
+pub(crate) const NETWORK: &str = "\
 # a link goes, and the timer of the other runs on
 net 64 packets
 0 take 00817f: 008173;0 64 established;
@@ -13,7 +15,7 @@ net 64 packets
 9999 tick: none;
 10000 tick: 02810101;
 10000 tick: none;
-shows discarded: 0
+shows: network;discarded 0;next 11000;holds 64;
 exact: yes
 
 # a TEI is given, and its links are there
@@ -24,7 +26,7 @@ net packets
 0 take 008353
 0 take fcff030f567801ff: feff030f56780283;tei given 65;
 0 take 008353: 00831f;
-shows discarded: 1
+shows: network;discarded 1;holds 64 65;
 exact: yes
 
 # what is for nobody is discarded
@@ -41,7 +43,7 @@ net 64
 0 take fcff030f56780581
 0 take 00817f00: 0 64 report M;
 0 take 00817f: 008173;0 64 established;
-shows discarded: 8
+shows: network;discarded 8;next 10000;holds 64;
 exact: yes
 
 # a TEI is free again, and its links go; T200 of SAPI 0, then of SAPI 16, expires before T201
@@ -62,8 +64,8 @@ net 64 packets
 2000 tick: tei free 64;0 64 released;16 64 release-confirmed;
 100000 tick: none;
 100000 take 00817f
-100000 establish 0 64: refused B1;
-shows discarded: 1
+100000 establish 0 64: refused B1 NoLink;
+shows: network;discarded 1;holds;
 exact: yes
 
 # a TEI is in use, then doubled
@@ -77,30 +79,30 @@ net 64
 2999 tick: none;
 3000 tick: feff030f00000681;feff030f00000681;tei doubled 64;
 3000 take 008153
-shows discarded: 1
+shows: network;discarded 1;holds;
 exact: yes
 
 # unit data to all terminals
 net
 0 unit 0 127 0a: 02ff030a;
 0 unit 0 127: 02ff03;
-0 unit 16 127 0a: refused B1 0a;
-0 unit 63 127 0a: refused B1 0a;
-0 unit 0 64 0a: refused B1 0a;
+0 unit 16 127 0a: refused B1 NoLink 0a;
+0 unit 63 127 0a: refused B1 NoLink 0a;
+0 unit 0 64 0a: refused B1 NoLink 0a;
 0 ask
-shows discarded: 0
+shows: network;discarded 0;holds;
 exact: yes
 
 # a receiver is busy
 net 64
-0 busy 0 65: refused B1;
+0 busy 0 65: refused B1 NoLink;
 0 take 00817f: 008173;0 64 established;
 0 busy 0 64: 00810500;
 0 busy 0 64
 0 take 0081000108: 00810501;
 0 ready 0 64: 00810100;
 0 take 0081000108: 00810103;0 64 data 08;
-shows discarded: 0
+shows: network;discarded 0;next 10000;holds 64;
 exact: yes
 
 # frames that are discarded are counted
@@ -110,7 +112,7 @@ net 64
 0 take 04817f
 0 take 00837f
 0 take 00817f: 008173;0 64 established;
-shows discarded: 4
+shows: network;discarded 4;next 10000;holds 64;
 exact: yes
 
 # SAPI 63 has no links
@@ -119,7 +121,7 @@ net 64
 0 take fcffaf
 0 take fcff7f
 0 take feff030f123401ff
-shows discarded: 4
+shows: network;discarded 4;holds 64;
 exact: yes
 
 # what TEI management ignores is not counted
@@ -129,11 +131,16 @@ net 64
 0 take fcff030f123408ff
 0 take fcff030f123405ff
 0 take fcff130f56780581
-shows discarded: 0
+shows: network;discarded 0;holds 64;
 exact: yes
+
+# 64 Requests, and all but the last are served
+net packets
+requests: 64 65 66 67 68 69 70 71 72 73 74 75 76 77 78 79 80 81 82 83 84 85 86 87 88 89 90 91 92 93 94 95 96 97 98 99 100 101 102 103 104 105 106 107 108 109 110 111 112 113 114 115 116 117 118 119 120 121 122 123 124 125 126 Denied 63 127;
+shows: network;discarded 0;holds 64 65 66 67 68 69 70 71 72 73 74 75 76 77 78 79 80 81 82 83 84 85 86 87 88 89 90 91 92 93 94 95 96 97 98 99 100 101 102 103 104 105 106 107 108 109 110 111 112 113 114 115 116 117 118 119 120 121 122 123 124 125 126;
 ";
 
-const USER: &str = "\
+pub(crate) const USER: &str = "\
 # no TEI is assigned
 user
 0 establish 0 127: fcff030f619901ff;
@@ -143,9 +150,9 @@ user
 4000 tick: fcff030f15ec01ff;
 6000 tick: tei failed;0 127 released;
 100000 tick: none;
-100000 release 0 127: refused B1;
+100000 release 0 127: refused B1 NoLink;
 100000 establish 0 127: fcff030f983001ff;
-shows discarded: 0
+shows: user;discarded 0;next 102000;T202 102000;state 3;asked 1;reference 38960;
 exact: yes
 
 # a TEI is got, and the establishment done
@@ -158,22 +165,22 @@ user
 1100 tick: 00817f;
 1200 take 008173: 0 64 confirmed;
 1200 give 0 0 0801: 008100000801;
-shows discarded: 0
+shows: user;discarded 0;next 2200;state 4;TEI 64;asked 0;reference 24985;
 exact: yes
 
 # without a TEI there is no link
 user
-0 give 0 127 0801: refused L1 0801;
-0 give 16 64 0801: refused L1 0801;
-0 give 63 64 0801: refused L1 0801;
-0 unit 0 127 0801: refused B1 0801;
-0 release 0 127: refused B1;
-0 busy 0 127: refused B1;
-0 establish 16 127: refused B1;
-0 establish 63 127: refused B1;
+0 give 0 127 0801: refused L1 NotEstablished 0801;
+0 give 16 64 0801: refused L1 NotEstablished 0801;
+0 give 63 64 0801: refused L1 NotEstablished 0801;
+0 unit 0 127 0801: refused B1 NoLink 0801;
+0 release 0 127: refused B1 NoLink;
+0 busy 0 127: refused B1 NoLink;
+0 establish 16 127: refused B1 NoLink;
+0 establish 63 127: refused B1 NoLink;
 0 check 0 64
 0 take 02817f
-shows discarded: 1
+shows: user;discarded 1;state 1;asked 0;
 exact: yes
 
 # two establishments are kept, of each SAPI one
@@ -184,7 +191,7 @@ user packets
 0 establish 16 127
 0 take feff030f61990281: 00817f;40817f;tei got 64;
 0 establish 0 127
-shows discarded: 0
+shows: user;discarded 0;next 1000;state 4;TEI 64;asked 0;reference 24985;
 exact: yes
 
 # two establishments are kept in vain
@@ -194,19 +201,19 @@ user packets
 2000 tick: fcff030f769101ff;
 4000 tick: fcff030f15ec01ff;
 6000 tick: tei failed;0 127 released;16 127 released;
-shows discarded: 0
+shows: user;discarded 0;state 1;asked 0;
 exact: yes
 
 # an establishment is forgotten
 user packets
 0 establish 0 127: fcff030f619901ff;
-0 release 16 127: refused B1;
+0 release 16 127: refused B1 NoLink;
 0 release 0 127: 0 127 release-confirmed;
-0 release 0 127: refused B1;
+0 release 0 127: refused B1 NoLink;
 2000 tick: fcff030f769101ff;
 2000 take feff030f76910281: tei got 64;
 2000 establish 0 127: 00817f;
-shows discarded: 0
+shows: user;discarded 0;next 3000;state 4;TEI 64;asked 0;reference 30353;
 exact: yes
 
 # unit data to all terminals
@@ -220,8 +227,8 @@ user
 0 take 02ff03: 0 127 unit;
 0 take 0281030b: 0 64 unit 0b;
 0 unit 0 127 0c: 0081030c;
-0 unit 16 64 0c: refused B1 0c;
-shows discarded: 2
+0 unit 16 64 0c: refused B1 NoLink 0c;
+shows: user;discarded 2;state 4;TEI 64;asked 0;reference 24985;
 exact: yes
 
 # a TEI is fixed, checked and removed
@@ -236,15 +243,15 @@ user 64 packets
 100000 tick: none;
 100000 take 02817f
 100000 ask: fcff030f15ec01ff;
-shows discarded: 1
+shows: user;discarded 1;next 102000;T202 102000;state 2;asked 1;reference 5612;
 exact: yes
 
 # its TEI is assigned to another
 user 64
 0 release 0 0: 0 64 release-confirmed;
 0 take feff030f12340281: tei gone 64;
-0 release 0 0: refused B1;
-shows discarded: 0
+0 release 0 0: refused B1 NoLink;
+shows: user;discarded 0;state 1;asked 0;
 exact: yes
 
 # frames that are discarded are counted
@@ -256,86 +263,71 @@ user
 0 take fe81030f12340281
 0 take feff030f123402
 0 take 02ff030a: 0 127 unit 0a;
-shows discarded: 5
+shows: user;discarded 5;state 1;asked 0;
 exact: yes
 ";
 
 /// Octets that are as many as a frame has room for, or more (N201, 260, Q.921 5.9.3). What is refused is handed back, and
 /// nothing is given.
-const LENGTHS: &str = "\
+pub(crate) const LENGTHS: &str = "\
 # to all terminals, 260 octets
 net
 0 unit 0 127 [260]: 02ff03[260];
 
 # to all terminals, 261 octets
 net
-0 unit 0 127 [261]: refused L3 [261];
+0 unit 0 127 [261]: refused L3 TooLong [261];
 
 # a SAPI that is not served
 net
-0 unit 16 127 [261]: refused B1 [261];
+0 unit 16 127 [261]: refused B1 NoLink [261];
 
 # no link
 net
-0 unit 0 64 [261]: refused B1 [261];
+0 unit 0 64 [261]: refused B1 NoLink [261];
 
 # no TEI
 user packets
-0 unit 0 64: refused B1 ;
-0 unit 0 64 [260]: refused B1 [260];
-0 unit 0 64 [261]: refused B1 [261];
-0 unit 0 64 [1000]: refused B1 [1000];
-0 unit 16 127: refused B1 ;
-0 unit 16 127 [260]: refused B1 [260];
-0 unit 16 127 [261]: refused B1 [261];
-0 unit 16 127 [1000]: refused B1 [1000];
-0 unit 63 1: refused B1 ;
-0 unit 63 1 [260]: refused B1 [260];
-0 unit 63 1 [261]: refused B1 [261];
-0 unit 63 1 [1000]: refused B1 [1000];
+0 unit 0 64: refused B1 NoLink ;
+0 unit 0 64 [260]: refused B1 NoLink [260];
+0 unit 0 64 [261]: refused B1 NoLink [261];
+0 unit 0 64 [1000]: refused B1 NoLink [1000];
+0 unit 16 127: refused B1 NoLink ;
+0 unit 16 127 [260]: refused B1 NoLink [260];
+0 unit 16 127 [261]: refused B1 NoLink [261];
+0 unit 16 127 [1000]: refused B1 NoLink [1000];
+0 unit 63 1: refused B1 NoLink ;
+0 unit 63 1 [260]: refused B1 NoLink [260];
+0 unit 63 1 [261]: refused B1 NoLink [261];
+0 unit 63 1 [1000]: refused B1 NoLink [1000];
 
 # a message for no link
 net
-0 give 0 64: refused B1 ;
-0 give 0 64 [260]: refused B1 [260];
-0 give 0 64 [261]: refused B1 [261];
-0 give 0 64 [1000]: refused B1 [1000];
-0 give 16 127: refused B1 ;
-0 give 16 127 [260]: refused B1 [260];
-0 give 16 127 [261]: refused B1 [261];
-0 give 16 127 [1000]: refused B1 [1000];
-0 give 63 1: refused B1 ;
-0 give 63 1 [260]: refused B1 [260];
-0 give 63 1 [261]: refused B1 [261];
-0 give 63 1 [1000]: refused B1 [1000];
+0 give 0 64: refused B1 NoLink ;
+0 give 0 64 [260]: refused B1 NoLink [260];
+0 give 0 64 [261]: refused B1 NoLink [261];
+0 give 0 64 [1000]: refused B1 NoLink [1000];
+0 give 16 127: refused B1 NoLink ;
+0 give 16 127 [260]: refused B1 NoLink [260];
+0 give 16 127 [261]: refused B1 NoLink [261];
+0 give 16 127 [1000]: refused B1 NoLink [1000];
+0 give 63 1: refused B1 NoLink ;
+0 give 63 1 [260]: refused B1 NoLink [260];
+0 give 63 1 [261]: refused B1 NoLink [261];
+0 give 63 1 [1000]: refused B1 NoLink [1000];
 
 # a message without a TEI
 user
-0 give 0 64: refused L1 ;
-0 give 0 64 [260]: refused L1 [260];
-0 give 0 64 [261]: refused L1 [261];
-0 give 0 64 [1000]: refused L1 [1000];
-0 give 16 127: refused L1 ;
-0 give 16 127 [260]: refused L1 [260];
-0 give 16 127 [261]: refused L1 [261];
-0 give 16 127 [1000]: refused L1 [1000];
-0 give 63 1: refused L1 ;
-0 give 63 1 [260]: refused L1 [260];
-0 give 63 1 [261]: refused L1 [261];
-0 give 63 1 [1000]: refused L1 [1000];
+0 give 0 64: refused L1 NotEstablished ;
+0 give 0 64 [260]: refused L1 NotEstablished [260];
+0 give 0 64 [261]: refused L1 NotEstablished [261];
+0 give 0 64 [1000]: refused L1 NotEstablished [1000];
+0 give 16 127: refused L1 NotEstablished ;
+0 give 16 127 [260]: refused L1 NotEstablished [260];
+0 give 16 127 [261]: refused L1 NotEstablished [261];
+0 give 16 127 [1000]: refused L1 NotEstablished [1000];
+0 give 63 1: refused L1 NotEstablished ;
+0 give 63 1 [260]: refused L1 NotEstablished [260];
+0 give 63 1 [261]: refused L1 NotEstablished [261];
+0 give 63 1 [1000]: refused L1 NotEstablished [1000];
 ";
-
-/// The rows of a network side. They are lent, as a constant is written out in each function that names it.
-pub(crate) fn network_rows() -> &'static str {
-    NETWORK
-}
-
-/// The rows of a user side.
-pub(crate) fn user_rows() -> &'static str {
-    USER
-}
-
-/// The rows of lengths.
-pub(crate) fn rows_of_lengths() -> &'static str {
-    LENGTHS
-}

@@ -1,0 +1,236 @@
+//! A side, its calls, and what they give, as text.
+
+ghost use Rattle.std.specs.Prelude.{◌≡◌, ◌<◌, IfOk};
+ghost use Rattle.std.specs.List.{All};
+
+use crate::text::{Text, number_of, numbers_of, split};
+use lapd_sides::{
+    Acts, Config, Durations, EitherSide, LinkId, NetSide, Params, Request, Sapi, SideFault, Tei,
+    UserSide,
+};
+use std::alloc::{AllocError, Global};
+
+/// A side, and what its last call gave.
+#[derive(Drop)]
+pub(crate) struct Talk {
+    alloc: Global,
+    pub(crate) side: EitherSide,
+    pub(crate) acts: Acts,
+}
+
+/// A window of 7, a frame sent 3 times, and 64 messages; what basic access has, should a number be out of range.
+pub(crate) fn params() -> Params {
+    Params::new(7, 3, 64).unwrap_or(Params::basic(Sapi::Call))
+}
+
+/// What a side is made with that these words name: basic access, by the standard durations, and with the seed 921. It serves
+/// SAPI 16 too, or is fast, as beside a pair: T200 runs a millisecond then, and T203 an hour.
+fn config_of(words: &str) -> Config {
+    let mut config = Config {
+        sapi16: words.contains("packets"),
+        params0: Params::basic(Sapi::Call),
+        params16: Params::basic(Sapi::Packet),
+        durations: Durations::standard(),
+        seed: 921,
+    };
+    if words.contains("fast") {
+        config.params0 = params();
+        config.durations = Durations::new(1, 1_000, 2_000, 3_600_000).unwrap_or(
+            Durations::standard(),
+        );
+    }
+    config
+}
+
+/// The TEI of this number, of a terminal.
+pub(crate) fn tei(number: u8) -> Tei
+    requires { number < 127 }
+    ensures { result ≡ number }
+{
+    Tei::new(number).unwrap()
+}
+
+/// Every TEI that a link can have.
+fn every_tei(alloc: Global) -> Result<Vec<Tei>, AllocError>
+    ensures { IfOk result (λ known. All (λ tei. tei < 127) known.items) }
+{
+    let mut known = Vec::new(alloc);
+    for number in 0..127 {
+        known.push(tei(number))?;
+    }
+    Ok(known)
+}
+
+/// A network side that knows of all TEIs, of TEI 64, named twice, or of none.
+fn network_side(alloc: Global, words: &str) -> Result<NetSide, AllocError> {
+    let config = config_of(words);
+    if words.contains("all") {
+        NetSide::new(alloc, config, every_tei(alloc)?.as_slice())
+    } else if words.contains("64") {
+        NetSide::new(alloc, config, &[tei(64), tei(64)])
+    } else {
+        NetSide::new(alloc, config, &[])
+    }
+}
+
+/// A user side that has TEI 64, or none.
+fn user_side(alloc: Global, words: &str) -> Result<UserSide, AllocError> {
+    let fixed = if words.contains("64") {
+        Some(tei(64))
+    } else {
+        None
+    };
+    UserSide::new(alloc, config_of(words), fixed)
+}
+
+/// The side that these words name.
+fn side_of(alloc: Global, words: &str) -> Result<EitherSide, AllocError> {
+    if words.starts_with("net") {
+        Ok(EitherSide::Network(network_side(alloc, words)?))
+    } else {
+        Ok(EitherSide::User(user_side(alloc, words)?))
+    }
+}
+
+/// The link of the SAPI and the TEI that stand at the front of these words; `None` where there is no such SAPI or TEI.
+pub(crate) fn link_of(words: &str) -> Option<LinkId> {
+    let [sapi, tei, _, _] = numbers_of(words);
+    match (Sapi::new((sapi & 0xff) as u8), Tei::new((tei & 0xff) as u8)) {
+        (Some(sapi), Some(tei)) => Some(LinkId { sapi, tei }),
+        _ => None,
+    }
+}
+
+/// The octets that are written in hexadecimal digits, or so many octets aa, as `[261]`. `None` also where there is no memory.
+pub(crate) fn octets_of(alloc: Global, digits: &str) -> Option<Vec<u8>> {
+    match digits.strip_prefix("[") {
+        Some(count) => run_of(alloc, number_of(split(count, "]").0) as usize),
+        None => hex::decode(alloc, digits.as_bytes()).ok(),
+    }
+}
+
+/// So many octets aa.
+fn run_of(alloc: Global, count: usize) -> Option<Vec<u8>> {
+    let mut octets = Vec::new(alloc);
+    match octets.resize(count, 0xaa) {
+        Ok(()) => Some(octets),
+        Err(_) => None,
+    }
+}
+
+/// What stands behind the link at the front of these words.
+pub(crate) fn behind_link(words: &str) -> &str {
+    split(split(words, " ").1, " ").1
+}
+
+/// The request that a word names, and behind it a link and octets, where it has some; `None` also where there is no memory.
+fn request_of(alloc: Global, word: &str, behind: &str) -> Option<Request> {
+    let id = link_of(behind).unwrap_or(LinkId {
+        sapi: Sapi::Call,
+        tei: Tei::group(),
+    });
+    match word {
+        "establish" => Some(Request::Establish(id)),
+        "release" => Some(Request::Release(id)),
+        "unit" => Some(Request::Unit(id, octets_of(alloc, behind_link(behind))?)),
+        "give" => Some(Request::Give(id, octets_of(alloc, behind_link(behind))?)),
+        "busy" => Some(Request::Busy(id, true)),
+        "ready" => Some(Request::Busy(id, false)),
+        "ask" => Some(Request::AskTei),
+        "check" => Some(Request::Check(id.tei)),
+        _ => None,
+    }
+}
+
+impl Talk {
+    /// The side that these words name.
+    pub(crate) fn of(alloc: Global, words: &str) -> Result<Talk, AllocError> {
+        let acts = Acts::new(alloc)?;
+        let side = side_of(alloc, words)?;
+        Ok(Talk { alloc, side, acts })
+    }
+
+    /// A call, what the side shows of itself or of a link, whether its next moment is exact, or Requests for all TEIs.
+    pub(crate) fn step(&mut self, words: &str, text: &mut Text) {
+        let (word, behind) = split(words, " ");
+        match word {
+            "shows" => text.readers(&self.side, behind),
+            "exact" => text.put(if self.is_exact() { "yes" } else { "no" }),
+            "requests" => self.requests(text),
+            _ => self.call(words, text),
+        }
+    }
+
+    /// Makes the call that these words write, a moment, what is done, and with what, and writes what it gives, or `none` where
+    /// nothing is due.
+    pub(crate) fn call(&mut self, words: &str, text: &mut Text) {
+        let (now, rest) = split(words, " ");
+        let (word, behind) = split(rest, " ");
+        match word {
+            "take" => self.take(behind, number_of(now), text),
+            "tick" => {
+                if !self.side.tick(number_of(now), &mut self.acts) {
+                    text.put("none;");
+                }
+            }
+            _ => self.ask(word, behind, number_of(now), text),
+        }
+        text.acts(&self.acts);
+    }
+
+    /// Octets come. A refusal is written, or that there is no memory for the call, and then nothing of the call before.
+    fn take(&mut self, digits: &str, now: u64, text: &mut Text) {
+        match octets_of(self.alloc, digits) {
+            Some(octets) => text.end(&self.side.take(octets.as_slice(), now, &mut self.acts)),
+            None => {
+                self.acts.clear();
+                text.put("no memory");
+            }
+        }
+    }
+
+    /// Something is asked for. A refusal is written.
+    fn ask(&mut self, word: &str, behind: &str, now: u64, text: &mut Text) {
+        match request_of(self.alloc, word, behind) {
+            Some(request) => text.end(&self.side.request(request, now, &mut self.acts)),
+            None => {
+                self.acts.clear();
+                text.put("no memory");
+            }
+        }
+    }
+
+    /// Whether nothing is due a millisecond before the next moment, and something at it; where there is none, nothing ever is.
+    fn is_exact(&mut self) -> bool {
+        let acts = &mut self.acts;
+        match self.side.next_deadline() {
+            Some(moment) => {
+                !self.side.tick(moment.saturating_sub(1), acts) && self.side.tick(moment, acts)
+            }
+            None => !self.side.tick(u64::MAX, acts),
+        }
+    }
+}
+
+impl Text {
+    /// Puts what a call gave behind: each frame and each primitive, with `;` behind it.
+    fn acts(&mut self, acts: &Acts) {
+        for frame in acts.frames() {
+            self.octets(frame.as_slice());
+            self.put(";");
+        }
+        for primitive in acts.primitives() {
+            self.tell("", primitive);
+        }
+    }
+
+    /// Puts a refusal behind, where there is one, and the message that is handed back.
+    fn end(&mut self, done: &Result<(), SideFault>) {
+        if let Err(fault) = done {
+            match &fault.message {
+                Some(message) => self.refused(&fault.kind, Some(message.as_slice())),
+                None => self.refused(&fault.kind, None),
+            }
+        }
+    }
+}
