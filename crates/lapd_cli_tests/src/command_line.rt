@@ -1,23 +1,21 @@
 //! What the program's words choose, and what is said of words that choose nothing.
 
-use crate::rows::{Check, tables_hold};
-use crate::wants::{all_hold, are_same, is_said, no_row};
+mod words;
+
+use crate::plays::words_of;
 use lapd_cli_options::{
-    Clock, Interface, Invocation, Job, LinkEnd, LiveOptions, NoInvocation, WordsFault, help,
-    parse_words, words,
+    Clock, Durations, Interface, Invocation, Job, NoInvocation, Params, Recovery, Side, help,
+    parse_words,
 };
 use lapd_cli_script::{PortFault, ScriptFault};
-use lapd_frame::Side;
-use lapd_link::{Params, Recovery};
-use lapd_timers::{Durations, Timer};
-use std::alloc::{AllocError, Global};
-use std::env::{Env, FillError};
+use lapd_timers::Timer;
+use std::alloc::Global;
 use std::test::Fail;
 
-// Rows: the words, with `_` for a space in a word and `~` for a line feed, and what they come to. Of a link's parameters the
-// window, N200, the room and the recovery are said, of an interface those of SAPI 0 and of SAPI 16, T200 to T203, whether SAPI
-// 16 is served, the seed and the TEIs, and of the real clock the terminals, the file and the address of GSMTAP.
-const CHOICES: &str = "\
+/// Words, between spaces or bars, and what they come to, in which a `~` stands for a line feed. Of a link's parameters the window,
+/// N200, the room and the recovery are said, of an interface those of SAPI 0 and of SAPI 16, T200 to T203, whether SAPI 16 is
+/// served, the seed and the TEIs, and of the real clock the terminals, the file and the address of GSMTAP.
+const ROWS: &str = "\
 lapd => answer net 0 64 1 3 512 enquiry
 lapd answer => answer net 0 64 1 3 512 enquiry
 lapd answer --side net => answer net 0 64 1 3 512 enquiry
@@ -38,7 +36,7 @@ lapd pair --recovery-net=last --recovery-user=enquiry => pair 1 3 512 enquiry 1 
 lapd loop => loop 1 3 512 enquiry 1 3 512 enquiry
 lapd loop --k=7 --n200=2 --room=9 --recovery-net=last => loop 7 2 9 enquiry 7 2 9 last
 lapd net --listen 127.0.0.1:7000 => net 1 3 512 enquiry 3 3 512 enquiry 1000 1000 2000 10000 with-16 921 at 127.0.0.1:7000
-lapd user --connect=no_address:65535 => user 1 3 512 enquiry 3 3 512 enquiry 1000 1000 2000 10000 with-16 921 at no address:65535
+lapd|user|--connect=no address:65535 => user 1 3 512 enquiry 3 3 512 enquiry 1000 1000 2000 10000 with-16 921 at no address:65535
 lapd answer --strict --side user => answer user 0 64 1 3 512 enquiry strict
 lapd net --listen=[::1]:0 --strict => net 1 3 512 enquiry 3 3 512 enquiry 1000 1000 2000 10000 with-16 921 at [::1]:0 strict
 lapd decode --strict => decode strict
@@ -69,9 +67,7 @@ lapd user --connect 127.0.0.1:4000 --t200 1 --t201 2 --t202 3 --t203 3600000 => 
 lapd net --listen 127.0.0.1:4000 --seed 18446744073709551615 => net 1 3 512 enquiry 3 3 512 enquiry 1000 1000 2000 10000 with-16 18446744073709551615 at 127.0.0.1:4000
 lapd net --listen 127.0.0.1:4000 --seed 0 => net 1 3 512 enquiry 3 3 512 enquiry 1000 1000 2000 10000 with-16 0 at 127.0.0.1:4000
 lapd answer --sapi 16 --tei 126 --k 3 --side user => answer user 16 126 3 3 512 enquiry
-lapd answer --sapi 0 --tei 0 => answer net 0 0 1 3 512 enquiry";
-
-const REFUSED: &str = "\
+lapd answer --sapi 0 --tei 0 => answer net 0 0 1 3 512 enquiry
 lapd --side user => refused
 lapd --k 3 => refused
 lapd -- => refused
@@ -117,9 +113,7 @@ lapd answer --k => refused
 lapd answer --k --side user => refused
 lapd answer --k 3 --k 3 => refused
 lapd answer --n200 3 --n200 4 => refused
-lapd answer --room 2 --room 2 => refused";
-
-const SHOWN: &str = "\
+lapd answer --room 2 --room 2 => refused
 lapd --help => a text
 lapd -h => a text
 lapd help => a text
@@ -134,11 +128,9 @@ lapd net -h => the short help
 lapd user --help => a text
 lapd decode --help => a text
 lapd --version => a text
-lapd -V => a text";
-
-const TOLD: &str = "\
-lapd foo --side => error: unrecognized subcommand 'foo'~~Usage: lapd [COMMAND]~~For more information, try '--help'.~
-lapd anwser => error: unrecognized subcommand 'anwser'~~  tip: a similar subcommand exists: 'answer'~~Usage: lapd [COMMAND]~~For more information, try '--help'.~
+lapd -V => a text
+lapd foo --side => refused error: unrecognized subcommand 'foo'~~Usage: lapd [COMMAND]~~For more information, try '--help'.~
+lapd anwser => refused error: unrecognized subcommand 'anwser'~~  tip: a similar subcommand exists: 'answer'~~Usage: lapd [COMMAND]~~For more information, try '--help'.~
 lapd answer --k 0 => error: invalid value '0' for '--k <FRAMES>': not a number from 1 to 127 in decimal digits~
 lapd pair --k 128 => error: invalid value '128' for '--k <FRAMES>': not a number from 1 to 127 in decimal digits~
 lapd answer --k 128 => error: invalid value '128' for '--k <FRAMES>': not a number from 1 to 127 in decimal digits~
@@ -146,7 +138,7 @@ lapd answer --k 257 => error: invalid value '257' for '--k <FRAMES>': not a numb
 lapd answer --k  => error: invalid value '' for '--k <FRAMES>': not a number from 1 to 127 in decimal digits~
 lapd answer --k +3 => error: invalid value '+3' for '--k <FRAMES>': not a number from 1 to 127 in decimal digits~
 lapd answer --k -3 => error: invalid value '-3' for '--k <FRAMES>': not a number from 1 to 127 in decimal digits~
-lapd answer --k=three~ => error: invalid value 'three\\n' for '--k <FRAMES>': not a number from 1 to 127 in decimal digits~
+lapd answer --k=three\t => error: invalid value 'three\\t' for '--k <FRAMES>': not a number from 1 to 127 in decimal digits~
 lapd answer --n200 0 => error: invalid value '0' for '--n200 <TIMES>': not a number from 1 to 100 in decimal digits~
 lapd answer --n200 101 --k 127 => error: invalid value '101' for '--n200 <TIMES>': not a number from 1 to 100 in decimal digits~
 lapd answer --room 0 => error: invalid value '0' for '--room <MESSAGES>': not a number from 1 to 1024 in decimal digits~
@@ -167,7 +159,7 @@ lapd net --listen foo => error: invalid value 'foo' for '--listen <ADDRESS>': AD
 lapd net --listen 127.0.0.1 => error: invalid value '127.0.0.1' for '--listen <ADDRESS>': ADDRESS is an address and a port, as 127.0.0.1:4000~
 lapd user --connect=127.0.0.1:65536 => error: invalid value '127.0.0.1:65536' for '--connect <ADDRESS>': ADDRESS is an address and a port, as 127.0.0.1:4000~
 lapd user --connect :80 => error: invalid value ':80' for '--connect <ADDRESS>': ADDRESS is an address and a port, as 127.0.0.1:4000~
-lapd user --connect=no_address => error: invalid value 'no address' for '--connect <ADDRESS>': ADDRESS is an address and a port, as 127.0.0.1:4000~
+lapd|user|--connect=no address => error: invalid value 'no address' for '--connect <ADDRESS>': ADDRESS is an address and a port, as 127.0.0.1:4000~
 lapd net --listen 127.0.0.1:4000 --tei 127 => error: invalid value '127' for '--tei <TEI>': not a number from 0 to 126 in decimal digits~
 lapd user --connect 127.0.0.1:4000 --tei 127 => error: invalid value '127' for '--tei <TEI>': not a number from 0 to 126 in decimal digits~
 lapd net --listen 127.0.0.1:4000 --k 0 => error: invalid value '0' for '--k <FRAMES>': not a number from 1 to 127 in decimal digits~
@@ -181,281 +173,151 @@ lapd user --connect 127.0.0.1:4000 --t203 3600001 => error: invalid value '36000
 lapd user --connect 127.0.0.1:4000 --seed 18446744073709551616 => error: invalid value '18446744073709551616' for '--seed <NUMBER>': not a number from 0 to 18446744073709551615 in decimal digits~
 lapd answer --tei 127 => error: invalid value '127' for '--tei <TEI>': not a number from 0 to 126 in decimal digits~";
 
-#[test]
-fn words_come_to(rt: HostRuntime) -> Result<(), Fail> {
-    let tables = [
-        (Check::Words, CHOICES),
-        (Check::Words, REFUSED),
-        (Check::Words, SHOWN),
-        (Check::Words, TOLD),
-    ];
-    tables_hold(rt.alloc(), &tables)
-}
+/// How scripts end, and the exit status of each.
+const ENDS: &[(ScriptFault, &str)] = &[
+    (ScriptFault::BadLine(7), "line 7: bad command, status 1"),
+    (ScriptFault::Device, "device fault, status 3"),
+    (ScriptFault::Memory, "out of memory, status 4"),
+    (
+        ScriptFault::Port(PortFault::BadLength),
+        "port S2 BadLength, status 3",
+    ),
+    (ScriptFault::Port(PortFault::Cut), "port S3 Cut, status 3"),
+    (
+        ScriptFault::Port(PortFault::Failed),
+        "port S6 Failed, status 3",
+    ),
+];
 
-/// Whether words come to what the row says.
-pub(crate) fn words_hold(alloc: Global, row: &str) -> bool {
-    match row.split_once(" => ") {
-        Some((words, wanted)) => come_to(alloc, words, wanted),
-        None => false,
-    }
-}
-
-fn come_to(alloc: Global, words: &str, wanted: &str) -> bool {
-    match words_of(alloc, words) {
-        Ok(words) => are_said(alloc, words.as_slice(), wanted),
-        Err(_) => false,
-    }
-}
-
-fn words_of(alloc: Global, row: &str) -> Result<Vec<String>, AllocError> {
-    let mut words = Vec::new(alloc);
-    push_words(alloc, &mut words, row)?;
-    Ok(words)
-}
-
-fn push_words(alloc: Global, words: &mut Vec<String>, row: &str) -> Result<(), AllocError> {
-    for word in row.split(' ') {
-        words.push(word.replace(alloc, "_", " ")?)?;
-    }
-    Ok(())
-}
-
-// Whether what the words come to is this.
-fn are_said(alloc: Global, words: &[String], wanted: &str) -> bool {
+/// What these words come to, as far as there is memory for it.
+fn shown_words(alloc: Global, words: &[&str]) -> String {
+    let mut text = String::new(alloc);
     let chosen = parse_words(alloc, words);
     match &chosen {
-        Ok(chosen) => is_chosen(alloc, chosen, wanted),
-        Err(unchosen) => is_unchosen(alloc, unchosen, wanted),
+        Ok(chosen) => show(&mut text, chosen),
+        Err(unchosen) => show_none(&mut text, unchosen),
     }
+    text
 }
 
-fn is_unchosen(alloc: Global, unchosen: &NoInvocation<'_>, wanted: &str) -> bool {
-    match unchosen {
-        NoInvocation::Shown(text) => is_shown(text.as_str(), wanted),
-        NoInvocation::Refused(_) if wanted == "refused" => true,
-        _ => is_said(alloc, unchosen, wanted),
-    }
-}
-
-// Whether this text is the short help of a command, or is not.
-fn is_shown(text: &str, wanted: &str) -> bool {
-    if text.trim_end().ends_with(help::SHORT) {
-        wanted == "the short help"
-    } else {
-        wanted == "a text"
-    }
-}
-
-fn is_chosen(alloc: Global, chosen: &Invocation<'_>, wanted: &str) -> bool {
-    let mut text = String::new(alloc);
-    let pushed = push_choice(&mut text, chosen);
-    pushed.is_ok() && text.as_str() == wanted
-}
-
-fn push_choice(text: &mut String, chosen: &Invocation<'_>) -> Result<(), AllocError> {
-    push_job(text, &chosen.job)?;
-    push_address(text, chosen.address)?;
-    push_clock(text, &chosen.clock)?;
-    text.push_str(if chosen.json { " json" } else { "" })?;
-    text.push_str(if chosen.strict { " strict" } else { "" })
-}
-
-fn push_job(text: &mut String, job: &Job) -> Result<(), AllocError> {
-    match job {
-        Job::Answer(end) => push_end(text, end),
-        Job::Bus { terminals } => write!(text, "bus {terminals}"),
-        Job::Pair { user, network } => push_ends(text, "pair", user, network),
-        Job::Loop { user, network } => push_ends(text, "loop", user, network),
-        Job::Net(interface) => push_interface(text, "net", interface),
-        Job::User(interface) => push_interface(text, "user", interface),
-        Job::Decode(_) => text.push_str("decode"),
-    }
-}
-
-fn push_end(text: &mut String, end: &LinkEnd) -> Result<(), AllocError> {
-    let side = match end.side {
-        Side::Network => "net",
-        Side::User => "user",
+fn show_none(text: &mut String, unchosen: &NoInvocation<'_>) {
+    let _ = match unchosen {
+        NoInvocation::Shown(shown) if shown.trim_end().ends_with(help::SHORT) => {
+            text.push_str("the short help")
+        }
+        NoInvocation::Shown(_) => text.push_str("a text"),
+        NoInvocation::Refused(said) => write!(text, "refused {said}"),
+        _ => write!(text, "{unchosen}"),
     };
-    write!(
-        text,
-        "answer {side} {} {}",
-        end.sapi.value(),
-        end.tei.value()
-    )?;
-    push_params(text, &end.params)
 }
 
-fn push_ends(text: &mut String, job: &str, one: &Params, other: &Params) -> Result<(), AllocError> {
-    text.push_str(job)?;
-    push_params(text, one)?;
-    push_params(text, other)
+fn show(text: &mut String, chosen: &Invocation<'_>) {
+    show_job(text, &chosen.job);
+    if let Some(address) = chosen.address {
+        let _ = write!(text, " at {address}");
+    }
+    if let Clock::Real(options) = &chosen.clock {
+        let (pcap, gsmtap) = (options.pcap.unwrap_or("-"), options.gsmtap.unwrap_or("-"));
+        let _ = write!(text, " real {} {pcap} {gsmtap}", options.terminals);
+        let _ = text.push_str(if options.time { " time" } else { "" });
+        let _ = text.push_str(if options.quiet { " quiet" } else { "" });
+    }
+    let _ = text.push_str(if chosen.json { " json" } else { "" });
+    let _ = text.push_str(if chosen.strict { " strict" } else { "" });
 }
 
-fn push_params(text: &mut String, params: &Params) -> Result<(), AllocError> {
+fn show_job(text: &mut String, job: &Job) {
+    match job {
+        Job::Answer(end) => {
+            let side = if end.side == Side::User {
+                "user"
+            } else {
+                "net"
+            };
+            let (sapi, tei) = (end.sapi.value(), end.tei.value());
+            let _ = write!(text, "answer {side} {sapi} {tei}");
+            show_params(text, &end.params);
+        }
+        Job::Bus { terminals } => {
+            let _ = write!(text, "bus {terminals}");
+        }
+        Job::Pair { user, network } => show_ends(text, "pair", user, network),
+        Job::Loop { user, network } => show_ends(text, "loop", user, network),
+        Job::Net(interface) => show_interface(text, "net", interface),
+        Job::User(interface) => show_interface(text, "user", interface),
+        Job::Decode(_) => {
+            let _ = text.push_str("decode");
+        }
+    }
+}
+
+fn show_ends(text: &mut String, job: &str, one: &Params, other: &Params) {
+    let _ = text.push_str(job);
+    show_params(text, one);
+    show_params(text, other);
+}
+
+fn show_params(text: &mut String, params: &Params) {
     let recovery = match params.recovery() {
         Recovery::Enquiry => "enquiry",
         Recovery::LastMessage => "last",
     };
     let (k, n200, room) = (params.k(), params.n200(), params.room());
-    write!(text, " {k} {n200} {room} {recovery}")
+    let _ = write!(text, " {k} {n200} {room} {recovery}");
 }
 
-fn push_interface(text: &mut String, job: &str, interface: &Interface) -> Result<(), AllocError> {
-    push_ends(text, job, &interface.params0, &interface.params16)?;
-    push_lengths(text, &interface.durations)?;
-    let packet = if interface.sapi16 {
-        "with-16"
-    } else {
-        "without-16"
-    };
-    write!(text, " {packet} {}", interface.seed)?;
+fn show_interface(text: &mut String, job: &str, interface: &Interface) {
+    show_ends(text, job, &interface.params0, &interface.params16);
+    show_durations(text, &interface.durations);
+    let served = if interface.sapi16 { "with" } else { "without" };
+    let _ = write!(text, " {served}-16 {}", interface.seed);
     for tei in interface.teis.as_slice() {
-        write!(text, " {}", tei.value())?;
+        let _ = write!(text, " {}", tei.value());
     }
-    Ok(())
 }
 
-fn push_lengths(text: &mut String, durations: &Durations) -> Result<(), AllocError> {
+fn show_durations(text: &mut String, durations: &Durations) {
     for timer in [Timer::T200, Timer::T201, Timer::T202, Timer::T203] {
-        write!(text, " {}", durations.of(timer))?;
-    }
-    Ok(())
-}
-
-fn push_address(text: &mut String, address: Option<&str>) -> Result<(), AllocError> {
-    match address {
-        Some(address) => write!(text, " at {address}"),
-        None => Ok(()),
+        let _ = write!(text, " {}", durations.of(timer));
     }
 }
 
-fn push_clock(text: &mut String, clock: &Clock<'_>) -> Result<(), AllocError> {
-    match clock {
-        Clock::Script => Ok(()),
-        Clock::Real(options) => push_options(text, options),
-    }
+/// Whether the words of a row come to what it says. Of those that the parser refuses it is left open how it says so.
+fn row_holds(alloc: Global, row: &str) -> bool {
+    let (words, wanted) = row.split_once(" => ").unwrap_or((row, ""));
+    let words = words_of(alloc, words);
+    let shown = shown_words(alloc, words.as_slice());
+    shown.split('\n').eq(wanted.split('~'))
+        || wanted == "refused" && shown.starts_with("refused error: ")
 }
 
-fn push_options(text: &mut String, options: &LiveOptions<'_>) -> Result<(), AllocError> {
-    let pcap = options.pcap.unwrap_or("-");
-    let gsmtap = options.gsmtap.unwrap_or("-");
-    write!(text, " real {} {pcap} {gsmtap}", options.terminals)?;
-    text.push_str(if options.time { " time" } else { "" })?;
-    text.push_str(if options.quiet { " quiet" } else { "" })
-}
-
-// A system that hands over these words.
-#[derive(Drop)]
-struct Words<'a> {
-    words: &'a [&'a [u8]],
-}
-
-impl Env for Words<'_> {
-    fn arg(&self, i: usize, buf: &mut [u8]) -> Result<usize, FillError> {
-        let Some(word) = self.words.get(i) else {
-            return Err(FillError::NotPresent);
-        };
-        if buf.len() < word.len() {
-            return Err(FillError::TooLong);
-        }
-        buf[..word.len()].copy_from_slice(word);
-        Ok(word.len())
-    }
-
-    fn var(&self, _name: &str, _buf: &mut [u8]) -> Result<usize, FillError> {
-        Err(FillError::NotPresent)
-    }
-
-    fn var_at(&self, _i: usize, _buf: &mut [u8]) -> Result<usize, FillError> {
-        Err(FillError::NotPresent)
-    }
-}
-
-// Whether the last of three words is this one.
-fn is_third(words: &[String], text: &[u8]) -> bool {
-    match words {
-        [_, _, word] => are_same(word.as_bytes(), text),
-        _ => false,
-    }
-}
-
-// Whether the last of three words is read as this one.
-fn reads_third(alloc: Global, env: &Words<'_>, text: &[u8]) -> bool {
-    match words(alloc, env) {
-        Ok(read) => is_third(read.as_slice(), text),
+/// Whether this is said of a fault, with its status.
+fn is_end(alloc: Global, fault: ScriptFault, wanted: &str) -> bool {
+    match format!(in alloc; "{fault}, status {}", fault.status()) {
+        Ok(text) => text.as_str() == wanted,
         Err(_) => false,
     }
 }
 
-// Whether three words are read, of which the second is empty and the third long.
-fn long_words_are_read(alloc: Global) -> bool {
-    let long = [b'1'; 1000];
-    let env = Words {
-        words: &[b"lapd", b"", &long],
-    };
-    reads_third(alloc, &env, &long)
-}
-
-// Whether words are not read of which the third is no text.
-fn no_text_is_refused(alloc: Global, fault: WordsFault) -> bool {
-    let env = Words {
-        words: &[b"lapd", b"answer", b"--k=\xff"],
-    };
-    is_fault(alloc, &env, fault)
+/// The first row that does not hold.
+fn wrong_row(alloc: Global) -> Option<&'static str> {
+    for row in ROWS.lines() {
+        if !row_holds(alloc, row) {
+            return Some(row);
+        }
+    }
+    for (fault, wanted) in ENDS {
+        if !is_end(alloc, *fault, *wanted) {
+            return Some(*wanted);
+        }
+    }
+    words::wrong_words(alloc)
 }
 
 #[test]
-fn words_are_read(rt: HostRuntime) -> Result<(), Fail> {
-    let alloc = rt.alloc();
-    let fault = WordsFault::NotText(2);
-    let text = "error: argument 2 is not valid UTF-8";
-    let row = "the third word is no text";
-    all_hold(&[
-        (
-            long_words_are_read(alloc),
-            "three words",
-            "they are cut, or not all are read",
-        ),
-        (no_text_is_refused(alloc, fault), row, "another fault"),
-        (is_said(alloc, &fault, text), row, "another text"),
-    ])?;
-    no_row(other_end(alloc), "another text or status")
-}
-
-// Whether words are not read for this.
-fn is_fault(alloc: Global, env: &Words<'_>, fault: WordsFault) -> bool {
-    match words(alloc, env) {
-        Ok(_) => false,
-        Err(found) => found == fault,
+fn words_come_to(rt: HostRuntime) -> Result<(), Fail> {
+    match wrong_row(rt.alloc()) {
+        Some(row) => Err(Fail::new(format_args!("{row}: they come to something else"))),
+        None => Ok(()),
     }
-}
-
-// How a script ends, what is said of it, and the exit status.
-const ENDS: &[(ScriptFault, &str, u8)] = &[
-    (ScriptFault::BadLine(7), "line 7: bad command", 1),
-    (ScriptFault::Device, "device fault", 3),
-    (ScriptFault::Memory, "out of memory", 4),
-    (
-        ScriptFault::Port(PortFault::BadLength),
-        "port S2 BadLength",
-        3,
-    ),
-    (ScriptFault::Port(PortFault::Cut), "port S3 Cut", 3),
-    (ScriptFault::Port(PortFault::Failed), "port S6 Failed", 3),
-];
-
-// Whether this is said of a fault, with this exit status.
-fn is_end(alloc: Global, fault: &ScriptFault, text: &str, status: u8) -> bool {
-    fault.status() == status && is_said(alloc, fault, text)
-}
-
-// The first row of these that does not hold.
-fn other_end(alloc: Global) -> Option<&'static str> {
-    for (fault, text, status) in ENDS {
-        if !is_end(alloc, fault, text, *status) {
-            return Some(*text);
-        }
-    }
-    None
 }

@@ -1,39 +1,72 @@
-//! A connection of the process to itself.
+//! Plays over a connection of the process to itself: `loop` as `pair`, and both ends of the dialogue of the help. What the user
+//! sends there is on its way before, so that neither waits for the other.
 
-use crate::scripts::{Ended, Ends, MESSAGE, ends_of, loop_of, pair_of};
-use crate::wants::{are_same, wants};
-use lapd_cli_side_commands::{FromRead, FromWrite, Port};
+use crate::examples::{example_goes, text_of};
+use crate::plays::{Trial, pairs, row_goes};
+use lapd_cli_console::Script;
 use std::alloc::Global;
-use std::io;
+use std::io::{self, Read, Write};
 use std::net::{TcpListener, TcpStream};
 use std::test::Fail;
 
 /// Both ends of a new connection of the process to itself.
-pub(crate) fn to_itself(rt: &HostRuntime) -> io::Result<(TcpStream, TcpStream)> {
+fn to_itself(rt: &HostRuntime) -> io::Result<(TcpStream, TcpStream)> {
     let listener = TcpListener::bind(rt, "127.0.0.1:0")?;
     let near = TcpStream::connect(rt, listener.local_addr()?)?;
     let (far, _) = listener.accept()?;
     Ok((near, far))
 }
 
-/// What `loop` comes to where what goes in at the near end comes out at the far end.
-fn ended_over(alloc: Global, near: &TcpStream, far: &TcpStream, ends: &Ends) -> Ended {
-    let port = Port::new(FromRead::new(far), FromWrite::new(near));
-    let (ended, _port) = loop_of(alloc, MESSAGE.4.as_bytes(), ends, port);
-    ended
+/// Whether a play of `pair`, of which this stands behind the first word, goes as it says, as `loop`.
+fn loops(rt: &HostRuntime, row: &str) -> io::Result<bool> {
+    let (near, far) = to_itself(rt)?;
+    Ok(loops_over(rt.alloc(), row, &near, &far))
 }
 
-/// Whether `loop` ends well, and prints what `pair` prints.
-fn crosses(alloc: Global, near: &TcpStream, far: &TcpStream, ends: &Ends) -> bool {
-    let wanted = pair_of(alloc, &MESSAGE);
-    let ended = ended_over(alloc, near, far, ends);
-    ended.result == Ok(()) && are_same(ended.printed.as_slice(), wanted.printed.as_slice())
+fn loops_over(alloc: Global, row: &str, near: &TcpStream, far: &TcpStream) -> bool {
+    match format!(in alloc; "lapd loop{row}") {
+        Ok(row) => row_goes(alloc, row.as_str(), Trial::Over(far, near)),
+        Err(_) => false,
+    }
+}
+
+/// What the user sends.
+const FROM_USER: &[u8; 34] =
+    b"\x00\x08\xfc\xff\x03\x0f\x61\x99\x01\xff\x00\x03\x00\x81\x7f\x00\x06\x00\x81\x00\x00\x08\x01\
+    \x00\x04\x02\x81\x01\x02\x00\x03\x00\x81\x53";
+
+/// Whether both ends go as the help says, and the user sends these octets.
+fn both_go(rt: &HostRuntime) -> io::Result<bool> {
+    let (near, far) = to_itself(rt)?;
+    Ok(both_go_over(rt.alloc(), &near, &far))
+}
+
+fn both_go_over(alloc: Global, mut near: &TcpStream, mut far: &TcpStream) -> bool {
+    let mut sent = [0; 34];
+    let (net, user) = (text_of(Script::Net), text_of(Script::User));
+    far.write_all(FROM_USER).is_ok()
+        && example_goes(alloc, "lapd net --listen a:1", net, Trial::Over(near, near))
+        && example_goes(
+            alloc,
+            "lapd user --connect a:1",
+            user,
+            Trial::Over(far, far),
+        )
+        && near.read_exact(&mut sent).is_ok()
+        && sent == *FROM_USER
 }
 
 #[test]
-fn a_message_crosses_a_connection(rt: HostRuntime) -> Result<(), Fail> {
-    let (near, far) = to_itself(&rt)?;
-    let crosses = crosses(rt.alloc(), &near, &far, &ends_of(&MESSAGE));
-    let what = "it ends otherwise, or prints another text";
-    wants(crosses, MESSAGE.0, what)
+fn plays_over_connections(rt: HostRuntime) -> Result<(), Fail> {
+    for row in pairs::PAIRS.split("\n\nlapd pair") {
+        let row = row.strip_prefix("lapd pair").unwrap_or(row);
+        if !row.contains("settle") && !loops(&rt, row)? {
+            return Err(Fail::new(format_args!("{row}\nit goes otherwise as `loop`")));
+        }
+    }
+    if both_go(&rt)? {
+        Ok(())
+    } else {
+        Err(Fail::new(format_args!("both ends of the help's dialogue")))
+    }
 }

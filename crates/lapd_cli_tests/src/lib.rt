@@ -1,48 +1,29 @@
-//! Tests of the program: of its commands, of frames over devices, and of the command line. `answer`, `decode`, `pair` and `bus`
-//! go over scripts, and over readers and writers that fail. `loop` goes over devices in memory, which give back what they took,
-//! and over a connection: it prints what `pair` prints, and each fault of a device is a device fault. `net` and `user` have
-//! dialogues with what comes through a port, in memory and over a connection, and devices that end or fail at each call. Each
-//! command's lines, drawn ones too, have a reason just where the command calls them bad, and standard streams are told of.
+//! Tests of the program: of its commands, of frames over devices, and of the command line. What the words of the command line
+//! choose goes over plays: scripts, with what they print and what goes through the port, in this order. So do the fronts of each
+//! play behind which a device fails, and plays of `loop`, `net` and `user` over a connection. Lines of each command, drawn ones
+//! too, have a reason just where the command calls them bad. Standard streams are told of, and hostile octets come out of a port.
 //!
 //! They stand apart so that each crate is proved once. What a contract says is not tested again. A row shows that the
-//! definitions say what is meant, that a call can succeed, and what is printed. `wants` fails a test with the row's name.
+//! definitions say what is meant, that a call can succeed, and what is printed.
 #![tactic(auto)]
 
 #[cfg(test)]
 mod command_line;
 #[cfg(test)]
-mod commands;
-#[cfg(test)]
 mod connections;
 #[cfg(test)]
-mod devices;
+mod examples;
 #[cfg(test)]
-mod dialogues;
+mod memory;
 #[cfg(test)]
-mod faults;
+mod play;
 #[cfg(test)]
-mod help_examples;
-#[cfg(test)]
-mod interfaces;
-#[cfg(test)]
-mod port;
+mod plays;
 #[cfg(test)]
 mod reasons;
 #[cfg(test)]
-mod rows;
-#[cfg(test)]
-mod scripts;
-#[cfg(test)]
-mod side_connections;
-#[cfg(test)]
-mod side_faults;
-#[cfg(test)]
-mod side_lines;
-#[cfg(test)]
-mod side_memory;
+mod run;
 #[cfg(test)]
 mod streams;
 #[cfg(test)]
-mod wants;
-#[cfg(test)]
-mod wire;
+mod strings;

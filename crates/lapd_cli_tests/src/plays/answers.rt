@@ -1,44 +1,115 @@
-//! The command `answer`: scripts, and what they call for.
+//! Plays of `answer`.
 
-use crate::commands::devices::keeps_lines;
-use crate::commands::scripts::{BASIC, Command};
-use crate::rows::{Check, rows_hold};
-use crate::wants::wants;
-use lapd_frame::Side;
-use std::alloc::Global;
-use std::test::Fail;
+/// Of a link of SAPI 0 and TEI 64 mostly.
+pub(crate) const PLAYS: &str = "\
+lapd answer
+# a link comes and goes
+frame 00817f
+    send 008173
+    established
+    start T203
+frame 008153
+    send 008173
+    released
+    stop T203
+frame 008153
+    send 00811f
 
-pub(crate) const NETWORK: Command = Command::Answer(Side::Network, BASIC);
+lapd answer
+# a release in state 4
+frame 008153
+    send 00811f
 
-// Scripts of the network side, as rows of `Check::Script`.
-pub(crate) const OF_NETWORK: &str = "\
-frame 00817f~frame 008153~frame 008153~ | 0 | send 008173~established~start T203~send 008173~released~stop T203~send 00811f~ | a link comes and goes
-frame 008153 | 0 | send 00811f~ | a release in state 4, with no line feed
-frame 00817f~frame 00817f~state~ | 0 | send 008173~established~start T203~send 008173~report F~start T203~state 7~ | established twice
-frame~frame 04817f~frame 00837f~frame 00817f00~state~ | 0 | discarded F1 TooShort~discarded F3 SapiNotServed~not-mine~report M~state 4~ | frames that are none, and one of another link
-frame 008177~frame 00837700~ | 0 | report L~not-mine~ | faults of this link and of another
-frame 01817F~frame 02817f | 0 | discarded F2 BadAddress~report L~ | a bad address, and a report
-frame 028173~frame 028163 | 0 | report C~report D~ | responses in state 4
-state~frame 0 | 2 | state 4~ | an odd number of digits
-~state~#~state ~state~ | 4 | state 4~ | a space behind a word
-t200~busy on~~busy maybe~state~ | 4 |  | a busy that is neither on nor off
- | 0 |  | nothing";
+lapd answer
+# established twice
+frame 00817f
+    send 008173
+    established
+    start T203
+frame 00817f
+    send 008173
+    report F
+    start T203
+state
+    state 7
 
-// Of the user side.
-pub(crate) const OF_USER: &str = "\
-frame 02817f~ | 0 | send 028173~established~start T203~ | the user side is established";
+lapd answer
+# frames that are none, and one of another link
+frame
+    discarded F1 TooShort
+frame 04817f
+    discarded F3 SapiNotServed
+frame 00837f
+    not-mine
+frame 00817f00
+    report M
+state
+    state 4
 
-// Lines that are none of the command's.
-pub(crate) const BAD: &str =
-    "frame |frame 0|frame 00 81|frame  00817f|frame 00817g|frames|Frame 00817f| state|state |state  |state 1|\
-    state\r|t200 1|t203 1|t201|t202|T200|establish user|release user|give 0|give |give 01 02|give user 01|\
-    unit 0|unit 0x|unit 01 02|busy|busy |busy maybe|busy On|busy on off|busy  off|settle";
+lapd answer
+# faults of this link and of another
+frame 008177
+    report L
+frame 00837700
+    not-mine
 
-// A window of three frames, N200 = 3 and room for two messages.
-pub(crate) const USER: Command = Command::Answer(Side::User, (3, 3, 2));
+lapd answer
+# a bad address, and a report
+frame 01817F
+    discarded F2 BadAddress
+frame 02817f
+    report L
 
-// Plays of the user side: each is its name, lines, and, set in by four spaces, what each line calls for.
-pub(crate) const USER_PLAYS: &str = "\
+lapd answer
+# responses in state 4
+frame 028173
+    report C
+frame 028163
+    report D
+
+lapd answer
+# an odd number of digits
+state
+    state 4
+frame 0
+! line 3: bad command
+
+lapd answer
+# a space behind a word
+
+state
+    state 4
+#
+state 
+! line 5: bad command
+
+lapd answer
+# a busy that is neither on nor off
+t200
+busy on
+
+busy maybe
+! line 5: bad command
+
+lapd answer
+# nothing
+
+
+lapd answer --side user
+# the user side is established
+frame 02817f
+    send 028173
+    established
+    start T203
+
+lapd answer --sapi 16 --tei 0 --k 3
+# a SABME at the link of SAPI 16 and TEI 0 (Q.921 3.3.3, 3.3.4)
+frame 40017f
+    send 400173
+    established
+    start T203
+
+lapd answer --side user --k 3 --room 2
 # two messages, an enquiry, and both are sent again
 establish
     send 00817f
@@ -67,6 +138,7 @@ frame 00810101
     start T200
     send 0081020002
 
+lapd answer --side user --k 3 --room 2
 # N(R) is not valid
 establish
     send 00817f
@@ -81,6 +153,7 @@ frame 00810104
     stop T203
     start T200
 
+lapd answer --side user --k 3 --room 2
 # no answer to an enquiry
 establish
     send 00817f
@@ -106,6 +179,7 @@ t200
     send 00817f
     start T200
 
+lapd answer --side user --k 3 --room 2
 # unit data passes in state 4
 unit 0a
     send 0081030a
@@ -118,6 +192,7 @@ frame 028103
 state
     state 4
 
+lapd answer --side user --k 3 --room 2
 # the release waits for the answer to the SABME
 establish
     send 00817f
@@ -130,6 +205,7 @@ frame 008173
     stop T200
     release-confirmed
 
+lapd answer --side user --k 3 --room 2
 # no answer to the SABME
 establish
     send 00817f
@@ -150,6 +226,7 @@ state
     state 4
 t200
 
+lapd answer --side user --k 3 --room 2
 # the peer is busy, and a third message finds no room
 establish
     send 00817f
@@ -173,6 +250,7 @@ frame 00810100
     start T200
     send 00810200
 
+lapd answer --side user --k 3 --room 2
 # a message of no octets comes
 frame 02817f
     send 028173
@@ -185,10 +263,9 @@ frame 02810000
 frame 02810200aB
     data ab
     start T203
-    send 02810104";
+    send 02810104
 
-// Plays of the network side with a window of one frame, N200 = 1 and room for 512 messages.
-pub(crate) const NETWORK_PLAYS: &str = "\
+lapd answer --n200 1
 # what state 4 refuses, and what state 5 does
 give 01
     refused L1 NotEstablished
@@ -209,6 +286,7 @@ establish
 state
     state 5
 
+lapd answer --n200 1
 # the second message goes out when the first is acknowledged
 frame 00817f
     send 008173
@@ -227,6 +305,7 @@ frame 02810102
     stop T203
     start T200
 
+lapd answer --n200 1
 # a message is dropped by the release
 frame 00817f
     send 008173
@@ -248,6 +327,7 @@ frame 028173
     stop T200
     release-confirmed
 
+lapd answer --n200 1
 # this end is busy
 frame 00817f
     send 008173
@@ -263,6 +343,7 @@ busy off
     send 00810100
 busy off
 
+lapd answer --n200 1
 # the SABME is sent again once
 establish
     send 02817f
@@ -274,9 +355,10 @@ t200
     report G
     released";
 
-// Plays in which `MOST` stands for 260 octets AA, in hexadecimal: 260 octets of information pass, and one more is reported. 261
-// octets are refused in every state, and 260 of unit data go out.
-const LONG: &str = "\
+/// With long frames. 260 octets of information pass, and one more is reported; 261 octets are refused in every state, and 260 of unit
+/// data go out.
+pub(crate) const LONG: &str = "\
+lapd answer
 # long frames
 frame 00817f
     send 008173
@@ -294,6 +376,7 @@ frame 00810200MOSTaa
 state
     state 5
 
+lapd answer
 # state 4
 give MOSTaa
     refused L3 TooLong
@@ -304,6 +387,7 @@ unit MOST
 state
     state 4
 
+lapd answer
 # state 5
 establish
     send 02817f
@@ -317,6 +401,7 @@ unit MOST
 state
     state 5
 
+lapd answer
 # state 6
 establish
     send 02817f
@@ -334,6 +419,7 @@ unit MOST
 state
     state 6
 
+lapd answer
 # state 7
 frame 00817f
     send 008173
@@ -348,6 +434,7 @@ unit MOST
 state
     state 7
 
+lapd answer
 # state 8
 frame 00817f
     send 008173
@@ -363,26 +450,13 @@ unit MOSTaa
 unit MOST
     send 028103MOST
 state
-    state 8";
+    state 8
 
-/// Fails the test where a play of long messages does not hold.
-pub(crate) fn plays_long(alloc: Global) -> Result<(), Fail> {
-    let most = "aa".repeat(alloc, 260)?;
-    let plays = LONG.replace(alloc, "MOST", most.as_str())?;
-    rows_hold(alloc, &Check::Play(NETWORK), plays.as_str())
-}
-
-// Where an allocation is refused, the lines before are answered, and nothing of that line.
-#[test]
-fn requests_while_there_is_memory(rt: HostRuntime) -> Result<(), Fail> {
-    let ends = [0, 23, 54, 93, 107, 125];
-    let mut script = REQUESTS;
-    let holds = keeps_lines(rt.alloc(), USER, &mut script, REQUESTED, &ends);
-    wants(holds, "memory", "the fault, or the text")
-}
-
-const REQUESTS: &[u8] = b"establish\nframe 008173\ngive 0102\nunit 03\ngive 0405\nstate\n";
-
-// What they call for.
-const REQUESTED: &[u8] =
-    b"send 00817f\nstart T200\nconfirmed\nstop T200\nstart T203\nsend 008100000102\nstop T203\nstart T200\nsend 00810303\nsend 008102000405\nstate 7\n";
+lapd answer
+# a line of more than 20,000 octets
+frame 008303MOSTMOSTMOSTMOSTMOSTMOSTMOSTMOSTMOSTMOSTMOSTMOSTMOST\
+MOSTMOSTMOSTMOSTMOSTMOSTMOSTMOSTMOSTMOSTMOSTMOSTMOST\
+MOSTMOSTMOSTMOSTMOSTMOSTMOSTMOSTMOSTMOSTMOSTMOSTMOST
+    not-mine
+state
+    state 4";

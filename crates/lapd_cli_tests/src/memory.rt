@@ -1,0 +1,227 @@
+//! Memory that is refused. No test can refuse an allocation itself: `tools/refuse-memory` refuses each of a run in turn, and
+//! a test prints that it met it (docs/DEVELOPING.md).
+
+use crate::play::{Console, Line, Play, mark_of};
+use crate::run::run;
+use lapd_cli_options::{
+    Clock, DecodeOptions, Durations, Interface, Invocation, Job, LinkEnd, Params, Recovery, Sapi,
+    Side, Tei,
+};
+use lapd_cli_script::ScriptFault;
+use lapd_cli_side_commands::{FromRead, FromWrite, Port};
+use std::alloc::Global;
+use std::test::Fail;
+
+/// Fails the test where a play goes otherwise, with ample memory. Without memory the lines before are answered, and nothing of
+/// the line under way; of a side whole lines are printed.
+fn keeps(rt: &HostRuntime, job: Job, text: &str) -> Result<(), Fail> {
+    let is_side = matches!(job, Job::Net(_) | Job::User(_));
+    let chosen = Invocation {
+        job,
+        address: None,
+        pcap: None,
+        clock: Clock::Script,
+        json: false,
+        strict: false,
+    };
+    let play = Play::new(text, 5);
+    let ended = ended_of(rt.alloc(), &chosen, &play);
+    let holds = match ended {
+        Err(ScriptFault::Memory) => is_kept(&play, text, is_side),
+        _ => play.ends(rt.alloc(), ended),
+    };
+    if ended.is_err() {
+        println!(rt; "refused")?;
+    }
+    if holds {
+        Ok(())
+    } else {
+        Err(Fail::new(format_args!("another fault, or another text")))
+    }
+}
+
+fn ended_of(alloc: Global, chosen: &Invocation<'_>, play: &Play<'_>) -> Result<(), ScriptFault> {
+    let port = Port::new(FromRead::new(Line(play)), FromWrite::new(Line(play)));
+    let (ended, _port) = run(alloc, chosen, &mut Console(play), &mut Console(play), port);
+    ended
+}
+
+/// Whether no printed line is under way, and, of a script alone, none of those that its last line calls for.
+fn is_kept(play: &Play<'_>, text: &str, is_side: bool) -> bool {
+    if play.mark() != b"    ".as_slice() {
+        return true;
+    }
+    let done = text.len().saturating_sub(play.left.get().len());
+    let done = text.get(..done).unwrap_or("").trim_end();
+    let last = done.rsplit('\n').next().unwrap_or("");
+    !play.is_within_line() && (is_side || mark_of(last.as_bytes()) != b"    ".as_slice())
+}
+
+#[test]
+fn plays_while_there_is_memory(rt: HostRuntime) -> Result<(), Fail> {
+    let params = Params::basic(Sapi::Call).with_recovery(Recovery::Enquiry);
+    let job = Job::Pair {
+        user: params,
+        network: params,
+    };
+    keeps(&rt, job, MESSAGE)
+}
+
+const MESSAGE: &str = "\
+establish user
+    U>N SAPI 0 TEI 64 C SABME P=1
+deliver net
+    N>U SAPI 0 TEI 64 R UA F=1
+    net established
+deliver user
+    user confirmed
+give user 0801
+    U>N SAPI 0 TEI 64 C I N(S)=0 N(R)=0 P=0 info=0801
+deliver net
+    net data 0801
+    N>U SAPI 0 TEI 64 R RR N(R)=1 F=0
+lose user 0
+settle
+    settled 3 rest
+.
+    user: state 7, given 1, received 0, acknowledged 1, dropped 0
+    net: state 7, given 0, received 1, acknowledged 0, dropped 0
+";
+
+/// An end of the link of SAPI 0 and TEI 64.
+fn end_of(side: Side) -> Job {
+    Job::Answer(LinkEnd {
+        side,
+        sapi: Sapi::Call,
+        tei: Tei::new(64).unwrap(),
+        params: Params::new(3, 3, 2).unwrap_or(Params::basic(Sapi::Call)),
+    })
+}
+
+#[test]
+fn requests_while_there_is_memory(rt: HostRuntime) -> Result<(), Fail> {
+    keeps(&rt, end_of(Side::User), REQUESTS)
+}
+
+const REQUESTS: &str = "\
+establish
+    send 00817f
+    start T200
+frame 008173
+    confirmed
+    stop T200
+    start T203
+give 0102
+    send 008100000102
+    stop T203
+    start T200
+unit 03
+    send 00810303
+give 0405
+    send 008102000405
+state
+    state 7
+";
+
+#[test]
+fn memory_runs_out(rt: HostRuntime) -> Result<(), Fail> {
+    keeps(&rt, end_of(Side::Network), FRAMES)
+}
+
+const FRAMES: &str = "\
+state
+    state 4
+frame 008153
+    send 00811f
+frame 008153
+    send 00811f
+";
+
+#[test]
+fn decodes_while_there_is_memory(rt: HostRuntime) -> Result<(), Fail> {
+    let options = DecodeOptions {
+        loose: false,
+        sender: Side::User,
+        names: false,
+        json: false,
+        keep_going: false,
+    };
+    keeps(&rt, Job::Decode(options), OCTETS)
+}
+
+const OCTETS: &str = "\
+user
+    U>N F1 TooShort
+net 02810101
+    N>U SAPI 0 TEI 64 C RR N(R)=0 P=1
+user
+    U>N F1 TooShort
+";
+
+#[test]
+fn sides_without_memory(rt: HostRuntime) -> Result<(), Fail> {
+    keeps(&rt, Job::Net(basic_access(rt.alloc())), NETWORK)?;
+    keeps(&rt, Job::User(basic_access(rt.alloc())), USER)
+}
+
+fn basic_access(alloc: Global) -> Interface {
+    Interface {
+        params0: Params::basic(Sapi::Call),
+        params16: Params::basic(Sapi::Packet),
+        durations: Durations::standard(),
+        sapi16: true,
+        seed: 921,
+        teis: Vec::new(alloc),
+    }
+}
+
+const NETWORK: &str = "\
+read
+<0008<fcff030f123401ff
+    U>N SAPI 63 TEI 127 C UI P=0 info=0f123401ff
+>0008feff030f12340281
+    N>U SAPI 63 TEI 127 C UI P=0 info=0f12340281
+    tei given 64
+read
+<0003<00817f
+    U>N SAPI 0 TEI 64 C SABME P=1
+>0003008173
+    N>U SAPI 0 TEI 64 R UA F=1
+    0 64 established
+tick 10000
+>000402810101
+    N>U SAPI 0 TEI 64 C RR N(R)=0 P=1
+read
+<
+    refused S1 End
+";
+
+const USER: &str = "\
+ask
+>0008fcff030f619901ff
+    U>N SAPI 63 TEI 127 C UI P=0 info=0f619901ff
+establish 0 127
+read
+<0008<feff030f61990281
+    N>U SAPI 63 TEI 127 C UI P=0 info=0f61990281
+>000300817f
+    U>N SAPI 0 TEI 64 C SABME P=1
+    tei got 64
+read
+<0003<008173
+    N>U SAPI 0 TEI 64 R UA F=1
+    0 64 confirmed
+give 0 64 0801
+>0006008100000801
+    U>N SAPI 0 TEI 64 C I N(S)=0 N(R)=0 P=0 info=0801
+read
+<0004<00810102
+    N>U SAPI 0 TEI 64 R RR N(R)=1 F=0
+    0 64 acknowledged 1
+read
+<0006<028100020902
+    N>U SAPI 0 TEI 64 C I N(S)=0 N(R)=1 P=0 info=0902
+>000402810102
+    U>N SAPI 0 TEI 64 R RR N(R)=1 F=0
+    0 64 data 0902
+";

@@ -1,0 +1,231 @@
+//! Plays, as tables. The first line of each has the words that choose its command, and between two stands an empty line. Each
+//! goes as it says, however many octets a call moves; and so does each front of the first two of a table, behind which a device
+//! fails, or the input of the port ends within a frame.
+
+pub(crate) mod answers;
+pub(crate) mod buses;
+pub(crate) mod decodes;
+pub(crate) mod pairs;
+pub(crate) mod ports;
+pub(crate) mod sides;
+
+use crate::examples::wrong_example;
+use crate::play::{Console, Line, Play, mark_of};
+use crate::run::run;
+use lapd_cli_console::{KeptLines, Refusals, Watched};
+use lapd_cli_options::{Invocation, Job, parse_words};
+use lapd_cli_script::{PortFault, ScriptFault};
+use lapd_cli_side_commands::{FromRead, FromWrite, Port, Sink, Source};
+use std::alloc::{AllocError, Global};
+use std::net::TcpStream;
+use std::test::Fail;
+
+/// How a play is tried.
+#[derive(Clone, Copy)]
+pub(crate) enum Trial<'a> {
+    /// Over a port of its own.
+    Alone,
+    /// So, and its fronts.
+    Fronts,
+    /// Where what goes through the port comes from one stream and goes to another.
+    Over(&'a TcpStream, &'a TcpStream),
+}
+
+const TABLES: &[&str] = &[
+    answers::PLAYS,
+    answers::LONG,
+    buses::PLAYS,
+    decodes::PLAYS,
+    pairs::PAIRS,
+    pairs::LOOPS,
+    sides::PLAYS,
+    ports::PLAYS,
+];
+
+#[test]
+fn plays_are_as_said(rt: HostRuntime) -> Result<(), Fail> {
+    for table in TABLES {
+        if let Some(row) = wrong_row(rt.alloc(), *table) {
+            return Err(Fail::new(format_args!("{row}\nit goes otherwise")));
+        }
+    }
+    match wrong_example(rt.alloc()) {
+        Some(words) => Err(Fail::new(format_args!("the example of {words} goes otherwise"))),
+        None => Ok(()),
+    }
+}
+
+/// The first play of a table that goes otherwise. Of the first two the fronts are tried.
+fn wrong_row(alloc: Global, table: &'static str) -> Option<&'static str> {
+    for (number, row) in table.split("\n\nlapd").enumerate() {
+        let trial = if number < 2 && row.len() < 2000 {
+            Trial::Fronts
+        } else {
+            Trial::Alone
+        };
+        if !row_goes(alloc, row, trial) {
+            return Some(row);
+        }
+    }
+    None
+}
+
+/// Whether a play goes as it says, as the command that the words of its first line choose.
+pub(crate) fn row_goes(alloc: Global, row: &str, trial: Trial<'_>) -> bool {
+    let (words, play) = row.split_once('\n').unwrap_or((row, ""));
+    words_go(alloc, words, play, trial)
+}
+
+/// Whether a play goes as it says, as the command that these words choose.
+pub(crate) fn words_go(alloc: Global, words: &str, play: &str, trial: Trial<'_>) -> bool {
+    let words = words_of(alloc, words);
+    match filled(alloc, play) {
+        Ok(play) => chosen_goes(alloc, words.as_slice(), play.as_str(), trial),
+        Err(_) => false,
+    }
+}
+
+/// The program's words, which single spaces part, or bars, where there are any. The first is its name.
+pub(crate) fn words_of<'a>(alloc: Global, row: &'a str) -> Vec<&'a str> {
+    let mut words = Vec::new(alloc);
+    let _ = words.push("lapd");
+    let parted_by = if row.contains('|') { '|' } else { ' ' };
+    for word in row
+        .strip_prefix("lapd")
+        .unwrap_or(row)
+        .split(parted_by)
+        .skip(1)
+    {
+        let _ = words.push(word);
+    }
+    words
+}
+
+/// What stands for a text that is repeated so often: 260 octets of information, and calls that are interrupted or take nothing.
+const REPEATED: &[(&str, &str, usize)] = &[
+    ("MOST", "aa", 260),
+    ("TURNS", "<%", 4091),
+    ("WRITES", ">%", 4086),
+    ("NOTHING", ">", 4096),
+];
+
+/// A play with these texts.
+fn filled(alloc: Global, play: &str) -> Result<String, AllocError> {
+    let mut filled = format!(in alloc; "{play}\n")?;
+    for (name, text, count) in REPEATED {
+        let text = text.repeat(alloc, *count)?;
+        filled = filled.replace(alloc, *name, text.as_str())?;
+    }
+    Ok(filled)
+}
+
+fn chosen_goes(alloc: Global, words: &[&str], play: &str, trial: Trial<'_>) -> bool {
+    match parse_words(alloc, words) {
+        Ok(chosen) => is_tried(alloc, &chosen, play, trial),
+        Err(_) => false,
+    }
+}
+
+fn is_tried(alloc: Global, chosen: &Invocation<'_>, play: &str, trial: Trial<'_>) -> bool {
+    match trial {
+        Trial::Alone => goes(alloc, chosen, play, &[1, 2, 7, 512]),
+        Trial::Fronts => {
+            goes(alloc, chosen, play, &[1, 2, 7, 512]) && fronts_go(alloc, chosen, play)
+        }
+        Trial::Over(from, to) => {
+            let port = Port::new(FromRead::new(from), FromWrite::new(to));
+            goes_over(alloc, chosen, &Play::new(play, 512), port)
+        }
+    }
+}
+
+/// Whether a play goes as it says, where a call moves so many octets at most, by each of these numbers.
+fn goes(alloc: Global, chosen: &Invocation<'_>, play: &str, numbers: &[usize]) -> bool {
+    for most in numbers {
+        let play = Play::new(play, *most);
+        let port = Port::new(FromRead::new(Line(&play)), FromWrite::new(Line(&play)));
+        if !goes_over(alloc, chosen, &play, port) {
+            return false;
+        }
+    }
+    true
+}
+
+fn fronts_go(alloc: Global, chosen: &Invocation<'_>, play: &str) -> bool {
+    for place in 0..play.len() {
+        if !front_goes(alloc, chosen, play, place) {
+            return false;
+        }
+    }
+    true
+}
+
+/// Whether a play goes as it says over this port, where the script and what is printed are watched as in the program.
+fn goes_over<S: Source + Drop, K: Sink + Drop>(
+    alloc: Global,
+    chosen: &Invocation<'_>,
+    play: &Play<'_>,
+    port: Port<S, K>,
+) -> bool {
+    let mut script = KeptLines::new(Console(play));
+    let mut out = Watched::new(Refusals::new(Console(play)));
+    let (ended, mut port) = run(alloc, chosen, &mut script, &mut out, port);
+    let fault = script.fault().or(out.fault());
+    let is_failed = match ended {
+        Err(ScriptFault::Port(fault)) => has_failed(&mut port, fault),
+        _ => true,
+    };
+    is_failed && fault == play.fault.get() && play.ends(alloc, ended)
+}
+
+/// Whether a port has failed, and its devices did where this fault says so.
+fn has_failed<S: Source, K: Sink>(port: &mut Port<S, K>, fault: PortFault) -> bool {
+    let failures = port
+        .source()
+        .failures()
+        .saturating_add(port.sink().failures());
+    let read = port.read_frame(&mut [0; 264]);
+    let written = port.write_frame(&[0; 3]);
+    failures == u64::from(fault == PortFault::Device)
+        && read == Err(PortFault::Failed)
+        && written == Err(PortFault::Failed)
+}
+
+/// Whether a front of a play goes as it says, behind which the device fails, or the input of the port ends within a frame.
+fn front_goes(alloc: Global, chosen: &Invocation<'_>, play: &str, place: usize) -> bool {
+    let (front, rest) = play.split_at_checked(place).unwrap_or((play, ""));
+    let begun = front.rsplit('\n').next().unwrap_or(front);
+    let line = play.get(place.saturating_sub(begun.len())..).unwrap_or("");
+    let behind = match mark_of(line.as_bytes()) {
+        b"" => "*",
+        b"    " if begun.len() > 3 => "*",
+        b"<" if is_within(begun, rest) => "<*",
+        b">" if is_within(begun, rest) => ">*",
+        _ => return true,
+    };
+    let is_cut = behind == "<*" && !begun.is_empty();
+    let is_told = behind != "*" && !matches!(chosen.job, Job::Loop { .. });
+    let (fault, cut) = if is_told {
+        ("port S4 Device", "port S3 Cut")
+    } else {
+        ("device fault", "device fault")
+    };
+    ends_by(alloc, chosen, front, behind, fault)
+        && (!is_cut || ends_by(alloc, chosen, front, "<", cut))
+}
+
+/// Whether this front of a line of the port ends behind an octet that is not the last, or is none.
+fn is_within(begun: &str, rest: &str) -> bool {
+    let digits = begun.rsplit(['<', '>']).next().unwrap_or("");
+    let is_whole = digits.len() % 2 == 0 && !digits.is_empty() && !rest.starts_with('\n');
+    begun.is_empty() || is_whole
+}
+
+/// Whether a front of a play goes as it says, and ends by this fault where that comes behind it.
+fn ends_by(alloc: Global, chosen: &Invocation<'_>, front: &str, behind: &str, fault: &str) -> bool {
+    match format!(in alloc; "{front}{behind}\n! {fault}\n") {
+        Ok(play) if behind == "*" => goes(alloc, chosen, play.as_str(), &[512]),
+        Ok(play) => goes(alloc, chosen, play.as_str(), &[1, 512]),
+        Err(_) => false,
+    }
+}

@@ -1,0 +1,84 @@
+//! What a command does over any devices.
+
+use lapd_cli_commands::{answer, bus, decode, loop_over, pair};
+use lapd_cli_options::{Interface, Invocation, Job, LinkEnd};
+use lapd_cli_script::ScriptFault;
+use lapd_cli_side_commands::{Config, LineStyle, Port, SideRun, Sink, Source, net, user};
+use std::alloc::Global;
+use std::io::{Read, Write};
+
+/// How a command ended, and its port.
+pub(crate) type Run<S, K> = (Result<(), ScriptFault>, Port<S, K>);
+
+/// Goes over a script as the words chose.
+pub(crate) fn run<R: Read, W: Write, S: Source, K: Sink>(
+    alloc: Global,
+    chosen: &Invocation<'_>,
+    script: &mut R,
+    out: &mut W,
+    port: Port<S, K>,
+) -> Run<S, K> {
+    let style = if chosen.json {
+        LineStyle::Json
+    } else {
+        LineStyle::Text
+    };
+    match &chosen.job {
+        Job::Answer(end) => (do_answer(alloc, script, out, *end), port),
+        Job::Bus { terminals } => (bus(alloc, script, out, *terminals), port),
+        Job::Decode(_) => (decode(alloc, script, out), port),
+        Job::Loop { user, network } => loop_over(alloc, script, out, *user, *network, port),
+        Job::Net(interface) => do_net(alloc, (interface, style), script, out, port),
+        Job::Pair { user, network } => (pair(alloc, script, out, *user, *network), port),
+        Job::User(interface) => do_user(alloc, (interface, style), script, out, port),
+    }
+}
+
+fn do_answer<R: Read, W: Write>(
+    alloc: Global,
+    script: &mut R,
+    out: &mut W,
+    end: LinkEnd,
+) -> Result<(), ScriptFault> {
+    let LinkEnd {
+        side,
+        sapi,
+        tei,
+        params,
+    } = end;
+    answer(alloc, script, out, side, sapi, tei, params)
+}
+
+fn do_net<R: Read, W: Write, S: Source, K: Sink>(
+    alloc: Global,
+    (interface, style): (&Interface, LineStyle),
+    script: &mut R,
+    out: &mut W,
+    port: Port<S, K>,
+) -> Run<S, K> {
+    let (config, known) = (config_of(interface), interface.teis.as_slice());
+    let SideRun { ended, port, .. } = net(alloc, script, out, port, style, config, known);
+    (ended, port)
+}
+
+fn do_user<R: Read, W: Write, S: Source, K: Sink>(
+    alloc: Global,
+    (interface, style): (&Interface, LineStyle),
+    script: &mut R,
+    out: &mut W,
+    port: Port<S, K>,
+) -> Run<S, K> {
+    let (config, fixed) = (config_of(interface), interface.fixed());
+    let SideRun { ended, port, .. } = user(alloc, script, out, port, style, config, fixed);
+    (ended, port)
+}
+
+fn config_of(interface: &Interface) -> Config {
+    Config {
+        sapi16: interface.sapi16,
+        params0: interface.params0,
+        params16: interface.params16,
+        durations: interface.durations,
+        seed: interface.seed,
+    }
+}
