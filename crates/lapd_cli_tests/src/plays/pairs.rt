@@ -630,6 +630,46 @@ settle
 ! line 3: bad command
 
 lapd loop
+# the first octet of the address comes back changed
+establish user
+    U>N SAPI 0 TEI 64 C SABME P=1
+>000300817f
+<0003<02817f
+! device fault
+
+lapd loop
+# the second octet of the address comes back changed
+establish user
+    U>N SAPI 0 TEI 64 C SABME P=1
+>000300817f
+<0003<00837f
+! device fault
+
+lapd loop
+# the control field comes back changed
+establish user
+    U>N SAPI 0 TEI 64 C SABME P=1
+>000300817f
+<0003<00816f
+! device fault
+
+lapd loop
+# an octet more comes back
+establish user
+    U>N SAPI 0 TEI 64 C SABME P=1
+>000300817f
+<0004<00817f00
+! device fault
+
+lapd loop
+# another frame comes back
+establish user
+    U>N SAPI 0 TEI 64 C SABME P=1
+>000300817f
+<0003<008173
+! device fault
+
+lapd loop
 .
     user: state 4, given 0, received 0, acknowledged 0, dropped 0
     net: state 4, given 0, received 0, acknowledged 0, dropped 0
