@@ -133,11 +133,6 @@ net 64
 0 take fcff130f56780581
 shows: network;discarded 0;holds 64;
 exact: yes
-
-# 64 Requests, and all but the last are served
-net packets
-requests: 64 65 66 67 68 69 70 71 72 73 74 75 76 77 78 79 80 81 82 83 84 85 86 87 88 89 90 91 92 93 94 95 96 97 98 99 100 101 102 103 104 105 106 107 108 109 110 111 112 113 114 115 116 117 118 119 120 121 122 123 124 125 126 Denied 63 127;
-shows: network;discarded 0;holds 64 65 66 67 68 69 70 71 72 73 74 75 76 77 78 79 80 81 82 83 84 85 86 87 88 89 90 91 92 93 94 95 96 97 98 99 100 101 102 103 104 105 106 107 108 109 110 111 112 113 114 115 116 117 118 119 120 121 122 123 124 125 126;
 ";
 
 pub(crate) const USER: &str = "\
@@ -268,7 +263,8 @@ exact: yes
 ";
 
 /// Octets that are as many as a frame has room for, or more (N201, 260, Q.921 5.9.3). What is refused is handed back, and
-/// nothing is given.
+/// nothing is given. And a Request for each TEI, and one more: the row is here, since where memory is refused between two of them,
+/// all of them can't be made again.
 pub(crate) const LENGTHS: &str = "\
 # to all terminals, 260 octets
 net
@@ -330,4 +326,9 @@ user
 0 give 63 1 [260]: refused L1 NotEstablished [260];
 0 give 63 1 [261]: refused L1 NotEstablished [261];
 0 give 63 1 [1000]: refused L1 NotEstablished [1000];
+
+# 64 Requests, and all but the last are served
+net packets
+requests: 64 65 66 67 68 69 70 71 72 73 74 75 76 77 78 79 80 81 82 83 84 85 86 87 88 89 90 91 92 93 94 95 96 97 98 99 100 101 102 103 104 105 106 107 108 109 110 111 112 113 114 115 116 117 118 119 120 121 122 123 124 125 126 Denied 63 127;
+shows: network;discarded 0;holds 64 65 66 67 68 69 70 71 72 73 74 75 76 77 78 79 80 81 82 83 84 85 86 87 88 89 90 91 92 93 94 95 96 97 98 99 100 101 102 103 104 105 106 107 108 109 110 111 112 113 114 115 116 117 118 119 120 121 122 123 124 125 126;
 ";
