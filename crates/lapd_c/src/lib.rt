@@ -23,8 +23,6 @@ mod held_side;
 mod link_state;
 mod making;
 mod settings;
-#[cfg(test)]
-mod tests;
 
 use codes::{DONE, MEMORY, NO_SIDE, OUT_OF_RANGE};
 use flat_primitive::{FlatPrimitive, link_of};
