@@ -11,7 +11,7 @@
 //! 3. What layer 3 wants are events too, and its messages go to [`Link::give`], which hands a message back that it refuses.
 //! 4. Each step gives a list of [`Out`], at most 136, which are done in order: [`Link::frame`] makes the frame of one that is
 //!    sent, before the next call, and `lapd_frame::write` its octets; `Start` and `Stop` are of T200 and T203; the others are for
-//!    layer 3, `Up` with the information of the frame that was just heard.
+//!    layer 3, at most six of them, `Up` with the information of the frame that was just heard.
 //! 5. Where a timer that was started expires, it is [`Event::T200`] or [`Event::T203`].
 //!
 //! ```text

@@ -39,6 +39,7 @@ impl Link {
     ghost use Rattle.lapd_link_rows.specs.Refusal.{refused};
     ghost use Rattle.lapd_link.specs.Link.{LinkStandsFor, Setup, setup_of, Steps, Refuses, IsForLink, is_address_of};
     ghost use Rattle.lapd_link.specs.SentFrame.{HasFramesOf};
+    ghost use Rattle.lapd_link_machine.specs.Bounds.{IsBounded};
 
     /// A link in state 4, of this side, for `sapi` (not management) and `tei` (not the group TEI). It takes the memory
     /// of its I queue.
@@ -101,6 +102,7 @@ impl Link {
         requires for_link { IsForLink self.old event }
         ensures ok { OnOk result (Steps self.old self.new (input_of event.entry) outs.new.items) }
         ensures frames { OnOk result (HasFramesOf self.new outs.new.items) }
+        ensures bounded { OnOk result (IsBounded (input_of event.entry) outs.new.items) }
         ensures err { IfErr result (Refuses self.old (input_of event.entry)) }
         ensures unchanged { OnErr result (self.new ≡ self.old) }
         ensures empty { OnErr result (outs.new.items ≡ []) }
@@ -147,6 +149,7 @@ impl Link {
     pub fn give_into(&mut self, message: Vec<u8>, outs: &mut Outs) -> Result<(), Refused>
         ensures ok { OnOk result (Steps self.old self.new (Give message.items) outs.new.items) }
         ensures frames { OnOk result (HasFramesOf self.new outs.new.items) }
+        ensures bounded { OnOk result (IsBounded (Give message.items) outs.new.items) }
         ensures err { IfErr result
             (λ refused. (refused.message ≡ message)
             × Refuses self.old (Give message.items) refused.fault) }

@@ -1,4 +1,5 @@
 pub mod BetweenSteps
+pub mod Bounds
 pub mod Guards
 pub mod Outstanding
 pub mod Rows

@@ -11,6 +11,7 @@ pub use Rattle.lapd_link_rows.specs.State
 pub use Rattle.lapd_link_rows.specs.Table
 pub use Rattle.lapd_supervision.specs.StateVariables
 pub use Rattle.lapd_timers.specs.Timer
+pub mod Bounds
 pub mod Sent
 pub mod StandsFor
 pub mod Tail

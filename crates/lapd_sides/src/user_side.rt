@@ -10,10 +10,11 @@ ghost use Rattle.lapd_tei.specs.declared.phase.Phase.{Phase};
 ghost use Rattle.lapd_table.specs.LinkTable.{IsFor};
 ghost use Rattle.lapd_frame.specs.Fault.{is_for_link};
 ghost use Rattle.lapd_sides_links.specs.declared.side_fault.SideKind.TheVariants.{NoLink, Link};
-ghost use Rattle.lapd_sides_links.specs.declared.acts.TheConstants.{MOST_FRAMES, MOST_OUTPUTS, MOST_PRIMITIVES};
+ghost use Rattle.lapd_sides_links.specs.declared.acts.TheConstants.{MOST_PRIMITIVES};
 ghost use Rattle.lapd_sides_links.specs.Effects.{no_effects};
 ghost use Rattle.lapd_sides_links.specs.Expiries.{IsNextDeadline, IsQuietUntil, of_served};
 ghost use Rattle.lapd_sides_links.specs.Links.{IsOfLink, of_sapi};
+ghost use Rattle.lapd_sides_links.specs.Rooms.{HasRoomFor, AddsAtMost};
 ghost use Rattle.lapd_sides.specs.Requests.{message_of, without_message};
 ghost use Rattle.lapd_sides.specs.Shows.{ShowEnds};
 ghost use Rattle.lapd_sides.specs.User.{User, seeded, sends_message, new_user, user_takes, user_expires, user_requested, terminal_acts, assigned, kept_after, establishes_kept, establishes, gives_up_kept, told_of_group, told_of_sapi, link_of_user, or_discarded, frame_heard, data_heard, for_layer_3, fault_heard, got_for, got_for_frame, got_for_message, wants, forgets, with_tei_or};
@@ -518,12 +519,9 @@ impl UserSide {
 
     /// The link with this name is to be established, where that was kept. What it gives goes behind what `acts` has.
     fn establish_if(&mut self, kept: bool, id: LinkId, now: u64, acts: &mut Acts)
-        requires frame_room { length acts.old.frames + MOST_OUTPUTS ≤ MOST_FRAMES }
-        requires primitive_room { length acts.old.primitives + MOST_OUTPUTS ≤ MOST_PRIMITIVES }
+        requires room { HasRoomFor Establish acts.old }
         ensures done { Follows self.old self.new acts.old acts.new (λ _. establishes kept now id) }
-        ensures most_frames { length acts.new.frames ≤ length acts.old.frames + MOST_OUTPUTS }
-        ensures most_primitives { length acts.new.primitives
-            ≤ length acts.old.primitives + MOST_OUTPUTS }
+        ensures most { AddsAtMost Establish acts.old acts.new }
     {
         if kept {
             let _ = self.served.links.act(&id, Event::Establish, &[], now, acts);

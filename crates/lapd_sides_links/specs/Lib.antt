@@ -1,4 +1,5 @@
 pub mod Effects
+pub mod Rooms
 pub mod Expiries
 pub mod Links
 pub mod Shown

@@ -15,14 +15,15 @@ use lapd_tei::TeiMessage;
 use std::alloc::{AllocError, Global};
 use std::marker::Model;
 
-/// How many outputs one step of a link gives at most, each with one frame or one primitive at most.
-pub const MOST_OUTPUTS: usize = 136;
+/// How many primitives one step of a link gives at most.
+pub const MOST_TOLD: usize = 6;
 
-/// How many frames there is room for: those of one step of each of two links, and of TEI management.
-pub const MOST_FRAMES: usize = 280;
+/// How many frames there is room for: those of one step of a link. Where a TEI is got, two links establish, with seven outputs
+/// each at most.
+pub const MOST_FRAMES: usize = 136;
 
 /// How many primitives there is room for: those of one step of each of two links, and of TEI management.
-pub const MOST_PRIMITIVES: usize = 280;
+pub const MOST_PRIMITIVES: usize = 20;
 
 /// What a call of a side gives: the frames that are to be sent, as octets, and what the layers above are told, each in order.
 #[derive(Drop)]
@@ -35,6 +36,7 @@ impl Model for Acts {
     ghost use Rattle.std.specs.Prelude.{◌≤◌, map};
     ghost use Rattle.std.specs.List.{All};
     ghost use Rattle.std.specs.Vec.{vec_capacity};
+    ghost use Rattle.lapd_sides_links.specs.declared.acts.TheConstants.{MOST_FRAMES, MOST_PRIMITIVES};
     ghost use Rattle.lapd_sides_links.specs.Effects.{Effects, HasLeastOctets};
 
     ghost Value = { Effects };
@@ -44,7 +46,8 @@ impl Model for Acts {
       primitives = a.primitives.items;
     } };
 
-    ghost invariant = { λ a. (280 ≤ vec_capacity a.frames) × (280 ≤ vec_capacity a.primitives)
+    ghost invariant = { λ a. (MOST_FRAMES ≤ vec_capacity a.frames)
+        × (MOST_PRIMITIVES ≤ vec_capacity a.primitives)
         × All (λ f. HasLeastOctets f.items) a.frames.items };
 }
 

@@ -5,6 +5,7 @@ ghost use Rattle.std.specs.List.{filter_map};
 ghost use Rattle.lapd_frame.specs.declared.Side.{Side};
 ghost use Rattle.lapd_link.specs.Link.{LinkStandsFor};
 ghost use Rattle.lapd_link.specs.declared.link.Link.{Link};
+ghost use Rattle.lapd_link_machine.specs.Bounds.{told_count};
 ghost use Rattle.lapd_link_rows.specs.End.{End};
 ghost use Rattle.lapd_link_rows.specs.State.{state_number};
 ghost use Rattle.lapd_link_rows.specs.declared.state.State.{State};
@@ -13,11 +14,12 @@ ghost use Rattle.lapd_link_rows.specs.Input as input;
 ghost use Rattle.lapd_table.specs.declared.link_id.LinkId.{LinkId};
 ghost use Rattle.lapd_table.specs.LinkTable.{link_at, side_of, IsFor, IsKey};
 ghost use Rattle.lapd_table.specs.LinkId.{setup_for};
-ghost use Rattle.lapd_sides_links.specs.declared.acts.TheConstants.{MOST_FRAMES, MOST_PRIMITIVES, MOST_OUTPUTS};
+ghost use Rattle.lapd_sides_links.specs.declared.acts.TheConstants.{MOST_FRAMES, MOST_PRIMITIVES};
 ghost use Rattle.lapd_sides_links.specs.declared.primitive.Primitive.TheVariants.{Of};
 ghost use Rattle.lapd_sides_links.specs.Effects.{timed, what_of};
 ghost use Rattle.lapd_sides_links.specs.Expiries.{IsFirst, IsPast, IsTimerOf, Runs, of_links};
 ghost use Rattle.lapd_sides_links.specs.Links.{Links, IsOfLink, no_links, of_sapi, with_link, with_tei, without_tei, new_linked, release_at_removal, primitives_of, told_at_removal, told_of_tei, links_of_held, in_links, link_acts, link_expires};
+ghost use Rattle.lapd_sides_links.specs.Rooms.{HasRoomFor, AddsAtMost};
 
 use crate::link_timers::LinkTimers;
 use crate::side_fault::refused;
@@ -198,8 +200,9 @@ impl LinkSet {
     fn carry_out(&mut self, key: &LinkKey, octets: &[u8], now: u64, acts: &mut Acts)
         requires key { IsKey self.old.table key.now }
         requires fits { length octets.now ≤ N201 }
-        requires frame_room { length acts.old.frames + MOST_OUTPUTS ≤ MOST_FRAMES }
-        requires primitive_room { length acts.old.primitives + MOST_OUTPUTS ≤ MOST_PRIMITIVES }
+        requires frame_room { length acts.old.frames + length self.old.outs.items ≤ MOST_FRAMES }
+        requires primitive_room { length acts.old.primitives + told_count self.old.outs.items
+            ≤ MOST_PRIMITIVES }
         ensures frames { (link : Link) (e : End) → link_at self.old.table key.now.id ≡ Some link
             → LinkStandsFor link e
             → acts.new.frames ≡ acts.old.frames
@@ -207,9 +210,10 @@ impl LinkSet {
             self.old.outs.items }
         ensures primitives { acts.new.primitives ≡ acts.old.primitives
             ++ map (Of key.now.id) (filter_map (what_of octets.now) self.old.outs.items) }
-        ensures most_frames { length acts.new.frames ≤ length acts.old.frames + MOST_OUTPUTS }
+        ensures most_frames { length acts.new.frames
+            ≤ length acts.old.frames + length self.old.outs.items }
         ensures most_primitives { length acts.new.primitives
-            ≤ length acts.old.primitives + MOST_OUTPUTS }
+            ≤ length acts.old.primitives + told_count self.old.outs.items }
         ensures own { timers_at self.new.link_timers key.now.id
             ≡ option_map (timed now self.old.outs.items)
             (timers_at self.old.link_timers key.now.id) }
@@ -239,8 +243,7 @@ impl LinkSet {
     ) -> Result<(), SideKind>
         requires for_link { IsFor id.now event }
         requires fits { length octets.now ≤ N201 }
-        requires frame_room { length acts.old.frames + MOST_OUTPUTS ≤ MOST_FRAMES }
-        requires primitive_room { length acts.old.primitives + MOST_OUTPUTS ≤ MOST_PRIMITIVES }
+        requires room { HasRoomFor (input_of event) acts.old }
         ensures ok { OnOk result (Does self.old self.new acts.old acts.new
             (λ side. in_links id.now (link_acts side id.now now
             (input_of event.entry) octets.now))) }
@@ -249,9 +252,7 @@ impl LinkSet {
             (input_of event.entry) octets.now))) }
         ensures unchanged { OnErr result (ShowsAsBefore self.old self.new) }
         ensures nothing { OnErr result (acts.new ≡ acts.old) }
-        ensures most_frames { length acts.new.frames ≤ length acts.old.frames + MOST_OUTPUTS }
-        ensures most_primitives { length acts.new.primitives
-            ≤ length acts.old.primitives + MOST_OUTPUTS }
+        ensures most { AddsAtMost (input_of event.entry) acts.old acts.new }
     {
         match self.table.find(id) {
             Some(key) => self.act_at(&key, event, octets, now, acts),
@@ -271,8 +272,7 @@ impl LinkSet {
         requires key { IsKey self.old.table key.now }
         requires for_link { IsFor key.now.id event }
         requires fits { length octets.now ≤ N201 }
-        requires frame_room { length acts.old.frames + MOST_OUTPUTS ≤ MOST_FRAMES }
-        requires primitive_room { length acts.old.primitives + MOST_OUTPUTS ≤ MOST_PRIMITIVES }
+        requires room { HasRoomFor (input_of event) acts.old }
         ensures ok { OnOk result (Does self.old self.new acts.old acts.new
             (λ side. in_links key.now.id (link_acts side key.now.id now
             (input_of event.entry) octets.now))) }
@@ -281,9 +281,7 @@ impl LinkSet {
             (input_of event.entry) octets.now))) }
         ensures unchanged { OnErr result (ShowsAsBefore self.old self.new) }
         ensures nothing { OnErr result (acts.new ≡ acts.old) }
-        ensures most_frames { length acts.new.frames ≤ length acts.old.frames + MOST_OUTPUTS }
-        ensures most_primitives { length acts.new.primitives
-            ≤ length acts.old.primitives + MOST_OUTPUTS }
+        ensures most { AddsAtMost (input_of event.entry) acts.old acts.new }
     {
         match self.table.handle_at(key, event, &mut self.outs) {
             Ok(()) => {
@@ -306,8 +304,7 @@ impl LinkSet {
         now: u64,
         acts: &mut Acts,
     ) -> Result<(), SideKind>
-        requires frame_room { length acts.old.frames + MOST_OUTPUTS ≤ MOST_FRAMES }
-        requires primitive_room { length acts.old.primitives + MOST_OUTPUTS ≤ MOST_PRIMITIVES }
+        requires room { HasRoomFor (UnitData (length octets.now)) acts.old }
         ensures ok { OnOk result (Does self.old self.new acts.old acts.new
             (λ side. in_links id.now (link_acts side id.now now
             (UnitData (length octets.now)) octets.now))) }
@@ -338,8 +335,7 @@ impl LinkSet {
         now: u64,
         acts: &mut Acts,
     ) -> Result<(), SideFault>
-        requires frame_room { length acts.old.frames + MOST_OUTPUTS ≤ MOST_FRAMES }
-        requires primitive_room { length acts.old.primitives + MOST_OUTPUTS ≤ MOST_PRIMITIVES }
+        requires room { HasRoomFor (Give message.items) acts.old }
         ensures ok { OnOk result (Does self.old self.new acts.old acts.new
             (λ side. in_links id.now (link_acts side id.now now (Give message.items) []))) }
         ensures err { IfErr result (λ fault. RefusesAs self.old
@@ -375,8 +371,7 @@ impl LinkSet {
         acts: &mut Acts,
     ) -> Result<(), SideKind>
         requires of_link { IsOfLink timer }
-        requires frame_room { length acts.old.frames + MOST_OUTPUTS ≤ MOST_FRAMES }
-        requires primitive_room { length acts.old.primitives + MOST_OUTPUTS ≤ MOST_PRIMITIVES }
+        requires room { HasRoomFor (input.Expiry timer) acts.old }
         ensures ok { OnOk result (Does self.old self.new acts.old acts.new
             (λ side. in_links id.now (link_expires side id.now now timer))) }
         ensures err { IfErr result (RefusesAs self.old

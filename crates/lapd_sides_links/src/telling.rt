@@ -3,6 +3,7 @@
 ghost use Rattle.std.specs.Prelude.{◌≡◌, ◌≤◌, ◌<◌, ◌+◌, ◌++◌, ◌∷◌, [], false, length, map, ℕ, List, None};
 ghost use Rattle.std.specs.List.{filter_map};
 ghost use Rattle.lapd_link.specs.Link.{LinkStandsFor, setup_of};
+ghost use Rattle.lapd_link_machine.specs.Bounds.{is_told, told_count};
 ghost use Rattle.lapd_link_rows.specs.End.{End};
 ghost use Rattle.lapd_sides_links.specs.declared.acts.TheConstants.{MOST_FRAMES, MOST_PRIMITIVES};
 ghost use Rattle.lapd_sides_links.specs.declared.primitive.Primitive.TheVariants.{Of};
@@ -35,11 +36,11 @@ pub fn put_frames(link: &Link, octets: &[u8], outs: &[Out], acts: &mut Acts)
 /// just heard, at most 260.
 pub fn tell_all(id: &LinkId, octets: &[u8], outs: &[Out], acts: &mut Acts)
     requires fits { length octets.now ≤ N201 }
-    requires room { length acts.old.primitives + length outs.now ≤ MOST_PRIMITIVES }
+    requires room { length acts.old.primitives + told_count outs.now ≤ MOST_PRIMITIVES }
     ensures primitives { acts.new.primitives
         ≡ acts.old.primitives ++ map (Of id.now) (filter_map (what_of octets.now) outs.now) }
     ensures frames { acts.new.frames ≡ acts.old.frames }
-    ensures at_most { length acts.new.primitives ≤ length acts.old.primitives + length outs.now }
+    ensures at_most { length acts.new.primitives ≤ length acts.old.primitives + told_count outs.now }
 {
     for out in outs {
         if is_told(out) {
@@ -51,7 +52,8 @@ pub fn tell_all(id: &LinkId, octets: &[u8], outs: &[Out], acts: &mut Acts)
 /// Whether an output is for the layers above: of most it is found out at once that they are not.
 #[inline(always)]
 fn is_told(out: &Out) -> bool
-    ensures { result ≡ false → (octets : List ℕ) → what_of octets out.now ≡ None }
+    ensures told { result ≡ is_told out.now }
+    ensures nothing { result ≡ false → (octets : List ℕ) → what_of octets out.now ≡ None }
 {
     !matches!(
         out,

@@ -5,6 +5,7 @@ ghost use Rattle.lapd_link_rows.specs.End.{End};
 ghost use Rattle.lapd_link_rows.specs.Input.{input_of, Give};
 ghost use Rattle.lapd_link_rows.specs.Refusal.{refused};
 ghost use Rattle.lapd_link.specs.Link.{setup_of};
+ghost use Rattle.lapd_link_machine.specs.Bounds.{IsBounded};
 ghost use Rattle.lapd_table.specs.LinkId.{id_cmp, id_of_setup, setup_for};
 ghost use Rattle.lapd_table.specs.Index.{IsIndex, key_of};
 
@@ -220,6 +221,7 @@ impl LinkTable {
         ensures ok { OnOk result (StepsAt self.old self.new id
             (input_of event.entry) outs.new.items) }
         ensures err { IfErr result (RefusesAt self.old id (input_of event.entry)) }
+        ensures bounded { OnOk result (IsBounded (input_of event.entry) outs.new.items) }
         ensures unchanged { OnErr result (IsUnchanged self.old self.new) }
         ensures empty { OnErr result (outs.new.items ≡ []) }
         ensures keys { self.new.keys ≡ self.old.keys }
@@ -288,6 +290,7 @@ impl LinkTable {
         ensures ok { OnOk result (StepsAt self.old self.new key.now.id
             (input_of event.entry) outs.new.items) }
         ensures err { IfErr result (RefusesAt self.old key.now.id (input_of event.entry)) }
+        ensures bounded { OnOk result (IsBounded (input_of event.entry) outs.new.items) }
         ensures unchanged { OnErr result (IsUnchanged self.old self.new) }
         ensures empty { OnErr result (outs.new.items ≡ []) }
         ensures key { IsKey self.new key.now }
@@ -358,6 +361,7 @@ impl LinkTable {
         ensures err { IfErr result (λ refused. RefusesAt self.old key.now.id
             (Give message.items) refused.fault) }
         ensures handed_back { IfErr result (λ refused. refused.message ≡ message) }
+        ensures bounded { OnOk result (IsBounded (Give message.items) outs.new.items) }
         ensures unchanged { OnErr result (IsUnchanged self.old self.new) }
         ensures empty { OnErr result (outs.new.items ≡ []) }
         ensures key { IsKey self.new key.now }
@@ -379,6 +383,7 @@ impl LinkTable {
         ensures err { IfErr result (λ refused. RefusesAt self.old id
             (Give message.items) refused.fault) }
         ensures handed_back { IfErr result (λ refused. refused.message ≡ message) }
+        ensures bounded { OnOk result (IsBounded (Give message.items) outs.new.items) }
         ensures unchanged { OnErr result (IsUnchanged self.old self.new) }
         ensures empty { OnErr result (outs.new.items ≡ []) }
         ensures keys { self.new.keys ≡ self.old.keys }

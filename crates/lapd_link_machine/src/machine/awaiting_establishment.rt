@@ -59,6 +59,7 @@ impl Machine {
         requires room { HasRoom 1 outs.old }
         ensures step { Does self.old outs.old self.new outs.new (awaiting_establishment Establish) }
         ensures len { Grows 1 outs.old outs.new }
+        ensures state { self.new.state ≡ self.old.state }
     {
         self.discard_i_queue(outs);
         self.layer3_initiated_to(true);

@@ -1,7 +1,8 @@
 //! The row of the state table for each event, in whatever state the link is.
 
-ghost use Rattle.std.specs.Prelude.{◌≡◌};
+ghost use Rattle.std.specs.Prelude.{◌≡◌, false};
 ghost use Rattle.lapd_mod128.specs.Counting.{Tagged};
+ghost use Rattle.lapd_link_rows.specs.EndOfStep.{is_established};
 ghost use Rattle.lapd_link_rows.specs.Input.{Heard, Faulty, Expiry, Establish, Release, BusyOn, BusyOff, input_of};
 ghost use Rattle.lapd_link_rows.specs.Table.{fault_letter, is_unit_data, by_state, row};
 
@@ -46,6 +47,7 @@ impl Machine {
         ensures step { Does self.old outs.old self.new outs.new
             (row Tagged self.old.state (input_of event.entry)) }
         ensures len { Grows 6 outs.old outs.new }
+        ensures state { input_of event.entry ≡ Establish → is_established self.new.state ≡ false }
     {
         match event {
             Event::Heard(frame) => self.heard(frame.control(), frame.address().role, outs),
@@ -176,6 +178,7 @@ impl Machine {
         ensures step { Does self.old outs.old self.new outs.new
             (row Tagged self.old.state Establish) }
         ensures len { Grows 6 outs.old outs.new }
+        ensures state { is_established self.new.state ≡ false }
     {
         match self.state {
             State::TeiAssigned => self.tei_assigned_establish(outs),

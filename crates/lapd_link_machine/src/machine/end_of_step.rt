@@ -1,6 +1,6 @@
 //! The end of a step: messages go out while the window is open, and then the acknowledgement that is still pending.
 
-ghost use Rattle.std.specs.Prelude.{◌≡◌, ◌≤◌, ◌<◌, ◌+◌, List, true, length};
+ghost use Rattle.std.specs.Prelude.{◌≡◌, ◌≤◌, ◌<◌, ◌+◌, List, true, length, false};
 ghost use Rattle.arrayvec.specs.ArrayVec.{array_vec_len};
 ghost use Rattle.lapd_mod128.specs.Counting.{Tagged};
 ghost use Rattle.lapd_supervision.specs.StateVariables.{outstanding, AreTags};
@@ -15,7 +15,8 @@ use lapd_link_rows::State;
 #[tactic(auto, using(crate::proofs::Rows::then_row, crate::proofs::Rows::else_row), unfolding(lapd_link_rows::specs::EndOfStep::acknowledge_pending, lapd_link_rows::specs::EndOfStep::end_step))]
 impl Machine {
     ghost use Rattle.lapd_link_rows.specs.EndOfStep.{send_all};
-    ghost use Rattle.lapd_link_machine.specs.StandsFor.{StandsFor, Does};
+    ghost use Rattle.lapd_link_machine.specs.Bounds.{told_count};
+    ghost use Rattle.lapd_link_machine.specs.StandsFor.{StandsFor, Does, Grows};
 
     /// The end of a step.
     #[inline(always)]
@@ -23,6 +24,9 @@ impl Machine {
         requires room { array_vec_len outs.old ≤ 6 }
         ensures step { Does self.old outs.old self.new outs.new (end_step Tagged) }
         ensures numbers { AreTags self.new.window }
+        ensures len { length outs.new.items ≤ 136 }
+        ensures few { is_established self.old.state ≡ false → Grows 1 outs.old outs.new }
+        ensures untold { told_count outs.new.items ≡ told_count outs.old.items }
     {
         self.send_all(outs);
         self.acknowledge_pending(outs);
@@ -36,6 +40,9 @@ impl Machine {
         ensures step { (s : StepState) → StandsFor self.old outs.old.items s
             → StandsFor self.new outs.new.items (send_all Tagged (unsent s.end) s) }
         ensures len { array_vec_len outs.new ≤ 135 }
+        ensures none { is_established self.old.state ≡ false
+            → array_vec_len outs.new ≡ array_vec_len outs.old }
+        ensures untold { told_count outs.new.items ≡ told_count outs.old.items }
     {
         while self.may_send_next() {
             self.transmit_i_frame(outs);
@@ -48,6 +55,7 @@ impl Machine {
         ensures shown { (s : StepState) (outs : List Out) → StandsFor self.now outs s
             → result ≡ may_send_next Tagged s }
         ensures few { result ≡ true → outstanding Tagged self.now.window < 127 }
+        ensures established { result ≡ true → is_established self.now.state ≡ true }
         ensures unsent { result ≡ true → self.now.queue.sent < length self.now.queue.messages }
     {
         self.queue.sent() < self.queue.len()
@@ -59,6 +67,8 @@ impl Machine {
     fn acknowledge_pending(&mut self, outs: &mut Outs)
         requires room { array_vec_len outs.old ≤ 135 }
         ensures step { Does self.old outs.old self.new outs.new acknowledge_pending }
+        ensures len { Grows 1 outs.old outs.new }
+        ensures untold { told_count outs.new.items ≡ told_count outs.old.items }
     {
         if self.is_7_or_8() && self.window.ack_pending() {
             self.transmit_rr(outs);

@@ -24,6 +24,7 @@ impl Machine {
         requires room { HasRoom 4 outs.old }
         ensures step { Does self.old outs.old self.new outs.new (in_7_and_8 Establish) }
         ensures len { Grows 4 outs.old outs.new }
+        ensures state { self.new.state ≡ State.AwaitingEstablishment }
     {
         self.discard_i_queue(outs);
         self.layer3_initiated_to(true);

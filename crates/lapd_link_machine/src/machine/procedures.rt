@@ -19,6 +19,7 @@ use lapd_timers::Timer;
 #[tactic(auto, unfolding(lapd_link_rows::specs::Procedures::put, lapd_link_rows::specs::Procedures::state_to, lapd_link_rows::specs::Procedures::rc_to, lapd_link_rows::specs::Procedures::increment_rc, lapd_link_rows::specs::Procedures::layer3_initiated_to, lapd_link_rows::specs::Procedures::release_pending_to, lapd_link_rows::specs::Procedures::start, lapd_link_rows::specs::Procedures::stop, lapd_link_rows::specs::Procedures::expired))]
 impl Machine {
     ghost use Rattle.lapd_link_machine.specs.Sent.{SentAreOutstanding, IsTaken};
+    ghost use Rattle.lapd_link_machine.specs.Bounds.{told_count};
     ghost use Rattle.lapd_link_machine.specs.StandsFor.{Does, DoesQuietly, HasRoom, Grows};
 
     /// An output.
@@ -34,6 +35,7 @@ impl Machine {
     /// The state.
     pub(crate) fn state_to(&mut self, state: State)
         ensures step { DoesQuietly self.old self.new (state_to state) }
+        ensures state { self.new.state ≡ state }
     {
         self.state = state;
     }
@@ -56,6 +58,7 @@ impl Machine {
     /// Whether layer 3 initiated the establishment.
     pub(crate) fn layer3_initiated_to(&mut self, on: bool)
         ensures step { DoesQuietly self.old self.new (layer3_initiated_to on) }
+        ensures state { self.new.state ≡ self.old.state }
     {
         self.layer3_initiated = on;
     }
@@ -72,6 +75,7 @@ impl Machine {
         requires room { HasRoom 1 outs.old }
         ensures step { Does self.old outs.old self.new outs.new (start Timer.T200) }
         ensures len { Grows 1 outs.old outs.new }
+        ensures untold { told_count outs.new.items ≡ told_count outs.old.items }
         ensures window { self.new.window ≡ self.old.window }
         ensures t200 { self.new.t200 ≡ true }
     {
@@ -114,6 +118,7 @@ impl Machine {
         requires room { HasRoom 1 outs.old }
         ensures step { Does self.old outs.old self.new outs.new (stop Timer.T203) }
         ensures len { Grows 1 outs.old outs.new }
+        ensures untold { told_count outs.new.items ≡ told_count outs.old.items }
         ensures window { self.new.window ≡ self.old.window }
     {
         if self.t203 {
@@ -134,6 +139,7 @@ impl Machine {
 #[tactic(auto, unfolding(lapd_link_rows::specs::Procedures::clear_exception_conditions, lapd_link_rows::specs::Procedures::zero_state_variables, lapd_link_rows::specs::Procedures::set_peer_busy, lapd_link_rows::specs::Procedures::set_own_busy, lapd_link_rows::specs::Procedures::enquiry_response, lapd_link_rows::specs::Procedures::transmit_enquiry, lapd_link_rows::specs::Procedures::transmit_rr, lapd_link_rows::specs::Procedures::i_frame_ns))]
 impl Machine {
     ghost use Rattle.lapd_link_machine.specs.Sent.{SentAreOutstanding, IsTaken};
+    ghost use Rattle.lapd_link_machine.specs.Bounds.{told_count};
     ghost use Rattle.lapd_link_machine.specs.StandsFor.{Does, DoesQuietly, HasRoom, Grows};
 
     /// CLEAR EXCEPTION CONDITIONS: busy, rejecting and a pending acknowledgement are forgotten.
@@ -199,6 +205,7 @@ impl Machine {
         requires room { HasRoom 1 outs.old }
         ensures step { Does self.old outs.old self.new outs.new transmit_rr }
         ensures len { Grows 1 outs.old outs.new }
+        ensures untold { told_count outs.new.items ≡ told_count outs.old.items }
     {
         let (window, control) = self.window.acknowledge();
         self.window = window;
@@ -228,6 +235,7 @@ impl Machine {
 #[tactic(auto, using(crate::proofs::Tails::tail_waiting, crate::proofs::Tails::tail_place, crate::proofs::Tails::tail_emptied, crate::proofs::Tails::tail_acknowledged, crate::proofs::Tails::tail_gone_back, crate::proofs::Tails::tail_sent, crate::proofs::Tails::tail_given, crate::proofs::Tails::room_sent, crate::proofs::Tails::room_gone_back), unfolding(lapd_link_rows::specs::Procedures::queue_up, lapd_link_rows::specs::Procedures::discard_i_queue, lapd_link_rows::specs::Procedures::acknowledge, lapd_link_rows::specs::Procedures::invoke_retransmission, lapd_link_rows::specs::Procedures::discard_unacknowledged, lapd_link_rows::specs::Procedures::transmit_i_frame))]
 impl Machine {
     ghost use Rattle.lapd_link_machine.specs.Sent.{SentAreOutstanding, IsTaken};
+    ghost use Rattle.lapd_link_machine.specs.Bounds.{told_count};
     ghost use Rattle.lapd_link_machine.specs.StandsFor.{Does, DoesQuietly, HasRoom, Grows};
 
     /// A message joins the queue, or is handed back where the queue is full.
@@ -246,6 +254,7 @@ impl Machine {
         requires room { HasRoom 1 outs.old }
         ensures step { Does self.old outs.old self.new outs.new discard_i_queue }
         ensures len { Grows 1 outs.old outs.new }
+        ensures state { self.new.state ≡ self.old.state }
     {
         let dropped = self.queue.discard();
         if dropped > 0 {
@@ -296,6 +305,7 @@ impl Machine {
         requires unsent { self.old.queue.sent < length self.old.queue.messages }
         ensures step { Does self.old outs.old self.new outs.new (transmit_i_frame Tagged) }
         ensures len { Grows 1 outs.old outs.new }
+        ensures untold { told_count outs.new.items ≡ told_count outs.old.items }
         ensures window { self.new.window ≡ after_sending Tagged self.old.window }
         ensures t200 { self.new.t200 ≡ self.old.t200 }
     {
@@ -332,6 +342,7 @@ impl Machine {
 #[tactic(auto, using(crate::proofs::Guards::guard_starts, crate::proofs::Guards::guard_runs))]
 impl Machine {
     ghost use Rattle.lapd_link_machine.specs.Sent.{SentAreOutstanding, IsTaken};
+    ghost use Rattle.lapd_link_machine.specs.Bounds.{told_count};
     ghost use Rattle.lapd_link_machine.specs.StandsFor.{Does, DoesQuietly, HasRoom, Grows};
 
     /// Where T200 does not run, T203 is stopped and it is started.
@@ -340,6 +351,7 @@ impl Machine {
         ensures step { Does self.old outs.old self.new outs.new ensure_t200 }
         ensures len { array_vec_len outs.new ≤ array_vec_len outs.old
             + (if self.old.t200 then 0 else 2) }
+        ensures untold { told_count outs.new.items ≡ told_count outs.old.items }
         ensures window { self.new.window ≡ self.old.window }
         ensures t200 { self.new.t200 ≡ true }
     {
@@ -360,6 +372,7 @@ impl Machine {
         requires room { HasRoom 3 outs.old }
         ensures step { Does self.old outs.old self.new outs.new establish_data_link }
         ensures len { Grows 3 outs.old outs.new }
+        ensures state { self.new.state ≡ State.AwaitingEstablishment }
     {
         self.clear_exception_conditions();
         self.release_pending_to(false);

@@ -17,6 +17,7 @@ use std::alloc::{AllocError, Global};
 
 #[tactic(auto, unfolding(lapd_link_rows::specs::End::begin, lapd_queue::specs::Waiting::with_room))]
 impl Machine {
+    ghost use Rattle.lapd_link_machine.specs.Bounds.{IsBounded};
     ghost use Rattle.lapd_link_machine.specs.Sent.{IsBetweenSteps};
     ghost use Rattle.lapd_link_machine.specs.StandsFor.{StandsFor};
 
@@ -48,6 +49,7 @@ impl Machine {
             → StandsFor self.new outs.new.items (end_step Tagged
             (row Tagged e.state (input_of event.entry) (begin e))) }
         ensures numbers { AreTags self.new.window }
+        ensures bounded { IsBounded (input_of event.entry) outs.new.items }
     {
         self.row(event, outs);
         self.end_step(outs);

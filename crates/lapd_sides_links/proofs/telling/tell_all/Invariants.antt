@@ -1,5 +1,6 @@
 use Rattle.std.proofs.Common.{◌≡◌, ◌≤◌, ◌+◌, ◌++◌, drop, map, length}
 use Rattle.std.specs.List.{filter_map}
+use Rattle.lapd_link_machine.specs.Bounds.{told_count}
 use Rattle.lapd_sides_links.specs.declared.primitive.Primitive.TheVariants.{Of}
 use Rattle.lapd_sides_links.specs.Effects.{what_of}
 use Rattle.lapd_sides_links.proofs.telling.tell_all.Given as goal
@@ -7,4 +8,4 @@ use Rattle.lapd_sides_links.proofs.telling.tell_all.Given as goal
 abbrev pub invariant-loop-out : goal.invariant-loop-out
 invariant-loop-out l =
     (l.acts.primitives ++ map (Of l.id) (filter_map (what_of l.octets) (drop l.out-index l.outs)) ≡ l.initial.acts.primitives ++ map (Of l.id) (filter_map (what_of l.octets) l.outs))
-    × ((l.acts.frames ≡ l.initial.acts.frames) × (length l.acts.primitives + length (drop l.out-index l.outs) ≤ length l.initial.acts.primitives + length l.outs))
+    × ((l.acts.frames ≡ l.initial.acts.frames) × (length l.acts.primitives + told_count (drop l.out-index l.outs) ≤ length l.initial.acts.primitives + told_count l.outs))

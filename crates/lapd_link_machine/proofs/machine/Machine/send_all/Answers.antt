@@ -1,7 +1,8 @@
-use Rattle.std.proofs.Common.{refl, sym, ◌∙◌, ap, arith, ◌≡◌, ◌+◌}
+use Rattle.std.proofs.Common.{refl, sym, ◌∙◌, ap, arith, ◌≡◌, ◌+◌, true≢false}
 use Rattle.lapd_mod128.specs.Counting.{Tagged}
 use Rattle.lapd_supervision.specs.StateVariables.{outstanding}
 use Rattle.lapd_supervision.proofs.Outstanding.{outstanding_after_sending}
+use Rattle.lapd_link_rows.specs.EndOfStep.{is_established}
 use Rattle.lapd_link_rows.proofs.Sending.{sends_one, sends_none, tags_reach}
 use Rattle.lapd_link_machine.proofs.machine.Machine.send_all.Goals as goal
 
@@ -22,6 +23,9 @@ loop-self-preserved c =
     let room = c.loop-self.invariant.room in
     record {
       room = rw c.ensure_t200.ensures.t200 (omega (arith, more, few, rw c.transmit_i_frame.ensures.t200 at len, before, room));
+      none = λ h. let still = c.loop-self.invariant.none h in
+          absurd (true≢false (sym (c.loop-self-test.ensures.established refl) ∙ ap is_established still.0 ∙ h));
+      untold = c.ensure_t200.ensures.untold ∙ c.transmit_i_frame.ensures.untold ∙ c.loop-self.invariant.untold;
       same = λ s h.
           let so_far = c.loop-self.invariant.same s h in
           let t = so_far.0 in

@@ -1,0 +1,37 @@
+-- Frames and timers are nothing that the layers above are told of.
+use Rattle.std.proofs.Common.{◌≡◌, ◌≤◌, ◌+◌, ◌++◌, ◌∷◌, [], ℕ, List, Bool, false, length, refl, ap, ◌∙◌, append-nil, arith}
+use Rattle.std.specs.List.{filter}
+use Rattle.std.proofs.lemmas.List.Elements.{filter-append}
+use Rattle.std.proofs.lemmas.List.Sums.{length-filter, count_by-le-length}
+use Rattle.lapd_link_rows.specs.declared.out.Out.{Out}
+use Rattle.lapd_link_rows.specs.Input.{Input, Heard, Faulty, Expiry, Establish, Release, BusyOn, BusyOff, UnitData, Give}
+use Rattle.lapd_link_machine.specs.Bounds.{is_told, told_count, most_outputs, IsBounded}
+
+pub told_behind : (outs : List Out) (out : Out) → is_told out ≡ false → told_count (outs ++ out ∷ []) ≡ told_count outs
+told_behind outs out h =
+    let none : filter is_told (out ∷ []) ≡ [] = rw h refl in
+    ap length (filter-append is_told outs (out ∷ []) ∙ rw none (append-nil (filter is_told outs)))
+
+pub told_among : (outs : List Out) → told_count outs ≤ length outs
+told_among outs = rw (length-filter is_told outs) (count_by-le-length is_told outs)
+
+-- of a step, by what its row gave, and by whether the link is established then
+all_of : (input : Input) (n : ℕ) → n ≤ 136 → (input ≡ Establish → n ≤ 7) → n ≤ most_outputs input
+all_of Establish n few brief = brief refl
+all_of (Heard control role) n few brief = few
+all_of (Faulty kind) n few brief = few
+all_of (Expiry timer) n few brief = few
+all_of Release n few brief = few
+all_of BusyOn n few brief = few
+all_of BusyOff n few brief = few
+all_of (UnitData len) n few brief = few
+all_of (Give message) n few brief = few
+
+pub bounded : (input : Input) (established : Bool) (of_row outs : List Out) → length of_row ≤ 6
+    → (input ≡ Establish → established ≡ false) → length outs ≤ 136
+    → (established ≡ false → length outs ≤ length of_row + 1) → told_count outs ≡ told_count of_row
+    → IsBounded input outs
+bounded input established of_row outs six waits few quiet same = record {
+  all = all_of input (length outs) few (λ h. let one = quiet (waits h) in omega (arith, one, six));
+  told = let n = told_among of_row in rw same (omega (arith, n, six));
+}
