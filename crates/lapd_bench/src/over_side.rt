@@ -7,7 +7,7 @@ ghost use Rattle.std.specs.List.{All};
 use crate::OCTETS;
 use crate::bench_fault::BenchFault;
 use crate::done::Done;
-use lapd_sides::{Acts, Config, Durations, NetSide, Params, Primitive, Tei, What};
+use lapd_sides::{Acts, Config, NetSide, Primitive, Tei, What};
 use std::alloc::Global;
 
 /// The moment at which all is done, in milliseconds: before the first T203 of a link expires.
@@ -215,10 +215,7 @@ fn place_of(number: u32) -> Result<(u8, u8), BenchFault> {
 fn config(links: u32) -> Config {
     Config {
         sapi16: links > 127,
-        params0: Params::primary(),
-        params16: Params::primary(),
-        durations: Durations::standard(),
-        seed: 0,
+        ..Config::primary(0)
     }
 }
 

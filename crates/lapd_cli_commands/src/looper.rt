@@ -42,7 +42,8 @@ pub fn loop_over<R: Read, W: Write, S: Source, K: Sink>(
         (lines_of octets) (W.contents out.old) (W.contents out.new)) }
     ensures crossed { IfSome (R.remaining script.old)
         (λ octets. OnOk result.0 (HaveCrossed (S.rest port.source) (S.rest result.1.source)
-        (K.written port.sink) (K.written result.1.sink) (frames_put (new_world user network) (lines_of octets)))) }
+        (K.written port.sink) (K.written result.1.sink)
+        (frames_put (new_world user network) (lines_of octets)))) }
 {
     let mover = match Mover::new(alloc, user, network) {
         Ok(mover) => mover,

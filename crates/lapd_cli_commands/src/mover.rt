@@ -200,7 +200,8 @@ fn put_figures<W: Write>(side: Side, figures: Figures, out: &mut W) -> Result<()
 /// Prints how many moves were made, and whether none is possible any more.
 fn put_settled<W: Write>(settled: Settled, out: &mut W) -> Result<(), LineFault>
     ensures ok { OnOk result
-        (Appends (W.contents out.old) (W.contents out.new) (settled_line settled.moves settled.rest)) }
+        (Appends (W.contents out.old) (W.contents out.new)
+        (settled_line settled.moves settled.rest)) }
     ensures err { IsOkUnless result LineFault.Device }
 {
     let Settled { moves, rest } = settled;

@@ -74,7 +74,8 @@ fn move_by(alloc: Global, word: &[u8], side: Side, behind: Words<'_>) -> Result<
 
 /// This move, where nothing stands behind.
 fn alone(behind: Words<'_>, deed: Move) -> Result<Move, LineFault>
-    ensures { Reads move_of result (bare_move (move_of deed).side (move_of deed).deed behind.entry) }
+    ensures { Reads move_of result
+        (bare_move (move_of deed).side (move_of deed).deed behind.entry) }
 {
     behind.nothing()?;
     Ok(deed)

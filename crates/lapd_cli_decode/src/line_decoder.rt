@@ -54,7 +54,8 @@ pub fn decode_good_lines<R: Read, W: Write, E: Write + Drop>(
     errors: E,
 ) -> Result<(), ScriptFault>
     ensures { IfSome (R.remaining script.old) (λ octets. EndsAs keeping_step
-        (record { form = form; style = style }) result (lines_of octets) (W.contents out.old) (W.contents out.new)) }
+        (record { form = form; style = style }) result (lines_of octets)
+        (W.contents out.old) (W.contents out.new)) }
 {
     let decoder = LineDecoder { alloc, form, style };
     let mut decoder = GoodLines { decoder, errors };

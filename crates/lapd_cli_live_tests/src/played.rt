@@ -3,7 +3,7 @@
 use crate::made::Made;
 use crate::wants::are_same;
 use lapd_cli_live::{LiveSide, LiveStop, Printer, Style, live_script};
-use lapd_sides::{Acts, Config, Durations, EitherSide, NetSide, Params, Sapi, Tei, UserSide};
+use lapd_sides::{Acts, Config, EitherSide, NetSide, Tei, UserSide};
 use std::alloc::{AllocError, Global};
 
 /// Which side goes over a script.
@@ -41,10 +41,7 @@ pub(crate) struct Played<'s> {
 fn side_of(alloc: Global, who: Who) -> Result<EitherSide, AllocError> {
     let config = Config {
         sapi16: true,
-        params0: Params::basic(Sapi::Call),
-        params16: Params::basic(Sapi::Packet),
-        durations: Durations::standard(),
-        seed: 921,
+        ..Config::basic(921)
     };
     match who {
         Who::Net => {

@@ -6,8 +6,7 @@
 use anyhow::{Result, bail};
 use lapd_port::{FromRead, FromWrite, MOST_OCTETS, Port};
 use lapd_sides::{
-    Acts, Config, Durations, EitherSide, LinkId, NetSide, Params, Primitive, Request, Sapi, Tei,
-    UserSide, What,
+    Acts, Config, EitherSide, LinkId, NetSide, Primitive, Request, Sapi, Tei, UserSide, What,
 };
 use std::io::{self, ErrorKind};
 use std::net::{TcpListener, TcpStream};
@@ -15,34 +14,33 @@ use std::time::{Duration, Instant};
 
 fn main(rt: HostRuntime) -> Result<()> {
     let mut words = std::env::args(&rt)?.skip(1);
-    let (Some(role), Some(address), Some(tei)) = (words.next(), words.next(), Tei::new(0)) else {
+    let (Some(role), Some(address)) = (words.next(), words.next()) else {
         bail!("usage: lapd_example net|user ADDRESS");
     };
-    let config = Config {
-        sapi16: false,
-        params0: Params::primary(),
-        params16: Params::primary(),
-        durations: Durations::standard(),
-        seed: 1,
-    };
-    if role.as_str() == "net" {
-        let (stream, _from) = TcpListener::bind(&rt, address.as_str())?.accept()?;
-        let side = NetSide::new(rt.alloc(), config, &[tei])?;
-        Endpoint::new(&rt, EitherSide::Network(side), &stream)?.serve(&rt)
-    } else {
-        let stream = TcpStream::connect(&rt, address.as_str())?;
-        let side = UserSide::new(rt.alloc(), config, Some(tei))?;
-        let sapi = Sapi::Call;
-        let mut endpoint = Endpoint::new(&rt, EitherSide::User(side), &stream)?;
-        endpoint.request(&rt, Request::Establish(LinkId { sapi, tei }))?;
-        endpoint.serve(&rt)
+    match role.as_str() {
+        "net" => net(&rt, &TcpListener::bind(&rt, address.as_str())?.accept()?.0),
+        _ => user(&rt, &TcpStream::connect(&rt, address.as_str())?),
     }
+}
+
+fn net(rt: &HostRuntime, stream: &TcpStream) -> Result<()> {
+    let side = NetSide::new(rt.alloc(), Config::primary(0), &[Tei::new(0).unwrap()])?;
+    Endpoint::new(rt, &mut EitherSide::Network(side), stream)?.serve(rt)
+}
+
+fn user(rt: &HostRuntime, stream: &TcpStream) -> Result<()> {
+    let (sapi, tei) = (Sapi::Call, Tei::new(0).unwrap());
+    let side = UserSide::new(rt.alloc(), Config::primary(1), Some(tei))?;
+    let mut side = EitherSide::User(side);
+    let mut endpoint = Endpoint::new(rt, &mut side, stream)?;
+    endpoint.request(rt, Request::Establish(LinkId { sapi, tei }))?;
+    endpoint.serve(rt)
 }
 
 /// A side with a connection to the other one, what its last call gave, and a clock.
 #[derive(Drop)]
 struct Endpoint<'s> {
-    side: EitherSide,
+    side: &'s mut EitherSide,
     acts: Acts,
     stream: &'s TcpStream,
     port: Port<FromRead<&'s TcpStream>, FromWrite<&'s TcpStream>>,
@@ -50,7 +48,7 @@ struct Endpoint<'s> {
 }
 
 impl<'s> Endpoint<'s> {
-    fn new(rt: &HostRuntime, side: EitherSide, stream: &'s TcpStream) -> Result<Self> {
+    fn new(rt: &HostRuntime, side: &'s mut EitherSide, stream: &'s TcpStream) -> Result<Self> {
         Ok(Endpoint {
             side,
             acts: Acts::new(rt.alloc())?,

@@ -81,7 +81,8 @@ impl Link {
     /// pending. The link is unchanged.
     pub fn handle(&mut self, event: Event) -> Result<Outs, LinkFault>
         requires for_link { IsForLink self.old event }
-        ensures ok { IfOk result (λ outs. Steps self.old self.new (input_of event.entry) outs.items) }
+        ensures ok { IfOk result (λ outs.
+            Steps self.old self.new (input_of event.entry) outs.items) }
         ensures frames { IfOk result (λ outs. HasFramesOf self.new outs.items) }
         ensures err { IfErr result (Refuses self.old (input_of event.entry)) }
         ensures unchanged { OnErr result (self.new ≡ self.old) }

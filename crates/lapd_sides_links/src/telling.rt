@@ -40,7 +40,8 @@ pub fn tell_all(id: &LinkId, octets: &[u8], outs: &[Out], acts: &mut Acts)
     ensures primitives { acts.new.primitives
         ≡ acts.old.primitives ++ map (Of id.now) (filter_map (what_of octets.now) outs.now) }
     ensures frames { acts.new.frames ≡ acts.old.frames }
-    ensures at_most { length acts.new.primitives ≤ length acts.old.primitives + told_count outs.now }
+    ensures at_most { length acts.new.primitives
+        ≤ length acts.old.primitives + told_count outs.now }
 {
     for out in outs {
         if is_told(out) {

@@ -28,10 +28,7 @@ pub(crate) fn params() -> Params {
 fn config_of(words: &str) -> Config {
     let mut config = Config {
         sapi16: words.contains("packets"),
-        params0: Params::basic(Sapi::Call),
-        params16: Params::basic(Sapi::Packet),
-        durations: Durations::standard(),
-        seed: 921,
+        ..Config::basic(921)
     };
     if words.contains("fast") {
         config.params0 = params();

@@ -1,6 +1,6 @@
 //! JSON objects for octets, as docs/SPECIFICATION.md has them.
 
-use crate::lines::rows_hold;
+use crate::captures::lines::rows_hold;
 use lapd_cli_decode::{LineForm, Style};
 use std::test::Fail;
 

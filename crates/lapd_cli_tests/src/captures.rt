@@ -1,0 +1,7 @@
+//! Captures, and `decode` over them and over loose lines. The rows are what Wireshark's programs write.
+
+mod lines;
+mod objects;
+mod read;
+mod wants;
+mod written;
