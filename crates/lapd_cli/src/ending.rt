@@ -46,7 +46,7 @@ pub struct Ending<'a> {
     pub strict: bool,
     /// The line that is bad. It is empty where none is, and where it is not known any more.
     pub line: &'a [u8],
-    /// What was printed for the first line that was refused. It is empty where none was.
+    /// What was printed for the first line that was refused. It is empty where none was, and where the exit status tells of none.
     pub refusal: &'a [u8],
     /// How the last read of the script failed.
     pub input: Option<ErrorKind>,

@@ -70,7 +70,7 @@ fn has_forms(chosen: &Invocation<'_>) -> bool {
 // Does what the words chose, over a script that comes from this reader, and says how it ended.
 fn do_script<R: Read + Drop>(rt: &HostRuntime, chosen: &Invocation<'_>, reader: R) -> ExitCode {
     let mut kept = KeptLines::new(reader);
-    let watched = Watched::new(Refusals::new(rt.stdout()));
+    let watched = Watched::new(Refusals::new(rt.stdout(), chosen.strict));
     let Ok(mut out) = BufWriter::new(rt.alloc(), watched) else {
         return say_memory(rt);
     };

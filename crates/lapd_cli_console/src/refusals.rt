@@ -16,26 +16,28 @@ const REFUSED_OBJECT: &[u8] = b"{\"refused\":";
 const NOTED: usize = 256;
 
 /// A writer that hands on to another writer, and notes the first line that begins with `refused `, or with a moment and that, and
-/// the first object of which the first member is `refused`.
+/// the first object of which the first member is `refused`, where that is wanted.
 #[derive(Drop)]
 pub struct Refusals<W> {
     writer: W,
     noted: Noted,
+    is_wanted: bool,
 }
 
 impl<W: Write> Refusals<W> {
-    /// Hands on to this writer.
-    pub fn new(writer: W) -> Refusals<W>
+    /// Hands on to this writer, and notes the first refusal where that is wanted. Where it is not, the text is not looked through.
+    pub fn new(writer: W, is_wanted: bool) -> Refusals<W>
         ensures { result.writer ≡ writer }
     {
         Refusals {
             writer,
             noted: Noted::new(),
+            is_wanted,
         }
     }
 
     /// The first line that was written whole and begins with `refused `, or with a moment and that, or is an object that begins
-    /// with `refused`, without its line feed and cut to 256 octets.
+    /// with `refused`, without its line feed and cut to 256 octets. None where it was not wanted.
     pub fn first(&self) -> Option<&[u8]> {
         self.noted.refusal()
     }
@@ -53,7 +55,9 @@ impl<W: Write> Write for Refusals<W> {
 
     fn write(&mut self, octets: &[u8]) -> io::Result<usize> {
         let count = self.writer.write(octets)?;
-        self.noted.note(&octets[..count]);
+        if self.is_wanted && !self.noted.is_refused {
+            self.noted.note(&octets[..count]);
+        }
         Ok(count)
     }
 

@@ -168,7 +168,7 @@ fn goes_over<S: Source + Drop, K: Sink + Drop>(
     port: Port<S, K>,
 ) -> bool {
     let mut script = KeptLines::new(Console(play));
-    let mut out = Watched::new(Refusals::new(Console(play)));
+    let mut out = Watched::new(Refusals::new(Console(play), true));
     let (ended, mut port) = run(alloc, chosen, &mut script, &mut out, port);
     let fault = script.fault().or(out.fault());
     let is_failed = match ended {

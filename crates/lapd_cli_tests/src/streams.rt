@@ -148,13 +148,15 @@ fn are_refused(alloc: Global) -> Result<bool, AllocError> {
     Ok(true)
 }
 
-/// Whether this is the first refusal of a text that is written in such parts.
+/// Whether this is the first refusal of a text that is written in such parts, and none is told where it is not wanted.
 fn refuses(text: &[u8], most: usize, first: &str) -> bool {
-    let mut out = Refusals::new(io::sink());
+    let mut wanted = Refusals::new(io::sink(), true);
+    let mut unwanted = Refusals::new(io::sink(), false);
     for part in text.chunks(most.max(1)) {
-        let _ = out.write_all(part);
+        let _ = wanted.write_all(part);
+        let _ = unwanted.write_all(part);
     }
-    out.first().unwrap_or(b"none") == first.as_bytes()
+    wanted.first().unwrap_or(b"none") == first.as_bytes() && unwanted.first().is_none()
 }
 
 /// What is typed, what is told of it, and what `answer` prints. Nothing is read behind `quit`.
