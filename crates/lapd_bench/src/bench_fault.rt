@@ -1,7 +1,6 @@
 use lapd_frame::FrameFault;
 use lapd_link::{LinkFault, Refused};
 use lapd_pair::PairFault;
-use lapd_port::PortFault;
 use lapd_sides::SideFault;
 use lapd_table::TableFault;
 use std::alloc::AllocError;
@@ -27,8 +26,6 @@ pub enum BenchFault {
     Table,
     /// A side refused octets.
     Side,
-    /// A port failed.
-    Port,
 }
 
 impl BenchFault {
@@ -36,7 +33,7 @@ impl BenchFault {
     pub fn text(self) -> &'static str {
         match self {
             BenchFault::CommandLine => {
-                "usage: lapd_bench [MESSAGES], lapd_bench pair MESSAGES, lapd_bench line FRAMES MOVES, lapd_bench table|side|tick|expire LINKS TIMES, lapd_bench port FRAMES OCTETS, or lapd_bench due|terminal|check|request TIMES"
+                "usage: lapd_bench [MESSAGES], lapd_bench pair MESSAGES, lapd_bench line FRAMES MOVES, or lapd_bench table|side|tick|expire LINKS TIMES"
             }
             BenchFault::Memory => "out of memory",
             BenchFault::Link => "a link refuses a request",
@@ -46,7 +43,6 @@ impl BenchFault {
             BenchFault::Pair => "a pair refuses a move",
             BenchFault::Table => "a table refuses a frame or a link",
             BenchFault::Side => "a side refuses octets",
-            BenchFault::Port => "a port fails",
         }
     }
 }
@@ -90,11 +86,5 @@ impl From<TableFault> for BenchFault {
 impl From<SideFault> for BenchFault {
     fn from(_fault: SideFault) -> BenchFault {
         BenchFault::Side
-    }
-}
-
-impl From<PortFault> for BenchFault {
-    fn from(_fault: PortFault) -> BenchFault {
-        BenchFault::Port
     }
 }

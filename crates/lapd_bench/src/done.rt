@@ -1,17 +1,7 @@
-/// What was done.
+/// How many messages were given, received and acknowledged; of what else is done, how often it was, and what came of it.
 #[derive(Clone, Copy)]
-pub enum Done {
-    /// So many messages were given, received and acknowledged.
-    Messages {
-        given: u64,
-        received: u64,
-        acknowledged: u64,
-    },
-    /// So many octets were written to a port, and so many frames read from them.
-    Frames {
-        written: usize,
-        read: u32,
-    },
-    /// So many timers were due, or so many outputs came of steps.
-    Outputs(u64),
+pub struct Done {
+    pub given: u64,
+    pub received: u64,
+    pub acknowledged: u64,
 }

@@ -9,19 +9,15 @@
 //! after another to each link of a table of `lapd_table`, and writes the answers; `side LINKS FRAMES` hands in I frames to
 //! the links of a side of `lapd_sides`, `tick LINKS TIMES` asks what is due, and `expire LINKS TIMES` lets the timers of all
 //! links be due at once. It prints how many messages were given, received and acknowledged; of `tick` and `expire` how many
-//! times it was done and how many timers were due. `port FRAMES OCTETS` writes frames to a port in memory and reads them back.
-//! `due`, `terminal`, `check` and `request`, each with TIMES behind it, look for due timers and make steps of TEI management,
-//! and print how many timers were due or how many outputs there were. Begin with `run`.
+//! times it was done and how many timers were due. Begin with `run`.
 #![tactic(auto)]
 
 mod bench_fault;
 mod done;
 mod end;
 mod over_pair;
-mod over_port;
 mod over_side;
 mod over_table;
-mod over_tei;
 mod wire;
 
 use bench_fault::BenchFault;
@@ -64,17 +60,12 @@ fn status(shown: io::Result<()>) -> ExitCode {
 
 /// Prints what was done.
 fn show(rt: &HostRuntime, done: Done) -> io::Result<()> {
-    match done {
-        Done::Messages {
-            given,
-            received,
-            acknowledged,
-        } => println!(rt; "{given} given, {received} received, {acknowledged} acknowledged"),
-        Done::Frames { written, read } => {
-            println!(rt; "{written} octets written, {read} frames read")
-        }
-        Done::Outputs(outputs) => println!(rt; "{outputs} outputs"),
-    }
+    let Done {
+        given,
+        received,
+        acknowledged,
+    } = done;
+    println!(rt; "{given} given, {received} received, {acknowledged} acknowledged")
 }
 
 /// Does what the command line asks for.
@@ -103,20 +94,9 @@ fn do_word(alloc: Global, word: &str, words: &mut Args) -> Result<Done, BenchFau
     }
     match (first, second) {
         (None, _) => run(alloc, number(word)?),
-        (Some(times), None) => do_with_one(alloc, word, times),
+        (Some(times), None) if word == "pair" => over_pair::pass(alloc, times),
+        (Some(_), None) => Err(BenchFault::CommandLine),
         (Some(count), Some(times)) => do_with_two(alloc, word, count, times),
-    }
-}
-
-/// Does what this word asks for with one number.
-fn do_with_one(alloc: Global, word: &str, times: u32) -> Result<Done, BenchFault> {
-    match word {
-        "pair" => over_pair::pass(alloc, times),
-        "due" => Ok(over_tei::due(times)),
-        "terminal" => Ok(over_tei::terminal(times)),
-        "check" => Ok(over_tei::check(times)),
-        "request" => Ok(over_tei::request(times)),
-        _ => Err(BenchFault::CommandLine),
     }
 }
 
@@ -128,7 +108,6 @@ fn do_with_two(alloc: Global, word: &str, count: u32, times: u32) -> Result<Done
         "side" => over_side::pass(alloc, count, Deed::Take(times)),
         "tick" => over_side::pass(alloc, count, Deed::Tick(times)),
         "expire" => over_side::pass(alloc, count, Deed::Expire(times)),
-        "port" => over_port::pass(alloc, count, times),
         _ => Err(BenchFault::CommandLine),
     }
 }
@@ -193,7 +172,7 @@ impl Pair {
             self.pass(alloc, WINDOW)?;
         }
         self.pass(alloc, messages % WINDOW)?;
-        Ok(Done::Messages {
+        Ok(Done {
             given: self.user.given,
             received: self.network.received,
             acknowledged: self.user.acknowledged,

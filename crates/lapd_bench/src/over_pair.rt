@@ -28,7 +28,7 @@ fn pass_each(alloc: Global, give: &Move, messages: u32) -> Result<Done, BenchFau
 fn pass_over(pair: &mut Pair, give: &Move, messages: u32) -> Result<Done, BenchFault> {
     let mut outs = Outs::new();
     pass_all(pair, give, messages, &mut outs)?;
-    Ok(Done::Messages {
+    Ok(Done {
         given: pair.given(Side::User).len() as u64,
         received: pair.received(Side::Network).len() as u64,
         acknowledged: pair.acknowledged(Side::User),
@@ -92,7 +92,7 @@ fn stand_over(pair: &mut Pair, unit: &Move, frames: u32, moves: u32) -> Result<D
     let mut outs = Outs::new();
     repeat(pair, unit, frames, &mut outs)?;
     move_on(pair, unit, moves, &mut outs)?;
-    Ok(Done::Messages {
+    Ok(Done {
         given: u64::from(frames).wrapping_add(u64::from(moves)),
         received: pair.units(Side::Network).len() as u64,
         acknowledged: 0,

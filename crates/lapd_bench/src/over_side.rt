@@ -118,7 +118,7 @@ fn take_each(
         up = up.wrapping_add(messages_up(acts));
         answered = answered.wrapping_add(acts.frames().len() as u64);
     }
-    Ok(Done::Messages {
+    Ok(Done {
         given: u64::from(frames),
         received: up,
         acknowledged: answered,
@@ -133,7 +133,7 @@ fn tick_each(side: &mut NetSide, times: u32, acts: &mut Acts) -> Done {
             due = due.wrapping_add(1);
         }
     }
-    Done::Messages {
+    Done {
         given: u64::from(times),
         received: due,
         acknowledged: 0,
@@ -147,7 +147,7 @@ fn expire_each(side: &mut NetSide, rounds: u32, acts: &mut Acts) -> Done {
         let now = (u64::from(round) + 1) * ROUND;
         due = due.wrapping_add(due_at(side, now, acts));
     }
-    Done::Messages {
+    Done {
         given: u64::from(rounds),
         received: due,
         acknowledged: 0,

@@ -37,7 +37,7 @@ fn add_and_answer(
             return Err(BenchFault::Memory);
         }
     }
-    Ok(Done::Messages {
+    Ok(Done {
         given: u64::from(frames),
         received: answer_each(table, enquiries.as_slice(), frames)?,
         acknowledged: 0,

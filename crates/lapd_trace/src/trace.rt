@@ -1,11 +1,12 @@
-ghost use Rattle.std.specs.Prelude.{◌≡◌, ◌≤◌, ◌++◌, [], length, IfOk, OnOk};
+ghost use Rattle.std.specs.Prelude.{◌≡◌, ◌≤◌, ◌*◌, ◌++◌, [], codes, length, IfOk, OnOk};
 ghost use Rattle.std.specs.Fmt.{decimal};
 ghost use Rattle.std.specs.String.{string_bytes};
 ghost use Rattle.hex.specs.Hex.{encode_lower};
+ghost use Rattle.lapd_frame.specs.Address.{sapi_value};
 ghost use Rattle.lapd_frame.specs.Frame.{IsFrame, spelling};
 ghost use Rattle.lapd_trace.specs.Trace.{trace_line, frame_line, frame_text, direction_text, role_text, poll_text, address_text, control_text, octets_text};
 
-use lapd_frame::{Address, Control, Frame, N201, Number, Role, Side};
+use lapd_frame::{Address, Control, Frame, N201, Number, Role, Sapi, Side};
 use std::alloc::{AllocError, Global};
 
 /// The greatest length of a line, in octets of text, beside two digits for each octet of the frame. An I frame with
@@ -14,6 +15,9 @@ const MOST_BESIDE_DIGITS: usize = 43;
 
 /// How many octets of address and control field a frame has at most.
 const MOST_FIELD_OCTETS: usize = 4;
+
+/// How many octets are few, such as those of a short message.
+const FEW: usize = 32;
 
 /// The line of text for `bytes`, which `from` sent: a frame by the names and values of its fields, or the first fault
 /// and the octets. For the user's frames it begins with `U>N`, for the network's with `N>U`.
@@ -105,8 +109,9 @@ fn push_address(text: &mut String, address: &Address) -> Result<(), AllocError>
     ensures { OnOk result (string_bytes text.new
         ≡ string_bytes text.old ++ address_text address.now) }
 {
-    let (sapi, tei, role) = (address.sapi, address.tei, role_name(address.role));
-    write!(text, "SAPI {sapi} TEI {tei}{role}")
+    text.push_str(sapi_words(address.sapi))?;
+    push_number(text, address.tei.value())?;
+    text.push_str(role_name(address.role))
 }
 
 /// Appends the name of the frame, its sequence numbers and its P/F bit.
@@ -115,7 +120,11 @@ fn push_control(text: &mut String, role: Role, control: Control) -> Result<(), A
         ≡ string_bytes text.old ++ control_text role control) }
 {
     match control {
-        Control::I { ns, nr, p } => write!(text, "I N(S)={ns} N(R)={nr}{}", poll_name(role, p)),
+        Control::I { ns, nr, p } => {
+            push_numbered(text, "I N(S)=", ns, " N(R)=")?;
+            push_number(text, nr.value())?;
+            text.push_str(poll_name(role, p))
+        }
         Control::Rr { nr, pf } => push_numbered(text, "RR N(R)=", nr, poll_name(role, pf)),
         Control::Rnr { nr, pf } => push_numbered(text, "RNR N(R)=", nr, poll_name(role, pf)),
         Control::Rej { nr, pf } => push_numbered(text, "REJ N(R)=", nr, poll_name(role, pf)),
@@ -129,12 +138,26 @@ fn push_control(text: &mut String, role: Role, control: Control) -> Result<(), A
     }
 }
 
-/// Appends the name of a supervisory frame, its N(R) and its P/F bit.
-fn push_numbered(text: &mut String, name: &str, nr: Number, poll: &str) -> Result<(), AllocError>
+/// Appends words, a sequence number, and words.
+fn push_numbered(
+    text: &mut String,
+    front: &str,
+    number: Number,
+    back: &str,
+) -> Result<(), AllocError>
     ensures { OnOk result (string_bytes text.new
-        ≡ string_bytes text.old ++ (name.now ++ (decimal nr ++ poll.now))) }
+        ≡ string_bytes text.old ++ (front.now ++ (decimal number ++ back.now))) }
 {
-    write!(text, "{name}{nr}{poll}")
+    text.push_str(front)?;
+    push_number(text, number.value())?;
+    text.push_str(back)
+}
+
+/// Appends a number in decimal digits.
+fn push_number(text: &mut String, number: u8) -> Result<(), AllocError>
+    ensures { OnOk result (string_bytes text.new ≡ string_bytes text.old ++ decimal number) }
+{
+    text.push_str(itoa::Buffer::new().format(number))
 }
 
 /// Appends the name of an unnumbered frame and its P/F bit.
@@ -166,13 +189,26 @@ fn push_octets(
     push_hex(text, octets)
 }
 
-/// Appends at most 260 octets in lower case hexadecimal. Their digits take no memory of their own.
+/// Appends at most 260 octets in lower case hexadecimal. Their digits take no memory of their own, and the room for those of a
+/// few octets is a small one, as it is cleared first.
 fn push_hex(text: &mut String, octets: &[u8]) -> Result<(), AllocError>
     requires { length octets.now ≤ N201 }
     ensures { OnOk result (string_bytes text.new
         ≡ string_bytes text.old ++ encode_lower octets.now) }
 {
-    let mut room = [0u8; 2 * N201];
+    if octets.len() <= FEW {
+        push_digits(text, octets, &mut [0; 2 * FEW])
+    } else {
+        push_digits(text, octets, &mut [0; 2 * N201])
+    }
+}
+
+/// Appends octets in lower case hexadecimal, whose digits this has room for.
+fn push_digits(text: &mut String, octets: &[u8], room: &mut [u8]) -> Result<(), AllocError>
+    requires { 2 * length octets.now ≤ length room.old }
+    ensures { OnOk result (string_bytes text.new
+        ≡ string_bytes text.old ++ encode_lower octets.now) }
+{
     let digits = &mut room[..2 * octets.len()];
     let Ok(()) = hex::encode_to_slice(octets, digits) else {
         unreachable!()
@@ -181,6 +217,17 @@ fn push_hex(text: &mut String, octets: &[u8]) -> Result<(), AllocError>
         unreachable!()
     };
     text.push_str(digits)
+}
+
+/// The first words of a line behind its direction, up to the TEI.
+fn sapi_words(sapi: Sapi) -> &'static str
+    ensures { result.now ≡ codes "SAPI " ++ (decimal (sapi_value sapi) ++ codes " TEI ") }
+{
+    match sapi {
+        Sapi::Call => "SAPI 0 TEI ",
+        Sapi::Packet => "SAPI 16 TEI ",
+        Sapi::Management => "SAPI 63 TEI ",
+    }
 }
 
 /// Who sent a frame, and to whom.
