@@ -1,11 +1,11 @@
 //! The moves that a script's lines are.
 
-ghost use Rattle.std.specs.Prelude.{◌≡◌, ◌<◌, ◌-◌, if◌then◌else◌, IfSome, None, Some};
-ghost use Rattle.lapd_cli_script.specs.Line.{is_digit, number_behind, number_said, words_of};
+ghost use Rattle.std.specs.Prelude.{◌≡◌, ◌<◌, IfSome, None, Some};
+ghost use Rattle.lapd_cli_script.specs.Line.{number_behind, number_said, words_of};
 ghost use Rattle.lapd_cli_commands.specs.BusMoves.{move_of, move_by, hear, nothing_behind, terminal_and_reference, tei_at, tei_behind, reference_of, digit_value};
 
 use crate::words::is;
-use lapd_cli_script::Words;
+use lapd_cli_script::{Words, number_of};
 use lapd_tei::{BusMove, Tei};
 
 /// The move that a line is, `None` where it is none.
@@ -106,29 +106,11 @@ fn tei_at(number: usize) -> Option<Tei>
     }
 }
 
-/// The number below 2^64 that a word writes in decimal digits alone.
+/// The place that a word writes in decimal digits alone.
 fn place_of(word: &[u8]) -> Option<usize>
     ensures { result ≡ number_said word.now }
 {
-    if word.is_empty() {
-        return None;
-    }
-    let mut number: usize = 0;
-    for digit in word {
-        number = number.checked_mul(10)?.checked_add(digit_of(*digit)?)?;
-    }
-    Some(number)
-}
-
-/// What a decimal digit counts.
-fn digit_of(octet: u8) -> Option<usize>
-    ensures { result ≡ (if is_digit octet then Some (octet - 48) else None) }
-{
-    if octet.is_ascii_digit() {
-        Some(usize::from(octet - b'0'))
-    } else {
-        None
-    }
+    Some(number_of(word)? as usize)
 }
 
 /// The reference that a word of four hexadecimal digits writes.

@@ -2,7 +2,7 @@
 use Rattle.std.specs.Prelude.{ℕ, ◌==◌, ◌&&◌, ◌||◌, nat_le, Bool, true, false, List, [], ◌∷◌, ◌++◌, length, codes, if◌then◌else◌, Option, Some, None, is_some, option_and_then, find}
 use Rattle.std.specs.Str.{bytes_eq}
 use Rattle.lapd_frame.specs.Address.{sapi_at, number_at}
-use Rattle.lapd_cli_script.specs.Line.{number_behind, octets_behind, words_of}
+use Rattle.lapd_cli_script.specs.Line.{number_said, octets_behind, words_of}
 use Rattle.lapd_cli_script.specs.Script.{is_passed_over}
 use Rattle.lapd_cli_console.specs.declared.form.Argument.{Argument}
 use Rattle.lapd_cli_console.specs.declared.form.Argument.TheVariants.{Hex, Message, Milliseconds, OnOff, Place, Reference, Sapi, Side, Tei, Terminal}
@@ -65,11 +65,7 @@ shape_named script word = find (λ shape. bytes_eq word shape.0) (shapes_of scri
 
 -- ---- What a word says.
 
--- the number below 2^64 that a word writes in decimal digits
-abbrev pub number_said : List ℕ → Option ℕ
-number_said word = number_behind (words_of word)
-
--- such a number below 256
+-- the number below 256 that a word writes in decimal digits
 abbrev pub octet_at : ℕ → Option ℕ
 octet_at n = if nat_le n 255 then Some n else None
 

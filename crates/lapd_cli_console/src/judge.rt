@@ -6,13 +6,13 @@ ghost use Rattle.std.specs.Str.{bytes_eq};
 ghost use Rattle.lapd_cli_script.specs.Line.{words_of};
 ghost use Rattle.lapd_cli_script.specs.Script.{is_passed_over as passed_over, outcome_of};
 ghost use Rattle.lapd_cli_commands.specs.Answer.{Session, answer_step};
-ghost use Rattle.lapd_cli_console.specs.Forms.{are_said, are_words_of, shape_named, shape_of, is_line_of, is_said, number_said, octet_said, octets_said};
+ghost use Rattle.lapd_cli_console.specs.Forms.{are_said, are_words_of, shape_named, shape_of, is_line_of, is_said, octet_said, octets_said};
 
 use crate::complaint::Complaint;
 use crate::form::{Argument, Form};
 use crate::line_forms::forms;
 use crate::script::Script;
-use lapd_cli_script::{LineFault, Words};
+use lapd_cli_script::{LineFault, Words, number_of};
 use lapd_frame::{Sapi, Tei};
 use memchr::memmem;
 use std::alloc::{AllocError, Global};
@@ -179,14 +179,14 @@ fn is_in_range(alloc: Global, argument: Argument, word: &[u8]) -> Result<bool, A
     match argument {
         Argument::Hex => are_octets(alloc, word),
         Argument::Message | Argument::Place | Argument::Terminal => {
-            Ok(number_of(word)?.is_some())
+            Ok(number_of(word).is_some())
         }
-        Argument::Milliseconds => Ok(number_of(word)?.is_some_and(|ms| 1 <= ms && ms <= MOST_MS)),
+        Argument::Milliseconds => Ok(number_of(word).is_some_and(|ms| 1 <= ms && ms <= MOST_MS)),
         Argument::OnOff => Ok(matches!(word, b"on" | b"off")),
         Argument::Reference => Ok(word.len() == 4 && are_octets(alloc, word)?),
-        Argument::Sapi => Ok(octet_of(word)?.is_some_and(|sapi| Sapi::new(sapi).is_some())),
+        Argument::Sapi => Ok(octet_of(word).is_some_and(|sapi| Sapi::new(sapi).is_some())),
         Argument::Side => Ok(matches!(word, b"user" | b"net")),
-        Argument::Tei => Ok(octet_of(word)?.is_some_and(|tei| Tei::new(tei).is_some())),
+        Argument::Tei => Ok(octet_of(word).is_some_and(|tei| Tei::new(tei).is_some())),
     }
 }
 
@@ -205,33 +205,11 @@ fn are_octets(alloc: Global, word: &[u8]) -> Result<bool, AllocError>
     }
 }
 
-/// The number below 2^64 that a word writes in decimal digits.
-///
-/// # Errors
-///
-/// `AllocError` where memory was refused.
-fn number_of(word: &[u8]) -> Result<Option<u64>, AllocError>
-    ensures { IfOk result (λ number. number ≡ number_said word.now) }
-{
-    match Words::of(word).number() {
-        Ok(number) => Ok(Some(number)),
-        Err(LineFault::Bad) => Ok(None),
-        Err(_) => Err(AllocError),
-    }
-}
-
 /// The number below 256 that a word writes in decimal digits.
-///
-/// # Errors
-///
-/// `AllocError` where memory was refused.
-fn octet_of(word: &[u8]) -> Result<Option<u8>, AllocError>
-    ensures { IfOk result (λ octet. octet ≡ octet_said word.now) }
+fn octet_of(word: &[u8]) -> Option<u8>
+    ensures { result ≡ octet_said word.now }
 {
-    match number_of(word)? {
-        Some(number) => Ok(u8::try_from(number).ok()),
-        None => Ok(None),
-    }
+    u8::try_from(number_of(word)?).ok()
 }
 
 /// What is wrong with a word that is not what this argument has to be.

@@ -13,6 +13,6 @@ mod print;
 mod script;
 
 pub use lapd_port::PortFault;
-pub use line::Words;
+pub use line::{Words, number_of};
 pub use print::{put_hex, put_line, put_number, put_octets};
 pub use script::{Command, LineFault, ScriptFault, walk};

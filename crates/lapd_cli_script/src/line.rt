@@ -155,8 +155,9 @@ fn fill_with(octets: &mut Vec<u8>, digits: &[u8]) -> Result<(), LineFault>
     }
 }
 
-/// The number below 2^64 that these decimal digits write, at least one of them.
-fn number_of(digits: &[u8]) -> Option<u64>
+/// The number below 2^64 that these decimal digits write, at least one of them. It may begin with zeros. `None` where they write
+/// none.
+pub fn number_of(digits: &[u8]) -> Option<u64>
     ensures { result ≡ number_said digits.now }
 {
     if digits.is_empty() {

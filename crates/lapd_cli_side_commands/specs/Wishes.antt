@@ -5,7 +5,7 @@ use Rattle.lapd_frame.specs.declared.Side.{Side}
 use Rattle.lapd_frame.specs.declared.Side.TheVariants.{Network, User}
 use Rattle.lapd_frame.specs.declared.Sapi.{Sapi}
 use Rattle.lapd_frame.specs.Address.{sapi_at, number_at}
-use Rattle.lapd_cli_script.specs.Line.{words_of, nothing_of, number_behind, octets_behind}
+use Rattle.lapd_cli_script.specs.Line.{words_of, nothing_of, number_behind, number_said, octets_behind}
 use Rattle.lapd_cli_script.specs.Script.{Step, bad_line}
 use Rattle.lapd_cli_script.specs.declared.script.ScriptFault.{ScriptFault}
 use Rattle.lapd_cli_script.specs.declared.script.ScriptFault.TheVariants.{BadLine}
@@ -37,7 +37,7 @@ abbrev pub octet_at : ℕ → Option ℕ
 octet_at n = if nat_le n 255 then Some n else None
 
 abbrev pub octet_said : List ℕ → Option ℕ
-octet_said word = option_and_then octet_at (number_behind (words_of word))
+octet_said word = option_and_then octet_at (number_said word)
 
 abbrev pub tei_said : List ℕ → Option ℕ
 tei_said word = option_and_then number_at (octet_said word)

@@ -5,7 +5,7 @@ ghost use Rattle.lapd_frame.specs.Address.{number_at, sapi_at};
 ghost use Rattle.lapd_cli_script.specs.Line.{Reads};
 ghost use Rattle.lapd_cli_side_commands.specs.Wishes.{bare_wish, check_wish, id_said, link_wish, octet_said, own_wish, sapi_said, span_at, tei_said, tick_wish, wish_of, wish_of_line, wish_of_word, with_sapi};
 
-use lapd_cli_script::{LineFault, Words};
+use lapd_cli_script::{LineFault, Words, number_of};
 use lapd_frame::{Sapi, Side, Tei};
 use lapd_sides::{LinkId, Request};
 use std::alloc::Global;
@@ -191,10 +191,8 @@ pub fn tei_of(word: &[u8]) -> Result<Tei, LineFault>
 fn octet_of(word: &[u8]) -> Result<u8, LineFault>
     ensures { Reads (λ n. n) result (octet_said word.now) }
 {
-    let number = Words::of(word).number()?;
-    if number <= 255 {
-        Ok(number as u8)
-    } else {
-        Err(LineFault::Bad)
+    match number_of(word) {
+        Some(number) if number <= 255 => Ok(number as u8),
+        _ => Err(LineFault::Bad),
     }
 }

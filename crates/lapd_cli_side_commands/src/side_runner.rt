@@ -71,34 +71,13 @@ pub(crate) fn run_side<R: Read, W: Write, S: Source, K: Sink>(
         (devices style (S.rest result.port.source) (K.written result.port.sink)
         (W.contents result.out)))) }
 {
-    let Ok(acts) = Acts::new(alloc) else {
-        let ended = Err(ScriptFault::Memory);
-        return SideRun { ended, port, out };
-    };
-    let mut runner = SideRunner {
-        alloc,
-        style,
-        side,
-        now: 0,
-        acts,
-        heard: String::new(alloc),
-        output: LineOutput::new(alloc),
-        out,
-        port,
-        fault: None,
-    };
-    let ended = walk(alloc, &mut runner, script, &mut io::sink());
-    let SideRunner {
-        out,
-        port,
-        fault,
-        ..
-    } = runner;
-    if let Some(fault) = fault {
-        let ended = Err(ScriptFault::Port(fault));
-        return SideRun { ended, port, out };
+    match Acts::new(alloc) {
+        Ok(acts) => SideRunner::new(alloc, style, side, acts, out, port).run_script(script),
+        Err(_) => {
+            let ended = Err(ScriptFault::Memory);
+            SideRun { ended, port, out }
+        }
     }
-    SideRun { ended, port, out }
 }
 
 impl<W: Write, S: Source, K: Sink> Command for SideRunner<W, S, K> {
@@ -129,6 +108,68 @@ impl<W: Write, S: Source, K: Sink> SideRunner<W, S, K> {
     ghost use Rattle.lapd_cli_side_commands.specs.SideTexts.{refusal_line};
     ghost use Rattle.lapd_cli_side_commands.specs.Served.{Asks, ExpiresAll, GoesOn, LineDoes, TakesNow, at_work, devices};
     ghost use Rattle.lapd_cli_side_commands.specs.Wishes.{IsGood, Moves, Read, moment_after, wish_of, wish_of_request};
+
+    /// The side at moment 0, with nothing heard yet.
+    fn new(
+        alloc: Global,
+        style: LineStyle,
+        side: EitherSide,
+        acts: Acts,
+        out: W,
+        port: Port<S, K>,
+    ) -> SideRunner<W, S, K>
+        ensures side { result.side ≡ side }
+        ensures clock { result.now ≡ 0 }
+        ensures style { result.style ≡ style }
+        ensures out { result.out ≡ out }
+        ensures port { result.port ≡ port }
+    {
+        SideRunner {
+            alloc,
+            style,
+            side,
+            now: 0,
+            acts,
+            heard: String::new(alloc),
+            output: LineOutput::new(alloc),
+            out,
+            port,
+            fault: None,
+        }
+    }
+
+    /// Goes over a script from moment 0 on.
+    fn run_script<R: Read>(self, script: &mut R) -> SideRun<W, S, K>
+        requires { self.now ≡ 0 }
+        ensures ended { IfSome (R.remaining script.old) (λ octets.
+            SideEndsAs (side_of self.side) result.ended (lines_of octets)) }
+        ensures served { IfSome (R.remaining script.old) (λ octets. OnOk result.ended
+            (HasServed self.side (wishes_of (side_of self.side) (lines_of octets))
+            (devices self.style (S.rest self.port.source) (K.written self.port.sink)
+            (W.contents self.out))
+            (devices self.style (S.rest result.port.source) (K.written result.port.sink)
+            (W.contents result.out)))) }
+    {
+        let mut runner = self;
+        let walked = walk(runner.alloc, &mut runner, script, &mut io::sink());
+        let SideRunner {
+            out,
+            port,
+            fault,
+            ..
+        } = runner;
+        match fault {
+            Some(fault) => {
+                let ended = Err(ScriptFault::Port(fault));
+                SideRun { ended, port, out }
+            }
+            None => SideRun {
+                ended: walked,
+                port,
+                out,
+            },
+        }
+    }
 
     /// Does what a line asks for.
     fn obey(&mut self, line: SideLine) -> Result<(), LineFault>
