@@ -3,5 +3,4 @@
 mod lines;
 mod objects;
 mod read;
-mod wants;
 mod written;

@@ -1,6 +1,6 @@
 //! Lines of loose forms, and what is printed for them; and lines that are passed over.
 
-use crate::captures::wants::{all_hold, wants};
+use crate::wants::{all_hold, wants};
 use lapd_cli_decode::{LineForm, Side, Style, decode_good_lines, decode_lines};
 use lapd_cli_script::ScriptFault;
 use std::alloc::Global;

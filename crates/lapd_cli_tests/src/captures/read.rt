@@ -1,6 +1,6 @@
 //! Captures that were read, by what is printed of them.
 
-use crate::captures::wants::{is_said, wants};
+use crate::wants::{is_said, wants};
 use lapd_cli_decode::{Capture, CaptureStop, CaptureStyle, Side, Style, decode_capture};
 use std::alloc::Global;
 use std::test::Fail;

@@ -1,6 +1,6 @@
 //! What is written for frames, as the definitions of the formats have it.
 
-use crate::captures::wants::all_hold;
+use crate::wants::all_hold;
 use lapd_capture::{CaptureWriter, FILE_HEADER, Side, gsmtap_of, record_of};
 use std::alloc::Global;
 use std::io;

@@ -1,7 +1,7 @@
 //! Lines that are none of a side that is served, and lines that are.
 
-use crate::made::Made;
-use crate::played::{Who, play};
+use crate::live::made::Made;
+use crate::live::played::{Who, play};
 use crate::wants::wants;
 use lapd_cli_live::{LineStyle, LiveStop, Style};
 use lapd_cli_script::ScriptFault;

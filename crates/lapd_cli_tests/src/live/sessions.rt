@@ -1,9 +1,9 @@
 //! Sessions: lines that are typed while a side is served.
 
-use crate::made::Made;
-use crate::played::{Who, made_live};
+use crate::live::made::Made;
+use crate::live::played::{TIMED, Who, made_live};
 use crate::wants::{are_same, no_row};
-use lapd_cli_live::{LineStyle, LiveStop, Style, live_session};
+use lapd_cli_live::{LiveStop, live_session};
 use std::alloc::{AllocError, Global};
 use std::io::{self, Read};
 use std::test::Fail;
@@ -113,12 +113,6 @@ struct Held {
     printed: Vec<u8>,
     told: Vec<u8>,
 }
-
-const TIMED: Style = Style {
-    time: true,
-    quiet: false,
-    lines: LineStyle::Text,
-};
 
 /// Holds a session.
 fn hold(alloc: Global, row: &Row) -> Result<Held, AllocError> {

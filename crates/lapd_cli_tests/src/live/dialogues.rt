@@ -1,16 +1,10 @@
 //! Dialogues in time: what is printed, and when.
 
-use crate::played::{Row, Who, row_holds};
+use crate::live::played::{Row, TIMED, Who, row_holds};
 use crate::wants::no_row;
 use lapd_cli_live::{LineStyle, LiveStop, Style};
 use std::alloc::Global;
 use std::test::Fail;
-
-const TIMED: Style = Style {
-    time: true,
-    quiet: false,
-    lines: LineStyle::Text,
-};
 
 const QUIET: Style = Style {
     time: true,

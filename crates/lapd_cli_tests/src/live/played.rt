@@ -1,8 +1,8 @@
 //! A script that a side goes over, with what comes to it, and what it prints.
 
-use crate::made::Made;
+use crate::live::made::Made;
 use crate::wants::are_same;
-use lapd_cli_live::{LiveSide, LiveStop, Printer, Style, live_script};
+use lapd_cli_live::{LineStyle, LiveSide, LiveStop, Printer, Style, live_script};
 use lapd_sides::{Acts, Config, EitherSide, NetSide, Tei, UserSide};
 use std::alloc::{AllocError, Global};
 
@@ -14,6 +14,13 @@ pub(crate) enum Who {
     /// A user side with no TEI.
     User,
 }
+
+/// How lines are printed: each with its moment, and frames too.
+pub(crate) const TIMED: Style = Style {
+    time: true,
+    quiet: false,
+    lines: LineStyle::Text,
+};
 
 /// A dialogue.
 #[derive(Clone, Copy)]

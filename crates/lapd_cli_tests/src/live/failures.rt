@@ -1,9 +1,9 @@
 //! Each call of what is around a side fails in turn.
 
-use crate::made::Made;
-use crate::played::{Who, play};
+use crate::live::made::Made;
+use crate::live::played::{TIMED, Who, play};
 use crate::wants::wants;
-use lapd_cli_live::{LineStyle, LiveStop, Style};
+use lapd_cli_live::LiveStop;
 use lapd_cli_script::ScriptFault;
 use lapd_port::PortFault;
 use std::alloc::Global;
@@ -13,16 +13,10 @@ const COMING: &str = "5 00817f\n10 008100000801\n";
 
 const SCRIPT: &str = "read\nrun 20\ngive 0 64 0902\nexpect 0 64 report 20000\nstate\n";
 
-const STYLE: Style = Style {
-    time: true,
-    quiet: false,
-    lines: LineStyle::Text,
-};
-
 /// How often it is called where this call fails, and how the script ends; `None` where memory runs out.
 fn calls_with(alloc: Global, fails_at: Option<u64>) -> Option<(u64, Result<(), LiveStop>)> {
     let made = Made::new(COMING, fails_at);
-    match play(alloc, Who::Net, SCRIPT.as_bytes(), STYLE, made) {
+    match play(alloc, Who::Net, SCRIPT.as_bytes(), TIMED, made) {
         Ok(played) => Some((played.made.calls, played.ended)),
         Err(_) => None,
     }
