@@ -1,5 +1,5 @@
 -- How the values that are printed stand for what the outputs of a link come to, and what is made of an output.
-use Rattle.std.specs.Prelude.{ℕ, List, ◌++◌}
+use Rattle.std.specs.Prelude.{ℕ, List, ◌∷◌, ◌++◌}
 use Rattle.std.specs.Fmt.{decimal}
 use Rattle.lapd_link.specs.Link.{Setup}
 use Rattle.lapd_link.specs.SentFrame.{made_frame}
@@ -12,10 +12,10 @@ use Rattle.lapd_cli_commands.specs.declared.told.Told as value
 use Rattle.lapd_cli_commands.specs.declared.told.Told.TheVariants as told
 
 abbrev pub phrase_line : Phrase → List ℕ
-phrase_line (phrase.Alone words) = text_line words.now
+phrase_line (phrase.Alone word) = text_line word.now
 phrase_line (phrase.Octets word octets) = text_line (word.now ++ digits_of octets.now)
-phrase_line (phrase.Number words number) = text_line (words.now ++ decimal number)
-phrase_line (phrase.Name words name) = text_line (words.now ++ name.now)
+phrase_line (phrase.Number word number) = text_line (word.now ++ 32 ∷ decimal number)
+phrase_line (phrase.Name word name) = text_line (word.now ++ 32 ∷ name.now)
 
 abbrev pub told_of : value.Told → Told
 told_of (told.Sent frame) = Sent frame

@@ -187,7 +187,7 @@ impl Answerer {
             (W.contents out.old) (W.contents out.new) }
     {
         behind.nothing()?;
-        put_number(b"state ", u64::from(self.link.state()), out)
+        put_number(b"state", u64::from(self.link.state()), out)
     }
 
     /// Begins or ends the own receiver busy condition.

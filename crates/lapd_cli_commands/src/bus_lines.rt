@@ -81,11 +81,11 @@ fn put_terminal_out<W: Write>(t: usize, given: &TeiOut, out: &mut W) -> Result<(
         TeiOut::Send(message) => put_octets(b"up", &message.frame(Side::User), out),
         TeiOut::Got(tei) => {
             put_terminal(t, out)?;
-            put_number(b" got ", u64::from(tei.value()), out)
+            put_number(b" got", u64::from(tei.value()), out)
         }
         TeiOut::Gone(tei) => {
             put_terminal(t, out)?;
-            put_number(b" gone ", u64::from(tei.value()), out)
+            put_number(b" gone", u64::from(tei.value()), out)
         }
         TeiOut::Failed => {
             put_terminal(t, out)?;
@@ -113,9 +113,9 @@ fn put_network_out<W: Write>(given: &TeiOut, out: &mut W) -> Result<(), LineFaul
 {
     match given {
         TeiOut::Send(message) => put_octets(b"down", &message.frame(Side::Network), out),
-        TeiOut::Free(tei) => put_number(b"net free ", u64::from(tei.value()), out),
-        TeiOut::InUse(tei) => put_number(b"net in-use ", u64::from(tei.value()), out),
-        TeiOut::Doubled(tei) => put_number(b"net doubled ", u64::from(tei.value()), out),
+        TeiOut::Free(tei) => put_number(b"net free", u64::from(tei.value()), out),
+        TeiOut::InUse(tei) => put_number(b"net in-use", u64::from(tei.value()), out),
+        TeiOut::Doubled(tei) => put_number(b"net doubled", u64::from(tei.value()), out),
         _ => Ok(()),
     }
 }

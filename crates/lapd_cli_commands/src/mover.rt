@@ -240,7 +240,7 @@ fn put_not_yet<W: Write>(to: Side, place: usize, out: &mut W) -> Result<(), Line
     ensures err { IsOkUnless result LineFault.Device }
 {
     match to {
-        Side::User => put_number(b"refused P3 NotYet user ", place as u64, out),
-        Side::Network => put_number(b"refused P3 NotYet net ", place as u64, out),
+        Side::User => put_number(b"refused P3 NotYet user", place as u64, out),
+        Side::Network => put_number(b"refused P3 NotYet net", place as u64, out),
     }
 }

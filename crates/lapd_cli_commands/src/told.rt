@@ -8,9 +8,10 @@ ghost use Rattle.lapd_cli_commands.specs.Answer.{messages_of};
 ghost use Rattle.lapd_cli_commands.specs.Told.{told_unsent};
 ghost use Rattle.lapd_cli_commands.specs.ToldValues.{made_told, phrase_line, told_of};
 
-use lapd_cli_script::{LineFault, put_line, put_number, put_octets};
+use lapd_cli_script::{LineFault, put_line, put_number, put_octets, put_word};
 use lapd_frame::Frame;
 use lapd_link::{Link, Out};
+use lapd_sides_links::told_word;
 use std::io::Write;
 use std::marker::Model;
 
@@ -46,7 +47,7 @@ pub(crate) enum Told<'a> {
     Nothing,
 }
 
-/// Words, and what stands behind them.
+/// A word, and what stands behind it, parted by a space.
 #[derive(Drop)]
 pub(crate) enum Phrase<'a> {
     /// Nothing.
@@ -76,23 +77,24 @@ impl<'a> Told<'a> {
 fn told_unsent<'a>(spoken: &Spoken<'a>, output: &Out) -> Told<'a>
     ensures { told_of result ≡ told_unsent spoken.now output.now }
 {
+    let word = told_word(output);
     match output {
         Out::Send(..) | Out::SendMessage(..) | Out::SendUnit => Told::Nothing,
-        Out::Up => Told::Primitive(Phrase::Octets("data", spoken.message)),
-        Out::UnitUp => Told::Primitive(Phrase::Octets("unit", spoken.unit)),
-        Out::Established => Told::Primitive(Phrase::Alone("established")),
-        Out::Confirmed => Told::Primitive(Phrase::Alone("confirmed")),
-        Out::Released => Told::Primitive(Phrase::Alone("released")),
-        Out::ReleaseConfirm => Told::Primitive(Phrase::Alone("release-confirmed")),
-        Out::Acknowledged(n) => Told::Primitive(Phrase::Number("acknowledged ", u64::from(*n))),
-        Out::Dropped(n) => Told::Primitive(Phrase::Number("dropped ", u64::from(*n))),
-        Out::Report(letter) => Told::Primitive(Phrase::Name("report ", letter.name())),
-        Out::Start(timer) => Told::Timer(Phrase::Name("start ", timer.name())),
-        Out::Stop(timer) => Told::Timer(Phrase::Name("stop ", timer.name())),
+        Out::Up => Told::Primitive(Phrase::Octets(word, spoken.message)),
+        Out::UnitUp => Told::Primitive(Phrase::Octets(word, spoken.unit)),
+        Out::Established | Out::Confirmed | Out::Released | Out::ReleaseConfirm => {
+            Told::Primitive(Phrase::Alone(word))
+        }
+        Out::Acknowledged(n) | Out::Dropped(n) => {
+            Told::Primitive(Phrase::Number(word, u64::from(*n)))
+        }
+        Out::Report(letter) => Told::Primitive(Phrase::Name(word, letter.name())),
+        Out::Start(timer) => Told::Timer(Phrase::Name("start", timer.name())),
+        Out::Stop(timer) => Told::Timer(Phrase::Name("stop", timer.name())),
     }
 }
 
-/// Prints a line of words and what stands behind them.
+/// Prints a line of a word and what stands behind it.
 ///
 /// # Errors
 ///
@@ -103,9 +105,9 @@ pub(crate) fn put_phrase<W: Write>(phrase: &Phrase<'_>, out: &mut W) -> Result<(
     ensures err { IsOkUnless result LineFault.Device }
 {
     match phrase {
-        Phrase::Alone(words) => put_line(words.as_bytes(), &[], out),
+        Phrase::Alone(word) => put_line(word.as_bytes(), &[], out),
         Phrase::Octets(word, octets) => put_octets(word.as_bytes(), octets, out),
-        Phrase::Number(words, number) => put_number(words.as_bytes(), *number, out),
-        Phrase::Name(words, name) => put_line(words.as_bytes(), name.as_bytes(), out),
+        Phrase::Number(word, number) => put_number(word.as_bytes(), *number, out),
+        Phrase::Name(word, name) => put_word(word.as_bytes(), name.as_bytes(), out),
     }
 }

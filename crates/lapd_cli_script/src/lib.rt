@@ -2,7 +2,7 @@
 //!
 //! Begin with [`walk`], which reads a script from any reader and has each line done by a [`Command`]. Each line is done,
 //! and what it prints handed to the writer's device, before more is read. A command reads a line's [`Words`] one by one,
-//! and prints by [`put_line`], [`put_number`] and [`put_octets`].
+//! and prints by [`put_line`], [`put_word`], [`put_number`] and [`put_octets`].
 //!
 //! A line ends with a line feed, which the last may lack. Empty lines and lines that begin with `#` are passed over, and
 //! counted. Single spaces part the words of a line.
@@ -14,5 +14,5 @@ mod script;
 
 pub use lapd_port::PortFault;
 pub use line::{Words, number_of};
-pub use print::{put_hex, put_line, put_number, put_octets};
+pub use print::{put_hex, put_line, put_number, put_octets, put_word};
 pub use script::{Command, LineFault, ScriptFault, walk};

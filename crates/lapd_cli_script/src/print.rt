@@ -26,19 +26,31 @@ pub fn put_line<W: Write>(front: &[u8], back: &[u8], out: &mut W) -> Result<(), 
     Ok(())
 }
 
-/// Prints a line of a text and, behind it, a number in decimal digits.
+/// Prints a line of words, a space and a word.
 ///
 /// # Errors
 ///
 /// `Device`, where the writer fails: the front of the line may be written then.
-pub fn put_number<W: Write>(front: &[u8], number: u64, out: &mut W) -> Result<(), LineFault>
+pub fn put_word<W: Write>(words: &[u8], word: &[u8], out: &mut W) -> Result<(), LineFault>
     ensures ok { OnOk result (Appends (W.contents out.old) (W.contents out.new)
-        (text_line (front.now ++ decimal number))) }
+        (text_line (words.now ++ 32 ∷ word.now))) }
     ensures err { IsOkUnless result LineFault.Device }
 {
-    out.write_all(front)?;
-    writeln!(out, "{number}")?;
-    Ok(())
+    out.write_all(words)?;
+    put_line(b" ", word, out)
+}
+
+/// Prints a line of words, a space and a number in decimal digits.
+///
+/// # Errors
+///
+/// `Device`, where the writer fails: the front of the line may be written then.
+pub fn put_number<W: Write>(words: &[u8], number: u64, out: &mut W) -> Result<(), LineFault>
+    ensures ok { OnOk result (Appends (W.contents out.old) (W.contents out.new)
+        (text_line (words.now ++ 32 ∷ decimal number))) }
+    ensures err { IsOkUnless result LineFault.Device }
+{
+    put_word(words, itoa::Buffer::new().format(number).as_bytes(), out)
 }
 
 /// Prints a line of a word, a space and octets in lower case hexadecimal, of the word alone where there are no octets.

@@ -4,12 +4,13 @@ ghost use Rattle.std.specs.Prelude.{◌≡◌, ◌++◌, OnOk};
 ghost use Rattle.std.specs.String.{string_bytes};
 ghost use Rattle.std.specs.Io.KnownBytes.{Appends};
 ghost use Rattle.lapd_cli_script.specs.Line.{text_line};
+ghost use Rattle.lapd_sides_links.specs.Texts.{id_text, primitive_text, what_rest};
 ghost use Rattle.lapd_cli_side_commands.specs.SideTexts.{primitive_line, primitives_text, refusal_line, refused_line, told_text};
 ghost use Rattle.lapd_cli_side_commands.specs.Wishes.{IsGood};
 
 use crate::line_style::LineStyle;
 use lapd_cli_script::LineFault;
-use lapd_sides::{Primitive, SideKind, TeiOut};
+use lapd_sides::{LinkId, Primitive, SideKind, TeiOut, What};
 use std::alloc::{AllocError, Global};
 use std::io::Write;
 
@@ -73,8 +74,54 @@ fn push_told(
         ≡ string_bytes text.old ++ text_line (told_text style primitive.now)) }
 {
     match style {
-        LineStyle::Text => writeln!(text, "{primitive}"),
+        LineStyle::Text => push_words(alloc, primitive, text),
         LineStyle::Json => push_line(text, lapd_json::primitive_line(alloc, primitive)?.as_str()),
+    }
+}
+
+/// Appends a line of what is told, in its own words.
+fn push_words(alloc: Global, primitive: &Primitive, text: &mut String) -> Result<(), AllocError>
+    ensures { OnOk result (string_bytes text.new
+        ≡ string_bytes text.old ++ text_line (primitive_text primitive.now)) }
+{
+    match primitive {
+        Primitive::Of(id, what) => {
+            push_id(id, text)?;
+            text.push_str(what.word())?;
+            push_rest(alloc, what, text)?;
+            text.push('\n')
+        }
+        Primitive::Management(_) => writeln!(text, "{primitive}"),
+    }
+}
+
+/// Appends SAPI and TEI of a link, and a space behind each.
+fn push_id(id: &LinkId, text: &mut String) -> Result<(), AllocError>
+    ensures { OnOk result (string_bytes text.new ≡ string_bytes text.old ++ id_text id.now) }
+{
+    text.push_str(itoa::Buffer::new().format(id.sapi.value()))?;
+    text.push(' ')?;
+    text.push_str(itoa::Buffer::new().format(id.tei.value()))?;
+    text.push(' ')
+}
+
+/// Appends what stands behind the word of what is told of a link.
+fn push_rest(alloc: Global, what: &What, text: &mut String) -> Result<(), AllocError>
+    ensures { OnOk result (string_bytes text.new ≡ string_bytes text.old ++ what_rest what.now) }
+{
+    match what {
+        What::Up(octets) | What::UnitUp(octets) => {
+            lapd_trace::push_octets(alloc, text, " ", octets.as_slice())
+        }
+        What::Acknowledged(n) | What::Dropped(n) => {
+            text.push(' ')?;
+            text.push_str(itoa::Buffer::new().format(*n))
+        }
+        What::Report(letter) => {
+            text.push(' ')?;
+            text.push_str(letter.name())
+        }
+        What::Established | What::Confirmed | What::Released | What::ReleaseConfirm => Ok(()),
     }
 }
 

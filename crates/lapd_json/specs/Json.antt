@@ -25,6 +25,7 @@ use Rattle.lapd_sides_links.specs.declared.primitive.Primitive.{Primitive}
 use Rattle.lapd_sides_links.specs.declared.primitive.Primitive.TheVariants.{Of, Management}
 use Rattle.lapd_sides_links.specs.declared.primitive.What.{What}
 use Rattle.lapd_sides_links.specs.declared.primitive.What.TheVariants as what
+use Rattle.lapd_sides_links.specs.Texts.{what_word}
 
 -- ---- Members.
 
@@ -110,24 +111,19 @@ with_message (first ∷ words) members =
 abbrev pub with_primitive : List ℕ → Members → Members
 with_primitive word members = with_text (codes "primitive") word members
 
--- and how many messages it is told of
-abbrev pub with_count : List ℕ → ℕ → Members → Members
-with_count word count members = with_number (codes "count") count (with_primitive word members)
+-- beside it: the octets, of how many messages, or the report
+abbrev pub with_rest : What → Members → Members
+with_rest (what.Up octets) members = with_octets (codes "info") octets members
+with_rest (what.UnitUp octets) members = with_octets (codes "info") octets members
+with_rest (what.Acknowledged count) members = with_number (codes "count") count members
+with_rest (what.Dropped count) members = with_number (codes "count") count members
+with_rest (what.Report letter) members =
+    with_text (codes "report") (letter_code letter ∷ []) members
+with_rest other members = members
 
 -- of a link
 abbrev pub with_what : What → Members → Members
-with_what (what.Up octets) members =
-    with_octets (codes "info") octets (with_primitive (codes "data") members)
-with_what (what.UnitUp octets) members =
-    with_octets (codes "info") octets (with_primitive (codes "unit") members)
-with_what what.Established members = with_primitive (codes "established") members
-with_what what.Confirmed members = with_primitive (codes "confirmed") members
-with_what what.Released members = with_primitive (codes "released") members
-with_what what.ReleaseConfirm members = with_primitive (codes "release-confirmed") members
-with_what (what.Acknowledged count) members = with_count (codes "acknowledged") count members
-with_what (what.Dropped count) members = with_count (codes "dropped") count members
-with_what (what.Report letter) members = with_text (codes "report") (letter_code letter ∷ [])
-    (with_primitive (codes "report") members)
+with_what w members = with_rest w (with_primitive (what_word w) members)
 
 abbrev pub with_link : LinkId → Members → Members
 with_link id members =

@@ -3,7 +3,7 @@
 ghost use Rattle.std.specs.Prelude.{◌≡◌, IfOk, OnOk};
 ghost use Rattle.std.specs.String.{string_bytes};
 ghost use Rattle.serde_json.specs.View.{members_view};
-ghost use Rattle.lapd_json.specs.Json.{object_text, primitive_members, text_members, with_count, with_link, with_outcome, with_primitive, with_tei, with_told, with_what};
+ghost use Rattle.lapd_json.specs.Json.{object_text, primitive_members, text_members, with_link, with_outcome, with_primitive, with_tei, with_told, with_what};
 
 use crate::lines::put_octets;
 use crate::members::Members;
@@ -73,25 +73,16 @@ fn put_what(alloc: Global, members: &mut Members, what: &What) -> Result<(), All
     ensures { OnOk result (members_view members.new.map.entries
         ≡ with_what what.now (members_view members.old.map.entries)) }
 {
+    put_primitive(members, what.word())?;
     match what {
-        What::Up(octets) => {
-            put_primitive(members, "data")?;
+        What::Up(octets) | What::UnitUp(octets) => {
             put_octets(alloc, members, "info", octets.as_slice())
         }
-        What::UnitUp(octets) => {
-            put_primitive(members, "unit")?;
-            put_octets(alloc, members, "info", octets.as_slice())
+        What::Acknowledged(count) | What::Dropped(count) => {
+            members.put_number("count", u64::from(*count))
         }
-        What::Established => put_primitive(members, "established"),
-        What::Confirmed => put_primitive(members, "confirmed"),
-        What::Released => put_primitive(members, "released"),
-        What::ReleaseConfirm => put_primitive(members, "release-confirmed"),
-        What::Acknowledged(count) => put_count(members, "acknowledged", *count),
-        What::Dropped(count) => put_count(members, "dropped", *count),
-        What::Report(letter) => {
-            put_primitive(members, "report")?;
-            members.put_text("report", letter.name())
-        }
+        What::Report(letter) => members.put_text("report", letter.name()),
+        What::Established | What::Confirmed | What::Released | What::ReleaseConfirm => Ok(()),
     }
 }
 
@@ -118,15 +109,6 @@ fn put_primitive(members: &mut Members, word: &str) -> Result<(), AllocError>
         ≡ with_primitive word.now (members_view members.old.map.entries)) }
 {
     members.put_text("primitive", word)
-}
-
-/// Puts of how many messages this is told.
-fn put_count(members: &mut Members, word: &str, count: u16) -> Result<(), AllocError>
-    ensures { OnOk result (members_view members.new.map.entries
-        ≡ with_count word.now count (members_view members.old.map.entries)) }
-{
-    put_primitive(members, word)?;
-    members.put_number("count", u64::from(count))
 }
 
 /// Puts of which TEI this is told.

@@ -4,6 +4,8 @@ use Rattle.std.specs.Fmt.{decimal}
 use Rattle.hex.specs.Hex.{encode_lower}
 use Rattle.lapd_frame.specs.Address.{sapi_value}
 use Rattle.lapd_link.specs.Out.{letter_code}
+use Rattle.lapd_link_rows.specs.declared.out.Out.{Out}
+use Rattle.lapd_link_rows.specs.declared.out.Out.TheVariants as out
 use Rattle.lapd_link.specs.Refusal.{refusal_name}
 use Rattle.lapd_table.specs.declared.link_id.LinkId.{LinkId}
 use Rattle.lapd_tei.specs.declared.out.TeiOut.{TeiOut}
@@ -24,17 +26,42 @@ abbrev pub digits_text : List ℕ → List ℕ
 digits_text [] = []
 digits_text (octet ∷ octets) = 32 ∷ encode_lower (octet ∷ octets)
 
--- what is told of a link
+-- the word by which layer 3 or management is told of an output, none where it is not
+abbrev pub told_word : Out → List ℕ
+told_word out.Up = codes "data"
+told_word out.UnitUp = codes "unit"
+told_word out.Established = codes "established"
+told_word out.Confirmed = codes "confirmed"
+told_word out.Released = codes "released"
+told_word out.ReleaseConfirm = codes "release-confirmed"
+told_word (out.Acknowledged n) = codes "acknowledged"
+told_word (out.Dropped n) = codes "dropped"
+told_word (out.Report letter) = codes "report"
+told_word other = []
+
+-- what is told of a link: the word of its output
+abbrev pub what_word : What → List ℕ
+what_word (what.Up octets) = told_word out.Up
+what_word (what.UnitUp octets) = told_word out.UnitUp
+what_word what.Established = told_word out.Established
+what_word what.Confirmed = told_word out.Confirmed
+what_word what.Released = told_word out.Released
+what_word what.ReleaseConfirm = told_word out.ReleaseConfirm
+what_word (what.Acknowledged n) = told_word (out.Acknowledged n)
+what_word (what.Dropped n) = told_word (out.Dropped n)
+what_word (what.Report letter) = told_word (out.Report letter)
+
+-- and what stands behind it
+abbrev pub what_rest : What → List ℕ
+what_rest (what.Up octets) = digits_text octets
+what_rest (what.UnitUp octets) = digits_text octets
+what_rest (what.Acknowledged n) = 32 ∷ decimal n
+what_rest (what.Dropped n) = 32 ∷ decimal n
+what_rest (what.Report letter) = 32 ∷ letter_code letter ∷ []
+what_rest other = []
+
 abbrev pub what_text : What → List ℕ
-what_text (what.Up octets) = codes "data" ++ digits_text octets
-what_text (what.UnitUp octets) = codes "unit" ++ digits_text octets
-what_text what.Established = codes "established"
-what_text what.Confirmed = codes "confirmed"
-what_text what.Released = codes "released"
-what_text what.ReleaseConfirm = codes "release-confirmed"
-what_text (what.Acknowledged n) = codes "acknowledged " ++ decimal n
-what_text (what.Dropped n) = codes "dropped " ++ decimal n
-what_text (what.Report letter) = codes "report " ++ letter_code letter ∷ []
+what_text w = what_word w ++ what_rest w
 
 -- what became of a TEI; messages and timers are not told
 abbrev pub outcome_text : TeiOut → List ℕ

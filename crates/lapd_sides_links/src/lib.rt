@@ -28,6 +28,6 @@ pub use lapd_tei::{TeiMessage, TeiOut};
 pub use lapd_timers::{Durations, Timer, TimerSet};
 pub use links::LinkSet;
 pub use octets::Octets;
-pub use primitive::{Primitive, What};
+pub use primitive::{Primitive, What, told_word};
 pub use running_timer::RunningTimer;
 pub use side_fault::{SideFault, SideKind, refused};

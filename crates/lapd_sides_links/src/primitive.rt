@@ -1,10 +1,10 @@
 //! What a side tells the layers above it.
 
-ghost use Rattle.std.specs.Prelude.{Some};
-ghost use Rattle.lapd_sides_links.specs.Texts.{primitive_text, what_text};
+ghost use Rattle.std.specs.Prelude.{◌≡◌, Some};
+ghost use Rattle.lapd_sides_links.specs.Texts.{primitive_text, told_word, what_text, what_word};
 
 use crate::Octets;
-use lapd_link::Letter;
+use lapd_link::{Letter, Out};
 use lapd_table::LinkId;
 use lapd_tei::TeiOut;
 use std::fmt;
@@ -43,22 +43,55 @@ pub enum Primitive {
     Management(TeiOut),
 }
 
+impl What {
+    /// The word that it begins with where it is printed, as in `established` and `data`.
+    pub fn word(&self) -> &'static str
+        ensures { result.now ≡ what_word self.now }
+    {
+        match self {
+            What::Up(_) => told_word(&Out::Up),
+            What::UnitUp(_) => told_word(&Out::UnitUp),
+            What::Established => told_word(&Out::Established),
+            What::Confirmed => told_word(&Out::Confirmed),
+            What::Released => told_word(&Out::Released),
+            What::ReleaseConfirm => told_word(&Out::ReleaseConfirm),
+            What::Acknowledged(n) => told_word(&Out::Acknowledged(*n)),
+            What::Dropped(n) => told_word(&Out::Dropped(*n)),
+            What::Report(letter) => told_word(&Out::Report(*letter)),
+        }
+    }
+}
+
+/// The word by which layer 3 or management is told of an output, as in `established`; empty where they are not told.
+#[inline(always)]
+pub fn told_word(output: &Out) -> &'static str
+    ensures { result.now ≡ told_word output.now }
+{
+    match output {
+        Out::Up => "data",
+        Out::UnitUp => "unit",
+        Out::Established => "established",
+        Out::Confirmed => "confirmed",
+        Out::Released => "released",
+        Out::ReleaseConfirm => "release-confirmed",
+        Out::Acknowledged(_) => "acknowledged",
+        Out::Dropped(_) => "dropped",
+        Out::Report(_) => "report",
+        Out::Send(..) | Out::SendMessage(..) | Out::SendUnit | Out::Start(_) | Out::Stop(_) => "",
+    }
+}
+
 impl fmt::Display for What {
     ghost output = { λ what. Some (what_text what) };
 
     fn fmt<W: fmt::Write>(&self, f: &mut fmt::Formatter<W>) -> fmt::Result {
+        f.write_str(self.word())?;
         match self {
-            What::Up(octets) if octets.as_slice().is_empty() => write!(f, "data"),
-            What::Up(octets) => write!(f, "data {octets}"),
-            What::UnitUp(octets) if octets.as_slice().is_empty() => write!(f, "unit"),
-            What::UnitUp(octets) => write!(f, "unit {octets}"),
-            What::Established => write!(f, "established"),
-            What::Confirmed => write!(f, "confirmed"),
-            What::Released => write!(f, "released"),
-            What::ReleaseConfirm => write!(f, "release-confirmed"),
-            What::Acknowledged(n) => write!(f, "acknowledged {n}"),
-            What::Dropped(n) => write!(f, "dropped {n}"),
-            What::Report(letter) => write!(f, "report {}", letter.name()),
+            What::Up(octets) | What::UnitUp(octets) if octets.as_slice().is_empty() => Ok(()),
+            What::Up(octets) | What::UnitUp(octets) => write!(f, " {octets}"),
+            What::Acknowledged(n) | What::Dropped(n) => write!(f, " {n}"),
+            What::Report(letter) => write!(f, " {}", letter.name()),
+            What::Established | What::Confirmed | What::Released | What::ReleaseConfirm => Ok(()),
         }
     }
 }

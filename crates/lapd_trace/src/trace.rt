@@ -170,7 +170,11 @@ fn push_unnumbered(text: &mut String, name: &str, poll: &str) -> Result<(), Allo
 }
 
 /// Appends these words and octets in lower case hexadecimal, or nothing where there are no octets.
-fn push_octets(
+///
+/// # Errors
+///
+/// `AllocError` where there was no memory for it. A front of it may have been appended.
+pub fn push_octets(
     alloc: Global,
     text: &mut String,
     words: &str,
