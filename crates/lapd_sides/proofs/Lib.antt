@@ -1,4 +1,5 @@
 pub mod Dialogues
+pub mod Calling
 pub mod Using
 pub mod Managing
 pub mod Networking

@@ -1,9 +1,8 @@
 -- What the steps of a network side come to.
 use Rattle.std.proofs.Common.{◌≡◌, ℕ, List, [], length, Bool, false, Option, Some, None, Result, Ok, Err, refl, sym, ap, subst, ◌∙◌}
 use Rattle.std.specs.declared.alloc.Global.{Global}
-use Rattle.std.specs.Prelude.{Vec, true, IsErr, OnOk, OnErr, IfErr, ◌&&◌, ◌==◌, if◌then◌else◌}
+use Rattle.std.specs.Prelude.{Vec, true, OnOk, OnErr, IfErr, ◌&&◌, ◌==◌, if◌then◌else◌}
 use Rattle.lapd_link_rows.specs.Input.{Faulty, Heard, UnitData}
-use Rattle.lapd_timers.specs.Due.{Timers}
 use Rattle.lapd_frame.specs.declared.Side.{Side}
 use Rattle.lapd_frame.specs.declared.Side.TheVariants as side
 use Rattle.lapd_frame.specs.declared.Address.{Address}
@@ -19,21 +18,19 @@ use Rattle.lapd_tei.specs.Out.{tei_given}
 use Rattle.lapd_sides_links.specs.declared.config.Config.{Config}
 use Rattle.lapd_table.specs.declared.link_id.LinkId.{LinkId}
 use Rattle.lapd_table.specs.LinkId.{id_of_address}
-use Rattle.lapd_sides_links.specs.declared.running_timer.RunningTimer.{RunningTimer}
 use Rattle.lapd_sides_links.specs.declared.links.LinkSet.{LinkSet}
 use Rattle.lapd_sides_links.specs.declared.side_fault.SideFault.{SideFault}
 use Rattle.lapd_sides.specs.declared.net_side.NetSide.{NetSide}
 use Rattle.lapd_sides.specs.declared.served.LinksAndTimer.{LinksAndTimer}
 use Rattle.lapd_sides_links.specs.declared.side_fault.SideKind.{SideKind}
 use Rattle.lapd_sides_links.specs.Effects.{Effects, no_effects}
-use Rattle.lapd_sides_links.specs.Expiries.{IsDue, IsNextDeadline, IsQuietUntil}
 use Rattle.lapd_sides_links.specs.Links.{Links, Reaction, is_served}
 use Rattle.lapd_sides.specs.Management.{carries_message, links_with, manages, one_more}
 use Rattle.lapd_sides_links.specs.Links.{Served}
-use Rattle.lapd_sides.specs.Network.{Network, link_of_network, unit_requested, unit_to_group, network_expires, assigner_acts, among_links, or_discarded, or_unmoved, message_heard, frame_heard, fault_heard, given_for_message, given_for_frame}
+use Rattle.lapd_sides.specs.Network.{Network, link_of_network, unit_requested, unit_to_group, assigner_acts, among_links, or_discarded, or_unmoved, message_heard, frame_heard, fault_heard, given_for_message, given_for_frame}
 use Rattle.lapd_sides_links.specs.Shown.{ShowLinks, HaveActed}
-use Rattle.lapd_sides.specs.Shows.{ShowServed, HaveServed, Step}
-use Rattle.lapd_sides.specs.ShowsNetwork.{ShowNetwork, HasDone, HasGranted, HasExpired, Hears, LacksMemory, Answers}
+use Rattle.lapd_sides.specs.Shows.{ShowServed, HaveServed}
+use Rattle.lapd_sides.specs.ShowsNetwork.{ShowNetwork, HasDone, HasGranted, Hears, Answers}
 
 -- ---- TEI management.
 
@@ -63,9 +60,6 @@ granted code config s before acts outcome configured assigner counted timers emp
 
 pub kept : (code : NetSide) (config : Config) (s : Network) → code.config ≡ config → code.assigner ≡ s.assigner → code.discarded ≡ s.discarded → code.served.timers ≡ s.served.timers → ShowLinks side.Network code.served.links s.served.links → ShowNetwork code config s
 kept code config s configured assigner counted timers shown = record { configured = configured; served = record { links = shown; timers = timers }; assigner = assigner; discarded = counted }
-
-pub granted_as : (code : NetSide) (config : Config) (acts : Effects) (outcome same : Result (Reaction Network) SideKind) → same ≡ outcome → HasGranted code config acts outcome → HasGranted code config acts same
-granted_as code config acts outcome same is h = subst (HasGranted code config acts) (sym is) h
 
 -- a link does what it does
 pub done_as : (after : Network → Result (Reaction Network) SideKind → Reaction Network) (code : NetSide) (config : Config) (s : Network) (acts : Effects) (outcome : Result (Reaction Network) SideKind)
@@ -109,11 +103,6 @@ discarded_so code config s before acts outcome kind configured assigner counted 
     subst (λ (o : Result (Reaction Links) SideKind). HasDone code config acts (or_discarded s (among_links s o))) (sym err)
     (record { shown = record { configured = configured; served = record { links = shown; timers = timers }; assigner = assigner; discarded = counted }; given = nothing ∙ empty })
 
--- no memory was found
-pub lacks : {E : Type 0} (result : Result (Unit {0}) E) (old after : NetSide) (acts : Effects) (tei : Network → Option ℕ) (step : Step Network) → IsErr result → LacksMemory old after acts tei → Hears result old after acts tei step
-lacks (Ok u) old after acts tei step is h = absurd (cc)
-lacks (Err e) old after acts tei step is h = h
-
 -- a frame is a message
 pub heard_as_message : {E : Type 0} (result : Result (Unit {0}) E) (old after : NetSide) (acts : Effects) (now : ℕ) (frame : Fields) (test : Bool) (found : Result TeiMessage TeiFault) → test ≡ carries_message frame → test ≡ true → found ≡ message_at frame.info
     → Hears result old after acts (λ s. given_for_message s.assigner found) (λ config. message_heard config now found) → Hears result old after acts (λ s. given_for_frame s.assigner (Ok frame)) (λ config. frame_heard config now frame)
@@ -141,26 +130,3 @@ pub not_to_group : (own config : Config) (now : ℕ) (id : LinkId) (octets : Lis
     → unit_requested config now id octets s ≡ link_of_network now id (UnitData (length octets)) octets s
 not_to_group own config now id octets s test is fails same =
     ap (λ (b : Bool). if b then unit_to_group id.sapi octets s else link_of_network now id (UnitData (length octets)) octets s) (ap (λ (k : Config). is_served k id.sapi && (id.tei == group_tei)) (sym same) ∙ sym is ∙ fails)
-
--- ---- What is due.
-
-pub due_so : (now : ℕ) (s : Served) (timers : Timers) (result e : Option RunningTimer) → timers ≡ s.timers → result ≡ e → IsDue now (record { links = s.links; timers = timers }) result → IsDue now s e
-due_so now s timers result e same is due = subst (λ (t : Timers). IsDue now (record { links = s.links; timers = t }) e) same (subst (IsDue now (record { links = s.links; timers = timers })) is due)
-
-pub next_so : (s : Served) (timers : Timers) (deadline : Option ℕ) → timers ≡ s.timers → IsNextDeadline (record { links = s.links; timers = timers }) deadline → IsNextDeadline s deadline
-next_so s timers deadline same next = subst (λ (t : Timers). IsNextDeadline (record { links = s.links; timers = t }) deadline) same next
-
-pub quiet_so : (s : Served) (timers : Timers) (moment : ℕ) → timers ≡ s.timers → IsQuietUntil (record { links = s.links; timers = timers }) moment → IsQuietUntil s moment
-quiet_so s timers moment same quiet = subst (λ (t : Timers). IsQuietUntil (record { links = s.links; timers = t }) moment) same quiet
-
-pub expired_so : (code : NetSide) (config : Config) (acts : Effects) (now : ℕ) (s : Network) (e : RunningTimer) (of : Option LinkId) → IsDue now s.served (Some e) → e.of ≡ of → HasDone code config acts (network_expires config now e.timer of s) → HasExpired code config acts now s
-expired_so code config acts now s e of due is done = record {
-  expiry = e;
-  due = due;
-  done = subst (λ (o : Option LinkId). HasDone code config acts (network_expires config now e.timer o s)) (sym is) done;
-}
-
--- what holds anyhow holds of a refusal
-pub on_err : {A E : Type 0} (result : Result A E) (P : Type 0) → P → OnErr result P
-on_err (Ok a) P p = tt
-on_err (Err e) P p = p

@@ -3,7 +3,7 @@ use Rattle.std.proofs.Common.{◌≡◌, ℕ, List, [], Option, Some, None, Resu
 use Rattle.std.proofs.lemmas.List.{append-nil}
 use Rattle.std.proofs.Math.Seq.{drop-cons}
 use Rattle.std.specs.declared.alloc.Global.{Global}
-use Rattle.std.specs.Prelude.{Vec, IsErr, Bool, true, false, nat_lt, if◌then◌else◌, OnOk, OnErr, IfErr}
+use Rattle.std.specs.Prelude.{Vec, Bool, true, false, nat_lt, if◌then◌else◌, OnOk, OnErr, IfErr}
 use Rattle.rand_pcg.specs.Pcg.{pcg32}
 use Rattle.lapd_frame.specs.declared.Sapi.{Sapi}
 use Rattle.lapd_frame.specs.declared.Sapi.TheVariants as sapi
@@ -27,7 +27,6 @@ use Rattle.lapd_tei.specs.Out.{tei_given}
 use Rattle.lapd_table.specs.declared.link_id.LinkId.{LinkId}
 use Rattle.lapd_table.specs.LinkId.{id_of_address}
 use Rattle.lapd_sides_links.specs.declared.config.Config.{Config}
-use Rattle.lapd_sides_links.specs.declared.running_timer.RunningTimer.{RunningTimer}
 use Rattle.lapd_sides_links.specs.declared.links.LinkSet.{LinkSet}
 use Rattle.lapd_sides_links.specs.declared.primitive.Primitive.TheVariants.{Of}
 use Rattle.lapd_sides_links.specs.declared.primitive.What.TheVariants as what
@@ -37,15 +36,15 @@ use Rattle.lapd_sides.specs.declared.request.Request.{Request}
 use Rattle.lapd_sides_links.specs.declared.side_fault.SideFault.{SideFault}
 use Rattle.lapd_sides_links.specs.declared.side_fault.SideKind.{SideKind}
 use Rattle.lapd_sides_links.specs.declared.side_fault.SideKind.TheVariants.{NoLink}
-use Rattle.lapd_sides_links.specs.Expiries.{IsDue}
 use Rattle.lapd_sides_links.specs.Effects.{Effects, no_effects, and_then}
 use Rattle.lapd_sides_links.specs.Links.{Links, Reaction, is_served, in_links, link_acts, of_sapi, no_links, with_tei}
 use Rattle.lapd_sides.specs.Management.{carries_message, links_with, manages, one_more}
-use Rattle.lapd_sides.specs.User.{User, KeptEstablishments, nothing_kept, among_links, or_discarded, or_unmoved, next, link_of_user, with_tei_or, establishes, establishes_kept, terminal_acts, assigned, kept_after, fault_heard, for_layer_3, data_heard, message_heard, frame_heard, got_for_message, got_for_frame, unit_from_group, user_expires, user_requested, wants, keeps, is_kept, forgets, sends_message, next_reference, advanced, drawn, links_of_fixed}
+use Rattle.lapd_sides.specs.User.{User, KeptEstablishments, nothing_kept, among_links, or_discarded, or_unmoved, next, link_of_user, with_tei_or, establishes, establishes_kept, terminal_acts, assigned, kept_after, fault_heard, for_layer_3, data_heard, message_heard, frame_heard, got_for_message, got_for_frame, unit_from_group, user_requested, wants, keeps, is_kept, forgets, sends_message, next_reference, advanced, drawn, links_of_fixed}
 use Rattle.lapd_sides.specs.Requests.{message_of}
 use Rattle.lapd_sides_links.specs.Shown.{ShowLinks, HaveActed}
-use Rattle.lapd_sides.specs.Shows.{ShowServed, HaveServed, Step, Outcome}
-use Rattle.lapd_sides.specs.ShowsUser.{ShowUser, ShowReferences, HasDone, HasFollowed, HasGranted, HasExpired, Hears, LacksMemory, Answers, admitted}
+use Rattle.lapd_sides.specs.Shows.{ShowServed, HaveServed, Outcome}
+use Rattle.lapd_sides.proofs.Calling.{granted_as}
+use Rattle.lapd_sides.specs.ShowsUser.{ShowUser, ShowReferences, HasDone, HasFollowed, HasGranted, Hears, Answers, admitted}
 
 -- the side with its links after a step
 abbrev pub relinked : UserSide → LinkSet → UserSide
@@ -170,9 +169,6 @@ pub is_none : (code : UserSide) (config : Config) (s : User) (found : Option ℕ
     → found ≡ tei_of code.terminal → found ≡ None → with_tei_or now s.terminal sapi input octets otherwise s ≡ otherwise
 is_none code config s found now sapi input octets otherwise shown of is =
     no_own_link s.terminal now sapi input octets otherwise s (ap tei_of (sym shown.terminal) ∙ sym of ∙ is)
-
-pub granted_as : (code : UserSide) (config : Config) (acts : Effects) (a b : Result (Reaction User) SideKind) → b ≡ a → HasGranted code config acts a → HasGranted code config acts b
-granted_as code config acts a b e h = subst (λ (o : Result (Reaction User) SideKind). HasGranted code config acts o) (sym e) h
 
 -- an answer to what comes to the same
 pub answers_as : (result : Result (Unit {0}) SideFault) (old after : UserSide) (acts : Effects) (message : Option (Vec ℕ Global)) (a b : Outcome User) → ((config : Config) (s : User) → ShowUser old config s → b config s ≡ a config s)
@@ -304,11 +300,6 @@ faulty after config acts now kind found address id s is named h =
 
 -- ---- A frame.
 
--- no memory was found
-pub lacks : {E : Type 0} (result : Result (Unit {0}) E) (old after : UserSide) (acts : Effects) (tei : User → Option ℕ) (step : Step User) → IsErr result → LacksMemory old after acts tei → Hears result old after acts tei step
-lacks (Ok u) old after acts tei step is h = absurd (cc)
-lacks (Err e) old after acts tei step is h = h
-
 -- a frame is a message
 pub heard_as_message : {E : Type 0} (result : Result (Unit {0}) E) (old after : UserSide) (acts : Effects) (now : ℕ) (frame : Fields) (test : Bool) (found : Result TeiMessage TeiFault) → test ≡ carries_message frame → test ≡ true → found ≡ message_at frame.info
     → Hears result old after acts (λ s. got_for_message s found) (λ config. message_heard config now found) → Hears result old after acts (λ s. got_for_frame s (Ok frame)) (λ config. frame_heard config now frame)
@@ -352,13 +343,6 @@ data_for_link code after config now frame s test id octets acts t named is_octet
 pub reshown_after : (code : UserSide) (links : LinkSet) (timers : Timers) (config : Config) (s : User) (own : Timers) → ShowUser code config s → timers ≡ own → ShowLinks side.User links s.served.links
     → ShowUser (record code { served = record { links = links; timers = timers } }) config (record s { served = record { links = s.served.links; timers = own } })
 reshown_after code links timers config s own shown is l = record { configured = shown.configured; served = record { links = l; timers = is }; terminal = shown.terminal; kept = shown.kept; random = shown.random; discarded = shown.discarded }
-
-pub expired_so : (code : UserSide) (config : Config) (acts : Effects) (now : ℕ) (s : User) (e : RunningTimer) (of : Option LinkId) → IsDue now s.served (Some e) → e.of ≡ of → HasDone code config acts (user_expires config now e.timer of s) → HasExpired code config acts now s
-expired_so code config acts now s e of due is done = record {
-  expiry = e;
-  due = due;
-  done = subst (λ (o : Option LinkId). HasDone code config acts (user_expires config now e.timer o s)) (sym is) done;
-}
 
 -- ---- An establishment without TEI.
 

@@ -4,6 +4,7 @@ pub mod User
 pub mod Worked
 pub mod Requests
 pub mod Shows
+pub mod Calls
 pub mod ShowsNetwork
 pub mod ShowsUser
 pub mod Either

@@ -15,11 +15,12 @@ use Rattle.lapd_sides_links.specs.Links.{Linked, Served, Reaction}
 use Rattle.lapd_sides.specs.declared.net_side.NetSide.{NetSide}
 use Rattle.lapd_sides.specs.declared.request.Request.{Request}
 use Rattle.lapd_sides.specs.declared.user_side.UserSide.{UserSide}
-use Rattle.lapd_sides.specs.Network.{Network, given_for, network_takes, network_expires, network_requested}
+use Rattle.lapd_sides.specs.Network.{Network, given_for, network_takes, network_requested}
 use Rattle.lapd_sides.specs.ShowsNetwork as net
 use Rattle.lapd_sides.specs.ShowsUser as usr
-use Rattle.lapd_sides.specs.User.{User, got_for, user_takes, user_expires, user_requested}
-use Rattle.lapd_sides_interface.specs.Calls.{Puts, NetworkDoes, UserDoes, take_of}
+use Rattle.lapd_sides.specs.User.{User, got_for, user_takes, user_requested}
+use Rattle.lapd_sides.specs.Calls.{HasDone, HasExpired, Hears, Answers}
+use Rattle.lapd_sides_interface.specs.Calls.{Puts, SideDoes, NetworkDoes, UserDoes, take_of}
 use Rattle.lapd_sides_interface.specs.Interface.{user_behaviour, network_behaviour}
 use Rattle.lapd_sides_interface.specs.SideView.{Behaviour, SideView, Deed, Take, Lose, Expire, Ask, unmoved, takes_first, runs_on, may_expire, or_unmoved, reaction, does}
 
@@ -58,72 +59,67 @@ puts_so S w acts deed v is = record {
 expiry_is : (S : Type 0) (w : Behaviour S) (e : RunningTimer) (now : ℕ) (v : SideView S) → may_expire e.timer e.of (w.served v.now) ≡ true → reaction w (Expire e.timer e.of now) v ≡ w.expires now e.timer e.of v.now
 expiry_is S w e now v may = ap (λ (b : Bool). if b then w.expires now e.timer e.of v.now else unmoved v.now) may
 
--- ---- A network side.
+-- ---- What a call does.
 
-net_done : (code : NetSide) (config : Config) (acts : Effects) (deed : Deed) (v : SideView Network) (a : Reaction Network) → reaction (network_behaviour config) deed v ≡ a → net.HasDone code config acts a → NetworkDoes code config acts deed v
+-- the side does what the deed comes to
+done : {C S : Type 0} (Show : C → Config → S → Type 0) (w : Config → Behaviour S) (code : C) (config : Config) (acts : Effects) (deed : Deed) (v : SideView S) (a : Reaction S)
+    → reaction (w config) deed v ≡ a → HasDone Show code config acts a → SideDoes Show w code config acts deed v
 unfolding does
-net_done code config acts deed v a is h = record {
-  shown = subst (λ (x : Reaction Network). net.ShowNetwork code config x.after) (sym is) h.shown;
-  puts = puts_so Network (network_behaviour config) acts deed v (h.given ∙ ap (λ (x : Reaction Network). x.effects) (sym is));
+done {S = S} Show w code config acts deed v a is h = record {
+  shown = subst (λ (x : Reaction S). Show code config x.after) (sym is) h.shown;
+  puts = puts_so S (w config) acts deed v (h.given ∙ ap (λ (x : Reaction S). x.effects) (sym is));
 }
+
+takes : {C S : Type 0} (Show : C → Config → S → Type 0) (w : Config → Behaviour S) (old new : C) (acts : Effects) (result : Result ⊤ SideFault) (octets : List ℕ) (rest : List (List ℕ)) (now : ℕ) (tei : S → Option ℕ)
+    → Hears Show result old new acts tei (λ config. (w config).takes octets now) → (config : Config) (v : SideView S) → Show old config v.now → v.incoming ≡ octets ∷ rest → SideDoes Show w new config acts (take_of result now) v
+takes Show w old new acts (Ok u) octets rest now tei h config v shown are =
+    done Show w new config acts (Take now) v ((w config).takes octets now v.now) (ap (λ line. takes_first (w config) now line v.now) are) (h config v.now shown)
+takes Show w old new acts (Err fault) octets rest now tei h config v shown are =
+    done Show w new config acts (Lose 0) v (unmoved v.now) refl (record { shown = h.unchanged config v.now shown; given = h.nothing })
+
+ticks : {C S : Type 0} (Show : C → Config → S → Type 0) (w : Config → Behaviour S) (old new : C) (acts : Effects) (now : ℕ) (config : Config) (v : SideView S)
+    → HasExpired Show (w config).served (λ k. (w k).expires) new config acts now v.now → (e : RunningTimer) × IsDue now ((w config).served v.now) (Some e) × SideDoes Show w new config acts (Expire e.timer e.of now) v
+ticks Show w old new acts now config v x = (
+  x.expiry,
+  x.due,
+  done Show w new config acts (Expire x.expiry.timer x.expiry.of now) v ((w config).expires now x.expiry.timer x.expiry.of v.now)
+      (expiry_is _ (w config) x.expiry now v (due_may_expire now ((w config).served v.now) x.expiry x.due)) x.done,
+)
+
+requests : {C S : Type 0} (Show : C → Config → S → Type 0) (w : Config → Behaviour S) (old new : C) (acts : Effects) (result : Result ⊤ SideFault) (message : Option (Vec ℕ Global)) (request : Request) (now : ℕ)
+    → Answers Show result old new acts message (λ config. (w config).requested request now) → (config : Config) (v : SideView S) → Show old config v.now → SideDoes Show w new config acts (Ask request now) v
+requests Show w old new acts (Ok u) message request now h config v shown =
+    let x = h config v.now shown in
+    done Show w new config acts (Ask request now) v x.acted (ap (or_unmoved v.now) x.is) x.done
+requests Show w old new acts (Err fault) message request now h config v shown =
+    done Show w new config acts (Ask request now) v (unmoved v.now) (ap (or_unmoved v.now) (h.kind config v.now shown)) (record { shown = h.unchanged config v.now shown; given = h.nothing })
+
+-- ---- A network side.
 
 pub net_takes : (old new : NetSide) (acts : Effects) (result : Result ⊤ SideFault) (octets : List ℕ) (rest : List (List ℕ)) (now : ℕ) → net.Hears result old new acts (λ s. given_for s.assigner octets) (λ config. network_takes config octets now)
     → (config : Config) (v : SideView Network) → net.ShowNetwork old config v.now → v.incoming ≡ octets ∷ rest → NetworkDoes new config acts (take_of result now) v
-net_takes old new acts (Ok done) octets rest now h config v shown are =
-    net_done new config acts (Take now) v (network_takes config octets now v.now) (ap (λ line. takes_first (network_behaviour config) now line v.now) are) (h config v.now shown)
-net_takes old new acts (Err fault) octets rest now h config v shown are =
-    net_done new config acts (Lose 0) v (unmoved v.now) refl (record { shown = h.unchanged config v.now shown; given = h.nothing })
+net_takes old new acts result octets rest now h = takes net.ShowNetwork network_behaviour old new acts result octets rest now (λ s. given_for s.assigner octets) h
 
 pub net_ticks : (old new : NetSide) (acts : Effects) (now : ℕ) → net.Expires old new acts now
     → (config : Config) (v : SideView Network) → net.ShowNetwork old config v.now → (e : RunningTimer) × IsDue now v.now.served (Some e) × NetworkDoes new config acts (Expire e.timer e.of now) v
-net_ticks old new acts now h config v shown =
-    let x : net.HasExpired new config acts now v.now = h config v.now shown in (
-      x.expiry,
-      x.due,
-      net_done new config acts (Expire x.expiry.timer x.expiry.of now) v (network_expires config now x.expiry.timer x.expiry.of v.now)
-          (expiry_is Network (network_behaviour config) x.expiry now v (due_may_expire now v.now.served x.expiry x.due)) x.done,
-    )
+net_ticks old new acts now h config v shown = ticks net.ShowNetwork network_behaviour old new acts now config v (h config v.now shown)
 
 pub net_requests : (old new : NetSide) (acts : Effects) (result : Result ⊤ SideFault) (message : Option (Vec ℕ Global)) (request : Request) (now : ℕ)
     → net.Answers result old new acts message (λ config. network_requested config request now)
     → (config : Config) (v : SideView Network) → net.ShowNetwork old config v.now → NetworkDoes new config acts (Ask request now) v
-net_requests old new acts (Ok done) message request now h config v shown =
-    let x : net.HasGranted new config acts (network_requested config request now v.now) = h config v.now shown in
-    net_done new config acts (Ask request now) v x.acted (ap (or_unmoved v.now) x.is) x.done
-net_requests old new acts (Err fault) message request now h config v shown =
-    net_done new config acts (Ask request now) v (unmoved v.now) (ap (or_unmoved v.now) (h.kind config v.now shown)) (record { shown = h.unchanged config v.now shown; given = h.nothing })
+net_requests old new acts result message request now h = requests net.ShowNetwork network_behaviour old new acts result message request now h
 
 -- ---- A user side.
 
-usr_done : (code : UserSide) (config : Config) (acts : Effects) (deed : Deed) (v : SideView User) (a : Reaction User) → reaction (user_behaviour config) deed v ≡ a → usr.HasDone code config acts a → UserDoes code config acts deed v
-unfolding does
-usr_done code config acts deed v a is h = record {
-  shown = subst (λ (x : Reaction User). usr.ShowUser code config x.after) (sym is) h.shown;
-  puts = puts_so User (user_behaviour config) acts deed v (h.given ∙ ap (λ (x : Reaction User). x.effects) (sym is));
-}
-
 pub usr_takes : (old new : UserSide) (acts : Effects) (result : Result ⊤ SideFault) (octets : List ℕ) (rest : List (List ℕ)) (now : ℕ) → usr.Hears result old new acts (λ s. got_for s octets) (λ config. user_takes config octets now)
     → (config : Config) (v : SideView User) → usr.ShowUser old config v.now → v.incoming ≡ octets ∷ rest → UserDoes new config acts (take_of result now) v
-usr_takes old new acts (Ok done) octets rest now h config v shown are =
-    usr_done new config acts (Take now) v (user_takes config octets now v.now) (ap (λ line. takes_first (user_behaviour config) now line v.now) are) (h config v.now shown)
-usr_takes old new acts (Err fault) octets rest now h config v shown are =
-    usr_done new config acts (Lose 0) v (unmoved v.now) refl (record { shown = h.unchanged config v.now shown; given = h.nothing })
+usr_takes old new acts result octets rest now h = takes usr.ShowUser user_behaviour old new acts result octets rest now (λ s. got_for s octets) h
 
 pub usr_ticks : (old new : UserSide) (acts : Effects) (now : ℕ) → usr.Expires old new acts now
     → (config : Config) (v : SideView User) → usr.ShowUser old config v.now → (e : RunningTimer) × IsDue now v.now.served (Some e) × UserDoes new config acts (Expire e.timer e.of now) v
-usr_ticks old new acts now h config v shown =
-    let x : usr.HasExpired new config acts now v.now = h config v.now shown in (
-      x.expiry,
-      x.due,
-      usr_done new config acts (Expire x.expiry.timer x.expiry.of now) v (user_expires config now x.expiry.timer x.expiry.of v.now)
-          (expiry_is User (user_behaviour config) x.expiry now v (due_may_expire now v.now.served x.expiry x.due)) x.done,
-    )
+usr_ticks old new acts now h config v shown = ticks usr.ShowUser user_behaviour old new acts now config v (h config v.now shown)
 
 pub usr_requests : (old new : UserSide) (acts : Effects) (result : Result ⊤ SideFault) (message : Option (Vec ℕ Global)) (request : Request) (now : ℕ)
     → usr.Answers result old new acts message (λ config. user_requested config request now)
     → (config : Config) (v : SideView User) → usr.ShowUser old config v.now → UserDoes new config acts (Ask request now) v
-usr_requests old new acts (Ok done) message request now h config v shown =
-    let x : usr.HasGranted new config acts (user_requested config request now v.now) = h config v.now shown in
-    usr_done new config acts (Ask request now) v x.acted (ap (or_unmoved v.now) x.is) x.done
-usr_requests old new acts (Err fault) message request now h config v shown =
-    usr_done new config acts (Ask request now) v (unmoved v.now) (ap (or_unmoved v.now) (h.kind config v.now shown)) (record { shown = h.unchanged config v.now shown; given = h.nothing })
+usr_requests old new acts result message request now h = requests usr.ShowUser user_behaviour old new acts result message request now h

@@ -10,7 +10,6 @@ use Rattle.lapd_timers.specs.declared.timer.Timer.TheVariants.{T200, T201, T202,
 use Rattle.lapd_timers.specs.Due.{Timers, deadline_of}
 use Rattle.lapd_frame.specs.declared.Side.{Side}
 use Rattle.lapd_frame.specs.Address.{other_side}
-use Rattle.lapd_frame.specs.Frame.{content_fault}
 use Rattle.lapd_mod128.specs.Counting.{Tagged}
 use Rattle.lapd_link_rows.specs.EndOfStep.{end_step}
 use Rattle.lapd_link_rows.specs.Counts.{messages_of}
@@ -30,7 +29,7 @@ use Rattle.lapd_table.specs.LinkId.{id_eq}
 use Rattle.lapd_table.proofs.Ids.{same_id_eq}
 use Rattle.lapd_sides_links.specs.declared.primitive.Primitive.{Primitive}
 use Rattle.lapd_sides_links.specs.declared.side_fault.SideKind.{SideKind}
-use Rattle.lapd_sides_links.specs.Effects.{Effects, what_of, stopped, timed}
+use Rattle.lapd_sides_links.specs.Effects.{what_of, stopped, timed}
 use Rattle.lapd_sides_links.specs.Links.{Links, Linked, Reaction, with_link}
 use Rattle.lapd_sides.specs.declared.request.Request.{Request}
 use Rattle.lapd_sides.specs.declared.request.Request.TheVariants as request
@@ -40,7 +39,7 @@ use Rattle.lapd_sides_interface.specs.Premises.{tells_removal, IsTimely, IsGiven
 use Rattle.lapd_sides_interface.specs.SideView.{Behaviour, Deed, Take, Lose, Expire, Ask, SideView, unmoved, takes_first, runs_on, or_unmoved, if_granted, accepted_by, reaction, does}
 use Rattle.lapd_sides_interface.specs.Projects.{IsTimed, HasLink, ShowsEnd, Projects}
 use Rattle.lapd_sides_interface.proofs.Frames.{told_frames, told_is_known}
-use Rattle.lapd_sides_interface.specs.Owed.{PassesBy, IsStep, IsRemoval, Goes, IsRequest, IsNoRequest, ServesLink}
+use Rattle.lapd_sides_interface.specs.Owed.{PassesBy, IsStep, IsRemoval, Goes, IsRequest, ServesLink}
 use Rattle.lapd_sides_interface.proofs.LinkParts.{now_there, passes_by_nothing, any_more, any_behind, learns_both, expected_both}
 use Rattle.lapd_sides_interface.proofs.Lines.{where_lost, removed_spelled, IsFirst, first_of, no_poll, no_final}
 use Rattle.lapd_sides_interface.proofs.Timed.{Agree, is_on, timed_by_step, link_timed, timed_link, stopped_is_off, stopped_agrees}

@@ -1,5 +1,5 @@
 -- What a step among the links of a side is to one of them.
-use Rattle.std.proofs.Common.{◌≡◌, ℕ, List, [], ◌∷◌, map, length, Bool, true, false, if◌then◌else◌, Option, Some, None, Result, Ok, Err, refl, ap, subst, ◌∙◌, ◌⊎◌, ◌++◌, sym}
+use Rattle.std.proofs.Common.{◌≡◌, ℕ, List, [], ◌∷◌, map, length, Bool, true, false, if◌then◌else◌, Option, Some, None, Result, Ok, Err, refl, ap, subst, ◌∙◌, ◌++◌, sym}
 use Rattle.std.specs.Prelude.{IfSome, IfOk, ◌||◌}
 use Rattle.std.specs.List.{filter, filter_map, list_any}
 use Rattle.std.proofs.lemmas.List.{append-nil}
@@ -22,7 +22,7 @@ use Rattle.lapd_link_rows.specs.declared.event.LinkFault.{LinkFault}
 use Rattle.lapd_link_rows.specs.declared.out.Out.{Out}
 use Rattle.lapd_link_rows.specs.declared.out.Out.TheVariants.{Send, SendMessage, SendUnit, Up, UnitUp, Established, Confirmed, Released, ReleaseConfirm, Acknowledged, Dropped, Start, Stop, Report}
 use Rattle.lapd_link_rows.specs.End.{End, StepState}
-use Rattle.lapd_link_rows.specs.Input.{Input, Expiry, Establish}
+use Rattle.lapd_link_rows.specs.Input.{Input, Expiry}
 use Rattle.lapd_link_rows.specs.Table.{step}
 use Rattle.lapd_link.specs.SentFrame.{link_parts}
 use Rattle.lapd_table.specs.declared.link_id.LinkId.{LinkId}
@@ -36,7 +36,7 @@ use Rattle.lapd_sides_links.specs.declared.side_fault.SideKind.TheVariants as ki
 use Rattle.lapd_sides_links.specs.Effects.{Effects, no_effects, sent_by, what_of, timed, stopped, effects_of_link, and_then}
 use Rattle.lapd_sides_links.specs.Links.{Links, Linked, Reaction, acted, link_acts, link_expires, in_place, where_there, in_links, with_link}
 use Rattle.lapd_sides_interface.specs.Addressed.{is_named, is_for, those_for}
-use Rattle.lapd_sides_interface.specs.Owed.{PassesBy, IsStep, IsComing, AreSilent, IsRemoval, Goes}
+use Rattle.lapd_sides_interface.specs.Owed.{PassesBy, IsStep, AreSilent, IsRemoval}
 use Rattle.lapd_sides_interface.specs.Premises.{tells_removal}
 use Rattle.lapd_sides_interface.specs.Told.{what_for, told_of, Known, learns, learns_all, AreExpectedWhats}
 

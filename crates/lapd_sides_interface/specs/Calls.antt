@@ -18,15 +18,16 @@ pub record Puts {S : Type 0} (w : Behaviour S) (acts : Effects) (deed : Deed) (v
   pub told : (does w deed v).told ≡ v.told ++ acts.primitives
 
 -- The side in code shows the side after the deed, and what the call put is what the deed sent and told.
-pub record NetworkDoes (code : NetSide) (config : Config) (acts : Effects) (deed : Deed)
-    (v : SideView Network) : Type 0 where
-  pub shown : ShowNetwork code config (does (network_behaviour config) deed v).now
-  pub puts : Puts (network_behaviour config) acts deed v
+pub record SideDoes {C S : Type 0} (Show : C → Config → S → Type 0) (w : Config → Behaviour S)
+    (code : C) (config : Config) (acts : Effects) (deed : Deed) (v : SideView S) : Type 0 where
+  pub shown : Show code config (does (w config) deed v).now
+  pub puts : Puts (w config) acts deed v
 
-pub record UserDoes (code : UserSide) (config : Config) (acts : Effects) (deed : Deed)
-    (v : SideView User) : Type 0 where
-  pub shown : ShowUser code config (does (user_behaviour config) deed v).now
-  pub puts : Puts (user_behaviour config) acts deed v
+abbrev pub NetworkDoes : NetSide → Config → Effects → Deed → SideView Network → Type 0
+NetworkDoes = SideDoes ShowNetwork network_behaviour
+
+abbrev pub UserDoes : UserSide → Config → Effects → Deed → SideView User → Type 0
+UserDoes = SideDoes ShowUser user_behaviour
 
 -- octets that are taken; those for which there was no memory, and that are not taken again, are lost
 abbrev pub take_of : {E : Type 0} → Result ⊤ E → ℕ → Deed

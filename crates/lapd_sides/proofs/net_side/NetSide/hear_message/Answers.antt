@@ -8,7 +8,8 @@ use Rattle.lapd_tei.specs.Out.{tei_given}
 use Rattle.lapd_sides_links.specs.declared.config.Config.{Config}
 use Rattle.lapd_sides.specs.Management.{links_with}
 use Rattle.lapd_sides.specs.Shows.{ShowServed}
-use Rattle.lapd_sides.proofs.Networking.{assigned_so, lacks}
+use Rattle.lapd_sides.proofs.Calling.{lacks}
+use Rattle.lapd_sides.proofs.Networking.{assigned_so}
 use Rattle.lapd_sides.proofs.net_side.NetSide.hear_message.Goals as goal
 
 pub returns-in_err-admit : goal.returns-in_err-admit

@@ -1,5 +1,5 @@
 use Rattle.lapd_frame.specs.declared.Side.TheVariants as side
-use Rattle.lapd_sides.proofs.Networking.{next_so}
+use Rattle.lapd_sides.proofs.Calling.{next_so}
 use Rattle.lapd_sides.proofs.net_side.NetSide.next_deadline.Goals as goal
 
 pub returns : goal.returns

@@ -1,7 +1,8 @@
 use Rattle.std.proofs.Common.{ap, ◌∙◌}
 use Rattle.lapd_frame.specs.declared.Side.TheVariants as side
 use Rattle.lapd_sides.specs.Network.{link_of_network, among_links}
-use Rattle.lapd_sides.proofs.Networking.{granted, granted_as, kept, not_to_group}
+use Rattle.lapd_sides.proofs.Calling.{granted_as}
+use Rattle.lapd_sides.proofs.Networking.{granted, kept, not_to_group}
 use Rattle.lapd_sides_links.proofs.Outcomes.{ok_gives, err_gives, each_err}
 use Rattle.lapd_sides.proofs.net_side.NetSide.put_unit.Goals as goal
 

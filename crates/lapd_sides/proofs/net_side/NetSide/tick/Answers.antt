@@ -3,7 +3,8 @@ use Rattle.lapd_timers.specs.Due.{Timers}
 use Rattle.lapd_frame.specs.declared.Side.TheVariants as side
 use Rattle.lapd_sides_links.specs.Effects.{stopped}
 use Rattle.lapd_sides.specs.Network.{Network, network_expires}
-use Rattle.lapd_sides.proofs.Networking.{due_so, expired_so, kept}
+use Rattle.lapd_sides.proofs.Calling.{due_so, expired_so}
+use Rattle.lapd_sides.proofs.Networking.{kept}
 use Rattle.lapd_sides.proofs.net_side.NetSide.tick.Goals as goal
 
 pub returns-in_default-clause-none : goal.returns-in_default-clause-none

@@ -1,7 +1,7 @@
 use Rattle.std.proofs.Common.{ℕ, Option, sym, subst, ◌∙◌}
 use Rattle.lapd_sides.specs.Management.{links_with}
 use Rattle.lapd_sides_links.specs.Shown.{ShowLinks}
-use Rattle.lapd_sides.proofs.Networking.{on_err}
+use Rattle.lapd_sides.proofs.Calling.{on_err}
 use Rattle.lapd_sides.proofs.served.LinksAndTimer.admit.Goals as goal
 
 pub returns-in_err-add_tei-clause-unchanged : goal.returns-in_err-add_tei-clause-unchanged

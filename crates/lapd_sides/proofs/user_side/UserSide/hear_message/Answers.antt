@@ -9,7 +9,8 @@ use Rattle.lapd_tei.specs.Terminal.{terminal_step}
 use Rattle.lapd_sides_links.specs.declared.config.Config.{Config}
 use Rattle.lapd_sides.specs.Management.{links_with}
 use Rattle.lapd_sides.specs.Shows.{ShowServed}
-use Rattle.lapd_sides.proofs.Using.{acts_so, lacks, outs_of}
+use Rattle.lapd_sides.proofs.Calling.{lacks}
+use Rattle.lapd_sides.proofs.Using.{acts_so, outs_of}
 use Rattle.lapd_sides.proofs.user_side.UserSide.hear_message.Goals as goal
 
 pub returns-in_err-admit : goal.returns-in_err-admit

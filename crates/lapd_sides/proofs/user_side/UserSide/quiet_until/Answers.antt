@@ -1,5 +1,5 @@
 use Rattle.lapd_frame.specs.declared.Side.TheVariants as side
-use Rattle.lapd_sides.proofs.Networking.{quiet_so}
+use Rattle.lapd_sides.proofs.Calling.{quiet_so}
 use Rattle.lapd_sides.proofs.user_side.UserSide.quiet_until.Goals as goal
 
 pub returns : goal.returns

@@ -4,7 +4,8 @@ use Rattle.lapd_link_rows.specs.Input.{UnitData}
 use Rattle.lapd_sides_links.specs.declared.side_fault.SideKind.TheVariants.{NoLink}
 use Rattle.lapd_sides.specs.ShowsUser.{HasGranted}
 use Rattle.lapd_sides.specs.User.{with_tei_or}
-use Rattle.lapd_sides.proofs.Using.{relinked, is_own, granted_as, link_granted, link_refused, links_kept}
+use Rattle.lapd_sides.proofs.Calling.{granted_as}
+use Rattle.lapd_sides.proofs.Using.{relinked, is_own, link_granted, link_refused, links_kept}
 use Rattle.lapd_sides.proofs.user_side.UserSide.send_unit.Goals as goal
 
 pub returns-in-Ok : goal.returns-in-Ok

@@ -3,8 +3,8 @@ use Rattle.lapd_timers.specs.Due.{Timers}
 use Rattle.lapd_frame.specs.declared.Side.TheVariants as side
 use Rattle.lapd_sides_links.specs.Effects.{stopped}
 use Rattle.lapd_sides.specs.User.{User, user_expires}
-use Rattle.lapd_sides.proofs.Networking.{due_so}
-use Rattle.lapd_sides.proofs.Using.{expired_so, links_kept, reshown_after}
+use Rattle.lapd_sides.proofs.Calling.{due_so, expired_so}
+use Rattle.lapd_sides.proofs.Using.{links_kept, reshown_after}
 use Rattle.lapd_sides.proofs.user_side.UserSide.tick.Goals as goal
 
 pub returns-in_default-clause-none : goal.returns-in_default-clause-none
