@@ -4,3 +4,4 @@ pub mod Numbers
 pub mod Printed
 pub mod Walks
 pub mod WordsOf
+pub mod LastWord

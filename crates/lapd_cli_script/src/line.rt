@@ -76,17 +76,15 @@ impl<'a> Words<'a> {
     /// # Errors
     ///
     /// As [`Words::octets`]. There are no octets then.
-    pub fn octets_into(mut self, octets: &mut Vec<u8>) -> Result<(), LineFault>
+    pub fn octets_into(self, octets: &mut Vec<u8>) -> Result<(), LineFault>
         ensures octets { Reads (λ done. octets.new.items) result (octets_behind self.entry) }
         ensures empty { OnErr result (octets.new.items ≡ []) }
     {
         octets.clear();
-        match self.next_word() {
+        match self.rest {
             None => Ok(()),
-            Some(digits) => {
-                self.nothing()?;
-                fill_with(octets, digits)
-            }
+            // A space is no digit, so the words that are left need not be parted.
+            Some(digits) => fill_with(octets, digits),
         }
     }
 

@@ -1,8 +1,10 @@
 //! The lines of what a side tells the layers above it, and of what it refuses.
 
-ghost use Rattle.std.specs.Prelude.{◌≡◌, ◌++◌, OnOk};
+ghost use Rattle.std.specs.Prelude.{◌≡◌, [], ◌∷◌, ◌++◌, OnOk};
+ghost use Rattle.std.specs.Fmt.{decimal};
 ghost use Rattle.std.specs.String.{string_bytes};
 ghost use Rattle.std.specs.Io.KnownBytes.{Appends};
+ghost use Rattle.lapd_frame.specs.Address.{sapi_value};
 ghost use Rattle.lapd_cli_script.specs.Line.{text_line};
 ghost use Rattle.lapd_sides_links.specs.Texts.{id_text, primitive_text, what_rest};
 ghost use Rattle.lapd_cli_side_commands.specs.SideTexts.{primitive_line, primitives_text, refusal_line, refused_line, told_text};
@@ -10,6 +12,7 @@ ghost use Rattle.lapd_cli_side_commands.specs.Wishes.{IsGood};
 
 use crate::line_style::LineStyle;
 use lapd_cli_script::LineFault;
+use lapd_frame::Sapi;
 use lapd_sides::{LinkId, Primitive, SideKind, TeiOut, What};
 use std::alloc::{AllocError, Global};
 use std::io::Write;
@@ -99,10 +102,20 @@ fn push_words(alloc: Global, primitive: &Primitive, text: &mut String) -> Result
 fn push_id(id: &LinkId, text: &mut String) -> Result<(), AllocError>
     ensures { OnOk result (string_bytes text.new ≡ string_bytes text.old ++ id_text id.now) }
 {
-    text.push_str(itoa::Buffer::new().format(id.sapi.value()))?;
-    text.push(' ')?;
+    text.push_str(sapi_words(id.sapi))?;
     text.push_str(itoa::Buffer::new().format(id.tei.value()))?;
     text.push(' ')
+}
+
+/// The number of a SAPI, and a space behind it.
+fn sapi_words(sapi: Sapi) -> &'static str
+    ensures { result.now ≡ decimal (sapi_value sapi) ++ 32 ∷ [] }
+{
+    match sapi {
+        Sapi::Call => "0 ",
+        Sapi::Packet => "16 ",
+        Sapi::Management => "63 ",
+    }
 }
 
 /// Appends what stands behind the word of what is told of a link.
