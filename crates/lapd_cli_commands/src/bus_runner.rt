@@ -14,7 +14,7 @@ use std::io::{Read, Write};
 
 /// A bus that goes over a script line by line.
 #[derive(Drop)]
-struct Runner {
+struct BusRunner {
     bus: Bus,
 }
 
@@ -34,13 +34,13 @@ pub fn bus<R: Read, W: Write>(
         (lines_of octets) (W.contents out.old) (W.contents out.new)) }
 {
     let mut runner = match Bus::new(alloc, usize::from(terminals)) {
-        Ok(bus) => Runner { bus },
+        Ok(bus) => BusRunner { bus },
         Err(_) => return Err(ScriptFault::Memory),
     };
     walk(alloc, &mut runner, script, out)
 }
 
-impl Command for Runner {
+impl Command for BusRunner {
     ghost use Rattle.lapd_tei.specs.Bus.{BusState};
     ghost use Rattle.lapd_cli_commands.specs.Bus.{bus_line};
 
@@ -58,7 +58,7 @@ impl Command for Runner {
     }
 }
 
-impl Runner {
+impl BusRunner {
     ghost use Rattle.lapd_tei.specs.Bus.{BusState};
     ghost use Rattle.lapd_cli_commands.specs.Bus.{made};
 

@@ -8,11 +8,11 @@
 //! counted. Single spaces part the words of a line.
 #![tactic(auto)]
 
-mod line;
 mod print;
 mod script;
+mod words;
 
 pub use lapd_port::PortFault;
-pub use line::{Words, number_of};
 pub use print::{put_hex, put_line, put_number, put_octets, put_word};
 pub use script::{Command, LineFault, ScriptFault, walk};
+pub use words::{Words, number_of};

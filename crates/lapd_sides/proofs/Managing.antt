@@ -7,7 +7,7 @@ use Rattle.lapd_frame.specs.declared.Side.{Side}
 use Rattle.lapd_tei.specs.declared.out.TeiOut.{TeiOut}
 use Rattle.lapd_tei.specs.Out.{tei_given, tei_freed}
 use Rattle.lapd_sides_links.specs.declared.config.Config.{Config}
-use Rattle.lapd_sides_links.specs.declared.links.LinkSet.{LinkSet}
+use Rattle.lapd_sides_links.specs.declared.link_set.LinkSet.{LinkSet}
 use Rattle.lapd_sides_links.specs.declared.primitive.Primitive.{Primitive}
 use Rattle.lapd_sides_links.specs.Effects.{Effects, managed, message_sent, outcome_of, no_effects}
 use Rattle.lapd_sides.specs.Management.{links_with, links_without, told_without, manages}

@@ -27,10 +27,10 @@ use Rattle.lapd_tei.specs.Out.{tei_given}
 use Rattle.lapd_table.specs.declared.link_id.LinkId.{LinkId}
 use Rattle.lapd_table.specs.LinkId.{id_of_address}
 use Rattle.lapd_sides_links.specs.declared.config.Config.{Config}
-use Rattle.lapd_sides_links.specs.declared.links.LinkSet.{LinkSet}
+use Rattle.lapd_sides_links.specs.declared.link_set.LinkSet.{LinkSet}
 use Rattle.lapd_sides_links.specs.declared.primitive.Primitive.TheVariants.{Of}
 use Rattle.lapd_sides_links.specs.declared.primitive.What.TheVariants as what
-use Rattle.lapd_sides.specs.declared.served.LinksAndTimer.{LinksAndTimer}
+use Rattle.lapd_sides.specs.declared.links_and_timer.LinksAndTimer.{LinksAndTimer}
 use Rattle.lapd_sides.specs.declared.user_side.UserSide.{UserSide}
 use Rattle.lapd_sides.specs.declared.request.Request.{Request}
 use Rattle.lapd_sides_links.specs.declared.side_fault.SideFault.{SideFault}

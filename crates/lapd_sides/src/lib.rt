@@ -39,10 +39,10 @@
 mod either_side;
 mod kept_establishments;
 mod laws;
+mod links_and_timer;
 mod net_side;
 mod references;
 mod request;
-mod served;
 mod user_side;
 
 pub use either_side::EitherSide;

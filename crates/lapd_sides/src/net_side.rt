@@ -14,7 +14,7 @@ ghost use Rattle.lapd_sides.specs.Shows.{ShowEnds};
 ghost use Rattle.lapd_sides_links.specs.Links.{IsOfLink};
 ghost use Rattle.lapd_sides.specs.Network.{Network, new_network, network_takes, network_expires, network_requested, assigner_acts, link_of_network, or_discarded, frame_heard, fault_heard, unit_requested, unit_to_group, given_for, given_for_frame, given_for_message};
 
-use crate::served::{LinksAndTimer, carries_message, one_more, without_message};
+use crate::links_and_timer::{LinksAndTimer, carries_message, one_more, without_message};
 use crate::{Acts, Config, Request, RunningTimer, SideFault, SideKind};
 use lapd_frame::{
     Address, Control, FaultKind, Frame, FrameFault, N201, Role, Sapi, Side, Tei, read,

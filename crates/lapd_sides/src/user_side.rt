@@ -20,10 +20,10 @@ ghost use Rattle.lapd_sides.specs.Shows.{ShowEnds};
 ghost use Rattle.lapd_sides.specs.User.{User, seeded, sends_message, new_user, user_takes, user_expires, user_requested, terminal_acts, assigned, kept_after, establishes_kept, establishes, gives_up_kept, told_of_group, told_of_sapi, link_of_user, or_discarded, frame_heard, data_heard, for_layer_3, fault_heard, got_for, got_for_frame, got_for_message, wants, forgets, with_tei_or};
 
 use crate::kept_establishments::KeptEstablishments;
-use crate::references::References;
-use crate::served::{
+use crate::links_and_timer::{
     LinksAndTimer, MOST_TEI_OUTPUTS, carries_message, is_unit_to_group, one_more, without_message,
 };
+use crate::references::References;
 use crate::{Acts, Config, Octets, Primitive, Request, RunningTimer, SideFault, SideKind, What};
 use lapd_frame::{FaultKind, Frame, FrameFault, N201, Sapi, Side, Tei, read};
 use lapd_link::{Event, LinkFault};

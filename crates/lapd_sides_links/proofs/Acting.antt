@@ -25,7 +25,7 @@ use Rattle.lapd_table.specs.declared.link_table.LinkTable.{LinkTable}
 use Rattle.lapd_table.proofs.Ids.{same_id_eq}
 use Rattle.lapd_table.proofs.Tables.{setup_at}
 use Rattle.lapd_sides_links.specs.declared.running_timer.RunningTimer.{RunningTimer as Due}
-use Rattle.lapd_sides_links.specs.declared.links.LinkSet.{LinkSet}
+use Rattle.lapd_sides_links.specs.declared.link_set.LinkSet.{LinkSet}
 use Rattle.lapd_sides_links.specs.declared.primitive.Primitive.TheVariants.{Of}
 use Rattle.lapd_sides_links.specs.declared.primitive.Primitive.{Primitive}
 use Rattle.lapd_sides_links.specs.declared.side_fault.SideKind.TheVariants as kind

@@ -12,7 +12,7 @@ use Rattle.lapd_table.specs.LinkId.{id_eq}
 use Rattle.lapd_table.specs.LinkTable.{link_at}
 use Rattle.lapd_table.proofs.Ids.{same_id_eq}
 use Rattle.lapd_sides_links.specs.declared.config.Config.{Config}
-use Rattle.lapd_sides_links.specs.declared.links.LinkSet.{LinkSet}
+use Rattle.lapd_sides_links.specs.declared.link_set.LinkSet.{LinkSet}
 use Rattle.lapd_sides_links.specs.declared.primitive.Primitive.{Primitive}
 use Rattle.lapd_sides_links.specs.Links.{Links, Linked, of_sapi, with_link, with_tei, without_tei, new_linked, told_at_removal, told_of_tei}
 use Rattle.lapd_sides_links.specs.TimersAtPlaces.{placed}

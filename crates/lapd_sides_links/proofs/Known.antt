@@ -4,7 +4,7 @@ use Rattle.std.specs.Prelude.{◌==◌, ◌&&◌, nat_lt, if◌then◌else◌}
 use Rattle.lapd_frame.specs.declared.Side.{Side}
 use Rattle.lapd_tei.specs.Assigner.{is_held}
 use Rattle.lapd_sides_links.specs.declared.config.Config.{Config}
-use Rattle.lapd_sides_links.specs.declared.links.LinkSet.{LinkSet}
+use Rattle.lapd_sides_links.specs.declared.link_set.LinkSet.{LinkSet}
 use Rattle.lapd_sides_links.specs.Links.{Linked, is_served, parameters_for, new_linked, no_links, with_tei, is_held_below, links_below}
 use Rattle.lapd_sides_links.specs.Shown.{ShowLinks}
 use Rattle.lapd_sides_links.proofs.Comings.{same_links}

@@ -12,7 +12,7 @@ use Rattle.lapd_table.specs.declared.link_id.LinkId.{LinkId}
 use Rattle.lapd_table.specs.declared.link_key.LinkKey.{LinkKey}
 use Rattle.lapd_table.specs.LinkTable.{link_at, IsKey}
 use Rattle.lapd_table.proofs.Tables.{key_is_of_link}
-use Rattle.lapd_sides_links.specs.declared.links.LinkSet.{LinkSet}
+use Rattle.lapd_sides_links.specs.declared.link_set.LinkSet.{LinkSet}
 use Rattle.lapd_sides_links.specs.declared.side_fault.SideKind.TheVariants as kind
 use Rattle.lapd_sides_links.specs.Links.{Links, link_acts, in_links}
 use Rattle.lapd_sides_links.specs.Shown.{ShowLinks}

@@ -10,7 +10,7 @@ use Rattle.lapd_link_rows.specs.declared.out.Out.{Out}
 use Rattle.lapd_link_rows.specs.End.{End}
 use Rattle.lapd_table.specs.declared.link_id.LinkId.{LinkId}
 use Rattle.lapd_table.specs.LinkTable.{side_of, link_at}
-use Rattle.lapd_sides_links.specs.declared.links.LinkSet.{LinkSet}
+use Rattle.lapd_sides_links.specs.declared.link_set.LinkSet.{LinkSet}
 use Rattle.lapd_sides_links.specs.declared.timer_places.TimerPlaces.{TimerPlaces}
 use Rattle.lapd_sides_links.specs.declared.side_fault.SideKind.{SideKind}
 use Rattle.lapd_sides_links.specs.Effects.{Effects, and_then}

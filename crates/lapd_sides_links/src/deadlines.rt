@@ -8,7 +8,7 @@ ghost use Rattle.lapd_sides_links.specs.Places.{earlier};
 ghost use Rattle.lapd_sides_links.specs.Shown.{ShowLinks};
 
 use crate::RunningTimer;
-use crate::links::LinkSet;
+use crate::link_set::LinkSet;
 use crate::running_timer::sooner;
 use lapd_timers::{Timer, TimerSet};
 

@@ -1,6 +1,0 @@
-use Rattle.std.proofs.Common.{◌≡◌, drop}
-use Rattle.lapd_tei.specs.Out.{tei_freed}
-use Rattle.lapd_sides.proofs.served.freed.Given as goal
-
-abbrev pub invariant-loop-out : goal.invariant-loop-out
-invariant-loop-out l = tei_freed (drop l.out-index l.outs) ≡ tei_freed l.outs

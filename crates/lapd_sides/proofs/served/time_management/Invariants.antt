@@ -1,6 +1,0 @@
-use Rattle.std.proofs.Common.{◌≡◌, drop}
-use Rattle.lapd_sides_links.specs.Effects.{managed}
-use Rattle.lapd_sides.proofs.served.time_management.Given as goal
-
-abbrev pub invariant-loop-out : goal.invariant-loop-out
-invariant-loop-out l = managed l.now (drop l.out-index l.outs) l.timers ≡ managed l.now l.outs l.initial.timers
