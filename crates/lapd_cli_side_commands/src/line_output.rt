@@ -105,7 +105,9 @@ impl LineOutput {
             }
             out.write_all(sent.line())?;
         }
-        out.write_all(self.primitives.as_bytes())?;
+        if !self.primitives.is_empty() {
+            out.write_all(self.primitives.as_bytes())?;
+        }
         out.flush()?;
         Ok(None)
     }
