@@ -1,6 +1,7 @@
 //! The octets that are under way from one end to the other.
 
 ghost use Rattle.std.specs.Prelude.{◌≤◌};
+ghost use Rattle.lapd_frame.specs.declared.frame.TheConstants.{MOST_OCTETS};
 
 use crate::bench_fault::BenchFault;
 use lapd_frame::{Frame, MOST_OCTETS, Side, write};
@@ -13,7 +14,7 @@ const FRAMES: usize = 7;
 pub struct Slot {
     octets: [u8; MOST_OCTETS],
     len: usize,
-    ghost fits: { len ≤ 264 },
+    ghost fits: { len ≤ MOST_OCTETS },
 }
 
 impl Slot {

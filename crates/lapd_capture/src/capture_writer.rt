@@ -4,7 +4,7 @@ ghost use Rattle.std.specs.Prelude.{◌≡◌, ◌≤◌, length, IfOk, OnOk};
 ghost use Rattle.std.specs.Io.KnownBytes.{Appends};
 ghost use Rattle.lapd_capture.specs.Written.{file_octets, record_octets};
 
-use crate::written::{FILE_HEADER, record_of};
+use crate::written::{FILE_HEADER, MOST_FRAME, record_of};
 use lapd_field::Side;
 use std::io::{self, Write};
 
@@ -41,7 +41,7 @@ impl<W: Write> CaptureWriter<W> {
     ///
     /// The writer's.
     pub fn write(&mut self, from: Side, moment: u64, frame: &[u8]) -> io::Result<()>
-        requires { length frame.now ≤ 264 }
+        requires { length frame.now ≤ MOST_FRAME }
         ensures own { self.new.own ≡ self.old.own }
         ensures record_of { OnOk result (Appends (W.contents self.old.out) (W.contents self.new.out)
             (record_octets self.old.own from moment frame.now)) }

@@ -20,7 +20,7 @@ pub const MOST_FRAME: usize = 264;
 /// The record of a frame in a pcap file of link type 177: the side `own` captured it and the side `from` sent it, at a
 /// moment in milliseconds. The frame has at most 264 octets.
 pub fn record_of(own: Side, from: Side, moment: u64, frame: &[u8]) -> ArrayVec<u8, 296>
-    requires { length frame.now ≤ 264 }
+    requires { length frame.now ≤ MOST_FRAME }
     ensures { result.items ≡ record_octets own from moment frame.now }
 {
     let count = 16 + frame.len() as u32;
@@ -34,7 +34,7 @@ pub fn record_of(own: Side, from: Side, moment: u64, frame: &[u8]) -> ArrayVec<u
 /// A frame that the side `from` sent behind its GSMTAP header, as one UDP datagram holds it. The frame has at most 264
 /// octets.
 pub fn gsmtap_of(from: Side, frame: &[u8]) -> ArrayVec<u8, 280>
-    requires { length frame.now ≤ 264 }
+    requires { length frame.now ≤ MOST_FRAME }
     ensures { result.items ≡ gsmtap_octets from frame.now }
 {
     let header = [

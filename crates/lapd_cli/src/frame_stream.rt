@@ -75,7 +75,7 @@ impl FrameStream {
     /// `End` where the other side sends no more and has sent no part of a frame, `Cut` where it has, `BadLength`, and `Device`
     /// where the connection failed or there is no memory.
     pub fn next_frame(&mut self, frame: &mut [u8; MOST_OCTETS]) -> Result<Option<usize>, PortFault>
-        ensures { IfOk result (λ count. IfSome count (λ count. count ≤ 264)) }
+        ensures { IfOk result (λ count. IfSome count (λ count. count ≤ MOST_OCTETS)) }
     {
         for _read in 0..u64::MAX {
             if let Some(count) = self.take_frame(frame)? {
@@ -96,7 +96,7 @@ impl FrameStream {
 
     /// Takes the first frame of what was read, where it is whole.
     fn take_frame(&mut self, frame: &mut [u8; MOST_OCTETS]) -> Result<Option<usize>, PortFault>
-        ensures { IfOk result (λ count. IfSome count (λ count. count ≤ 264)) }
+        ensures { IfOk result (λ count. IfSome count (λ count. count ≤ MOST_OCTETS)) }
     {
         let Some((length, behind)) = self.text.as_slice().split_first_chunk::<LENGTH_OCTETS>()
         else {

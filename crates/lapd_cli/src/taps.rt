@@ -6,6 +6,7 @@ use crate::reason::Reason;
 use lapd_capture::{CaptureWriter, gsmtap_of};
 use lapd_cli_live::Tap;
 use lapd_cli_options::Side;
+use lapd_port::MOST_OCTETS;
 use std::fs::{self, File};
 use std::io::{self, ErrorKind};
 use std::net::{SocketAddr, ToSocketAddrs, UdpSocket};
@@ -78,7 +79,7 @@ impl Tap for Taps<'_> {
 impl Taps<'_> {
     // Writes a frame into the capture, where there is one.
     fn capture_frame(&mut self, from: Side, moment: u64, frame: &[u8])
-        requires { length frame.now ≤ 264 }
+        requires { length frame.now ≤ MOST_OCTETS }
     {
         let Some(capture) = &mut self.capture else {
             return;
@@ -93,7 +94,7 @@ impl Taps<'_> {
 
     // Sends a frame as GSMTAP, where that was asked for.
     fn send_frame(&mut self, from: Side, frame: &[u8])
-        requires { length frame.now ≤ 264 }
+        requires { length frame.now ≤ MOST_OCTETS }
     {
         let Some(gsmtap) = &self.gsmtap else {
             return;
@@ -120,7 +121,7 @@ impl GsmtapSocket {
 
     // Sends a frame. The socket is bound to no peer, so that nobody has to listen.
     fn send(&self, from: Side, frame: &[u8]) -> io::Result<()>
-        requires { length frame.now ≤ 264 }
+        requires { length frame.now ≤ MOST_OCTETS }
     {
         let datagram = gsmtap_of(from, frame);
         self.socket.send_to(datagram.as_slice(), self.address)?;

@@ -8,7 +8,7 @@ ghost use Rattle.lapd_cli_script.specs.Script.{EndsAs, LineEndsAs, lines_of};
 use crate::outputs::{put_outs, put_refusal};
 use crate::words::is;
 use lapd_cli_script::{Command, LineFault, ScriptFault, Words, put_line, put_number, walk};
-use lapd_frame::{Frame, FrameFault, Sapi, Side, Tei};
+use lapd_frame::{Frame, FrameFault, N201, Sapi, Side, Tei};
 use lapd_link::{Event, Link, Outs, Params};
 use std::alloc::{AllocError, Global};
 use std::io::{Read, Write};
@@ -235,7 +235,7 @@ impl Answerer {
 
     /// Takes a frame, if it is for this link.
     fn hear_frame<W: Write>(&mut self, frame: &Frame<'_>, out: &mut W) -> Result<(), LineFault>
-        requires fits { length frame.now.info ≤ 260 }
+        requires fits { length frame.now.info ≤ N201 }
         ensures { (s : Session) → IsAnswerer self.old s
             → LineEndsAs IsAnswerer (Some (hear_frame s frame.now)) result self.new
             (W.contents out.old) (W.contents out.new) }

@@ -19,7 +19,7 @@ pub trait Tap {
 
     /// A frame of at most 264 octets goes over the line, which this side sent, at a moment in milliseconds since the start.
     fn pass(&mut self, from: Side, moment: u64, frame: &[u8])
-        requires { length frame.now ≤ 264 }
+        requires { length frame.now ≤ MOST_OCTETS }
         ensures handed { handed self.new ≡ handed_more (handed self.old)
             (passed_frame from frame.now ∷ []) };
 }
@@ -133,7 +133,7 @@ fn hand<O: Outside, T: Tap>(
     from: Side,
     frame: &[u8],
 ) -> Result<(), PortFault>
-    requires { length frame.now ≤ 264 }
+    requires { length frame.now ≤ MOST_OCTETS }
     ensures deeds { O.deeds clock.new ≡ O.deeds clock.old }
     ensures handed { OnOk result (T.handed tap.new
         ≡ handed_more (T.handed tap.old) (passed_frame from frame.now ∷ [])) }

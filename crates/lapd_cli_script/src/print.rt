@@ -79,7 +79,7 @@ pub fn put_octets<W: Write>(word: &[u8], octets: &[u8], out: &mut W) -> Result<(
 
 // Writes a space, the digits of at most `CHUNK` octets and the line's end, all at once.
 fn put_digits<W: Write>(octets: &[u8], out: &mut W) -> io::Result<()>
-    requires { length octets.now ≤ 64 }
+    requires { length octets.now ≤ CHUNK }
     ensures { OnOk result (Appends (W.contents out.old) (W.contents out.new)
         (32 ∷ encode_lower octets.now ++ 10 ∷ [])) }
 {
@@ -115,7 +115,7 @@ pub fn put_hex<W: Write>(octets: &[u8], out: &mut W) -> io::Result<()>
 
 // Writes at most `CHUNK` octets.
 fn put_hex_chunk<W: Write>(octets: &[u8], out: &mut W) -> io::Result<()>
-    requires { length octets.now ≤ 64 }
+    requires { length octets.now ≤ CHUNK }
     ensures { OnOk result (Appends (W.contents out.old) (W.contents out.new)
         (encode_lower octets.now)) }
 {

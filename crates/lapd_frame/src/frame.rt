@@ -94,7 +94,7 @@ pub fn read(octets: &[u8], from: Side) -> Result<Frame<'_>, FrameFault>
 pub fn write(frame: &Frame<'_>, from: Side, out: &mut [u8; MOST_OCTETS]) -> usize
     ensures written { out.new ≡ spelling from frame.now ++ drop result out.old }
     ensures len { result ≡ length (spelling from frame.now) }
-    ensures at_most { result ≤ 264 }
+    ensures at_most { result ≤ MOST_OCTETS }
     ensures grammar { IsFrame frame.now }
 {
     let address = frame.address.write(from);
@@ -124,7 +124,7 @@ pub fn write_over(frame: &Frame<'_>, from: Side, out: &mut ArrayVec<u8, MOST_OCT
 /// Writes an address and a control field behind the octets of `out`.
 #[inline(always)]
 fn append_fields(out: &mut ArrayVec<u8, MOST_OCTETS>, address: [u8; 2], control: &[u8])
-    requires { array_vec_len out.old + 2 + length control.now ≤ 264 }
+    requires { array_vec_len out.old + 2 + length control.now ≤ MOST_OCTETS }
     ensures items { out.new.items ≡ out.old.items ++ address ++ control.now }
     ensures len { array_vec_len out.new ≡ array_vec_len out.old + 2 + length control.now }
 {
@@ -141,7 +141,7 @@ fn append_fields(out: &mut ArrayVec<u8, MOST_OCTETS>, address: [u8; 2], control:
 /// Writes octets behind those of `out`.
 #[inline(always)]
 fn append(out: &mut ArrayVec<u8, MOST_OCTETS>, octets: &[u8])
-    requires { array_vec_len out.old + length octets.now ≤ 264 }
+    requires { array_vec_len out.old + length octets.now ≤ MOST_OCTETS }
     ensures items { out.new.items ≡ out.old.items ++ octets.now }
     ensures len { array_vec_len out.new ≡ array_vec_len out.old + length octets.now }
 {
@@ -151,7 +151,7 @@ fn append(out: &mut ArrayVec<u8, MOST_OCTETS>, octets: &[u8])
 }
 
 /// Writes a control field at the third octet of `out`, and tells its length in octets.
-fn put_control(out: &mut [u8; 264], control: &Control) -> usize
+fn put_control(out: &mut [u8; MOST_OCTETS], control: &Control) -> usize
     ensures written { out.new ≡ take 2 out.old ++ control_octets control.now
         ++ drop (2 + result) out.old }
     ensures len { result ≡ length (control_octets control.now) }
@@ -232,7 +232,7 @@ fn fault_for_link(kind: FaultKind, address: Address) -> FrameFault
 
 /// Writes octets at this place of `out`.
 fn put(out: &mut [u8; MOST_OCTETS], at: usize, octets: &[u8])
-    requires { at + length octets.now ≤ 264 }
+    requires { at + length octets.now ≤ MOST_OCTETS }
     ensures { out.new ≡ take at out.old ++ octets.now ++ drop (at + length octets.now) out.old }
 {
     if !octets.is_empty() {

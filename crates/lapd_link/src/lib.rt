@@ -9,9 +9,9 @@
 //! 2. Octets of the line are read by `lapd_frame::read`. A frame with the link's SAPI and TEI ([`Link::is_for`]) goes to
 //!    [`Link::handle`] as [`Event::Heard`], and a fault of F4 to F7 with its address as [`Event::Fault`].
 //! 3. What layer 3 wants are events too, and its messages go to [`Link::give`], which hands a message back that it refuses.
-//! 4. Each step gives a list of [`Out`], at most 136, which are done in order: [`Link::frame`] makes the frame of one that is
-//!    sent, before the next call, and `lapd_frame::write` its octets; `Start` and `Stop` are of T200 and T203; the others are for
-//!    layer 3, at most six of them, `Up` with the information of the frame that was just heard.
+//! 4. Each step gives a list of [`Out`], at most [`MOST_OUTPUTS`], which are done in order: [`Link::frame`] makes the frame of one
+//!    that is sent, before the next call, and `lapd_frame::write` its octets; `Start` and `Stop` are of T200 and T203; the others
+//!    are for layer 3, at most six of them, `Up` with the information of the frame that was just heard.
 //! 5. Where a timer that was started expires, it is [`Event::T200`] or [`Event::T203`].
 //!
 //! ```text
@@ -38,7 +38,7 @@ mod sent_frame;
 pub use lapd_frame::{
     Address, Control, FaultKind, Frame, FrameFault, Number, Role, Sapi, Side, Tei,
 };
-pub use lapd_link_machine::Outs;
+pub use lapd_link_machine::{MOST_OUTPUTS, Outs};
 pub use lapd_link_rows::{Event, Letter, LinkFault, Out, Params, Recovery, Refused, State};
 pub use lapd_queue::IQueue;
 pub use lapd_supervision::{Seq, Window};

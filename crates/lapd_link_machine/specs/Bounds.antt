@@ -4,6 +4,7 @@ use Rattle.std.specs.List.{filter}
 use Rattle.lapd_link_rows.specs.declared.out.Out.{Out}
 use Rattle.lapd_link_rows.specs.declared.out.Out.TheVariants.{Send, SendMessage, SendUnit, Start, Stop}
 use Rattle.lapd_link_rows.specs.Input.{Input, Establish}
+use Rattle.lapd_link_machine.specs.declared.machine.TheConstants.{MOST_OUTPUTS}
 
 -- an output that the layers above are told of: neither a frame nor a timer
 abbrev pub is_told : Out → Bool
@@ -21,7 +22,7 @@ told_count outs = length (filter is_told outs)
 -- where layer 3 asks for an establishment no message goes out, and else at most all that a window lets out
 abbrev pub most_outputs : Input → ℕ
 most_outputs Establish = 7
-most_outputs input = 136
+most_outputs input = MOST_OUTPUTS
 
 -- what a step gives for this input
 pub record IsBounded (input : Input) (outs : List Out) : Type 0 where

@@ -4,6 +4,7 @@ use Rattle.arrayvec.specs.ArrayVec.{ArrayVec, array_vec_len}
 use Rattle.lapd_link_rows.specs.declared.out.Out.{Out}
 use Rattle.lapd_link_rows.specs.End.{StepState}
 use Rattle.lapd_link_machine.specs.declared.machine.Machine.{Machine}
+use Rattle.lapd_link_machine.specs.declared.machine.TheConstants.{MOST_OUTPUTS}
 use Rattle.lapd_link_machine.specs.Tail.{IsTail}
 
 -- A machine, with the outputs of the step so far, stands for an end in mid-step, read by tags. How many establishments
@@ -33,7 +34,7 @@ DoesQuietly old new action = (s : StepState) (outs : List Out) → StandsFor old
 
 -- so many outputs more have room
 abbrev pub HasRoom : ℕ → ArrayVec Out → Type 0
-HasRoom n outs = array_vec_len outs + n ≤ 136
+HasRoom n outs = array_vec_len outs + n ≤ MOST_OUTPUTS
 
 -- so many outputs more at most
 abbrev pub Grows : ℕ → ArrayVec Out → ArrayVec Out → Type 0

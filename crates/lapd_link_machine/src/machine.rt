@@ -21,8 +21,11 @@ mod step;
 mod tei_assigned;
 mod timer_recovery;
 
-/// What one step gives, in order. A step gives at most 136 outputs.
-pub type Outs = ArrayVec<Out, 136>;
+/// How many outputs a step gives at most: seven, and 127 messages with the start and stop of a timer.
+pub const MOST_OUTPUTS: usize = 136;
+
+/// What one step gives, in order.
+pub type Outs = ArrayVec<Out, MOST_OUTPUTS>;
 
 /// The variables of an end (Q.921 Annex B).
 #[derive(Drop)]
@@ -45,7 +48,7 @@ pub struct Machine {
 
 /// One more output.
 fn push(outs: &mut Outs, out: Out)
-    requires { array_vec_len outs.old < 136 }
+    requires { array_vec_len outs.old < MOST_OUTPUTS }
     ensures items { outs.new.items ≡ outs.old.items ++ out ∷ [] }
     ensures len { array_vec_len outs.new ≡ array_vec_len outs.old + 1 }
 {

@@ -25,11 +25,8 @@ use crate::line::Line;
 use crate::log::Log;
 use crate::pair_fault::PairFault;
 use lapd_frame::{Sapi, Side, Tei};
-use lapd_link::{Event, Link, Out, Outs, Params};
+use lapd_link::{Event, Link, MOST_OUTPUTS, Out, Outs, Params};
 use std::alloc::{AllocError, Global};
-
-/// How many outputs a step gives at most, and so how many frames.
-const MOST_FRAMES: usize = 136;
 
 /// One side: its end of the link, and what is written down of it.
 #[derive(Drop)]
@@ -67,7 +64,7 @@ impl RecordedLink {
 
     /// Takes the room that one step may need, on the line and in what is written down.
     pub fn make_room(&mut self, outward: &mut Line) -> Result<(), AllocError>
-        ensures line_room { OnOk result (HasRoomFor 136 outward.new) }
+        ensures line_room { OnOk result (HasRoomFor MOST_OUTPUTS outward.new) }
         ensures history_room { OnOk result (HasRoom step_room self.new.history) }
         ensures station { (side : Side) (t : world.Station) → IsStation side self.old t
             → IsStation side self.new t }
@@ -75,13 +72,13 @@ impl RecordedLink {
             → IsOn from outward.new frames }
         ensures link { self.new.link ≡ self.old.link }
     {
-        outward.reserve(MOST_FRAMES)?;
+        outward.reserve(MOST_OUTPUTS)?;
         self.history.reserve()
     }
 
     /// Takes the room that a message needs, on the line and in what is written down.
     pub fn make_room_for_message(&mut self, outward: &mut Line) -> Result<(), AllocError>
-        ensures line_room { OnOk result (HasRoomFor 136 outward.new) }
+        ensures line_room { OnOk result (HasRoomFor MOST_OUTPUTS outward.new) }
         ensures history_room { OnOk result (HasRoom message_room self.new.history) }
         ensures station { (side : Side) (t : world.Station) → IsStation side self.old t
             → IsStation side self.new t }
@@ -89,7 +86,7 @@ impl RecordedLink {
             → IsOn from outward.new frames }
         ensures link { self.new.link ≡ self.old.link }
     {
-        outward.reserve(MOST_FRAMES)?;
+        outward.reserve(MOST_OUTPUTS)?;
         self.history.reserve_given()
     }
 
@@ -197,7 +194,7 @@ impl RecordedLink {
         outs: &mut Outs,
     ) -> Result<(), PairFault>
         requires for_link { IsForLink self.old.link event }
-        requires line_room { HasRoomFor 136 outward.old }
+        requires line_room { HasRoomFor MOST_OUTPUTS outward.old }
         requires history_room { HasRoom step_room self.old.history }
         ensures ok { IfOk (with_outs result outs.new)
             (λ outs. (side : Side) (place : ℕ) (v : View) → IsKept Tagged v.station
@@ -232,7 +229,7 @@ impl RecordedLink {
         outward: &mut Line,
         outs: &mut Outs,
     ) -> Result<(), PairFault>
-        requires line_room { HasRoomFor 136 outward.old }
+        requires line_room { HasRoomFor MOST_OUTPUTS outward.old }
         requires history_room { HasRoom message_room self.old.history }
         ensures ok { IfOk (with_outs result outs.new)
             (λ outs. (side : Side) (v : View) → IsKept Tagged v.station

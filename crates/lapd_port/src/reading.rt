@@ -58,7 +58,7 @@ fn is_frame_length(count: usize) -> bool
 
 // Reads until the octets are full or the input ends, and tells how many were read.
 fn fill<R: Source>(source: &mut R, octets: &mut [u8], turns: &mut u16) -> Result<usize, PortFault>
-    requires { turns.old ≤ 4096 }
+    requires { turns.old ≤ MOST_TURNS }
     ensures bound { IfOk result (λ count. count ≤ length octets.new) }
     ensures octets { IfOk result (λ count. Consumes (R.rest source.old) (R.rest source.new)
         (take count octets.new)
@@ -69,8 +69,8 @@ fn fill<R: Source>(source: &mut R, octets: &mut [u8], turns: &mut u16) -> Result
         (R.failure_count source.new) }
     ensures turns { (count : ℕ) × Turns R.turn count source.old source.new
         × (turns.new ≡ turns.old + count) }
-    ensures most { turns.new ≤ 4096 }
-    ensures all_made { result ≡ Err PortFault.TooManyTurns → turns.new ≡ 4096 }
+    ensures most { turns.new ≤ MOST_TURNS }
+    ensures all_made { result ≡ Err PortFault.TooManyTurns → turns.new ≡ MOST_TURNS }
     ensures faults { IfErr result (λ fault. (fault ≡ PortFault.Device)
         ⊎ (fault ≡ PortFault.TooManyTurns)) }
 {
@@ -92,7 +92,7 @@ fn fill<R: Source>(source: &mut R, octets: &mut [u8], turns: &mut u16) -> Result
 
 // Whether these are all the turns that a call makes.
 fn are_all(turns: u16) -> bool
-    ensures { IsTrue result ↔ (turns ≡ 4096) }
+    ensures { IsTrue result ↔ (turns ≡ MOST_TURNS) }
 {
     turns == MOST_TURNS
 }

@@ -10,6 +10,7 @@ ghost use Rattle.lapd_tei.specs.Message.{frame_of_message};
 use crate::{Octets, Primitive, What};
 use arrayvec::ArrayVec;
 use lapd_frame::{Frame, MOST_OCTETS, N201, Side, write_over};
+use lapd_link::MOST_OUTPUTS;
 use lapd_table::LinkId;
 use lapd_tei::TeiMessage;
 use std::alloc::{AllocError, Global};
@@ -20,7 +21,7 @@ pub const MOST_TOLD: usize = 6;
 
 /// How many frames there is room for: those of one step of a link. Where a TEI is got, two links establish, with seven outputs
 /// each at most.
-pub const MOST_FRAMES: usize = 136;
+pub const MOST_FRAMES: usize = MOST_OUTPUTS;
 
 /// How many primitives there is room for: those of one step of each of two links, and of TEI management.
 pub const MOST_PRIMITIVES: usize = 20;

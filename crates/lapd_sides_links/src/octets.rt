@@ -2,17 +2,15 @@ ghost use Rattle.std.specs.Prelude.{◌≡◌, ◌≤◌, [], length, Some};
 ghost use Rattle.hex.specs.Hex.{encode_lower};
 
 use arrayvec::ArrayVec;
+use lapd_frame::N201;
 use std::fmt;
 use std::marker::Model;
-
-/// How many octets there are at most (N201, Q.921 5.9.3).
-const MOST: usize = 260;
 
 /// The octets of a message or of unit data that goes up to layer 3, at most 260 (N201, Q.921 5.9.3). They print
 /// as hexadecimal digits in lower case.
 #[derive(Debug, Drop)]
 pub struct Octets {
-    octets: ArrayVec<u8, MOST>,
+    octets: ArrayVec<u8, N201>,
 }
 
 impl Model for Octets {
@@ -27,7 +25,7 @@ impl Octets {
     /// These octets, at most 260.
     #[inline(always)]
     pub fn new(octets: &[u8]) -> Octets
-        requires { length octets.now ≤ MOST }
+        requires { length octets.now ≤ N201 }
         ensures { result ≡ octets.now }
     {
         let mut copy = ArrayVec::new();
@@ -51,7 +49,7 @@ impl Octets {
     #[inline(always)]
     pub(crate) fn fill(&mut self, octets: &[u8])
         requires none { self.old ≡ [] }
-        requires fits { length octets.now ≤ MOST }
+        requires fits { length octets.now ≤ N201 }
         ensures { self.new ≡ octets.now }
     {
         let Ok(()) = self.octets.try_extend_from_slice(octets) else {
@@ -71,7 +69,7 @@ impl fmt::Display for Octets {
     ghost output = { λ octets. Some (encode_lower octets) };
 
     fn fmt<W: fmt::Write>(&self, f: &mut fmt::Formatter<W>) -> fmt::Result {
-        let mut room = [0u8; 2 * MOST];
+        let mut room = [0u8; 2 * N201];
         let digits = &mut room[..2 * self.octets.len()];
         let Ok(()) = hex::encode_to_slice(self.octets.as_slice(), digits) else {
             unreachable!()

@@ -1,6 +1,6 @@
 //! Which of the timers of links expires first.
 
-ghost use Rattle.std.specs.Prelude.{◌≡◌, ◌≢◌, ◌≤◌, ◌<◌, ℕ, ◌/◌, None, IfOk, true};
+ghost use Rattle.std.specs.Prelude.{◌≡◌, ◌≢◌, ◌≤◌, ◌<◌, ◌*◌, ℕ, ◌/◌, None, IfOk, true};
 ghost use Rattle.lapd_sides_links.specs.Expiries.{IsFirst};
 ghost use Rattle.lapd_sides_links.specs.Places.{IsSooner};
 ghost use Rattle.lapd_sides_links.specs.Tournament.{entry, IsEntered, IsWonBut, IsAlone, HasTop};
@@ -98,7 +98,7 @@ impl Tournament {
 fn win_all(nodes: &mut [Option<RunningTimer>], top: usize)
     requires { HasTop top nodes.old }
     ensures won { IsWonBut 0 nodes.new }
-    ensures places { (n : ℕ) → 256 ≤ n → entry nodes.new n ≡ entry nodes.old n }
+    ensures places { (n : ℕ) → PLACES ≤ n → entry nodes.new n ≡ entry nodes.old n }
 {
     if top != FIRST {
         win_above(nodes, top);
@@ -111,7 +111,7 @@ fn win_all(nodes: &mut [Option<RunningTimer>], top: usize)
 fn win_above(nodes: &mut [Option<RunningTimer>], place: usize)
     requires { IsAlone place nodes.old }
     ensures won { IsWonBut 0 nodes.new }
-    ensures places { (n : ℕ) → 256 ≤ n → entry nodes.new n ≡ entry nodes.old n }
+    ensures places { (n : ℕ) → PLACES ≤ n → entry nodes.new n ≡ entry nodes.old n }
 {
     let alone = nodes[place];
     settle(nodes, place, alone);
@@ -122,10 +122,10 @@ fn win_above(nodes: &mut [Option<RunningTimer>], place: usize)
 fn settle(nodes: &mut [Option<RunningTimer>], place: usize, entered: Option<RunningTimer>)
     requires open { IsWonBut (place / 2) nodes.old }
     requires there { entry nodes.old place ≡ entered }
-    requires low { 256 ≤ place }
-    requires high { place < 512 }
+    requires low { PLACES ≤ place }
+    requires high { place < 2 * PLACES }
     ensures won { IsWonBut 0 nodes.new }
-    ensures places { (n : ℕ) → 256 ≤ n → entry nodes.new n ≡ entry nodes.old n }
+    ensures places { (n : ℕ) → PLACES ≤ n → entry nodes.new n ≡ entry nodes.old n }
 {
     let mut at = place;
     let mut first = entered;

@@ -66,7 +66,7 @@ impl Durations {
     pub fn of(&self, timer: Timer) -> u32
         ensures same { result ≡ length_of timer self.now }
         ensures low { 1 ≤ result }
-        ensures high { result ≤ 3600000 }
+        ensures high { result ≤ LONGEST }
     {
         match timer {
             Timer::T200 => self.t200,

@@ -8,8 +8,8 @@ ghost use Rattle.lapd_link_rows.specs.declared.out.Out.{Out};
 ghost use Rattle.lapd_link_rows.specs.EndOfStep.{may_send_next, is_established, is_7_or_8, acknowledge_pending, end_step};
 ghost use Rattle.lapd_link_rows.specs.End.{StepState, unsent};
 
-use crate::Outs;
 use crate::machine::Machine;
+use crate::{MOST_OUTPUTS, Outs};
 use lapd_link_rows::State;
 
 #[tactic(auto, using(crate::proofs::Rows::then_row, crate::proofs::Rows::else_row), unfolding(lapd_link_rows::specs::EndOfStep::acknowledge_pending, lapd_link_rows::specs::EndOfStep::end_step))]
@@ -24,7 +24,7 @@ impl Machine {
         requires room { array_vec_len outs.old ≤ 6 }
         ensures step { Does self.old outs.old self.new outs.new (end_step Tagged) }
         ensures numbers { AreTags self.new.window }
-        ensures len { length outs.new.items ≤ 136 }
+        ensures len { length outs.new.items ≤ MOST_OUTPUTS }
         ensures few { is_established self.old.state ≡ false → Grows 1 outs.old outs.new }
         ensures untold { told_count outs.new.items ≡ told_count outs.old.items }
     {
@@ -39,7 +39,7 @@ impl Machine {
         requires room { array_vec_len outs.old ≤ 6 }
         ensures step { (s : StepState) → StandsFor self.old outs.old.items s
             → StandsFor self.new outs.new.items (send_all Tagged (unsent s.end) s) }
-        ensures len { array_vec_len outs.new ≤ 135 }
+        ensures len { array_vec_len outs.new < MOST_OUTPUTS }
         ensures none { is_established self.old.state ≡ false
             → array_vec_len outs.new ≡ array_vec_len outs.old }
         ensures untold { told_count outs.new.items ≡ told_count outs.old.items }

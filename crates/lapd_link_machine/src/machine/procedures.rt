@@ -8,8 +8,8 @@ ghost use Rattle.lapd_supervision.specs.StateVariables.{without_exceptions, with
 ghost use Rattle.lapd_queue.specs.Waiting.{with_message, one_more_sent, without_first, all_unsent, emptied};
 ghost use Rattle.lapd_link_rows.specs.Procedures.{put, state_to, rc_to, increment_rc, layer3_initiated_to, release_pending_to, start, stop, expired, clear_exception_conditions, zero_state_variables, set_peer_busy, set_own_busy, enquiry_response, transmit_enquiry, queue_up, discard_i_queue, acknowledge, invoke_retransmission, i_frame_ns, discard_unacknowledged, transmit_i_frame, retransmit_last_i_frame, ensure_t200, transmit_rr, establish_data_link, reestablish_data_link, nr_error_recovery};
 
-use crate::Outs;
 use crate::machine::{Machine, push};
+use crate::{MOST_OUTPUTS, Outs};
 use lapd_frame::{Control, Number, Role};
 use lapd_link_rows::{Letter, Out, State};
 use lapd_supervision::{Advance, Window};
@@ -347,7 +347,7 @@ impl Machine {
 
     /// Where T200 does not run, T203 is stopped and it is started.
     pub(crate) fn ensure_t200(&mut self, outs: &mut Outs)
-        requires room { array_vec_len outs.old + (if self.old.t200 then 0 else 2) ≤ 136 }
+        requires room { array_vec_len outs.old + (if self.old.t200 then 0 else 2) ≤ MOST_OUTPUTS }
         ensures step { Does self.old outs.old self.new outs.new ensure_t200 }
         ensures len { array_vec_len outs.new ≤ array_vec_len outs.old
             + (if self.old.t200 then 0 else 2) }
