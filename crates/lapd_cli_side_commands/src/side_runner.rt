@@ -151,23 +151,27 @@ impl<W: Write, S: Source, K: Sink> SideRunner<W, S, K> {
             (W.contents result.out)))) }
     {
         let mut runner = self;
-        let walked = walk(runner.alloc, &mut runner, script, &mut io::sink());
-        let SideRunner {
-            out,
-            port,
-            fault,
-            ..
-        } = runner;
-        match fault {
-            Some(fault) => {
-                let ended = Err(ScriptFault::Port(fault));
-                SideRun { ended, port, out }
-            }
-            None => SideRun {
-                ended: walked,
-                port,
-                out,
-            },
+        let ended = runner.go_over(script);
+        let SideRunner { out, port, .. } = runner;
+        SideRun { ended, port, out }
+    }
+
+    /// Goes over a script from moment 0 on.
+    fn go_over<R: Read>(&mut self, script: &mut R) -> Result<(), ScriptFault>
+        requires { self.old.now ≡ 0 }
+        ensures ended { IfSome (R.remaining script.old) (λ octets.
+            SideEndsAs (side_of self.old.side) result (lines_of octets)) }
+        ensures served { IfSome (R.remaining script.old) (λ octets. OnOk result
+            (HasServed self.old.side (wishes_of (side_of self.old.side) (lines_of octets))
+            (devices self.old.style (S.rest self.old.port.source) (K.written self.old.port.sink)
+            (W.contents self.old.out))
+            (devices self.old.style (S.rest self.new.port.source) (K.written self.new.port.sink)
+            (W.contents self.new.out)))) }
+    {
+        let walked = walk(self.alloc, self, script, &mut io::sink());
+        match self.fault {
+            Some(fault) => Err(ScriptFault::Port(fault)),
+            None => walked,
         }
     }
 

@@ -25,15 +25,27 @@ fn main(rt: HostRuntime) -> Result<()> {
 
 fn net(rt: &HostRuntime, stream: &TcpStream) -> Result<()> {
     let side = NetSide::new(rt.alloc(), Config::primary(0), &[Tei::new(0).unwrap()])?;
-    Endpoint::new(rt, &mut EitherSide::Network(side), stream)?.serve(rt)
+    run(rt, &mut EitherSide::Network(side), stream, None)
 }
 
 fn user(rt: &HostRuntime, stream: &TcpStream) -> Result<()> {
     let (sapi, tei) = (Sapi::Call, Tei::new(0).unwrap());
     let side = UserSide::new(rt.alloc(), Config::primary(1), Some(tei))?;
-    let mut side = EitherSide::User(side);
-    let mut endpoint = Endpoint::new(rt, &mut side, stream)?;
-    endpoint.request(rt, Request::Establish(LinkId { sapi, tei }))?;
+    let link = LinkId { sapi, tei };
+    run(rt, &mut EitherSide::User(side), stream, Some(link))
+}
+
+/// Establishes this link, if any, and serves the connection.
+fn run(
+    rt: &HostRuntime,
+    side: &mut EitherSide,
+    stream: &TcpStream,
+    link: Option<LinkId>,
+) -> Result<()> {
+    let mut endpoint = Endpoint::new(rt, side, stream)?;
+    if let Some(link) = link {
+        endpoint.request(rt, Request::Establish(link))?;
+    }
     endpoint.serve(rt)
 }
 
