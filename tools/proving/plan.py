@@ -40,7 +40,7 @@ SECONDS = {
     "lapd_sides": 144,
     "lapd_pair": 141,
     "lapd_cli_commands": 213,
-    "lapd_cli_side_commands": 150,
+    "lapd_cli_side_commands": 141,
     "lapd_cli_live": 276,
     "lapd_cli_console": 153,
     "lapd_cli_decode": 57,
