@@ -35,6 +35,18 @@ void check(uint32_t code, const char *what)
 	exit(1);
 }
 
+static in_port_t port_of(const char *text)
+{
+	char *end;
+	unsigned long port = strtoul(text, &end, 10);
+
+	if (*text < '0' || *text > '9' || *end != '\0' || port == 0 || port > 65535) {
+		fprintf(stderr, "%s: not a port from 1 to 65535\n", text);
+		exit(2);
+	}
+	return htons((uint16_t)port);
+}
+
 int connected(bool listens, const char *port)
 {
 	struct sockaddr_in address = { 0 };
@@ -42,7 +54,7 @@ int connected(bool listens, const char *port)
 	int line = socket(AF_INET, SOCK_STREAM, 0), on = 1;
 
 	address.sin_family = AF_INET;
-	address.sin_port = htons((uint16_t)atoi(port));
+	address.sin_port = port_of(port);
 	address.sin_addr.s_addr = htonl(INADDR_LOOPBACK);
 	if (!listens) {
 		if (connect(line, where, sizeof address) != 0)

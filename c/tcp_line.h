@@ -14,7 +14,7 @@ uint64_t clock_now(void);
 void fail(const char *what);
 void check(uint32_t code, const char *what);
 
-/* A connection: `listens` waits for one at this port, and else it is made to it. */
+/* A connection on this machine, waited for at this port, 1 to 65535, or made to it. */
 int connected(bool listens, const char *port);
 
 /* Sends a frame of at most 1,024 octets. A longer one is not sent. */

@@ -75,16 +75,16 @@ int main(int count, char **words)
 	struct terminal t = { LAPD_SIDE_INIT, 0, false };
 	lapd_settings settings = LAPD_PRIMARY;
 	const uint8_t tei = 0;
+	bool network = count == 3 && strcmp(words[1], "net") == 0;
 
-	if (count != 3) {
+	if (!network && (count != 3 || strcmp(words[1], "user") != 0)) {
 		fprintf(stderr, "usage: terminal net|user PORT\n");
 		return 2;
 	}
-	if (strcmp(words[1], "net") == 0) {
-		t.line = connected(true, words[2]);
+	t.line = connected(network, words[2]);
+	if (network) {
 		check(lapd_side_network(&t.side, &settings, &tei, 1), "network");
 	} else {
-		t.line = connected(false, words[2]);
 		check(lapd_side_user(&t.side, &settings, tei), "user");
 		check(lapd_side_establish(&t.side, 0, tei, clock_now()), "establish");
 	}
