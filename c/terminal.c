@@ -66,7 +66,6 @@ static void run(struct terminal *t)
 		if (length < 0)
 			return;
 		check(lapd_side_take(&t->side, frame, (size_t)length, clock_now()), "take");
-		hand_on(t);
 	}
 }
 
