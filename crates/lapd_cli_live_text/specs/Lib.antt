@@ -1,0 +1,5 @@
+pub mod LinkText
+pub mod FrameKinds
+pub mod Stats
+pub mod LineObjects
+pub mod LineParts
