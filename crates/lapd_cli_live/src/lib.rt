@@ -8,8 +8,6 @@
 #![tactic(auto)]
 
 mod fault;
-mod line_objects;
-mod link_text;
 mod live_forms;
 mod live_lines;
 mod live_side;
@@ -17,7 +15,6 @@ mod outside;
 mod printer;
 mod scripted_side;
 mod session;
-mod stats;
 mod tapped;
 mod typed_lines;
 mod words;

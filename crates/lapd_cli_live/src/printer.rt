@@ -1,9 +1,7 @@
 //! The lines that a side prints while it is served.
 
 use crate::fault::LiveFault;
-use crate::line_objects::words_object;
-use crate::link_text::{push_link, push_timers};
-use crate::stats::Stats;
+use lapd_cli_live_text::{Stats, push_link, push_timers, words_object};
 use lapd_cli_script::LineFault;
 use lapd_cli_side_lines::{LineStyle, push_primitive, push_trace};
 use lapd_frame::Side;
