@@ -3,3 +3,5 @@ pub mod FrameKinds
 pub mod Stats
 pub mod LineObjects
 pub mod LineParts
+pub mod AwaitedText
+pub mod LiveWishes
