@@ -11,6 +11,7 @@
 
 mod awaited;
 mod frame_kind;
+mod laws;
 mod line_objects;
 mod line_parts;
 mod link_text;
@@ -19,6 +20,7 @@ mod traffic;
 mod words;
 
 pub use awaited::awaited_text;
+pub use laws::{each_event_is_counted, rejected_message_is_sent_again, worked_lines};
 pub use line_objects::words_object;
 pub use link_text::{push_link, push_management, push_number, push_timers};
 pub use stats::Stats;
