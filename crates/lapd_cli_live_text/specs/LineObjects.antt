@@ -75,5 +75,5 @@ abbrev pub words_members : List (List ℕ) → Members
 words_members words = parts_members (with_words 0 words no_parts)
 
 -- the text of the object for a line
-unfoldable pub words_text : List ℕ → List ℕ
-words_text line = object_text (words_members (words_of line))
+unfoldable pub words_object : List ℕ → List ℕ
+words_object line = object_text (words_members (words_of line))

@@ -150,14 +150,14 @@ letter_text counts letter =
 unfoldable pub letters_text : List ℕ → List ℕ
 letters_text counts = flat_map (letter_text counts) letters
 
-unfoldable pub sent_text : Stats → List ℕ
-sent_text stats = codes "sent"
+unfoldable pub sent_words : Stats → List ℕ
+sent_words stats = codes "sent"
     ++ (traffic_text stats.sent ++ number_text (codes "again") stats.again)
 
 -- `discarded` of the frames were discarded
-unfoldable pub received_text : Stats → ℕ → List ℕ
-received_text stats discarded = codes "received"
+unfoldable pub received_words : Stats → ℕ → List ℕ
+received_words stats discarded = codes "received"
     ++ (traffic_text stats.received ++ number_text (codes "discarded") discarded)
 
-unfoldable pub reports_text : Stats → List ℕ
-reports_text stats = codes "reports" ++ letters_text stats.reports
+unfoldable pub reports_words : Stats → List ℕ
+reports_words stats = codes "reports" ++ letters_text stats.reports

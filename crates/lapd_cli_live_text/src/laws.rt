@@ -3,8 +3,8 @@
 ghost use Rattle.std.specs.Prelude.{◌≡◌, List, [], codes, Some};
 ghost use Rattle.lapd_frame.specs.declared.Side.{Side};
 ghost use Rattle.lapd_cli_live_text.specs.Histories.{CountsEvents, SideEvent, stats_after};
-ghost use Rattle.lapd_cli_live_text.specs.Stats.{nothing_counted, received_text, reports_text, sent_text};
-ghost use Rattle.lapd_cli_live_text.specs.LineObjects.{words_text};
+ghost use Rattle.lapd_cli_live_text.specs.Stats.{nothing_counted, received_words, reports_words, sent_words};
+ghost use Rattle.lapd_cli_live_text.specs.LineObjects.{words_object};
 ghost use Rattle.lapd_cli_live_text.specs.LinkText.{link_text, management_text};
 ghost use Rattle.lapd_cli_live_text.specs.Worked.{busy_end, enquiry_timers, request_timers, worked_link, worked_stats};
 ghost use Rattle.lapd_link_rows.specs.Parameters.{Parameters};
@@ -20,11 +20,11 @@ pub fn each_event_is_counted()
 
 /// The statistics of a history in which a message is rejected and sent again.
 pub fn rejected_message_is_sent_again()
-    ensures sent { sent_text worked_stats
+    ensures sent { sent_words worked_stats
         ≡ codes "sent frames=4 octets=21 I=3 SABME=1 again=1" }
-    ensures received { received_text worked_stats 1
+    ensures received { received_words worked_stats 1
         ≡ codes "received frames=3 octets=9 REJ=1 UA=1 other=1 discarded=1" }
-    ensures reports { reports_text worked_stats ≡ codes "reports J=1" }
+    ensures reports { reports_words worked_stats ≡ codes "reports J=1" }
 {}
 
 /// Lines of a link and of the timers of TEI management, and objects of lines, as documented.
@@ -35,8 +35,8 @@ pub fn worked_lines()
     ensures management { management_text request_timers 500 ≡ codes "tei T202=1500" }
     ensures past { management_text request_timers 2500 ≡ codes "tei T202=0" }
     ensures none { management_text (at_rest standard_lengths) 500 ≡ [] }
-    ensures object { words_text (codes "0 64 state 7 V(S)=1 RC=0 own-busy T203=9998")
+    ensures object { words_object (codes "0 64 state 7 V(S)=1 RC=0 own-busy T203=9998")
         ≡ codes "{\"RC\":0,\"T203\":9998,\"V(S)\":1,\"line\":\"state 7 own-busy\",\"sapi\":0,\"tei\":64}" }
-    ensures later { words_text (codes "x=1 x=2 y= 65 a=b")
+    ensures later { words_object (codes "x=1 x=2 y= 65 a=b")
         ≡ codes "{\"line\":\"y= 65 a=b\",\"x\":2}" }
 {}

@@ -3,7 +3,7 @@
 ghost use Rattle.std.specs.Prelude.{◌≡◌, ◌<◌, ◌∷◌, [], IfOk, IfSome, MatchOption, OnOk, length, option_map};
 ghost use Rattle.std.specs.String.{string_bytes};
 ghost use Rattle.lapd_cli_script.specs.Line.{words_of};
-ghost use Rattle.lapd_cli_live_text.specs.LineObjects.{member_of, name_of_place, named_digits, parts_at_equals, with_word, with_words, words_text};
+ghost use Rattle.lapd_cli_live_text.specs.LineObjects.{member_of, name_of_place, named_digits, parts_at_equals, with_word, with_words, words_object};
 ghost use Rattle.lapd_cli_live_text.specs.LineParts.{parts_of};
 
 use crate::line_parts::LineParts;
@@ -25,9 +25,9 @@ use std::alloc::{AllocError, Global};
 /// # Errors
 ///
 /// `AllocError`.
-#[tactic(auto, unfolding(crate::specs::LineObjects::words_text))]
+#[tactic(auto, unfolding(crate::specs::LineObjects::words_object))]
 pub fn words_object(alloc: Global, line: &str) -> Result<String, AllocError>
-    ensures { IfOk result (λ text. string_bytes text ≡ words_text line.now) }
+    ensures { IfOk result (λ text. string_bytes text ≡ words_object line.now) }
 {
     let mut parts = LineParts::new(alloc);
     add_line(&mut parts, line)?;

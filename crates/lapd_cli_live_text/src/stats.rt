@@ -2,7 +2,7 @@
 
 ghost use Rattle.std.specs.Prelude.{◌≡◌, ◌<◌, ◌++◌, OnOk, flat_map};
 ghost use Rattle.std.specs.String.{string_bytes};
-ghost use Rattle.lapd_cli_live_text.specs.Stats.{after_received_control, after_sent_control, letter_place, letter_text, letters_text, link_place, nothing_counted, numbered, received_counted, received_text, reports_text, restarted, sent_counted, sent_text, told_counted};
+ghost use Rattle.lapd_cli_live_text.specs.Stats.{after_received_control, after_sent_control, letter_place, letter_text, letters_text, link_place, nothing_counted, numbered, received_counted, received_words, reports_words, restarted, sent_counted, sent_words, told_counted};
 
 use crate::frame_kind::FrameKind;
 use crate::link_text::push_number;
@@ -114,10 +114,10 @@ impl Stats {
     /// # Errors
     ///
     /// `AllocError`. A front of the line may have been appended.
-    #[tactic(auto, unfolding(crate::specs::Stats::sent_text))]
+    #[tactic(auto, unfolding(crate::specs::Stats::sent_words))]
     pub fn push_sent(&self, text: &mut String) -> Result<(), AllocError>
         ensures { OnOk result (string_bytes text.new
-            ≡ string_bytes text.old ++ sent_text self.now) }
+            ≡ string_bytes text.old ++ sent_words self.now) }
     {
         text.push_str("sent")?;
         self.sent.push(text)?;
@@ -130,10 +130,10 @@ impl Stats {
     /// # Errors
     ///
     /// `AllocError`. A front of the line may have been appended.
-    #[tactic(auto, unfolding(crate::specs::Stats::received_text))]
+    #[tactic(auto, unfolding(crate::specs::Stats::received_words))]
     pub fn push_received(&self, discarded: u64, text: &mut String) -> Result<(), AllocError>
         ensures { OnOk result (string_bytes text.new
-            ≡ string_bytes text.old ++ received_text self.now discarded) }
+            ≡ string_bytes text.old ++ received_words self.now discarded) }
     {
         text.push_str("received")?;
         self.received.push(text)?;
@@ -145,10 +145,10 @@ impl Stats {
     /// # Errors
     ///
     /// `AllocError`. A front of the line may have been appended.
-    #[tactic(auto, unfolding(crate::specs::Stats::reports_text))]
+    #[tactic(auto, unfolding(crate::specs::Stats::reports_words))]
     pub fn push_reports(&self, text: &mut String) -> Result<(), AllocError>
         ensures { OnOk result (string_bytes text.new
-            ≡ string_bytes text.old ++ reports_text self.now) }
+            ≡ string_bytes text.old ++ reports_words self.now) }
     {
         text.push_str("reports")?;
         push_all_letters(&self.reports, text)

@@ -1,7 +1,7 @@
 use Rattle.std.proofs.Common.{refl}
 use Rattle.std.specs.Fmt.{digits}
 use Rattle.serde_json.proofs.OnLiterals.{serde_json_on_literals}
-use Rattle.lapd_cli_live_text.specs.LineObjects.{words_text}
+use Rattle.lapd_cli_live_text.specs.LineObjects.{words_object}
 use Rattle.lapd_cli_live_text.specs.LinkText.{link_text, management_text, number_text, timers_text}
 use Rattle.lapd_cli_live_text.proofs.laws.worked_lines.Goals as goal
 
@@ -22,9 +22,9 @@ unfolding management_text
 returns-clause-none c = refl
 
 pub returns-clause-object : goal.returns-clause-object
-unfolding serde_json_on_literals digits words_text
+unfolding serde_json_on_literals digits words_object
 returns-clause-object c = refl
 
 pub returns-clause-later : goal.returns-clause-later
-unfolding serde_json_on_literals digits words_text
+unfolding serde_json_on_literals digits words_object
 returns-clause-later c = refl
