@@ -174,11 +174,10 @@ static void on_event(pri_event *event)
 
 /* ---- The loop. */
 
-/* One turn: each end receives what has arrived and then expires its timers; then both wait, until this moment at most. */
-static void turn(uint64_t moment)
+/* Each end receives what has arrived, and then expires its timers. */
+static void step(void)
 {
-	struct pollfd lines[2] = { { our_line.socket, POLLIN, 0 }, { their_line, POLLIN, 0 } };
-	uint64_t now = receive(), due;
+	uint64_t now = receive();
 	uint8_t expired;
 
 	do
@@ -188,19 +187,26 @@ static void turn(uint64_t moment)
 	while (is_readable(their_line, 0))
 		on_event(pri_check_event(pri));
 	on_event(libpri_tick(pri));
+}
+
+/* Waits until a frame arrives at either end, a timer is due or this moment has come. */
+static void wait_until(uint64_t moment)
+{
+	struct pollfd lines[2] = { { our_line.socket, POLLIN, 0 }, { their_line, POLLIN, 0 } };
+	uint64_t now = clock_now(), due;
+
 	check(lapd_side_deadline(&side, &due), "deadline");
 	due = due < moment ? due : moment;
-	now = clock_now();
 	poll(lines, 2, libpri_wait(pri, due > now ? (int)(due - now) : 0));
 }
 
-/* Goes on until a count is as much as is wanted; false where it is not in so many milliseconds. */
+/* Goes on until a count is as much as is wanted; false if it is not in so many milliseconds. */
 static bool reaches(const int *count, int wanted, uint64_t milliseconds)
 {
 	uint64_t end = clock_now() + milliseconds;
 
-	while (*count < wanted && clock_now() < end)
-		turn(end);
+	for (step(); *count < wanted && clock_now() < end; step())
+		wait_until(end);
 	return *count >= wanted;
 }
 
