@@ -5,3 +5,4 @@ pub mod Log
 pub mod Steps
 pub mod WaitingLines
 pub mod InTime
+pub mod StateAnswers

@@ -1,6 +1,6 @@
 -- What a side does while it is served, put together.
 use Rattle.std.proofs.Common.{◌≡◌, ℕ, ◌+◌, ◌<◌, ◌≤◌, List, [], ◌∷◌, ◌++◌, length, Option, None, Some, Result, Ok, Err, OnOk, refl, sym, ap, subst, ◌∙◌, append_assoc, append-nil, inl, inr, arith}
-use Rattle.std.specs.Prelude.{Bool, true, false, is_some, IfOk, ⊤}
+use Rattle.std.specs.Prelude.{Bool, true, false, is_some, IfOk, OnErr, ⊤}
 use Rattle.std.proofs.lemmas.List.{length-append}
 use Rattle.lapd_frame.specs.declared.Side.{Side}
 use Rattle.lapd_sides_links.specs.Effects.{Effects}
@@ -283,3 +283,7 @@ all_steps service came a b c some step = record { passed = some.passed; last = b
 pub on_ok : {A E : Type 0} (r : Result A E) (P Q : Type 0) → (P → Q) → OnOk r P → OnOk r Q
 on_ok (Ok done) P Q f holds = f holds
 on_ok (Err fault) P Q f holds = tt
+
+pub on_err : {A E : Type 0} (r : Result A E) (P : Type 0) → P → OnErr r P
+on_err (Ok done) P holds = tt
+on_err (Err fault) P holds = holds

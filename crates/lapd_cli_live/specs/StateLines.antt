@@ -1,8 +1,6 @@
 -- What a side prints of its links, its timers and its statistics when it is asked.
 use Rattle.std.specs.Prelude.{◌≡◌, ◌⊎◌, ℕ, Bool, true, false, List, [], ◌∷◌, map, Option, None, Some}
 use Rattle.lapd_link.specs.declared.link.Link.{Link}
-use Rattle.lapd_link.specs.Link.{LinkStandsFor}
-use Rattle.lapd_link_rows.specs.End.{End}
 use Rattle.lapd_table.specs.declared.link_id.LinkId.{LinkId}
 use Rattle.lapd_table.specs.declared.link_table.LinkTable.{LinkTable}
 use Rattle.lapd_table.specs.LinkTable.{link_at}
@@ -10,7 +8,7 @@ use Rattle.lapd_timers.specs.Due.{Timers}
 use Rattle.lapd_sides_links.specs.declared.side_fault.SideKind.TheVariants.{NoLink}
 use Rattle.lapd_sides.specs.Either.{HasDiscarded, HasTable, HasTimers}
 use Rattle.lapd_cli_live.specs.declared.service.Until.TheVariants as until
-use Rattle.lapd_cli_live_text.specs.LinkText.{link_text}
+use Rattle.lapd_cli_live_text.specs.LinkText.{link_text, shown_end}
 use Rattle.lapd_cli_live.specs.Entries.{Entry, Worded, refused, stats_entries}
 use Rattle.lapd_cli_live.specs.Log.{HappenBeside, LiveEvent, LiveState, Shows, moment_of}
 use Rattle.lapd_cli_live.specs.Steps.{CatchesUp}
@@ -23,8 +21,7 @@ pub record TellsLink (id : LinkId) (s : LiveState) (words : List ℕ) : Type 0 w
   pub is : link_at table id ≡ Some link
   pub timers : Option Timers
   pub have : HasTimers s.side (Some id) timers
-  pub words_are : (end : End) → LinkStandsFor link end
-      → words ≡ link_text id end timers (moment_of s)
+  pub are : words ≡ link_text id (shown_end link) timers (moment_of s)
 
 -- the side does not have this link
 pub record LacksLink (id : LinkId) (s : LiveState) : Type 0 where

@@ -1,4 +1,5 @@
 use Rattle.lapd_cli_live.proofs.Log.{front_next, front_of, sends_next, sends_none}
+use Rattle.lapd_cli_live.proofs.Steps.{on_err}
 use Rattle.lapd_cli_live.proofs.live_side.send_all.Goals as goal
 
 pub loop-frame-init : goal.loop-frame-init
@@ -11,9 +12,10 @@ loop-frame-preserved g c =
 
 pub returns-in_err-sending-clause-err : goal.returns-in_err-sending-clause-err
 returns-in_err-sending-clause-err g c =
-    front_of (λ f. f.items) c.args.frames.now c.loop-frame.frame-index _ _ _ c.loop-frame.invariant.deeds c.in_err-sending.ensures.err
+    on_err c.from_residual.result _ (front_of (λ f. f.items) c.args.frames.now c.loop-frame.frame-index _ _ _ c.loop-frame.invariant.deeds c.in_err-sending.ensures.err)
 
 pub returns-in_err-put_sent-clause-err : goal.returns-in_err-put_sent-clause-err
 returns-in_err-put_sent-clause-err g c =
-    front_next (λ f. f.items) c.args.frames.now c.loop-frame.frame-index c.frame-item.result c.as_slice-octets.result.now _ _ _
-    c.loop-frame-test.true c.frame-item.is c.as_slice-octets.ensures.value c.loop-frame.invariant.deeds c.in_ok-sending.ensures.deeds
+    on_err c.from_residual-in_err-put_sent.result _
+    (front_next (λ f. f.items) c.args.frames.now c.loop-frame.frame-index c.frame-item.result c.as_slice-octets.result.now _ _ _
+    c.loop-frame-test.true c.frame-item.is c.as_slice-octets.ensures.value c.loop-frame.invariant.deeds c.in_ok-sending.ensures.deeds)

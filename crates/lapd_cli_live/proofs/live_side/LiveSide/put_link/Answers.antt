@@ -1,13 +1,23 @@
-use Rattle.std.proofs.Common.{rules, ◌≡◌, true, None, Some, IfOk, OnErr, OnOk, ℕ, ◌+◌, ◌-◌, ◌*◌, ◌<◌, ◌≤◌, length, ◌/◌, ◌%◌, Bool, false, nat_eq, nat_lt, List, [], ◌∷◌, ◌++◌, slice_index_or, slice_set, bit_and, bit_or, Fits, w8, w32, w64, Bor, MutBor}
-use Rattle.lapd_cli_live.specs.Log.{Between}
-use Rattle.lapd_cli_live.specs.StateLines.{PutsState, StatesCounts, StatesLink}
-use Rattle.lapd_cli_live.specs.WaitingLines.{Expects, Reads, Runs}
+use Rattle.std.proofs.Common.{inl, inr, refl}
+use Rattle.lapd_sides.specs.Either.{side_of}
+use Rattle.lapd_cli_live.proofs.StateAnswers.{puts_link, puts_no_link, refuses_link}
+use Rattle.lapd_cli_live.proofs.Steps.{beside_printed, on_ok}
 use Rattle.lapd_cli_live.proofs.live_side.LiveSide.put_link.Goals as goal
 
--- src/live_lines.rt:148:13
 pub returns-then-branch : goal.returns-then-branch
-returns-then-branch g c = ?
+returns-then-branch g c = record {
+  ready = _;
+  catches_up = c.in_ok-catch_up.ensures.does;
+  prints = inl (puts_link c.args.id.now _ _ _ c.if-branch.true c.in_ok-put_state.ensures);
+}
 
--- src/live_lines.rt:143:5
 pub returns : goal.returns
-returns g c = ?
+returns g c =
+    on_ok c.put_refused.result _ _
+    (λ prints. record {
+      ready = _;
+      catches_up = c.in_ok-catch_up.ensures.does;
+      prints = inr (refuses_link c.args.id.now _ _ _ (puts_no_link c.args.id.now _ _ _ c.if-branch.false c.in_ok-put_state.ensures)
+          (beside_printed g.W.Write.contents c.put_state.new.self.side _ _ _ _ prints refl));
+    })
+    (c.put_refused.ensures (side_of c.put_state.new.self.side))
