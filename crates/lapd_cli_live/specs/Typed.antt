@@ -3,8 +3,8 @@ use Rattle.std.specs.Prelude.{◌≡◌, ℕ, List, ◌∷◌, ◌++◌, ◌||�
 use Rattle.std.specs.Str.{bytes_eq}
 use Rattle.lapd_cli_script.specs.WalkState.{HasNoFeed}
 use Rattle.lapd_cli_script.specs.Script.{is_passed_over}
-use Rattle.lapd_cli_live.specs.declared.session.TypedDeed.{TypedDeed}
-use Rattle.lapd_cli_live.specs.declared.session.TypedDeed.TheVariants.{Pass, Help, Quit, Obey}
+use Rattle.lapd_cli_live.specs.declared.input.TypedDeed.{TypedDeed}
+use Rattle.lapd_cli_live.specs.declared.input.TypedDeed.TheVariants.{Pass, Help, Quit, Obey}
 
 -- the first line that has ended is taken off with its line feed, and nothing else is; or none has ended, and nothing is
 abbrev pub IsFirstLine : List ℕ → Option (List ℕ) → List ℕ → Type 0
