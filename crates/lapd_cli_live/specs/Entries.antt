@@ -14,9 +14,9 @@ use Rattle.lapd_sides_links.specs.Texts.{kind_text}
 use Rattle.lapd_cli_side_lines.specs.declared.line_style.LineStyle.{LineStyle}
 use Rattle.lapd_cli_side_lines.specs.declared.line_style.LineStyle.TheVariants.{Text, Json}
 use Rattle.lapd_cli_side_lines.specs.SideTexts.{frame_text_line, primitive_line}
-use Rattle.lapd_cli_live_text.specs.LineObjects.{words_text}
+use Rattle.lapd_cli_live_text.specs.LineObjects.{words_object}
 use Rattle.lapd_cli_live_text.specs.declared.stats.Stats.{Stats}
-use Rattle.lapd_cli_live_text.specs.Stats.{received_counted, received_text, reports_text, sent_counted, sent_text, told_counted}
+use Rattle.lapd_cli_live_text.specs.Stats.{received_counted, received_words, reports_words, sent_counted, sent_words, told_counted}
 use Rattle.lapd_cli_live.specs.declared.outside.Sending.{Sending}
 use Rattle.lapd_cli_live.specs.declared.outside.Sending.TheVariants as sending
 use Rattle.lapd_cli_live.specs.declared.style.Style.{Style}
@@ -72,7 +72,7 @@ object_of own (Sent frame) = object_text (frame_members own frame)
 object_of own (Lost frame) = object_text (text_members (codes "lost") (trace_line own frame))
 object_of own (Told primitive) = object_text (primitive_members primitive)
 object_of own (Named name text) = object_text (text_members name text)
-object_of own (Worded words) = words_text words
+object_of own (Worded words) = words_object words
 
 -- the line of a frame, which is left out if lines of frames are not wanted
 abbrev pub is_of_frame : Entry → Bool
@@ -167,5 +167,5 @@ pub record Prints (style : Style) (own : Side) (entries : List Entry) (old new :
 
 -- the three lines of statistics, of which the other side's discarded frames are a part
 abbrev pub stats_entries : Stats → ℕ → List Entry
-stats_entries stats discarded = Worded (sent_text stats) ∷ Worded (received_text stats discarded)
-    ∷ Worded (reports_text stats) ∷ []
+stats_entries stats discarded = Worded (sent_words stats) ∷ Worded (received_words stats discarded)
+    ∷ Worded (reports_words stats) ∷ []

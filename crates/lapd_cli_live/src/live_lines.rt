@@ -14,7 +14,7 @@ use std::io::Write;
 
 impl<O: Outside, W: Write> LiveSide<O, W> {
     ghost use Rattle.lapd_cli_live.specs.Log.{Between};
-    ghost use Rattle.lapd_cli_live.specs.Lines.{Expects, Reads, Runs};
+    ghost use Rattle.lapd_cli_live.specs.WaitingLines.{Expects, Reads, Runs};
 
     /// Does what a line requests, which comes without its line feed. If `lines` are awaited, a further line of input cuts the waits
     /// of this one short. Whatever the line requests, every frame that had arrived is taken before, and then what is due is

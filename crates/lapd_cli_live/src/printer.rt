@@ -4,7 +4,7 @@ ghost use Rattle.std.specs.Prelude.{◌≡◌, ◌||◌, ◌++◌, ◌∷◌, []
 ghost use Rattle.std.specs.String.{string_bytes};
 ghost use Rattle.lapd_json.specs.Json.{frame_members, object_text, primitive_members, text_members};
 ghost use Rattle.lapd_trace.specs.Trace.{trace_line};
-ghost use Rattle.lapd_cli_live_text.specs.Stats.{received_text, reports_text, sent_text};
+ghost use Rattle.lapd_cli_live_text.specs.Stats.{received_words, reports_words, sent_words};
 ghost use Rattle.lapd_cli_live.specs.Entries.{Dated, Lost, Named, Received, Sent, Told, Worded, begins_so as begins, moment_text, refused, sent_entry, stats_entries, timed_object, unless_quiet, with_moment};
 ghost use Rattle.lapd_frame.specs.declared.Side.{Side as SideValue};
 ghost use Rattle.lapd_cli_script.specs.Line.{text_line};
@@ -315,7 +315,7 @@ impl<W: Write> Printer<W> {
     /// Prints what was sent.
     fn put_sent_stats(&mut self) -> Result<(), LiveFault>
         ensures { (own : SideValue) → OnOk result (PrintsOn W.contents own
-            (Worded (sent_text self.old.stats) ∷ []) self.old self.new) }
+            (Worded (sent_words self.old.stats) ∷ []) self.old self.new) }
     {
         let mut words = String::new(self.alloc);
         self.stats.push_sent(&mut words)?;
@@ -325,7 +325,7 @@ impl<W: Write> Printer<W> {
     /// Prints what was received.
     fn put_received_stats(&mut self, discarded: u64) -> Result<(), LiveFault>
         ensures { (own : SideValue) → OnOk result (PrintsOn W.contents own
-            (Worded (received_text self.old.stats discarded) ∷ []) self.old self.new) }
+            (Worded (received_words self.old.stats discarded) ∷ []) self.old self.new) }
     {
         let mut words = String::new(self.alloc);
         self.stats.push_received(discarded, &mut words)?;
@@ -335,7 +335,7 @@ impl<W: Write> Printer<W> {
     /// Prints which errors were reported.
     fn put_reports(&mut self) -> Result<(), LiveFault>
         ensures { (own : SideValue) → OnOk result (PrintsOn W.contents own
-            (Worded (reports_text self.old.stats) ∷ []) self.old self.new) }
+            (Worded (reports_words self.old.stats) ∷ []) self.old self.new) }
     {
         let mut words = String::new(self.alloc);
         self.stats.push_reports(&mut words)?;
