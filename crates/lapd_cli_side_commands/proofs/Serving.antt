@@ -19,10 +19,11 @@ use Rattle.lapd_cli_script.specs.Script.{Outcome}
 use Rattle.lapd_cli_side_lines.specs.declared.side_lines.SideLine.{SideLine}
 use Rattle.lapd_cli_side_lines.specs.declared.line_style.LineStyle.{LineStyle}
 use Rattle.lapd_cli_side_lines.specs.SideTexts.{acts_text, frame_text_line, frames_text, primitive_line, primitives_text}
-use Rattle.lapd_cli_side_lines.specs.Calls.{ExpireInTurn, frames_given, primitives_given}
+use Rattle.lapd_cli_side_lines.specs.Calls.{frames_given, primitives_given}
 use Rattle.lapd_cli_side_commands.specs.Served.{AtWork, Asks, Devices, ExpiresAll, HasComeTo, LineDoes, LinesDo, Progress, after_line, side_step, wish_list}
 use Rattle.lapd_cli_side_commands.specs.Clocks.{Clocked, clock_step, clocked, moment_after}
 use Rattle.lapd_cli_side_lines.specs.Wishes.{Wish, Read, Tick, Establish, Release, Give, Unit, Busy, AskTei, Check, wish_of, wish_of_line, wish_of_request}
+use Rattle.lapd_cli_side_lines.proofs.Calls.{AreExpired, one_more, then_none}
 
 -- ---- Frames.
 

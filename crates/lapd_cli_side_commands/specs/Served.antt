@@ -13,7 +13,6 @@ use Rattle.lapd_port.specs.Port.{Shows}
 use Rattle.lapd_cli_script.specs.Script.{Step, is_passed_over}
 use Rattle.lapd_sides_links.specs.declared.config.Config.{Config}
 use Rattle.lapd_sides_links.specs.declared.side_fault.SideFault.{SideFault}
-use Rattle.lapd_sides_links.specs.declared.primitive.Primitive.{Primitive}
 use Rattle.lapd_sides_links.specs.Effects.{Effects}
 use Rattle.lapd_sides.specs.declared.request.Request.{Request}
 use Rattle.lapd_sides.specs.declared.either_side.EitherSide.{EitherSide}
@@ -24,11 +23,12 @@ use Rattle.lapd_sides.specs.Network.{new_network}
 use Rattle.lapd_sides.specs.User.{new_user, seeded}
 use Rattle.lapd_sides.specs.ShowsNetwork.{ShowNetwork}
 use Rattle.lapd_sides.specs.ShowsUser.{ShowUser}
-use Rattle.lapd_sides.specs.Either.{side_of, Takes, Answers, Expires, Rests}
+use Rattle.lapd_sides.specs.Either.{side_of, Takes, Answers}
 use Rattle.lapd_cli_side_lines.specs.declared.line_style.LineStyle.{LineStyle}
+use Rattle.lapd_cli_side_lines.specs.Calls.{ExpireInTurn, frames_given, primitives_given}
 use Rattle.lapd_cli_side_lines.specs.SideTexts.{acts_text, answer_text, end_line, frame_text_line}
-use Rattle.lapd_cli_side_commands.specs.Clocks.{Clocked, clock_step, new_clock}
 use Rattle.lapd_cli_side_lines.specs.Wishes.{Wish, Read, Tick, wish_of_line, wish_of_request}
+use Rattle.lapd_cli_side_commands.specs.Clocks.{Clocked, clock_step, new_clock}
 
 -- What is around a side: how its lines are printed; the octets that the source of its port has left, and those that the sink of
 -- its port and the writer have taken, each where it tells them.

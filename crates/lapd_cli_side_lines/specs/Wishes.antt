@@ -1,14 +1,11 @@
 -- The request lines of the commands `net` and `user`, and what each requests.
-use Rattle.std.specs.Prelude.{◌≡◌, ℕ, ◌+◌, ◌&&◌, nat_le, if◌then◌else◌, List, [], ◌∷◌, codes, Option, Some, None, option_map, option_and_then, Result, Ok, Err, ⊤}
+use Rattle.std.specs.Prelude.{ℕ, ◌&&◌, nat_le, if◌then◌else◌, List, [], ◌∷◌, codes, Option, Some, None, option_map, option_and_then, Result, Ok, Err, ⊤}
 use Rattle.std.specs.Str.{bytes_eq}
 use Rattle.lapd_frame.specs.declared.Side.{Side}
 use Rattle.lapd_frame.specs.declared.Side.TheVariants.{Network, User}
 use Rattle.lapd_frame.specs.declared.Sapi.{Sapi}
 use Rattle.lapd_frame.specs.Address.{sapi_at, number_at}
 use Rattle.lapd_cli_script.specs.Line.{words_of, nothing_of, number_behind, number_said, octets_behind}
-use Rattle.lapd_cli_script.specs.Script.{Step, bad_line}
-use Rattle.lapd_cli_script.specs.declared.script.ScriptFault.{ScriptFault}
-use Rattle.lapd_cli_script.specs.declared.script.ScriptFault.TheVariants.{BadLine}
 use Rattle.lapd_cli_script.specs.declared.script.LineFault.{LineFault}
 use Rattle.lapd_cli_script.specs.declared.script.LineFault.TheVariants.{Bad}
 use Rattle.lapd_table.specs.declared.link_id.LinkId.{LinkId}
