@@ -5,6 +5,7 @@ use Rattle.std.specs.List.{list_any}
 use Rattle.std.proofs.KnownBytes.{Appends-nil, Appends-trans}
 use Rattle.std.specs.Io.KnownBytes.{Appends}
 use Rattle.std.proofs.lemmas.List.{map-append, take-map, take_more}
+use Rattle.std.proofs.Math.Seq.{take-length}
 use Rattle.std.proofs.lemmas.List.Sums.{fold-append}
 use Rattle.std.proofs.lemmas.List.Folds.{list_any-append}
 use Rattle.std.proofs.lemmas.Grind.{flat_map-append}
@@ -246,3 +247,8 @@ front_next octets frames at frame item a b c within is says before now =
     ap (λ xs. all_sent (map octets xs)) one ∙ ap all_sent (map-append octets (take at frames) (frame ∷ []))
     ∙ map-append Sends (map octets (take at frames)) (octets frame ∷ []) ∙ ap (λ x. all_sent (map octets (take at frames)) ++ Sends x ∷ []) (sym says) in
     front_of octets frames (at + 1) a c c (subst (Adds a c) (sym sent) (adds_both a b c _ _ before now)) refl
+
+-- or all were sent
+pub front_is_all : (frames all : List (List ℕ)) (a b : Option (List Deed)) → frames ≡ all → Adds a b (all_sent frames) → SendsFront all a b
+front_is_all frames all a b same adds =
+    (length all, subst (λ (x : List (List ℕ)). Adds a b (all_sent x)) (same ∙ sym (take-length all)) adds)

@@ -1,5 +1,5 @@
-use Rattle.lapd_cli_live.proofs.Log.{carried}
-use Rattle.lapd_cli_live.proofs.Steps.{on_ok}
+use Rattle.lapd_cli_live.proofs.Log.{carried, front_is_all}
+use Rattle.lapd_cli_live.proofs.Steps.{on_err, on_ok}
 use Rattle.lapd_cli_live.proofs.live_side.LiveSide.carry_out.Goals as goal
 
 pub returns-clause-carried : goal.returns-clause-carried
@@ -8,3 +8,7 @@ returns-clause-carried g c =
     (λ told. carried g.W.Write.contents c.args.self.now.side c.side-own.result _ _ c.args.self.now.acts _ _ _ _ _ c.side-own.ensures c.frames-frames.ensures.frames
     c.primitives-primitives.ensures c.in_ok-send_all.ensures.sent told)
     (c.put_all_told.ensures c.side-own.result)
+
+pub returns-clause-err : goal.returns-clause-err
+returns-clause-err g c =
+    on_err c.put_all_told.result _ (front_is_all _ _ _ _ c.frames-frames.ensures.frames c.in_ok-send_all.ensures.sent.deeds)
