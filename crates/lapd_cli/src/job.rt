@@ -11,6 +11,9 @@ use lapd_cli_script::ScriptFault;
 use lapd_cli_side_commands::{Config, FromRead, FromWrite, LineStyle, Port, SideRun, net, user};
 use std::io::{Read, Write};
 
+/// Where references begin with the script's clock, if `--seed` is not given.
+const SCRIPT_SEED: u64 = 921;
+
 /// What `net` or `user` is made with, and how it prints.
 #[derive(Clone, Copy)]
 pub struct SideSetup<'a> {
@@ -207,6 +210,6 @@ pub fn config_of(interface: &Interface) -> Config {
         params0: interface.params0,
         params16: interface.params16,
         durations: interface.durations,
-        seed: interface.seed,
+        seed: interface.seed.unwrap_or(SCRIPT_SEED),
     }
 }

@@ -76,6 +76,12 @@ pub const TIME: &str =
 
 pub const QUIET: &str = "With --clock real, prints no trace lines of frames";
 
+pub const SERVE: &str =
+    "With --clock real, goes on after the end of the script, until the connection closes";
+
+pub const KEEP: &str =
+    "With --clock real, takes or makes the next connection when the other side has closed one";
+
 pub const LIVE_PCAP: &str =
     "With --clock real, writes each frame into this file, as pcap of link type 177 (LINUX_LAPD)";
 
@@ -566,7 +572,7 @@ without --json; one that does not come is \"expected\". nothing, state and stats
 and sapi, tei and each NAME=NUMBER as members of their own.
 
 Example, with the real clock:
-  $ printf 'expect 0 64 established 60000\ngive 0 64 0807\nexpect 0 64 acknowledged 5000\nstate\n' |
+  $ printf 'expect 0 64 established 60000\\ngive 0 64 0807\\nexpect 0 64 acknowledged 5000\\nstate\\n' |
       lapd net --listen 127.0.0.1:4000 --clock real --time
   1 U>N SAPI 63 TEI 127 C UI P=0 info=0f619901ff
   1 N>U SAPI 63 TEI 127 C UI P=0 info=0f61990281
@@ -671,7 +677,7 @@ without --json; one that does not come is \"expected\". nothing, state and stats
 and sapi, tei and each NAME=NUMBER as members of their own.
 
 Example, with the real clock and the `lapd net` of the example of `lapd net --help` on the other side:
-  $ printf 'establish 0\nexpect 0 64 confirmed 5000\nread 1000\n' |
+  $ printf 'establish 0\\nexpect 0 64 confirmed 5000\\nread 1000\\n' |
       lapd user --connect 127.0.0.1:4000 --clock real --time
   0 U>N SAPI 63 TEI 127 C UI P=0 info=0f619901ff
   1 N>U SAPI 63 TEI 127 C UI P=0 info=0f61990281

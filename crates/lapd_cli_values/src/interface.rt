@@ -17,8 +17,8 @@ pub struct Interface {
     pub durations: Durations,
     /// Whether SAPI 16 is served beside SAPI 0.
     pub sapi16: bool,
-    /// Where the references of the user side begin.
-    pub seed: u64,
+    /// Where the references of the user side begin, if `--seed` was given.
+    pub seed: Option<u64>,
     /// The TEIs that are known, each 0 to 126: of the network side all, and of the user side its fixed one.
     pub teis: Vec<Tei>,
     ghost own: { All (λ tei. tei < 127) teis.items },
