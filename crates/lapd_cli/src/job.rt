@@ -8,7 +8,8 @@ use lapd_cli_console::Script;
 use lapd_cli_decode::{LineForm, Style, decode_good_lines, decode_lines};
 use lapd_cli_options::{Clock, DecodeOptions, Interface, Invocation, Job, LinkEnd, Params, Side};
 use lapd_cli_script::ScriptFault;
-use lapd_cli_side_commands::{Config, FromRead, FromWrite, LineStyle, Port, SideRun, net, user};
+use lapd_cli_side_commands::{Config, FromRead, FromWrite, Port, SideRun, net, user};
+use lapd_cli_side_lines::LineStyle;
 use std::io::{Read, Write};
 
 /// Where references begin with the script's clock, if `--seed` is not given.

@@ -7,8 +7,8 @@ use Rattle.lapd_sides_links.specs.declared.side_fault.SideFault.{SideFault}
 use Rattle.lapd_sides.specs.declared.request.Request.{Request}
 use Rattle.lapd_sides.specs.declared.either_side.EitherSide.{EitherSide}
 use Rattle.lapd_sides.specs.Either.{Answers, Expires, HasNextDeadline, Rests}
-use Rattle.lapd_cli_side_commands.specs.Served.{frames_given}
-use Rattle.lapd_cli_side_commands.proofs.Serving.{AreExpired, one_more, then_none}
+use Rattle.lapd_cli_side_lines.specs.Calls.{frames_given}
+use Rattle.lapd_cli_side_lines.proofs.Calls.{AreExpired, one_more, then_none}
 use Rattle.lapd_cli_live.specs.Deeds.{Adds, Comes, Deed, Does, Sends, Waits, all_sent}
 use Rattle.lapd_cli_live.specs.Turns.{AreTurns, DoesDue, HasCome, Hears, IsAsked, IsServed, Turn, WaitsOnce, all_deeds, sooner}
 use Rattle.lapd_cli_live.proofs.Deeds.{adds_both, adds_none}

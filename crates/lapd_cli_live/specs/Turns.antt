@@ -5,7 +5,7 @@ use Rattle.lapd_sides_links.specs.declared.side_fault.SideFault.{SideFault}
 use Rattle.lapd_sides.specs.declared.request.Request.{Request}
 use Rattle.lapd_sides.specs.declared.either_side.EitherSide.{EitherSide}
 use Rattle.lapd_sides.specs.Either.{Answers, HasNextDeadline, Takes}
-use Rattle.lapd_cli_side_commands.specs.Served.{ExpireInTurn, frames_given}
+use Rattle.lapd_cli_side_lines.specs.Calls.{ExpireInTurn, frames_given}
 use Rattle.lapd_cli_live.specs.Deeds.{Deed, Comes, Waits, all_sent}
 
 -- the sooner of two moments that may be set

@@ -23,7 +23,7 @@ mod typed_lines;
 mod words;
 
 pub use fault::LiveFault;
-pub use lapd_cli_side_commands::LineStyle;
+pub use lapd_cli_side_lines::LineStyle;
 pub use live_forms::{LiveForm, LiveReason};
 pub use live_side::{Came, LiveSide};
 pub use outside::{Outside, Woken};

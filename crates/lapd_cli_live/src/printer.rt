@@ -5,7 +5,7 @@ use crate::line_objects::words_object;
 use crate::link_text::{push_link, push_timers};
 use crate::stats::Stats;
 use lapd_cli_script::LineFault;
-use lapd_cli_side_commands::{LineStyle, push_primitive, push_trace};
+use lapd_cli_side_lines::{LineStyle, push_primitive, push_trace};
 use lapd_frame::Side;
 use lapd_link::Link;
 use lapd_sides::{LinkId, Primitive, SideKind, TimerSet};

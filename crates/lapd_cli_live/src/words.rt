@@ -1,7 +1,7 @@
 //! The words of a line of a side that is served with the real clock.
 
 use lapd_cli_script::{LineFault, Words};
-use lapd_cli_side_commands::{SideLine, link_line, read_line, sapi_of, tei_of};
+use lapd_cli_side_lines::{SideLine, link_line, read_line, sapi_of, tei_of};
 use lapd_sides::{LinkId, Request, Side, Tei};
 use memchr::memrchr;
 use std::alloc::Global;

@@ -1,7 +1,7 @@
 -- The clock of a side goes on to its last moment.
 use Rattle.std.proofs.Common.{◌≡◌, ℕ, ◌<◌, ◌≤◌, Some, None, refl}
 use Rattle.std.proofs.lemmas.Bool.{le-leb, lt-leb}
-use Rattle.lapd_cli_side_commands.specs.Wishes.{moment_at}
+use Rattle.lapd_cli_side_commands.specs.Clocks.{moment_at}
 
 pub too_late : (n : ℕ) → 1000000000000000 < n → moment_at n ≡ None
 too_late n above = rw (lt-leb n 1000000000000000 above) refl

@@ -16,11 +16,13 @@ use Rattle.lapd_sides.specs.declared.either_side.EitherSide.TheVariants as eithe
 use Rattle.lapd_sides.specs.Either.{side_of, Answers, Expires, Rests}
 use Rattle.lapd_frame.specs.declared.Side.{Side}
 use Rattle.lapd_cli_script.specs.Script.{Outcome}
-use Rattle.lapd_cli_side_commands.specs.declared.side_lines.SideLine.{SideLine}
-use Rattle.lapd_cli_side_commands.specs.declared.line_style.LineStyle.{LineStyle}
-use Rattle.lapd_cli_side_commands.specs.SideTexts.{acts_text, frame_text_line, frames_text, primitive_line, primitives_text}
-use Rattle.lapd_cli_side_commands.specs.Served.{AtWork, Asks, Devices, ExpireInTurn, ExpiresAll, HasComeTo, LineDoes, LinesDo, Progress, after_line, frames_given, primitives_given, side_step, wish_list}
-use Rattle.lapd_cli_side_commands.specs.Wishes.{Clocked, Wish, Read, Tick, Establish, Release, Give, Unit, Busy, AskTei, Check, clock_step, clocked, moment_after, wish_of, wish_of_line, wish_of_request}
+use Rattle.lapd_cli_side_lines.specs.declared.side_lines.SideLine.{SideLine}
+use Rattle.lapd_cli_side_lines.specs.declared.line_style.LineStyle.{LineStyle}
+use Rattle.lapd_cli_side_lines.specs.SideTexts.{acts_text, frame_text_line, frames_text, primitive_line, primitives_text}
+use Rattle.lapd_cli_side_lines.specs.Calls.{ExpireInTurn, frames_given, primitives_given}
+use Rattle.lapd_cli_side_commands.specs.Served.{AtWork, Asks, Devices, ExpiresAll, HasComeTo, LineDoes, LinesDo, Progress, after_line, side_step, wish_list}
+use Rattle.lapd_cli_side_commands.specs.Clocks.{Clocked, clock_step, clocked, moment_after}
+use Rattle.lapd_cli_side_lines.specs.Wishes.{Wish, Read, Tick, Establish, Release, Give, Unit, Busy, AskTei, Check, wish_of, wish_of_line, wish_of_request}
 
 -- ---- Frames.
 
@@ -87,20 +89,6 @@ on_both (Ok done) P Q R f p q = f p q
 on_both (Err fault) P Q R f p q = tt
 
 -- ---- Expiries.
-
--- each of these was due in turn, and has expired
-abbrev pub AreExpired : ℕ → List Effects → EitherSide → EitherSide → Type 0
-AreExpired now [] old new = new ≡ old
-AreExpired now (acts ∷ more) old new = (mid : EitherSide) × Expires now old mid acts × AreExpired now more mid new
-
-pub one_more : (now : ℕ) (calls : List Effects) (acts : Effects) (old mid new : EitherSide) → AreExpired now calls old mid → Expires now mid new acts
-    → AreExpired now (calls ++ acts ∷ []) old new
-one_more now [] acts old mid new are due = (new, subst (λ (side : EitherSide). Expires now side new acts) are due, refl)
-one_more now (first ∷ calls) acts old mid new are due = (are.0, are.1, one_more now calls acts are.0 mid new are.2 due)
-
-pub then_none : (now : ℕ) (calls : List Effects) (old mid new : EitherSide) → AreExpired now calls old mid → Rests now mid new → ExpireInTurn now calls old new
-then_none now [] old mid new are rests = subst (λ (side : EitherSide). Rests now side new) are rests
-then_none now (acts ∷ calls) old mid new are rests = (are.0, are.1, then_none now calls are.0 mid new are.2 rests)
 
 -- so far, and what these gave is kept
 pub record ExpiresSome (style : LineStyle) (now : ℕ) (side : Side) (old new : EitherSide) (kept : List (List ℕ)) (traced told : List ℕ) : Type 0 where

@@ -5,7 +5,8 @@ use Rattle.std.proofs.lemmas.List.{append-nil}
 use Rattle.lapd_frame.specs.declared.Side.{Side}
 use Rattle.lapd_cli_script.specs.Script.{Outcome, Step, bad_from, is_passed_over, number_or, outcome_of, state_after, state_or}
 use Rattle.lapd_cli_side_commands.specs.Served.{Progress, after_line, line_wishes, side_step, wish_list, wishes_of}
-use Rattle.lapd_cli_side_commands.specs.Wishes.{Clocked, Wish, clock_step, clocked, moment_after, wish_of_line}
+use Rattle.lapd_cli_side_commands.specs.Clocks.{Clocked, clock_step, clocked, moment_after}
+use Rattle.lapd_cli_side_lines.specs.Wishes.{Wish, wish_of_line}
 
 -- ---- Which lines are bad, is said by the clock alone.
 

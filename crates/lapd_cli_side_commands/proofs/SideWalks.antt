@@ -16,8 +16,9 @@ use Rattle.lapd_sides.specs.ShowsNetwork.{ShowNetwork}
 use Rattle.lapd_sides.specs.ShowsUser.{ShowUser}
 use Rattle.lapd_sides.specs.Either.{side_of}
 use Rattle.lapd_cli_side_commands.specs.Served.{AtWork, Devices, HasComeTo, HasServed, LinesDo, NetHasServed, Progress, UserHasServed, at_work, devices, new_progress, side_step, wishes_of}
-use Rattle.lapd_cli_side_commands.specs.Wishes.{Clocked, SideEndsAs, Wish, clock_step, new_clock}
-use Rattle.lapd_cli_side_commands.specs.declared.line_style.LineStyle.{LineStyle}
+use Rattle.lapd_cli_side_commands.specs.Clocks.{Clocked, SideEndsAs, clock_step, new_clock}
+use Rattle.lapd_cli_side_lines.specs.Wishes.{Wish}
+use Rattle.lapd_cli_side_lines.specs.declared.line_style.LineStyle.{LineStyle}
 use Rattle.lapd_cli_side_commands.proofs.Serving.{styles_kept}
 use Rattle.lapd_cli_side_commands.proofs.SideProgress.{progress_after, same_from}
 

@@ -1,4 +1,3 @@
-pub mod SideTexts
-pub mod Wishes
+pub mod Clocks
 pub mod LineOutputs
 pub mod Served

@@ -25,9 +25,10 @@ use Rattle.lapd_sides.specs.User.{new_user, seeded}
 use Rattle.lapd_sides.specs.ShowsNetwork.{ShowNetwork}
 use Rattle.lapd_sides.specs.ShowsUser.{ShowUser}
 use Rattle.lapd_sides.specs.Either.{side_of, Takes, Answers, Expires, Rests}
-use Rattle.lapd_cli_side_commands.specs.declared.line_style.LineStyle.{LineStyle}
-use Rattle.lapd_cli_side_commands.specs.SideTexts.{acts_text, answer_text, end_line, frame_text_line}
-use Rattle.lapd_cli_side_commands.specs.Wishes.{Wish, Read, Tick, Clocked, clock_step, new_clock, wish_of_line, wish_of_request}
+use Rattle.lapd_cli_side_lines.specs.declared.line_style.LineStyle.{LineStyle}
+use Rattle.lapd_cli_side_lines.specs.SideTexts.{acts_text, answer_text, end_line, frame_text_line}
+use Rattle.lapd_cli_side_commands.specs.Clocks.{Clocked, clock_step, new_clock}
+use Rattle.lapd_cli_side_lines.specs.Wishes.{Wish, Read, Tick, wish_of_line, wish_of_request}
 
 -- What is around a side: how its lines are printed; the octets that the source of its port has left, and those that the sink of
 -- its port and the writer have taken, each where it tells them.
@@ -60,13 +61,6 @@ pub record Puts (frames : List (List ℕ)) (text : List ℕ) (a b : Devices) : T
   pub sent : Appends a.written b.written (socket_text frames)
   pub printed : Appends a.printed b.printed text
 
--- the frames that some calls gave, in order, and what the layers above were told
-abbrev pub frames_given : List Effects → List (List ℕ)
-frames_given calls = flat_map (λ acts. acts.frames) calls
-
-abbrev pub primitives_given : List Effects → List Primitive
-primitives_given calls = flat_map (λ acts. acts.primitives) calls
-
 -- ---- Lines.
 
 -- a frame of the other side is printed and taken, once, and what this gives is sent and printed
@@ -90,12 +84,6 @@ pub record FindsNone (a b : AtWork) : Type 0 where
   pub side : b.side ≡ a.side
   pub clock : b.now ≡ a.now
   pub puts : Puts [] (end_line a.around.style) a.around b.around
-
--- each of these expiries was due in turn, and then nothing is
-abbrev pub ExpireInTurn : ℕ → List Effects → EitherSide → EitherSide → Type 0
-ExpireInTurn now [] old new = Rests now old new
-ExpireInTurn now (acts ∷ more) old new =
-    (mid : EitherSide) × Expires now old mid acts × ExpireInTurn now more mid new
 
 -- all that is due at a moment is done, and what this gives is sent and printed
 pub record ExpiresAll (now : ℕ) (old new : EitherSide) (a b : Devices) : Type 0 where

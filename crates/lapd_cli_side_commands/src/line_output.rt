@@ -4,12 +4,11 @@ ghost use Rattle.std.specs.Prelude.{◌≡◌, ◌≤◌, [], ◌∷◌, ◌++�
 ghost use Rattle.std.specs.Io.KnownBytes.{Appends};
 ghost use Rattle.lapd_port.specs.SocketText.{socket_text};
 ghost use Rattle.lapd_sides_links.specs.Effects.{HasLeastOctets};
-ghost use Rattle.lapd_cli_side_commands.specs.SideTexts.{frame_text_line, frames_text, primitives_text};
+ghost use Rattle.lapd_cli_side_lines.specs.SideTexts.{frame_text_line, frames_text, primitives_text};
 
-use crate::line_style::LineStyle;
-use crate::side_texts::push_primitives;
 use crate::traced_frame::TracedFrame;
 use lapd_cli_script::LineFault;
+use lapd_cli_side_lines::{LineStyle, push_primitives};
 use lapd_frame::{MOST_OCTETS, Side};
 use lapd_port::{Port, PortFault, Sink, Source};
 use lapd_sides::Acts;

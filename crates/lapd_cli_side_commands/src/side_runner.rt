@@ -3,15 +3,12 @@
 ghost use Rattle.std.specs.Prelude.{◌≡◌, ◌+◌, ◌++◌, IfSome, OnOk};
 ghost use Rattle.lapd_cli_script.specs.Script.{lines_of};
 ghost use Rattle.lapd_sides.specs.Either.{side_of};
-ghost use Rattle.lapd_cli_side_commands.specs.Wishes.{SideEndsAs, moment_at};
+ghost use Rattle.lapd_cli_side_commands.specs.Clocks.{SideEndsAs, moment_at};
 ghost use Rattle.lapd_cli_side_commands.specs.Served.{HasServed, devices, wishes_of};
 
 use crate::line_output::LineOutput;
-use crate::line_style::LineStyle;
-use crate::side_lines::{SideLine, read_line};
-use crate::side_texts::{put_refusal, put_refused};
-use crate::traced_frame::push_frame;
 use lapd_cli_script::{Command, LineFault, ScriptFault, walk};
+use lapd_cli_side_lines::{LineStyle, SideLine, push_frame, put_refusal, put_refused, read_line};
 use lapd_port::{MOST_OCTETS, Port, PortFault, Sink, Source};
 use lapd_sides::{Acts, EitherSide, Request, SideKind};
 use std::alloc::Global;
@@ -105,9 +102,10 @@ impl<W: Write, S: Source, K: Sink> SideRunner<W, S, K> {
     ghost use Rattle.std.specs.Io.KnownBytes.{Appends};
     ghost use Rattle.lapd_port.specs.SocketText.{socket_text};
     ghost use Rattle.lapd_cli_side_commands.specs.LineOutputs.{sent_of, told_of, traced_of};
-    ghost use Rattle.lapd_cli_side_commands.specs.SideTexts.{refusal_line};
+    ghost use Rattle.lapd_cli_side_lines.specs.SideTexts.{refusal_line};
     ghost use Rattle.lapd_cli_side_commands.specs.Served.{Asks, ExpiresAll, GoesOn, LineDoes, TakesNow, at_work, devices};
-    ghost use Rattle.lapd_cli_side_commands.specs.Wishes.{IsGood, Moves, Read, moment_after, wish_of, wish_of_request};
+    ghost use Rattle.lapd_cli_side_commands.specs.Clocks.{Moves, moment_after};
+    ghost use Rattle.lapd_cli_side_lines.specs.Wishes.{IsGood, Read, wish_of, wish_of_request};
 
     /// The side at moment 0, with nothing heard yet.
     fn new(

@@ -4,12 +4,12 @@ ghost use Rattle.std.specs.Prelude.{◌≡◌, ◌<◌, IfSome, OnOk};
 ghost use Rattle.std.specs.List.{All};
 ghost use Rattle.lapd_frame.specs.declared.Side.TheVariants as side;
 ghost use Rattle.lapd_cli_script.specs.Script.{lines_of};
-ghost use Rattle.lapd_cli_side_commands.specs.Wishes.{SideEndsAs};
+ghost use Rattle.lapd_cli_side_commands.specs.Clocks.{SideEndsAs};
 ghost use Rattle.lapd_cli_side_commands.specs.Served.{NetHasServed, UserHasServed, basic_access, devices, wishes_of};
 
-use crate::line_style::LineStyle;
 use crate::side_runner::{SideRun, run_side};
 use lapd_cli_script::ScriptFault;
+use lapd_cli_side_lines::LineStyle;
 use lapd_port::{Port, Sink, Source};
 use lapd_sides::{Config, Durations, EitherSide, NetSide, Params, Sapi, Tei, UserSide};
 use std::alloc::Global;

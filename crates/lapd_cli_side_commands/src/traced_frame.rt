@@ -4,15 +4,14 @@ ghost use Rattle.std.specs.Io.KnownBytes.{Appends};
 ghost use Rattle.lapd_port.specs.SocketText.{frame_text};
 ghost use Rattle.lapd_port.specs.Port.{CountsAsDevice, IsApartFromInput};
 ghost use Rattle.lapd_sides_links.specs.Effects.{HasLeastOctets};
-ghost use Rattle.lapd_cli_side_commands.specs.SideTexts.{frame_text_line};
+ghost use Rattle.lapd_cli_side_lines.specs.SideTexts.{frame_text_line};
 
-use crate::line_style::LineStyle;
-use crate::side_texts::push_line;
 use arrayvec::ArrayVec;
 use lapd_cli_script::LineFault;
+use lapd_cli_side_lines::{LineStyle, push_frame};
 use lapd_frame::{MOST_OCTETS, Side};
 use lapd_port::{Port, PortFault, Sink, Source};
-use std::alloc::{AllocError, Global};
+use std::alloc::Global;
 
 /// A frame that is to be sent, of at least three octets, and its line, with the line's end.
 #[derive(Drop)]
@@ -105,43 +104,4 @@ impl TracedFrame {
     {
         self.line.as_bytes()
     }
-}
-
-/// Appends the line of octets that this side sent, with the line's end.
-///
-/// # Errors
-///
-/// `AllocError`.
-pub(crate) fn push_frame(
-    alloc: Global,
-    text: &mut String,
-    style: LineStyle,
-    side: Side,
-    octets: &[u8],
-) -> Result<(), AllocError>
-    ensures { OnOk result (string_bytes text.new
-        ≡ string_bytes text.old ++ frame_text_line style side octets.now) }
-{
-    match style {
-        LineStyle::Text => push_trace(alloc, text, side, octets),
-        LineStyle::Json => push_line(text, lapd_json::line(alloc, side, octets)?.as_str()),
-    }
-}
-
-/// Appends the trace line of octets that this side sent, with the line's end.
-///
-/// # Errors
-///
-/// `AllocError`.
-pub fn push_trace(
-    alloc: Global,
-    text: &mut String,
-    side: Side,
-    octets: &[u8],
-) -> Result<(), AllocError>
-    ensures { OnOk result (string_bytes text.new
-        ≡ string_bytes text.old ++ frame_text_line LineStyle.Text side octets.now) }
-{
-    lapd_trace::push_line(alloc, text, side, octets)?;
-    text.push('\n')
 }

@@ -15,7 +15,7 @@ use Rattle.lapd_sides_interface.specs.Interface.{Configs, Interface, Move, netwo
 use Rattle.lapd_sides_interface.specs.SideView.{SideView, Deed}
 use Rattle.lapd_sides_interface.proofs.AsMade.{made_link_safe}
 use Rattle.lapd_cli_side_commands.specs.Served.{AtWork, LinesDo}
-use Rattle.lapd_cli_side_commands.specs.Wishes.{Wish}
+use Rattle.lapd_cli_side_lines.specs.Wishes.{Wish}
 use Rattle.lapd_cli_side_deeds.specs.Deeds.{AreFor, ShowsNetwork, ShowsUser, does_all, moves_of}
 use Rattle.lapd_cli_side_deeds.specs.Joined.{Programs, ProgramLine, WritesTo, ProgramDoes, ProgramsDo, AreAt, AreMovesFor, ArePlayed, ArePlayedSafely, clock_of, network_clock, user_clock, wishes_behind, wishes_of_side}
 use Rattle.lapd_cli_side_deeds.proofs.Lines.{moment_is, network_line, network_moves, text_of_both, user_line, user_moves}

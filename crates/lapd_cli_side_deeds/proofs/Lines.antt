@@ -24,8 +24,9 @@ use Rattle.lapd_sides_interface.specs.Calls.{Puts}
 use Rattle.lapd_sides_interface.specs.Interface.{Configs, Interface, network_behaviour, user_behaviour, by_network, by_user, with_network, with_user, run}
 use Rattle.lapd_sides_interface.specs.SideView.{Behaviour, SideView, Deed, Take, Expire, Ask, does}
 use Rattle.lapd_sides_interface.proofs.Called.{net_takes, net_ticks, net_requests, usr_takes, usr_ticks, usr_requests}
-use Rattle.lapd_cli_side_commands.specs.Served.{AtWork, Asks, ExpireInTurn, FindsNone, GoesOn, LineDoes, LinesDo, TakesNext, frames_given}
-use Rattle.lapd_cli_side_commands.specs.Wishes.{Wish, Read, Tick, Establish, Release, Give, Unit, Busy, AskTei, Check, wish_of_request}
+use Rattle.lapd_cli_side_lines.specs.Calls.{ExpireInTurn, frames_given}
+use Rattle.lapd_cli_side_commands.specs.Served.{AtWork, Asks, FindsNone, GoesOn, LineDoes, LinesDo, TakesNext}
+use Rattle.lapd_cli_side_lines.specs.Wishes.{Wish, Read, Tick, Establish, Release, Give, Unit, Busy, AskTei, Check, wish_of_request}
 use Rattle.lapd_cli_side_deeds.specs.Deeds.{AreFor, AreForAll, ArePartedFor, IsByDeeds, IsExpiryAt, LeadTo, ShowsNetwork, ShowsUser, does_all, moment_behind, moves_of}
 
 -- ---- A call of a side of either kind is a deed.

@@ -18,7 +18,7 @@ use Rattle.lapd_sides.specs.User.{User}
 use Rattle.lapd_sides_interface.specs.Interface.{Move}
 use Rattle.lapd_sides_interface.specs.SideView.{Behaviour, SideView, Deed, Take, Expire, Ask, does}
 use Rattle.lapd_cli_side_commands.specs.Served.{AtWork}
-use Rattle.lapd_cli_side_commands.specs.Wishes.{Wish, Read, Tick, wish_of_request}
+use Rattle.lapd_cli_side_lines.specs.Wishes.{Wish, Read, Tick, wish_of_request}
 
 -- ---- Which deeds a line asks for.
 

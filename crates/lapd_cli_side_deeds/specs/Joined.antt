@@ -12,7 +12,7 @@ use Rattle.lapd_sides_interface.specs.Premises.{KeepPremisesAsMade}
 use Rattle.lapd_sides_interface.specs.Projects.{IsSafeAt}
 use Rattle.lapd_sides_interface.specs.SideView.{Deed}
 use Rattle.lapd_cli_side_commands.specs.Served.{AtWork, LineDoes}
-use Rattle.lapd_cli_side_commands.specs.Wishes.{Wish}
+use Rattle.lapd_cli_side_lines.specs.Wishes.{Wish}
 use Rattle.lapd_cli_side_deeds.specs.Deeds.{AreFor, ShowsNetwork, ShowsUser, moment_behind, moves_of}
 
 -- ---- Two programs.

@@ -9,7 +9,7 @@ ghost use Rattle.lapd_sides.specs.User.{new_user};
 ghost use Rattle.lapd_sides_interface.specs.Interface.{Configs, Interface, by_network, by_user, network_behaviour, new_interface, run, user_behaviour, with_network, with_user};
 ghost use Rattle.lapd_sides_interface.specs.SideView.{Deed};
 ghost use Rattle.lapd_cli_side_commands.specs.Served.{AtWork, LineDoes, LinesDo};
-ghost use Rattle.lapd_cli_side_commands.specs.Wishes.{Wish};
+ghost use Rattle.lapd_cli_side_lines.specs.Wishes.{Wish};
 ghost use Rattle.lapd_cli_side_deeds.specs.Joined.{AreAt, ArePlayed, ArePlayedSafely, ProgramLine, Programs, ProgramsDo, wishes_of_side};
 ghost use Rattle.lapd_cli_side_deeds.specs.Deeds.{AreFor, AreForAll, IsByDeeds, ShowsNetwork, ShowsUser, does_all, moves_of};
 

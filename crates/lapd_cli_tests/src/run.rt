@@ -3,7 +3,8 @@
 use lapd_cli_commands::{answer, bus, decode, loop_over, pair};
 use lapd_cli_options::{Interface, Invocation, Job, LinkEnd};
 use lapd_cli_script::ScriptFault;
-use lapd_cli_side_commands::{Config, LineStyle, Port, SideRun, Sink, Source, net, user};
+use lapd_cli_side_commands::{Config, Port, SideRun, Sink, Source, net, user};
+use lapd_cli_side_lines::LineStyle;
 use std::alloc::Global;
 use std::io::{Read, Write};
 

@@ -1,6 +1,6 @@
 use Rattle.std.proofs.Common.{◌∙◌}
 use Rattle.lapd_cli_side_commands.specs.LineOutputs.{sent_of, traced_of}
-use Rattle.lapd_cli_side_commands.specs.SideTexts.{frame_text_line}
+use Rattle.lapd_cli_side_lines.specs.SideTexts.{frame_text_line}
 use Rattle.lapd_cli_side_commands.proofs.Serving.{one_kept, one_traced}
 use Rattle.lapd_cli_side_commands.proofs.line_output.LineOutput.gather.Goals as goal
 

@@ -1,6 +1,6 @@
 use Rattle.std.proofs.Common.{◌≡◌, ◌++◌, map, take}
 use Rattle.lapd_cli_side_commands.specs.LineOutputs.{sent_of, told_of, traced_of}
-use Rattle.lapd_cli_side_commands.specs.SideTexts.{frames_text}
+use Rattle.lapd_cli_side_lines.specs.SideTexts.{frames_text}
 use Rattle.lapd_cli_side_commands.proofs.line_output.LineOutput.gather.Given as goal
 
 abbrev pub invariant-loop-frame : goal.invariant-loop-frame

@@ -1,9 +1,9 @@
 use Rattle.std.proofs.Common.{◌≡◌, ℕ, ◌++◌, refl, ap, subst, ◌∙◌}
 use Rattle.lapd_frame.specs.declared.Side.{Side}
 use Rattle.lapd_sides.specs.Either.{Expires, side_of}
-use Rattle.lapd_cli_side_commands.specs.declared.line_style.LineStyle.{LineStyle}
+use Rattle.lapd_cli_side_lines.specs.declared.line_style.LineStyle.{LineStyle}
 use Rattle.lapd_cli_side_commands.specs.LineOutputs.{told_of, traced_of}
-use Rattle.lapd_cli_side_commands.specs.SideTexts.{frames_text, primitives_text}
+use Rattle.lapd_cli_side_lines.specs.SideTexts.{frames_text, primitives_text}
 use Rattle.lapd_cli_side_commands.specs.Served.{devices}
 use Rattle.lapd_cli_side_commands.proofs.Serving.{all_expired, none_yet, on_both, some_more}
 use Rattle.lapd_cli_side_commands.proofs.side_runner.SideRunner.do_due.Goals as goal

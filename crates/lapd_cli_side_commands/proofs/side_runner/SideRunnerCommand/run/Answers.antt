@@ -2,7 +2,7 @@ use Rattle.std.proofs.Common.{◌≡◌, Some, subst}
 use Rattle.std.proofs.KnownBytes.{Appends-nil}
 use Rattle.lapd_frame.specs.declared.Side.{Side}
 use Rattle.lapd_cli_side_commands.specs.Served.{at_work, devices}
-use Rattle.lapd_cli_side_commands.specs.Wishes.{wish_of, wish_of_line}
+use Rattle.lapd_cli_side_lines.specs.Wishes.{wish_of, wish_of_line}
 use Rattle.lapd_cli_side_commands.proofs.Serving.{line_done}
 use Rattle.lapd_cli_side_commands.proofs.side_runner.SideRunnerCommand.run.Goals as goal
 

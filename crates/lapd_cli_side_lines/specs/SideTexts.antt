@@ -12,8 +12,8 @@ use Rattle.lapd_sides_links.specs.declared.side_fault.SideFault.{SideFault}
 use Rattle.lapd_sides_links.specs.declared.side_fault.SideKind.{SideKind}
 use Rattle.lapd_sides_links.specs.Effects.{Effects}
 use Rattle.lapd_sides_links.specs.Texts.{primitive_text, kind_text}
-use Rattle.lapd_cli_side_commands.specs.declared.line_style.LineStyle.{LineStyle}
-use Rattle.lapd_cli_side_commands.specs.declared.line_style.LineStyle.TheVariants.{Text, Json}
+use Rattle.lapd_cli_side_lines.specs.declared.line_style.LineStyle.{LineStyle}
+use Rattle.lapd_cli_side_lines.specs.declared.line_style.LineStyle.TheVariants.{Text, Json}
 
 -- what is told of a link, or what became of a TEI; messages and timers of TEI management have no line
 abbrev pub told_text : LineStyle → Primitive → List ℕ

@@ -4,7 +4,7 @@ use Rattle.std.proofs.lemmas.Fmt.{decimal_digit}
 use Rattle.itoa.proofs.Decimal.{decimal_two}
 use Rattle.lapd_frame.specs.Address.{sapi_value}
 use Rattle.lapd_frame.specs.declared.Sapi.{Sapi}
-use Rattle.lapd_cli_side_commands.proofs.side_texts.sapi_words.Goals as goal
+use Rattle.lapd_cli_side_lines.proofs.side_texts.sapi_words.Goals as goal
 
 -- with these digits
 abbrev words : List ℕ → List ℕ

@@ -7,8 +7,8 @@ ghost use Rattle.std.specs.Io.KnownBytes.{Appends};
 ghost use Rattle.lapd_frame.specs.Address.{sapi_value};
 ghost use Rattle.lapd_cli_script.specs.Line.{text_line};
 ghost use Rattle.lapd_sides_links.specs.Texts.{id_text, primitive_text, what_rest};
-ghost use Rattle.lapd_cli_side_commands.specs.SideTexts.{primitive_line, primitives_text, refusal_line, refused_line, told_text};
-ghost use Rattle.lapd_cli_side_commands.specs.Wishes.{IsGood};
+ghost use Rattle.lapd_cli_side_lines.specs.SideTexts.{primitive_line, primitives_text, refusal_line, refused_line, told_text};
+ghost use Rattle.lapd_cli_side_lines.specs.Wishes.{IsGood};
 
 use crate::line_style::LineStyle;
 use lapd_cli_script::LineFault;
@@ -22,7 +22,7 @@ use std::io::Write;
 /// # Errors
 ///
 /// `AllocError`. A front of it may have been appended.
-pub(crate) fn push_primitives(
+pub fn push_primitives(
     alloc: Global,
     style: LineStyle,
     primitives: &[Primitive],
@@ -159,7 +159,7 @@ fn push_refused(
 /// # Errors
 ///
 /// `Device`, where the writer fails, and `Memory`.
-pub(crate) fn put_refused<W: Write>(
+pub fn put_refused<W: Write>(
     alloc: Global,
     style: LineStyle,
     why: &str,
@@ -183,7 +183,7 @@ pub(crate) fn put_refused<W: Write>(
 /// # Errors
 ///
 /// As [`put_refused`].
-pub(crate) fn put_refusal<W: Write>(
+pub fn put_refusal<W: Write>(
     alloc: Global,
     style: LineStyle,
     kind: SideKind,

@@ -3,7 +3,7 @@
 ghost use Rattle.std.specs.Prelude.{◌≡◌, option_map};
 ghost use Rattle.lapd_frame.specs.Address.{number_at, sapi_at};
 ghost use Rattle.lapd_cli_script.specs.Line.{Reads};
-ghost use Rattle.lapd_cli_side_commands.specs.Wishes.{bare_wish, check_wish, id_said, link_wish, octet_said, own_wish, sapi_said, span_at, tei_said, tick_wish, wish_of, wish_of_line, wish_of_word, with_sapi};
+ghost use Rattle.lapd_cli_side_lines.specs.Wishes.{bare_wish, check_wish, id_said, link_wish, octet_said, own_wish, sapi_said, span_at, tei_said, tick_wish, wish_of, wish_of_line, wish_of_word, with_sapi};
 
 use lapd_cli_script::{LineFault, Words, number_of};
 use lapd_frame::{Sapi, Side, Tei};

@@ -1,0 +1,16 @@
+//! The request lines of the commands `net` and `user`, and the lines that these commands print.
+//!
+//! [`read_line`] parses a request line; `wish_of_line` in specs/Wishes.antt defines its meaning. [`push_frame`] and
+//! [`push_primitives`] append the lines of what a call of a side returned, and [`put_refused`] prints why a request is refused.
+//! Lines are printed in words or as JSON objects ([`LineStyle`]); specs/SideTexts.antt defines the text of each.
+#![tactic(auto)]
+
+mod frame_lines;
+mod line_style;
+mod side_lines;
+mod side_texts;
+
+pub use frame_lines::{push_frame, push_trace};
+pub use line_style::LineStyle;
+pub use side_lines::{SideLine, link_line, read_line, sapi_of, tei_of};
+pub use side_texts::{push_primitive, push_primitives, put_refusal, put_refused};
