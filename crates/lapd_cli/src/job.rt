@@ -3,6 +3,7 @@
 use crate::connection;
 use crate::ending::Stop;
 use crate::live::do_live;
+use crate::notes::Notes;
 use lapd_cli_commands::{answer, bus, decode, loop_over, pair};
 use lapd_cli_console::Script;
 use lapd_cli_decode::{LineForm, Style, decode_good_lines, decode_lines};
@@ -167,7 +168,8 @@ fn do_net<R: Read, W: Write>(
     out: &mut W,
     setup: &SideSetup<'_>,
 ) -> Result<(), Stop> {
-    let stream = connection::accepted(rt, setup.address).map_err(Stop::NoConnection)?;
+    let notes = Notes::new(rt);
+    let stream = connection::accepted(rt, &notes, setup.address).map_err(Stop::NoConnection)?;
     let port = Port::new(FromRead::new(&stream), FromWrite::new(&stream));
     let SideRun { ended, .. } = net(
         rt.alloc(),
@@ -175,10 +177,10 @@ fn do_net<R: Read, W: Write>(
         out,
         port,
         setup.lines,
-        config_of(setup.interface),
+        config_of(setup.interface, setup.interface.seed.unwrap_or(SCRIPT_SEED)),
         setup.interface.teis.as_slice(),
     );
-    connection::tell_closed(rt, &stream);
+    connection::tell_closed(&notes, &stream);
     ended.map_err(Stop::Script)
 }
 
@@ -189,7 +191,8 @@ fn do_user<R: Read, W: Write>(
     out: &mut W,
     setup: &SideSetup<'_>,
 ) -> Result<(), Stop> {
-    let stream = connection::made(rt, setup.address).map_err(Stop::NoConnection)?;
+    let notes = Notes::new(rt);
+    let stream = connection::made(rt, &notes, setup.address).map_err(Stop::NoConnection)?;
     let port = Port::new(FromRead::new(&stream), FromWrite::new(&stream));
     let SideRun { ended, .. } = user(
         rt.alloc(),
@@ -197,20 +200,20 @@ fn do_user<R: Read, W: Write>(
         out,
         port,
         setup.lines,
-        config_of(setup.interface),
+        config_of(setup.interface, setup.interface.seed.unwrap_or(SCRIPT_SEED)),
         setup.interface.fixed(),
     );
-    connection::tell_closed(rt, &stream);
+    connection::tell_closed(&notes, &stream);
     ended.map_err(Stop::Script)
 }
 
-/// What a side of this interface is made with.
-pub fn config_of(interface: &Interface) -> Config {
+/// What a side of this interface is made with, whose references begin at this seed.
+pub fn config_of(interface: &Interface, seed: u64) -> Config {
     Config {
         sapi16: interface.sapi16,
         params0: interface.params0,
         params16: interface.params16,
         durations: interface.durations,
-        seed: interface.seed.unwrap_or(SCRIPT_SEED),
+        seed,
     }
 }

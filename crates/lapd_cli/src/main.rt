@@ -9,13 +9,22 @@
 #![tactic(auto)]
 
 mod capture;
+mod clock;
 mod connection;
 mod connections;
+mod dialler;
+mod discards;
+mod door;
 mod ending;
 mod frame_stream;
 mod greeting;
+mod input;
 mod job;
 mod live;
+mod lost;
+mod notes;
+mod peers;
+mod person;
 mod reason;
 mod taps;
 

@@ -29,6 +29,7 @@ pub record IsChosenBy (options : InterfaceOptions) (teis : List (List ℕ)) (int
       options.room.now options.recovery
   pub durations : interface.durations ≡ lengths_written options.t200.now options.t201.now
       options.t202.now options.t203.now
+  pub pri : interface.pri ≡ options.pri
   pub sapi16 : interface.sapi16 ≡ (not options.pri || options.sapi16)
   pub seed : interface.seed ≡ seed_meant (option_map (λ s. s.now) options.seed)
   pub known : interface.teis.items ≡ teis_meant options.pri (teis_written teis)

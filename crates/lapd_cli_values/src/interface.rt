@@ -9,6 +9,8 @@ use lapd_timers::Durations;
 /// What a side of an interface is made with.
 #[derive(Drop)]
 pub struct Interface {
+    /// Whether it is one at primary rate.
+    pub pri: bool,
     /// What the links of SAPI 0 are made with.
     pub params0: Params,
     /// What those of SAPI 16 are made with.

@@ -74,6 +74,7 @@ pub fn interface_written<'a>(
         (Ok(params0), Ok(params16), Ok(durations), Ok(seed)) => {
             match known_teis(alloc, options.pri, teis) {
                 Ok(teis) => Ok(Interface {
+                    pri: options.pri,
                     params0,
                     params16,
                     durations,
