@@ -3,6 +3,7 @@
 use crate::connection;
 use crate::connections::Connections;
 use crate::ending::Stop;
+use crate::impaired::Impaired;
 use crate::job::{SideSetup, config_of};
 use crate::notes::Notes;
 use crate::person::Speaker;
@@ -17,8 +18,8 @@ use std::io::{self, IsTerminal, Read, Write};
 use std::net::{self, SocketAddr};
 use std::random::RandomSource;
 
-/// A line to the other side, whose frames are recorded.
-type Line<'a> = Tapped<Connections<'a>, Taps<'a>>;
+/// A line to the other side, which can be impaired, and whose frames are recorded.
+type Line<'a> = Tapped<Impaired<Connections<'a>>, Taps<'a>>;
 
 /// Serves this side of an interface with the real clock: over a script, or over lines that are typed if standard input is a
 /// terminal.
@@ -35,14 +36,15 @@ pub fn do_live<R: Read, W: Write>(
     out: &mut W,
 ) -> Result<(), Stop> {
     let notes = Notes::new(rt);
-    let line = tapped_line(rt, &notes, side, setup, options)?;
+    let config = config_of(setup.interface, seed_of(rt, setup.interface));
+    let line = tapped_line(rt, &notes, side, setup, options, config.seed)?;
     let style = Style {
         time: options.time,
         quiet: options.quiet,
         lines: setup.lines,
     };
     let printer = Printer::new(rt.alloc(), out, style);
-    let Ok((made, acts)) = made_side(rt, side, setup.interface) else {
+    let Ok((made, acts)) = made_side(rt, side, config, setup.interface) else {
         return Err(Stop::Script(ScriptFault::Memory));
     };
     let live = LiveSide::new(rt.alloc(), made, acts, line, printer);
@@ -56,10 +58,14 @@ fn tapped_line<'a>(
     side: Side,
     setup: &SideSetup<'_>,
     options: &LiveOptions<'_>,
+    seed: u64,
 ) -> Result<Line<'a>, Stop> {
     let taps = Taps::open(rt, notes, side, options.pcap, options.gsmtap).map_err(Stop::NoTaps)?;
     match connections(rt, notes, side, setup, options) {
-        Ok(connections) => Ok(Tapped::new(side, connections, taps)),
+        Ok(connections) => {
+            let line = Impaired::new(rt.alloc(), connections, seed);
+            Ok(Tapped::new(side, line, taps))
+        }
         Err(error) => Err(Stop::NoConnection(error)),
     }
 }
@@ -86,8 +92,8 @@ fn serve<R: Read, W: Write>(
 fn close<W: Write>(live: LiveSide<Line<'_>, &mut W>) {
     let (line, out) = live.into_parts();
     let _ = out.flush();
-    let (connections, _taps) = line.into_parts();
-    connections.tell_closed();
+    let (line, _taps) = line.into_parts();
+    line.into_inner().tell_closed();
 }
 
 /// Why the script of a side that is served was not done to its end.
@@ -102,10 +108,10 @@ fn stop_of(stop: LiveStop) -> Stop {
 fn made_side(
     rt: &HostRuntime,
     side: Side,
+    config: Config,
     interface: &Interface,
 ) -> Result<(EitherSide, Acts), AllocError> {
     let acts = Acts::new(rt.alloc())?;
-    let config = config_of(interface, seed_of(rt, interface));
     match side {
         Side::Network => Ok((network_side(rt, config, interface)?, acts)),
         Side::User => Ok((user_side(rt, config, interface)?, acts)),

@@ -18,6 +18,7 @@ mod door;
 mod ending;
 mod frame_stream;
 mod greeting;
+mod impaired;
 mod input;
 mod job;
 mod live;
