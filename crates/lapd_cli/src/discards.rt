@@ -34,7 +34,7 @@ impl Discards {
 
     /// A frame of this address is discarded. Returns what is to be said, if it is the first of its address.
     pub fn add(&mut self, id: LinkId) -> Option<Discard> {
-        let place = place_of(id);
+        let place = place_of(&id);
         if self.seen[place] {
             return None;
         }
@@ -47,7 +47,7 @@ impl Discards {
 }
 
 /// The place of an address.
-fn place_of(id: LinkId) -> usize
+fn place_of(id: &LinkId) -> usize
     ensures { result < ADDRESSES }
 {
     let tei = usize::from(id.tei.value() % 128);
