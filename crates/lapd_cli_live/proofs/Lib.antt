@@ -1,3 +1,5 @@
 pub mod Deeds
 pub mod Passed
-pub mod Turns
+pub mod Printers
+pub mod Log
+pub mod Steps

@@ -1,4 +1,6 @@
 pub mod Deeds
+pub mod Entries
+pub mod Printers
+pub mod Log
+pub mod Steps
 pub mod Passed
-pub mod Turns
-pub mod Typed

@@ -1,8 +1,8 @@
 -- The frames that go over a line, each with its sender.
-use Rattle.std.specs.Prelude.{◌≡◌, List, [], ◌∷◌, ◌++◌, ℕ, Option, None, Some, option_map, Bool, true, false, ⊤}
+use Rattle.std.specs.Prelude.{◌≡◌, List, [], ◌∷◌, ◌++◌, ℕ, Option, None, Some, option_map, ⊤}
 use Rattle.lapd_field.specs.Address.{other_side}
 use Rattle.lapd_frame.specs.declared.Side.{Side}
-use Rattle.lapd_cli_live.specs.Deeds.{Deed, Waits, Comes, Sends}
+use Rattle.lapd_cli_live.specs.Deeds.{Comes, Deed, FindsNone, Reads, Sends, Waits}
 
 -- a frame, and who sent it
 pub record PassedFrame : Type 0 where
@@ -15,7 +15,9 @@ passed_frame from octets = record { from = from; octets = octets }
 -- the frames that came to this side and that it sent, in order
 abbrev pub passed_in : Side → List Deed → List PassedFrame
 passed_in own [] = []
-passed_in own (Waits until ∷ deeds) = passed_in own deeds
+passed_in own (Reads now ∷ deeds) = passed_in own deeds
+passed_in own (FindsNone ∷ deeds) = passed_in own deeds
+passed_in own (Waits until woken ∷ deeds) = passed_in own deeds
 passed_in own (Comes frame ∷ deeds) = passed_frame (other_side own) frame ∷ passed_in own deeds
 passed_in own (Sends frame ∷ deeds) = passed_frame own frame ∷ passed_in own deeds
 
@@ -32,8 +34,3 @@ abbrev pub AreHanded : Side → Option (List Deed) → Option (List PassedFrame)
 AreHanded own None handed = ⊤
 AreHanded own (Some deeds) None = ⊤
 AreHanded own (Some deeds) (Some frames) = frames ≡ passed_in own deeds
-
--- what is known of a line on which a call has failed
-abbrev pub known_deeds : Bool → Option (List Deed) → Option (List Deed)
-known_deeds true deeds = None
-known_deeds false deeds = deeds

@@ -1,21 +1,27 @@
 //! A side that is served.
 
-ghost use Rattle.std.specs.Prelude.{◌≡◌, ℕ, ◌≤◌, ◌⊎◌, List, [], ◌∷◌, length, map, take, true, false, OnOk, IfOk, IsTrue, ◌↔◌};
+ghost use Rattle.std.specs.Prelude.{◌≡◌, map, true, false, IfOk, OnOk};
 ghost use Rattle.std.specs.List.{All};
 ghost use Rattle.lapd_sides_links.specs.Effects.{HasLeastOctets};
-ghost use Rattle.lapd_cli_live.specs.Deeds.{Adds, Does, all_sent};
-ghost use Rattle.lapd_cli_live.specs.Turns.{HasCome, sooner as sooner_of};
+ghost use Rattle.lapd_frame.specs.declared.Side.{Side as SideValue};
+ghost use Rattle.lapd_cli_live.specs.Entries.{Told};
+ghost use Rattle.lapd_cli_live.specs.Printers.{PrintsOn, SendsAll};
+ghost use Rattle.lapd_cli_live.specs.Steps.{came_of as came_from, ended_by as ends_by, HasCome, sooner as sooner_of};
 
 use crate::fault::LiveFault;
-use crate::outside::{Outside, Woken};
+use crate::outside::{Lines, Outside, Woken};
 use crate::printer::Printer;
+use crate::service::{Came, Service, Until};
 use arrayvec::ArrayVec;
 use lapd_cli_script::LineFault;
-use lapd_frame::Side;
-use lapd_port::MOST_OCTETS;
-use lapd_sides::{Acts, EitherSide, Request};
+use lapd_frame::{Side, read};
+use lapd_port::{MOST_OCTETS, PortFault};
+use lapd_sides::{Acts, EitherSide, LinkId, Primitive, Request};
 use std::alloc::Global;
 use std::io::Write;
+
+/// The most frames that a step receives, so that timers run however many frames arrive.
+const MOST_FRAMES: u64 = 4096;
 
 /// A side with what is around it, and what it prints on.
 #[derive(Drop)]
@@ -23,28 +29,13 @@ pub struct LiveSide<O, W> {
     pub(crate) alloc: Global,
     pub(crate) side: EitherSide,
     acts: Acts,
-    outside: O,
+    pub(crate) outside: O,
     pub(crate) printer: Printer<W>,
 }
 
-/// What a turn, or several, came to.
-#[derive(Clone, Copy)]
-pub enum Came {
-    /// A frame came, and was heard.
-    Frame,
-    /// A line was typed, and is to be read.
-    Line,
-    /// Something is due, or is soon.
-    Due,
-    /// The other side has closed the connection.
-    Closed,
-    /// The end that was set has come.
-    End,
-}
-
 impl<O: Outside, W: Write> LiveSide<O, W> {
-    ghost use Rattle.lapd_sides.specs.Either.{Takes};
-    ghost use Rattle.lapd_cli_live.specs.Turns.{DoesDue, Hears, IsAsked, IsServed, Turn, WaitsOnce};
+    ghost use Rattle.lapd_cli_live.specs.Log.{Between, IsCarriedOut, ReadsClock};
+    ghost use Rattle.lapd_cli_live.specs.Steps.{CatchesUp, DoesDue, EndsAfter, HasReceived, IsAsked, IsServed, Looks, Step, TakesAt, WaitsFor};
 
     /// A side with this around it, and room for what a call gives.
     pub fn new(
@@ -56,6 +47,7 @@ impl<O: Outside, W: Write> LiveSide<O, W> {
     ) -> LiveSide<O, W>
         ensures side { result.side ≡ side }
         ensures outside { result.outside ≡ outside }
+        ensures printer { result.printer ≡ printer }
     {
         LiveSide {
             alloc,
@@ -67,44 +59,91 @@ impl<O: Outside, W: Write> LiveSide<O, W> {
     }
 
     /// What is around it, and the writer that it printed on.
-    pub fn into_parts(self) -> (O, W) {
+    pub fn into_parts(self) -> (O, W)
+        ensures { result.0 ≡ self.outside }
+    {
         (self.outside, self.printer.into_inner())
     }
 
-    /// The moment it is, which what is printed from here on may name.
-    fn read_clock(&mut self) -> Result<u64, LiveFault>
-        ensures side { self.new.side ≡ self.old.side }
-        ensures deeds { O.deeds self.new.outside ≡ O.deeds self.old.outside }
+    /// Reads the clock. A clock that goes back is a fault.
+    pub(crate) fn read_clock(&mut self) -> Result<u64, LiveFault>
+        ensures { IfOk result (λ now.
+            Between O.deeds W.contents self.old self.new (ReadsClock now)) }
     {
         let now = self.outside.moment()?;
+        if now < self.printer.moment() {
+            return Err(LiveFault::Port(PortFault::Device));
+        }
         self.printer.set_moment(now);
         Ok(now)
     }
 
     /// Sends and prints what the last call gave.
     fn carry_out(&mut self) -> Result<(), LiveFault>
-        ensures side { self.new.side ≡ self.old.side }
-        ensures sent { OnOk result (Adds (O.deeds self.old.outside) (O.deeds self.new.outside)
-            (all_sent self.old.acts.frames)) }
+        ensures { OnOk result (Between O.deeds W.contents self.old self.new
+            (IsCarriedOut self.old.acts)) }
     {
-        let from = self.side.side();
-        send_all(
-            from,
-            self.acts.frames(),
-            &mut self.outside,
-            &mut self.printer,
-        )?;
-        for primitive in self.acts.primitives() {
-            self.printer.tell(primitive)?;
-        }
-        Ok(())
+        let own = self.side.side();
+        let (frames, primitives) = (self.acts.frames(), self.acts.primitives());
+        send_all(own, frames, &mut self.outside, &mut self.printer)?;
+        put_all_told(primitives, &mut self.printer)
     }
 
-    /// All that is due is done, one after another, until nothing is. The loop counts so far only that it be seen to end.
-    fn do_due(&mut self, now: u64) -> Result<(), LiveFault>
-        ensures { OnOk result (Does (O.deeds self.old.outside) (O.deeds self.new.outside)
-            (DoesDue now self.old.side self.new.side)) }
+    /// Takes a frame at the moment `now`, which was read just before the frame was looked for, and carries out what this gives.
+    fn take(&mut self, frame: &[u8], now: u64) -> Result<(), LiveFault>
+        ensures { OnOk result (Between O.deeds W.contents self.old self.new
+            (TakesAt frame.now now)) }
     {
+        let own = self.side.side();
+        self.printer.put_received(own, frame)?;
+        let discarded = self.side.discarded();
+        let Ok(()) = self.side.take(frame, now, &mut self.acts) else {
+            return Err(LiveFault::Line(LineFault::Memory));
+        };
+        let is_discarded = discarded < self.side.discarded();
+        report_discarded(is_discarded, own, frame, &mut self.outside);
+        self.carry_out()
+    }
+
+    /// Takes the next frame that has arrived. `false` if none has.
+    fn look(&mut self) -> Result<bool, LiveFault>
+        ensures { IfOk result (λ found. Between O.deeds W.contents self.old self.new
+            (Looks found)) }
+    {
+        let now = self.read_clock()?;
+        let mut frame = [0; MOST_OCTETS];
+        match self.outside.receive(&mut frame)? {
+            Some(count) => {
+                self.take(&frame[..count], now)?;
+                Ok(true)
+            }
+            None => Ok(false),
+        }
+    }
+
+    /// Takes every frame that has arrived, up to 4,096 of them, or up to one that ends the service.
+    fn receive_all(&mut self, until: Until) -> Result<Option<Came>, LiveFault>
+        ensures { IfOk result (λ came. Between O.deeds W.contents self.old self.new
+            (HasReceived until came)) }
+    {
+        for _frame in 0..MOST_FRAMES {
+            if !self.look()? {
+                return Ok(None);
+            }
+            let came = ended_by(until, true, self.printer.is_found());
+            if came.is_some() {
+                return Ok(came);
+            }
+        }
+        Ok(None)
+    }
+
+    /// Expires every timer that is due at the moment of the printer, one after another, and carries out what this gives. The loop
+    /// counts only to be seen to end.
+    fn do_due(&mut self) -> Result<(), LiveFault>
+        ensures { OnOk result (Between O.deeds W.contents self.old self.new DoesDue) }
+    {
+        let now = self.printer.moment();
         for _tick in 0..u64::MAX {
             if !self.side.tick(now, &mut self.acts) {
                 return Ok(());
@@ -114,38 +153,38 @@ impl<O: Outside, W: Write> LiveSide<O, W> {
         Err(LiveFault::Line(LineFault::Device))
     }
 
-    /// All that is due by now is done, and what moment it is.
+    /// Receives every frame that had arrived by now, and then does what is due by now. Returns the moment.
     pub(crate) fn catch_up(&mut self) -> Result<u64, LiveFault>
-        ensures { IfOk result (λ now. Does (O.deeds self.old.outside) (O.deeds self.new.outside)
-            (DoesDue now self.old.side self.new.side)) }
+        ensures moment { IfOk result (λ now. now ≡ self.new.printer.moment) }
+        ensures does { OnOk result (Between O.deeds W.contents self.old self.new
+            (CatchesUp Until.End)) }
     {
-        let now = self.read_clock()?;
-        self.do_due(now)?;
-        Ok(now)
+        self.receive_all(Until::End)?;
+        self.do_due()?;
+        Ok(self.printer.moment())
     }
 
-    /// All that is due is done, and then the side is asked for something. Of a request that is refused it is printed why.
+    /// Catches up with the clock, and then asks the side for something. If the request is refused, the reason is printed.
     ///
     /// # Errors
     ///
     /// As the trait, and `Device` and `Memory`.
     pub fn ask(&mut self, request: Request) -> Result<(), LiveFault>
-        ensures { OnOk result (Does (O.deeds self.old.outside) (O.deeds self.new.outside)
-            (IsAsked request self.old.side self.new.side)) }
+        ensures { OnOk result (Between O.deeds W.contents self.old self.new (IsAsked request)) }
     {
         let now = self.catch_up()?;
         let answered = self.side.request(request, now, &mut self.acts);
         self.carry_out()?;
         match answered {
             Ok(()) => Ok(()),
-            Err(fault) => self.printer.refuse(fault.kind),
+            Err(fault) => self.printer.put_refused(fault.kind),
         }
     }
 
-    /// The moment so many milliseconds from now, where they are said.
+    /// The moment so many milliseconds from now, if they are given.
     pub(crate) fn end_after(&mut self, ms: Option<u64>) -> Result<Option<u64>, LiveFault>
-        ensures side { self.new.side ≡ self.old.side }
-        ensures deeds { O.deeds self.new.outside ≡ O.deeds self.old.outside }
+        ensures { IfOk result (λ end. Between O.deeds W.contents self.old self.new
+            (EndsAfter ms end)) }
     {
         let now = self.read_clock()?;
         match ms {
@@ -154,97 +193,124 @@ impl<O: Outside, W: Write> LiveSide<O, W> {
         }
     }
 
-    /// A frame that came is printed and taken, and what this gives is sent and printed.
-    fn hear(&mut self, frame: &[u8]) -> Result<(), LiveFault>
-        ensures { OnOk result (Does (O.deeds self.old.outside) (O.deeds self.new.outside)
-            (Hears frame.now self.old.side self.new.side)) }
-    {
-        let now = self.read_clock()?;
-        let own = self.side.side();
-        self.printer.pass(own, own.other(), frame)?;
-        let Ok(()) = self.side.take(frame, now, &mut self.acts) else {
-            return Err(LiveFault::Line(LineFault::Memory));
-        };
-        self.carry_out()
-    }
-
-    /// Waits until something is due or this end has come, and hears the frame that comes.
-    fn wait(&mut self, end: Option<u64>) -> Result<Came, LiveFault>
-        ensures { OnOk result (Does (O.deeds self.old.outside) (O.deeds self.new.outside)
-            (WaitsOnce end self.old.side self.new.side)) }
+    /// Waits once, until the next deadline or the end of the service, whichever comes first.
+    fn wait(&mut self, service: Service) -> Result<Option<Came>, LiveFault>
+        ensures { IfOk result (λ came. Between O.deeds W.contents self.old self.new
+            (WaitsFor service came)) }
     {
         self.printer.flush()?;
-        let until = sooner(self.side.next_deadline(), end);
-        let mut frame = [0; MOST_OCTETS];
-        match self.outside.wait(until, &mut frame)? {
-            Woken::Frame(count) => {
-                self.hear(&frame[..count])?;
-                Ok(Came::Frame)
-            }
-            Woken::Line => Ok(Came::Line),
-            Woken::Due => Ok(Came::Due),
-            Woken::Closed => Ok(Came::Closed),
-        }
+        let until = sooner(self.side.next_deadline(), service.end);
+        let woken = self.outside.wait(until, service.lines)?;
+        Ok(came_of(service.lines, woken))
     }
 
-    /// A turn: what is due is done, and then it waits, unless this end has come.
-    fn turn(&mut self, end: Option<u64>) -> Result<Came, LiveFault>
-        ensures { OnOk result (Does (O.deeds self.old.outside) (O.deeds self.new.outside)
-            (Turn end self.old.side self.new.side)) }
+    /// A step: receives what has arrived, does what is due, and waits, unless the service ends before. Returns why it ends.
+    fn step(&mut self, service: Service) -> Result<Option<Came>, LiveFault>
+        ensures { IfOk result (λ came. Between O.deeds W.contents self.old self.new
+            (λ a b. Step service a b came)) }
     {
-        let now = self.read_clock()?;
-        self.do_due(now)?;
-        if has_come(end, now) {
-            return Ok(Came::End);
+        let came = self.receive_all(service.until)?;
+        if came.is_some() {
+            return Ok(came);
         }
-        self.wait(end)
+        self.do_due()?;
+        let came = ended_by(service.until, false, self.printer.is_found());
+        if came.is_some() {
+            return Ok(came);
+        }
+        if has_come(service.end, self.printer.moment()) {
+            return Ok(Some(Came::End));
+        }
+        self.wait(service)
     }
 
-    /// Serves the side until this end has come, a line is typed or the connection is closed; where that is asked for, until a
-    /// frame was heard; and until a line is printed that is looked out for.
+    /// Serves the side, step by step, until something ends the service. Returns what.
     ///
     /// # Errors
     ///
     /// As the trait, and `Device` and `Memory`.
-    pub fn serve(&mut self, end: Option<u64>, one_frame: bool) -> Result<Came, LiveFault>
-        ensures { OnOk result (Does (O.deeds self.old.outside) (O.deeds self.new.outside)
-            (IsServed end self.old.side self.new.side)) }
+    pub fn serve(&mut self, service: Service) -> Result<Came, LiveFault>
+        ensures { IfOk result (λ came. Between O.deeds W.contents self.old self.new
+            (IsServed service came)) }
     {
-        for _turn in 0..u64::MAX {
-            let came = self.turn(end)?;
-            if self.ends(came, one_frame) {
+        for _step in 0..u64::MAX {
+            if let Some(came) = self.step(service)? {
                 return Ok(came);
             }
         }
         Err(LiveFault::Line(LineFault::Device))
     }
+}
 
-    /// Whether this ends a service.
-    fn ends(&self, came: Came, one_frame: bool) -> bool {
-        match came {
-            Came::Frame => one_frame || self.printer.is_found(),
-            Came::Due => self.printer.is_found(),
-            Came::Line | Came::Closed | Came::End => true,
+/// Reports that a frame of the other side was discarded, if it was and names a link.
+fn report_discarded<O: Outside>(is_discarded: bool, own: Side, frame: &[u8], outside: &mut O)
+    ensures { O.deeds outside.new ≡ O.deeds outside.old }
+{
+    match read(frame, own.other()) {
+        Ok(frame) if is_discarded => {
+            let address = frame.address();
+            outside.discarded(LinkId {
+                sapi: address.sapi,
+                tei: address.tei,
+            });
         }
+        _ => {}
     }
 }
 
-/// Sends frames of this side, each once, and prints each once it is sent.
+/// Sends frames of this side, and prints each once it is sent.
 fn send_all<O: Outside, W: Write>(
-    from: Side,
+    own: Side,
     frames: &[ArrayVec<u8, MOST_OCTETS>],
     outside: &mut O,
     printer: &mut Printer<W>,
 ) -> Result<(), LiveFault>
     requires { All (λ f. HasLeastOctets f.items) frames.now }
-    ensures { OnOk result (Adds (O.deeds outside.old) (O.deeds outside.new)
-        (all_sent (map (λ f. f.items) frames.now))) }
+    ensures { OnOk result (SendsAll own (map (λ f. f.items) frames.now) (O.deeds outside.old)
+        (O.deeds outside.new) W.contents printer.old printer.new) }
 {
     for frame in frames {
-        outside.send(frame.as_slice())?;
-        printer.pass(from, from, frame.as_slice())?;
+        let octets = frame.as_slice();
+        let sending = outside.send(octets)?;
+        printer.put_sent(own, octets, sending)?;
     }
     Ok(())
+}
+
+/// Prints what layer 3 is told.
+fn put_all_told<W: Write>(
+    primitives: &[Primitive],
+    printer: &mut Printer<W>,
+) -> Result<(), LiveFault>
+    ensures { (own : SideValue) → OnOk result
+        (PrintsOn W.contents own (map Told primitives.now) printer.old printer.new) }
+{
+    for primitive in primitives {
+        printer.put_told(primitive)?;
+    }
+    Ok(())
+}
+
+/// What ends a service, if it is ended by a frame that was taken or by an awaited line that was printed.
+fn ended_by(until: Until, is_taken: bool, is_found: bool) -> Option<Came>
+    ensures { result ≡ ends_by until is_taken is_found }
+{
+    match until {
+        Until::Frame if is_taken => Some(Came::Frame),
+        Until::Found if is_found => Some(Came::Found),
+        Until::End | Until::Frame | Until::Found => None,
+    }
+}
+
+/// What ends a service by what ended a wait, if that does.
+fn came_of(lines: Lines, woken: Woken) -> Option<Came>
+    ensures { result ≡ came_from lines woken }
+{
+    match (woken, lines) {
+        (Woken::Closed, _) => Some(Came::Closed),
+        (Woken::Line, Lines::Awaited) => Some(Came::Line),
+        (Woken::Line, Lines::Ignored) | (Woken::Arrival | Woken::Due, _) => None,
+    }
 }
 
 /// The sooner of two moments that may be set.
@@ -260,7 +326,8 @@ fn sooner(one: Option<u64>, other: Option<u64>) -> Option<u64>
 
 /// Whether an end that is set has come.
 fn has_come(end: Option<u64>, now: u64) -> bool
-    ensures { result ≡ true → HasCome end now }
+    ensures come { result ≡ true → HasCome end now }
+    ensures not { result ≡ false → ¬ HasCome end now }
 {
     match end {
         Some(end) => end <= now,

@@ -1,146 +1,218 @@
 //! The lines that a side prints while it is served.
 
+ghost use Rattle.std.specs.Prelude.{◌≡◌, ◌||◌, ◌++◌, ◌∷◌, [], ℕ, List, codes, OnOk};
+ghost use Rattle.std.specs.String.{string_bytes};
+ghost use Rattle.lapd_json.specs.Json.{frame_members, object_text, primitive_members, text_members};
+ghost use Rattle.lapd_trace.specs.Trace.{trace_line};
+ghost use Rattle.lapd_cli_live_text.specs.Stats.{received_words, reports_words, sent_words};
+ghost use Rattle.lapd_cli_live.specs.Entries.{Dated, Lost, Named, Received, Sent, Told, Worded, begins_so as begins, moment_text, refused, sent_entry, stats_entries, timed_object, unless_quiet, with_moment};
+ghost use Rattle.lapd_frame.specs.declared.Side.{Side as SideValue};
+ghost use Rattle.lapd_cli_script.specs.Line.{text_line};
+ghost use Rattle.lapd_cli_side_lines.specs.SideTexts.{frame_text_line};
+
 use crate::fault::LiveFault;
-use crate::line_objects::words_object;
-use crate::link_text::{push_link, push_timers};
-use crate::stats::Stats;
+use crate::outside::Sending;
+use crate::style::Style;
+use lapd_cli_live_text::{Stats, words_object};
 use lapd_cli_script::LineFault;
 use lapd_cli_side_lines::{LineStyle, push_primitive, push_trace};
 use lapd_frame::Side;
-use lapd_link::Link;
-use lapd_sides::{LinkId, Primitive, SideKind, TimerSet};
+use lapd_sides::{Primitive, SideKind};
 use std::alloc::{AllocError, Global};
 use std::io::Write;
 
-/// What the line of TEI management begins with.
-const MANAGEMENT: &str = "tei";
-
-/// Which lines are printed, and how.
-#[derive(Clone, Copy)]
-pub struct Style {
-    /// Whether each line begins with the moment, in milliseconds since the start. Of an object it is the last member, `time`.
-    pub time: bool,
-    /// Whether the lines of frames are left out.
-    pub quiet: bool,
-    /// Whether lines are words or JSON objects.
-    pub lines: LineStyle,
-}
-
-/// A writer of lines, which looks out for a line.
+/// Prints the lines of a side, counts what goes over its line, and notices a line that is awaited. What is printed is kept until
+/// [`Printer::flush`], so that no writer delays a frame.
 #[derive(Drop)]
 pub struct Printer<W> {
-    alloc: Global,
-    out: W,
-    style: Style,
-    /// The moment that lines begin with.
-    moment: u64,
-    /// Room for a line in words, which is used again.
-    line: String,
-    /// The object of that line, where objects are printed.
-    object: String,
-    /// What a line is to begin with that is looked out for. It is empty where none is.
-    awaited: Vec<u8>,
-    is_found: bool,
-    stats: Stats,
+    pub(crate) alloc: Global,
+    pub(crate) out: W,
+    pub(crate) style: Style,
+    /// The moment of the lines that are printed now, in milliseconds since the start.
+    pub(crate) moment: u64,
+    /// What was printed and the writer was not given yet.
+    pub(crate) text: Vec<u8>,
+    /// Room for a line in words, with its line feed.
+    pub(crate) line: String,
+    /// The words that an awaited line begins with. There are none if no line is awaited.
+    pub(crate) awaited: Vec<u8>,
+    pub(crate) is_found: bool,
+    pub(crate) stats: Stats,
 }
 
 impl<W: Write> Printer<W> {
+    ghost use Rattle.lapd_cli_live.specs.Printers.{Awaits, PrintsOn, PutsLine};
+
     /// Prints lines of this style.
-    pub fn new(alloc: Global, out: W, style: Style) -> Printer<W> {
+    pub fn new(alloc: Global, out: W, style: Style) -> Printer<W>
+        ensures out { result.out ≡ out }
+        ensures text { result.text.items ≡ [] }
+        ensures style { result.style ≡ style }
+        ensures moment { result.moment ≡ 0 }
+    {
         Printer {
             alloc,
             out,
             style,
             moment: 0,
+            text: Vec::new(alloc),
             line: String::new(alloc),
-            object: String::new(alloc),
             awaited: Vec::new(alloc),
             is_found: false,
             stats: Stats::new(),
         }
     }
 
-    /// The writer.
+    /// The writer, which is given first what was printed. An error of the writer is left to it.
     pub fn into_inner(self) -> W {
-        self.out
+        let Printer { mut out, text, .. } = self;
+        let _ = out.write_all(text.as_slice());
+        out
     }
 
-    /// The lines from here on are of this moment.
-    pub(crate) fn set_moment(&mut self, now: u64) {
+    /// The moment of the lines that are printed now, in milliseconds since the start.
+    pub(crate) fn moment(&self) -> u64
+        ensures { result ≡ self.now.moment }
+    {
+        self.moment
+    }
+
+    /// Lines are of this moment from here on.
+    pub(crate) fn set_moment(&mut self, now: u64)
+        ensures moment { self.new.moment ≡ now }
+        ensures dated { (own : SideValue) → PrintsOn W.contents own (Dated now ∷ []) self.old self.new }
+    {
         self.moment = now;
     }
 
-    /// Looks out for a line that begins so, from here on.
+    /// Awaits a line that begins with these words, from here on. No words await no line.
     ///
     /// # Errors
     ///
     /// `AllocError`.
-    pub(crate) fn await_line(&mut self, front: &[u8]) -> Result<(), AllocError> {
-        self.awaited.clear();
+    pub(crate) fn await_line(&mut self, words: &[u8]) -> Result<(), AllocError>
+        ensures { OnOk result (Awaits words.now self.old self.new) }
+    {
         self.is_found = false;
-        self.awaited.extend_from_slice(front)
+        self.awaited.clear();
+        self.awaited.extend_from_slice(words)
     }
 
-    /// Looks out for no line any more, and tells whether the one was printed.
-    pub(crate) fn end_wait(&mut self) -> bool {
-        self.awaited.clear();
+    /// Awaits no line any more. Returns whether an awaited line was printed.
+    pub(crate) fn end_wait(&mut self) -> bool
+        ensures found { result ≡ self.old.is_found }
+        ensures ends { Awaits [] self.old self.new }
+    {
         let was_found = self.is_found;
+        self.awaited.clear();
         self.is_found = false;
         was_found
     }
 
-    /// Whether the line was printed that is looked out for.
-    pub(crate) fn is_found(&self) -> bool {
+    /// Whether an awaited line was printed.
+    pub(crate) fn is_found(&self) -> bool
+        ensures { result ≡ self.now.is_found }
+    {
         self.is_found
     }
 
-    /// A frame goes over the line that this side, or the other one, sent: it is counted, and its line printed. Each
-    /// frame that comes or goes passes here, at the moment that is set.
+    /// The other side sent a frame: it is counted, and its line printed. `own` is this side.
     ///
     /// # Errors
     ///
-    /// `Device` and `Memory`.
-    pub(crate) fn pass(&mut self, own: Side, from: Side, frame: &[u8]) -> Result<(), LiveFault> {
-        if own == from {
-            self.stats.count_sent(from, frame);
-        } else {
-            self.stats.count_received(from, frame);
+    /// `Memory`.
+    pub(crate) fn put_received(&mut self, own: Side, frame: &[u8]) -> Result<(), LiveFault>
+        ensures { OnOk result (PrintsOn W.contents own (Received frame.now ∷ []) self.old self.new) }
+    {
+        self.stats.count_received(own.other(), frame);
+        self.put_frame(own.other(), frame)
+    }
+
+    /// This side sent a frame, which was lost on purpose or not: it is counted, and its line printed.
+    ///
+    /// # Errors
+    ///
+    /// `Memory`.
+    pub(crate) fn put_sent(
+        &mut self,
+        own: Side,
+        frame: &[u8],
+        sending: Sending,
+    ) -> Result<(), LiveFault>
+        ensures { OnOk result (PrintsOn W.contents own (sent_entry frame.now sending ∷ [])
+            self.old self.new) }
+    {
+        self.stats.count_sent(own, frame);
+        match sending {
+            Sending::Sent => self.put_frame(own, frame),
+            Sending::Lost => self.put_lost(own, frame),
         }
+    }
+
+    /// Prints the line of a frame that this side or the other one sent, unless lines of frames are left out.
+    fn put_frame(&mut self, from: Side, frame: &[u8]) -> Result<(), LiveFault>
+        ensures { OnOk result (PutsLine (unless_quiet self.old.style
+            (frame_text_line LineStyle.Text from frame.now))
+            (object_text (frame_members from frame.now)) self.old self.new) }
+    {
         if self.style.quiet {
             return Ok(());
         }
         self.line.clear();
         push_trace(self.alloc, &mut self.line, from, frame)?;
-        if self.style.lines == LineStyle::Json {
-            self.object = lapd_json::line(self.alloc, from, frame)?;
+        match self.style.lines {
+            LineStyle::Text => self.put_words_line(),
+            LineStyle::Json => {
+                let object = lapd_json::line(self.alloc, from, frame)?;
+                self.put_object_line(object.as_str())
+            }
         }
-        self.put()
     }
 
-    /// Prints what the layers above are told, where that has a line.
+    /// Prints that a frame was lost on purpose, unless lines of frames are left out.
+    fn put_lost(&mut self, from: Side, frame: &[u8]) -> Result<(), LiveFault>
+        ensures { OnOk result (PutsLine (unless_quiet self.old.style
+            (text_line (codes "lost" ++ 32 ∷ trace_line from frame.now)))
+            (object_text (text_members (codes "lost") (trace_line from frame.now)))
+            self.old self.new) }
+    {
+        if self.style.quiet {
+            return Ok(());
+        }
+        let line = lapd_trace::line(self.alloc, from, frame)?;
+        self.put_text("lost", line.as_str())
+    }
+
+    /// Prints what layer 3 is told, if that has a line.
     ///
     /// # Errors
     ///
-    /// `Device` and `Memory`.
-    pub(crate) fn tell(&mut self, primitive: &Primitive) -> Result<(), LiveFault> {
+    /// `Memory`.
+    pub(crate) fn put_told(&mut self, primitive: &Primitive) -> Result<(), LiveFault>
+        ensures { (own : SideValue) → OnOk result
+            (PrintsOn W.contents own (Told primitive.now ∷ []) self.old self.new) }
+    {
         self.stats.count_told(primitive);
         self.line.clear();
         push_primitive(self.alloc, LineStyle::Text, primitive, &mut self.line)?;
-        if self.line.is_empty() {
-            return Ok(());
+        match self.style.lines {
+            LineStyle::Text => self.put_words_line(),
+            LineStyle::Json => {
+                let object = lapd_json::primitive_line(self.alloc, primitive)?;
+                self.put_object_line(object.as_str())
+            }
         }
-        if self.style.lines == LineStyle::Json {
-            self.object = lapd_json::primitive_line(self.alloc, primitive)?;
-        }
-        self.put()
     }
 
     /// Prints why a request is refused.
     ///
     /// # Errors
     ///
-    /// `Device` and `Memory`.
-    pub(crate) fn refuse(&mut self, kind: SideKind) -> Result<(), LiveFault> {
+    /// `Memory`, also if that is why.
+    pub(crate) fn put_refused(&mut self, kind: SideKind) -> Result<(), LiveFault>
+        ensures { (own : SideValue) → OnOk result
+            (PrintsOn W.contents own (refused kind ∷ []) self.old self.new) }
+    {
         if kind == SideKind::Memory {
             return Err(LiveFault::Line(LineFault::Memory));
         }
@@ -148,138 +220,199 @@ impl<W: Write> Printer<W> {
         self.put_named("refused", why.as_str())
     }
 
-    /// Prints a word and the text that it says something of. An object has this text as the member of that name.
+    /// Prints a name, a space and a text. An object has the text as its member of that name.
     ///
     /// # Errors
     ///
-    /// `Device` and `Memory`.
-    pub(crate) fn put_named(&mut self, name: &str, text: &str) -> Result<(), LiveFault> {
-        self.line.clear();
-        writeln!(self.line, "{name} {text}")?;
-        if self.style.lines == LineStyle::Json {
-            self.object = lapd_json::text_line(self.alloc, name, text)?;
-        }
-        self.put()
+    /// `Memory`.
+    pub(crate) fn put_named(&mut self, name: &str, text: &str) -> Result<(), LiveFault>
+        ensures { (own : SideValue) → OnOk result
+            (PrintsOn W.contents own (Named name.now text.now ∷ []) self.old self.new) }
+    {
+        self.put_text(name, text)
     }
 
-    /// Tells what a line was to begin with that was not printed in time.
-    ///
-    /// # Errors
-    ///
-    /// `Device` and `Memory`.
-    pub(crate) fn put_unmet(&mut self, front: &[u8]) -> Result<(), LiveFault> {
-        let mut text = String::new(self.alloc);
-        for octet in front {
-            text.push(char::from(*octet))?;
+    /// Prints a name, a space and a text.
+    fn put_text(&mut self, name: &str, text: &str) -> Result<(), LiveFault>
+        ensures { OnOk result (PutsLine (text_line (name.now ++ 32 ∷ text.now))
+            (object_text (text_members name.now text.now)) self.old self.new) }
+    {
+        self.line.clear();
+        self.line.push_str(name)?;
+        self.line.push(' ')?;
+        self.line.push_str(text)?;
+        self.line.push('\n')?;
+        match self.style.lines {
+            LineStyle::Text => self.put_words_line(),
+            LineStyle::Json => {
+                let object = lapd_json::text_line(self.alloc, name, text)?;
+                self.put_object_line(object.as_str())
+            }
         }
-        self.put_named("expected", text.as_str())
     }
 
     /// Prints a line of words and of numbers with their names.
     ///
     /// # Errors
     ///
-    /// `Device` and `Memory`.
-    pub(crate) fn put_text(&mut self, text: &str) -> Result<(), LiveFault> {
+    /// `Memory`.
+    pub(crate) fn put_words(&mut self, words: &str) -> Result<(), LiveFault>
+        ensures { (own : SideValue) → OnOk result
+            (PrintsOn W.contents own (Worded words.now ∷ []) self.old self.new) }
+    {
         self.line.clear();
-        self.line.push_str(text)?;
-        self.put_words()
-    }
-
-    /// Prints the state of a link, with what is left at the moment `now` of the timers that run.
-    ///
-    /// # Errors
-    ///
-    /// `Device` and `Memory`.
-    pub(crate) fn put_link(
-        &mut self,
-        id: &LinkId,
-        link: &Link,
-        timers: Option<&TimerSet>,
-        now: u64,
-    ) -> Result<(), LiveFault> {
-        self.line.clear();
-        push_link(id, link, timers, now, &mut self.line)?;
-        self.put_words()
-    }
-
-    /// Prints what is left at the moment `now` of the timers of TEI management that run, where one does.
-    ///
-    /// # Errors
-    ///
-    /// `Device` and `Memory`.
-    pub(crate) fn put_management(&mut self, timers: &TimerSet, now: u64) -> Result<(), LiveFault> {
-        self.line.clear();
-        self.line.push_str(MANAGEMENT)?;
-        push_timers(timers, now, &mut self.line)?;
-        if self.line.len() == MANAGEMENT.len() {
-            return Ok(());
+        self.line.push_str(words)?;
+        self.line.push('\n')?;
+        match self.style.lines {
+            LineStyle::Text => self.put_words_line(),
+            LineStyle::Json => {
+                let object = words_object(self.alloc, words)?;
+                self.put_object_line(object.as_str())
+            }
         }
-        self.put_words()
     }
 
-    /// Prints what went over the line so far, where the side discarded so many frames.
+    /// Prints the statistics, three lines. The side discarded so many of the received frames.
     ///
     /// # Errors
     ///
-    /// `Device` and `Memory`.
-    pub(crate) fn put_stats(&mut self, discarded: u64) -> Result<(), LiveFault> {
-        self.line.clear();
-        self.stats.push_sent(&mut self.line)?;
-        self.put_words()?;
-        self.line.clear();
-        self.stats.push_received(discarded, &mut self.line)?;
-        self.put_words()?;
-        self.line.clear();
-        self.stats.push_reports(&mut self.line)?;
-        self.put_words()
+    /// `Memory`.
+    pub(crate) fn put_stats(&mut self, discarded: u64) -> Result<(), LiveFault>
+        ensures { (own : SideValue) → OnOk result (PrintsOn W.contents own
+            (stats_entries self.old.stats discarded) self.old self.new) }
+    {
+        self.put_sent_stats()?;
+        self.put_received_stats(discarded)?;
+        self.put_reports()
     }
 
-    /// Hands what was printed to the device.
+    /// Prints what was sent.
+    fn put_sent_stats(&mut self) -> Result<(), LiveFault>
+        ensures { (own : SideValue) → OnOk result (PrintsOn W.contents own
+            (Worded (sent_words self.old.stats) ∷ []) self.old self.new) }
+    {
+        let mut words = String::new(self.alloc);
+        self.stats.push_sent(&mut words)?;
+        self.put_words(words.as_str())
+    }
+
+    /// Prints what was received.
+    fn put_received_stats(&mut self, discarded: u64) -> Result<(), LiveFault>
+        ensures { (own : SideValue) → OnOk result (PrintsOn W.contents own
+            (Worded (received_words self.old.stats discarded) ∷ []) self.old self.new) }
+    {
+        let mut words = String::new(self.alloc);
+        self.stats.push_received(discarded, &mut words)?;
+        self.put_words(words.as_str())
+    }
+
+    /// Prints which errors were reported.
+    fn put_reports(&mut self) -> Result<(), LiveFault>
+        ensures { (own : SideValue) → OnOk result (PrintsOn W.contents own
+            (Worded (reports_words self.old.stats) ∷ []) self.old self.new) }
+    {
+        let mut words = String::new(self.alloc);
+        self.stats.push_reports(&mut words)?;
+        self.put_words(words.as_str())
+    }
+
+    /// Gives the writer what was printed, and has it forward that to its device.
     ///
     /// # Errors
     ///
     /// `Device`.
-    pub(crate) fn flush(&mut self) -> Result<(), LiveFault> {
+    pub(crate) fn flush(&mut self) -> Result<(), LiveFault>
+        ensures { (own : SideValue) → OnOk result (PrintsOn W.contents own [] self.old self.new) }
+    {
+        self.out.write_all(self.text.as_slice())?;
+        self.text.clear();
         self.out.flush()?;
         Ok(())
     }
 
-    /// Prints the words that stand in the room for a line, and have no line feed yet.
-    fn put_words(&mut self) -> Result<(), LiveFault> {
-        if self.style.lines == LineStyle::Json {
-            self.object = words_object(self.alloc, self.line.as_str())?;
+    /// Prints the line that stands in the room for it, in words.
+    fn put_words_line(&mut self) -> Result<(), LiveFault>
+        requires { self.old.style.lines ≡ LineStyle.Text }
+        ensures { (object : List ℕ) → OnOk result
+            (PutsLine (string_bytes self.old.line) object self.old self.new) }
+    {
+        if self.line.is_empty() {
+            return Ok(());
         }
-        self.line.push('\n')?;
-        self.put()
+        self.notice_line();
+        push_moment(self.style, self.moment, &mut self.text)?;
+        self.text.extend_from_slice(self.line.as_bytes())?;
+        Ok(())
     }
 
-    /// Prints the line that stands in the room for it, or its object. What is looked out for are its words in both cases.
-    fn put(&mut self) -> Result<(), LiveFault> {
-        let line = self.line.as_bytes();
-        if !self.awaited.is_empty() && line.starts_with(self.awaited.as_slice()) {
+    /// Prints this object in place of the line that stands in the room for it.
+    fn put_object_line(&mut self, object: &str) -> Result<(), LiveFault>
+        requires { self.old.style.lines ≡ LineStyle.Json }
+        ensures { OnOk result
+            (PutsLine (string_bytes self.old.line) object.now self.old self.new) }
+    {
+        if self.line.is_empty() {
+            return Ok(());
+        }
+        self.notice_line();
+        push_object(self.style, self.moment, object.as_bytes(), &mut self.text)?;
+        Ok(())
+    }
+
+    /// Notices whether the line that stands in the room for it is awaited.
+    fn notice_line(&mut self)
+        ensures { self.new ≡ record self.old {
+            is_found = self.old.is_found || begins self.old.awaited.items (string_bytes self.old.line);
+        } }
+    {
+        if begins_so(self.awaited.as_slice(), self.line.as_bytes()) {
             self.is_found = true;
         }
-        if self.style.lines == LineStyle::Json {
-            return self.put_object();
-        }
-        if self.style.time {
-            write!(self.out, "{} ", self.moment)?;
-        }
-        self.out.write_all(line)?;
-        Ok(())
     }
+}
 
-    /// Prints the object of a line.
-    fn put_object(&mut self) -> Result<(), LiveFault> {
-        let object = self.object.as_str();
-        let moment = self.moment;
-        match object.strip_suffix("}") {
-            Some(members) if self.style.time => {
-                writeln!(self.out, "{members},\"time\":{moment}}}")?;
-            }
-            _ => writeln!(self.out, "{object}")?,
-        }
-        Ok(())
+/// Whether words are awaited, and a line begins with them.
+fn begins_so(awaited: &[u8], line: &[u8]) -> bool
+    ensures { result ≡ begins awaited.now line.now }
+{
+    !awaited.is_empty() && line.starts_with(awaited)
+}
+
+/// Appends the moment of a line and a space, if lines have a moment.
+fn push_moment(style: Style, now: u64, text: &mut Vec<u8>) -> Result<(), AllocError>
+    ensures { OnOk result (text.new.items ≡ text.old.items ++ moment_text style now) }
+{
+    if !style.time {
+        return Ok(());
     }
+    text.extend_from_slice(itoa::Buffer::new().format(now).as_bytes())?;
+    text.push(b' ')?;
+    Ok(())
+}
+
+/// Appends an object and a line feed. If lines have a moment, it is the object's last member.
+fn push_object(style: Style, now: u64, object: &[u8], text: &mut Vec<u8>) -> Result<(), AllocError>
+    ensures { OnOk result (text.new.items
+        ≡ text.old.items ++ text_line (timed_object style now object.now)) }
+{
+    if style.time {
+        push_timed(now, object, text)?;
+    } else {
+        text.extend_from_slice(object)?;
+    }
+    text.push(b'\n')?;
+    Ok(())
+}
+
+/// Appends an object with the moment as its last member, in place of its closing brace.
+fn push_timed(now: u64, object: &[u8], text: &mut Vec<u8>) -> Result<(), AllocError>
+    ensures { OnOk result (text.new.items
+        ≡ text.old.items ++ (with_moment now object.now)) }
+{
+    let end = object.len().saturating_sub(1);
+    text.extend_from_slice(&object[..end])?;
+    text.extend_from_slice(b",\"time\":")?;
+    text.extend_from_slice(itoa::Buffer::new().format(now).as_bytes())?;
+    text.push(b'}')?;
+    Ok(())
 }

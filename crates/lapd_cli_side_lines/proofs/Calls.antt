@@ -1,11 +1,11 @@
--- Expiries, one after another, until nothing is due.
+-- Timers that expire one after another, until none is due.
 use Rattle.std.proofs.Common.{◌≡◌, ℕ, List, [], ◌∷◌, ◌++◌, refl, subst}
 use Rattle.lapd_sides_links.specs.Effects.{Effects}
 use Rattle.lapd_sides.specs.declared.either_side.EitherSide.{EitherSide}
 use Rattle.lapd_sides.specs.Either.{Expires, Rests}
 use Rattle.lapd_cli_side_lines.specs.Calls.{ExpireInTurn}
 
--- each of these was due in turn, and has expired
+-- these timers were due and expired, one after another
 abbrev pub AreExpired : ℕ → List Effects → EitherSide → EitherSide → Type 0
 AreExpired now [] old new = new ≡ old
 AreExpired now (acts ∷ more) old new = (mid : EitherSide) × Expires now old mid acts × AreExpired now more mid new

@@ -5,14 +5,14 @@ use Rattle.lapd_sides_links.specs.Effects.{Effects}
 use Rattle.lapd_sides.specs.declared.either_side.EitherSide.{EitherSide}
 use Rattle.lapd_sides.specs.Either.{Expires, Rests}
 
--- the frames that some calls gave, in order, and what the layers above were told
+-- the frames that some calls gave, in order, and the primitives
 abbrev pub frames_given : List Effects → List (List ℕ)
 frames_given calls = flat_map (λ acts. acts.frames) calls
 
 abbrev pub primitives_given : List Effects → List Primitive
 primitives_given calls = flat_map (λ acts. acts.primitives) calls
 
--- each of these expiries was due in turn, and then nothing is
+-- these timers were due and expired, one after another, and then none is due
 abbrev pub ExpireInTurn : ℕ → List Effects → EitherSide → EitherSide → Type 0
 ExpireInTurn now [] old new = Rests now old new
 ExpireInTurn now (acts ∷ more) old new =

@@ -1,5 +1,5 @@
--- The lines that the commands `net` and `user` print: frames, what a side tells and refuses, and that no frame comes any more. In
--- words they are a frame's trace line and the side's own words; or each is a JSON object.
+-- The lines that the commands `net` and `user` print: frames, primitives, refusals, and the end of the input. In words, a frame is
+-- its trace line and a primitive its own words; else each line is a JSON object.
 use Rattle.std.specs.Prelude.{ℕ, List, [], ◌++◌, flat_map, codes, Result, Ok, Err, ⊤}
 use Rattle.lapd_frame.specs.declared.Side.{Side}
 use Rattle.lapd_trace.specs.Trace.{trace_line}
@@ -15,7 +15,7 @@ use Rattle.lapd_sides_links.specs.Texts.{primitive_text, kind_text}
 use Rattle.lapd_cli_side_lines.specs.declared.line_style.LineStyle.{LineStyle}
 use Rattle.lapd_cli_side_lines.specs.declared.line_style.LineStyle.TheVariants.{Text, Json}
 
--- what is told of a link, or what became of a TEI; messages and timers of TEI management have no line
+-- a primitive; messages and timers of TEI management have no line
 abbrev pub told_text : LineStyle → Primitive → List ℕ
 told_text Text primitive = primitive_text primitive
 told_text Json primitive = object_text (primitive_members primitive)
@@ -29,16 +29,16 @@ primitive_line style primitive = text_line (told_text style primitive)
 abbrev pub primitives_text : LineStyle → List Primitive → List ℕ
 primitives_text style primitives = flat_map (primitive_line style) primitives
 
--- that something is refused, and why
+-- a refusal, with its reason
 abbrev pub refused_line : LineStyle → List ℕ → List ℕ
 refused_line Text why = text_line (codes "refused " ++ why)
 refused_line Json why = text_line (object_text (text_members (codes "refused") why))
 
--- a request
+-- of a request
 abbrev pub refusal_line : LineStyle → SideKind → List ℕ
 refusal_line style kind = refused_line style (kind_text kind)
 
--- or a frame, where none comes any more
+-- of `read`, when the input has ended
 abbrev pub end_line : LineStyle → List ℕ
 end_line style = refused_line style (codes "S1 End")
 
@@ -50,12 +50,12 @@ frame_text_line Json side octets = text_line (object_text (frame_members side oc
 abbrev pub frames_text : LineStyle → Side → List (List ℕ) → List ℕ
 frames_text style side frames = flat_map (frame_text_line style side) frames
 
--- the frames and the primitives that a call of this side gives, the frames first
+-- the frames and the primitives of a call of this side, the frames first
 abbrev pub acts_text : LineStyle → Side → List (List ℕ) → List Primitive → List ℕ
 acts_text style side frames primitives =
     frames_text style side frames ++ primitives_text style primitives
 
--- or why it refuses
+-- or the refusal, if the side refuses
 abbrev pub answer_text : LineStyle → Side → Result ⊤ SideFault → Effects → List ℕ
 answer_text style side (Ok done) acts = acts_text style side acts.frames acts.primitives
 answer_text style side (Err fault) acts = refusal_line style fault.kind

@@ -1,4 +1,4 @@
--- The lines of the commands `net` and `user`, and what each asks for.
+-- The request lines of the commands `net` and `user`, and what each requests.
 use Rattle.std.specs.Prelude.{◌≡◌, ℕ, ◌+◌, ◌&&◌, nat_le, if◌then◌else◌, List, [], ◌∷◌, codes, Option, Some, None, option_map, option_and_then, Result, Ok, Err, ⊤}
 use Rattle.std.specs.Str.{bytes_eq}
 use Rattle.lapd_frame.specs.declared.Side.{Side}
@@ -17,8 +17,8 @@ use Rattle.lapd_sides.specs.declared.request.Request.TheVariants as request
 use Rattle.lapd_cli_side_lines.specs.declared.side_lines.SideLine.{SideLine}
 use Rattle.lapd_cli_side_lines.specs.declared.side_lines.SideLine.TheVariants as line
 
--- What a line asks for: one frame is read; the clock goes on by so many milliseconds; layer 3 asks for a link to be
--- established or released, or gives a message or unit data for it; a TEI is asked for, or checked.
+-- What a line requests: read one frame; advance the clock by some milliseconds; establish or release a link, or give a message
+-- or unit data for it; assign a TEI to this terminal, or check one.
 pub data Wish : Type 0 where
   Read : Wish
   Tick : (ms : ℕ) → Wish
@@ -32,7 +32,7 @@ pub data Wish : Type 0 where
 
 -- ---- Numbers.
 
--- the number below 256 that a word writes in decimal digits, and a TEI, 0 to 127, and a SAPI, 0, 16 or 63, of that number
+-- a word in decimal digits: a number below 256, a TEI, 0 to 127, or a SAPI, 0, 16 or 63
 abbrev pub octet_at : ℕ → Option ℕ
 octet_at n = if nat_le n 255 then Some n else None
 
@@ -52,7 +52,7 @@ named sapi tei = record { sapi = sapi; tei = tei }
 abbrev pub id_said : List ℕ → List ℕ → Option LinkId
 id_said sapi tei = option_and_then (λ s. option_map (named s) (tei_said tei)) (sapi_said sapi)
 
--- the clock goes on by 1 ms to an hour
+-- one line advances the clock by 1 ms to an hour
 abbrev pub span_at : ℕ → Option ℕ
 span_at ms = if nat_le 1 ms && nat_le ms 3600000 then Some ms else None
 
@@ -73,7 +73,7 @@ abbrev pub check_wish : List (List ℕ) → Option Wish
 check_wish [] = None
 check_wish (word ∷ behind) = check_said word behind
 
--- what a word asks for of a link, with the words behind its SAPI and TEI
+-- what a word requests of a link, with the words behind its SAPI and TEI
 abbrev pub link_wish : List ℕ → LinkId → List (List ℕ) → Option Wish
 link_wish word id behind =
     if bytes_eq word (codes "establish") then bare_wish (Establish id) behind else (
@@ -90,7 +90,7 @@ abbrev pub with_sapi : List ℕ → List (List ℕ) → Option Wish
 with_sapi word [] = None
 with_sapi word (sapi ∷ behind) = with_tei word sapi behind
 
--- what a word asks for that the one side's script has and the other's has not
+-- `ask` is a word of the user side only, and `check` of the network side only
 abbrev pub own_wish : Side → List ℕ → List (List ℕ) → Option Wish
 own_wish User word behind = if bytes_eq word (codes "ask") then bare_wish AskTei behind
     else with_sapi word behind
@@ -106,19 +106,19 @@ abbrev pub wish_of_words : Side → List (List ℕ) → Option Wish
 wish_of_words side [] = None
 wish_of_words side (word ∷ behind) = wish_of_word side word behind
 
--- what a line of a side's script asks for
+-- what a line of a side's script requests
 abbrev pub wish_of_line : Side → List ℕ → Option Wish
 wish_of_line side octets = wish_of_words side (words_of octets)
 
 -- ---- How a line ends.
 
--- a line that is not bad, whether it is done or not
+-- the line is not bad, whether or not it could be done
 abbrev pub IsGood : Result ⊤ LineFault → Type 0
 IsGood (Ok done) = ⊤
 IsGood (Err Bad) = ⊥
 IsGood (Err other) = ⊤
 
--- ---- How the code names what is asked for.
+-- ---- How the code names requests.
 
 abbrev pub wish_of_request : Request → Wish
 wish_of_request (request.Establish id) = Establish id

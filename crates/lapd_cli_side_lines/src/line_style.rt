@@ -1,8 +1,8 @@
 /// How a side prints its lines.
 #[derive(Clone, Copy)]
 pub enum LineStyle {
-    /// In words: a frame by its trace line.
+    /// In words; a frame as its trace line.
     Text,
-    /// Each as a JSON object.
+    /// Each line as a JSON object.
     Json,
 }

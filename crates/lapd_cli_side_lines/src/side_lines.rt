@@ -1,4 +1,4 @@
-//! What the lines of `net` and `user` ask for.
+//! Parses the request lines of `net` and `user`.
 
 ghost use Rattle.std.specs.Prelude.{◌≡◌, option_map};
 ghost use Rattle.lapd_frame.specs.Address.{number_at, sapi_at};
@@ -10,25 +10,25 @@ use lapd_frame::{Sapi, Side, Tei};
 use lapd_sides::{LinkId, Request};
 use std::alloc::Global;
 
-/// By how many milliseconds a line moves the clock on at most: an hour.
+/// The longest step of the clock in one line, in milliseconds: an hour.
 const MOST_MS: u64 = 3_600_000;
 
-/// What a line of a side's script asks for.
+/// What a line of a side's script requests.
 #[derive(Drop)]
 pub enum SideLine {
-    /// One frame is read from the port, and heard.
+    /// Read one frame from the port, and pass it to the side.
     Read,
-    /// The clock goes on by so many milliseconds, 1 to 3,600,000, and what is then due is done.
+    /// Advance the clock by this many milliseconds, 1 to 3,600,000, and expire each timer that is then due.
     Tick(u64),
-    /// The side is asked for this.
+    /// Make this request of the side.
     Ask(Request),
 }
 
-/// Reads what a line of this side's script asks for.
+/// Parses a line of this side's script.
 ///
 /// # Errors
 ///
-/// `Bad` where the line is none of this side's, and `Memory`.
+/// `Bad` if the line is not a valid line of this side, and `Memory` if an allocation fails.
 pub fn read_line(alloc: Global, side: Side, line: &[u8]) -> Result<SideLine, LineFault>
     ensures { Reads wish_of result (wish_of_line side line.now) }
 {
@@ -39,7 +39,7 @@ pub fn read_line(alloc: Global, side: Side, line: &[u8]) -> Result<SideLine, Lin
     line_by(alloc, side, word, words)
 }
 
-/// What a word asks for, with the words behind it.
+/// Parses the line of this first word, with the words behind it.
 fn line_by(alloc: Global, side: Side, word: &[u8], behind: Words<'_>) -> Result<SideLine, LineFault>
     ensures { Reads wish_of result (wish_of_word side word.now behind.entry) }
 {
@@ -52,7 +52,7 @@ fn line_by(alloc: Global, side: Side, word: &[u8], behind: Words<'_>) -> Result<
     }
 }
 
-/// What a word asks for that the other side's script may not have.
+/// Parses a line whose word only one side has (`ask` of the user side, `check` of the network side), or a line of a link.
 fn own_line(
     alloc: Global,
     side: Side,
@@ -76,7 +76,7 @@ fn own_line(
     of_link(alloc, word, behind)
 }
 
-/// This, where nothing stands behind.
+/// Returns this line if no word follows.
 fn alone(behind: Words<'_>, line: SideLine) -> Result<SideLine, LineFault>
     ensures { Reads wish_of result (bare_wish (wish_of line) behind.entry) }
 {
@@ -84,7 +84,7 @@ fn alone(behind: Words<'_>, line: SideLine) -> Result<SideLine, LineFault>
     Ok(line)
 }
 
-/// The clock goes on.
+/// Parses the number of milliseconds behind `tick`.
 fn tick(behind: Words<'_>) -> Result<SideLine, LineFault>
     ensures { Reads wish_of result (tick_wish behind.entry) }
 {
@@ -96,7 +96,7 @@ fn tick(behind: Words<'_>) -> Result<SideLine, LineFault>
     }
 }
 
-/// A TEI is checked.
+/// Parses the TEI behind `check`.
 fn check(mut behind: Words<'_>) -> Result<SideLine, LineFault>
     ensures { Reads wish_of result (check_wish behind.entry) }
 {
@@ -108,7 +108,7 @@ fn check(mut behind: Words<'_>) -> Result<SideLine, LineFault>
     Ok(SideLine::Ask(Request::Check(tei)))
 }
 
-/// What a word asks for of the link that the next two words name.
+/// Parses the line of a link, whose SAPI and TEI are the next two words.
 fn of_link(alloc: Global, word: &[u8], mut behind: Words<'_>) -> Result<SideLine, LineFault>
     ensures { Reads wish_of result (with_sapi word.now behind.entry) }
 {
@@ -122,11 +122,11 @@ fn of_link(alloc: Global, word: &[u8], mut behind: Words<'_>) -> Result<SideLine
     link_line(alloc, word, id, behind)
 }
 
-/// What a word asks for of this link, with the words behind its SAPI and TEI.
+/// Parses what `word` requests of this link, with the words behind its SAPI and TEI.
 ///
 /// # Errors
 ///
-/// `Bad` where the word asks for nothing of a link, and `Memory`.
+/// `Bad` if the word is not a request of a link or the words behind it do not match, and `Memory` if an allocation fails.
 pub fn link_line(
     alloc: Global,
     word: &[u8],
@@ -148,7 +148,7 @@ pub fn link_line(
     }
 }
 
-/// The link of the SAPI and the TEI that these words write.
+/// Parses the SAPI and the TEI of a link.
 fn id_of(sapi: &[u8], tei: &[u8]) -> Result<LinkId, LineFault>
     ensures { Reads (λ id. id) result (id_said sapi.now tei.now) }
 {
@@ -157,11 +157,11 @@ fn id_of(sapi: &[u8], tei: &[u8]) -> Result<LinkId, LineFault>
     Ok(LinkId { sapi, tei })
 }
 
-/// The SAPI, 0, 16 or 63, that a word writes.
+/// Parses a SAPI in decimal digits: 0, 16 or 63.
 ///
 /// # Errors
 ///
-/// `Bad` where it writes none.
+/// `Bad` if the word is not a valid SAPI.
 pub fn sapi_of(word: &[u8]) -> Result<Sapi, LineFault>
     ensures { Reads (λ sapi. sapi) result (sapi_said word.now) }
 {
@@ -172,11 +172,11 @@ pub fn sapi_of(word: &[u8]) -> Result<Sapi, LineFault>
     }
 }
 
-/// The TEI, 0 to 127, that a word writes.
+/// Parses a TEI in decimal digits: 0 to 127.
 ///
 /// # Errors
 ///
-/// `Bad` where it writes none.
+/// `Bad` if the word is not a valid TEI.
 pub fn tei_of(word: &[u8]) -> Result<Tei, LineFault>
     ensures { Reads (λ tei. tei) result (tei_said word.now) }
 {
@@ -187,7 +187,7 @@ pub fn tei_of(word: &[u8]) -> Result<Tei, LineFault>
     }
 }
 
-/// The number below 256 that a word writes in decimal digits alone.
+/// Parses a number below 256 in decimal digits.
 fn octet_of(word: &[u8]) -> Result<u8, LineFault>
     ensures { Reads (λ n. n) result (octet_said word.now) }
 {

@@ -1,4 +1,4 @@
-//! The lines of what a side tells the layers above it, and of what it refuses.
+//! The lines that report primitives and refusals of a side.
 
 ghost use Rattle.std.specs.Prelude.{◌≡◌, [], ◌∷◌, ◌++◌, OnOk};
 ghost use Rattle.std.specs.Fmt.{decimal};
@@ -17,11 +17,11 @@ use lapd_sides::{LinkId, Primitive, SideKind, TeiOut, What};
 use std::alloc::{AllocError, Global};
 use std::io::Write;
 
-/// Appends what the layers above are told, a line each.
+/// Appends the lines of these primitives, in order.
 ///
 /// # Errors
 ///
-/// `AllocError`. A front of it may have been appended.
+/// `AllocError`. A part of the text may have been appended.
 pub fn push_primitives(
     alloc: Global,
     style: LineStyle,
@@ -37,11 +37,11 @@ pub fn push_primitives(
     Ok(())
 }
 
-/// Appends what is told of a link, or what became of a TEI. Messages and timers of TEI management have no line.
+/// Appends the line of a primitive, in this style. Messages and timers of TEI management have no line.
 ///
 /// # Errors
 ///
-/// `AllocError`. A front of it may have been appended.
+/// `AllocError`. A part of the text may have been appended.
 pub fn push_primitive(
     alloc: Global,
     style: LineStyle,
@@ -66,7 +66,7 @@ pub fn push_primitive(
     }
 }
 
-/// Appends a line of what is told.
+/// Appends the line of a primitive that has one.
 fn push_told(
     alloc: Global,
     style: LineStyle,
@@ -82,7 +82,7 @@ fn push_told(
     }
 }
 
-/// Appends a line of what is told, in its own words.
+/// Appends the line of a primitive in words.
 fn push_words(alloc: Global, primitive: &Primitive, text: &mut String) -> Result<(), AllocError>
     ensures { OnOk result (string_bytes text.new
         ≡ string_bytes text.old ++ text_line (primitive_text primitive.now)) }
@@ -98,7 +98,7 @@ fn push_words(alloc: Global, primitive: &Primitive, text: &mut String) -> Result
     }
 }
 
-/// Appends SAPI and TEI of a link, and a space behind each.
+/// Appends the SAPI and the TEI of a link, with a space behind each.
 fn push_id(id: &LinkId, text: &mut String) -> Result<(), AllocError>
     ensures { OnOk result (string_bytes text.new ≡ string_bytes text.old ++ id_text id.now) }
 {
@@ -107,7 +107,7 @@ fn push_id(id: &LinkId, text: &mut String) -> Result<(), AllocError>
     text.push(' ')
 }
 
-/// The number of a SAPI, and a space behind it.
+/// The number of a SAPI, with a space behind it.
 fn sapi_words(sapi: Sapi) -> &'static str
     ensures { result.now ≡ decimal (sapi_value sapi) ++ 32 ∷ [] }
 {
@@ -118,7 +118,7 @@ fn sapi_words(sapi: Sapi) -> &'static str
     }
 }
 
-/// Appends what stands behind the word of what is told of a link.
+/// Appends what follows the word of a link's primitive: octets, a count or the letter of a report.
 fn push_rest(alloc: Global, what: &What, text: &mut String) -> Result<(), AllocError>
     ensures { OnOk result (string_bytes text.new ≡ string_bytes text.old ++ what_rest what.now) }
 {
@@ -138,7 +138,7 @@ fn push_rest(alloc: Global, what: &What, text: &mut String) -> Result<(), AllocE
     }
 }
 
-/// Appends that something is refused, and why.
+/// Appends the line of a refusal, with the reason `why`.
 fn push_refused(
     alloc: Global,
     style: LineStyle,
@@ -154,11 +154,11 @@ fn push_refused(
     }
 }
 
-/// Prints that something is refused, and why, and hands it to the device.
+/// Prints the line of a refusal, with the reason `why`, and flushes the writer.
 ///
 /// # Errors
 ///
-/// `Device`, where the writer fails, and `Memory`.
+/// `Device` if the writer fails, and `Memory` if an allocation fails.
 pub fn put_refused<W: Write>(
     alloc: Global,
     style: LineStyle,
@@ -178,7 +178,7 @@ pub fn put_refused<W: Write>(
     Ok(())
 }
 
-/// Prints why a request is refused, and hands it to the device.
+/// Prints the line of a request that the side refused, with this reason, and flushes the writer.
 ///
 /// # Errors
 ///
@@ -199,7 +199,7 @@ pub fn put_refusal<W: Write>(
     put_refused(alloc, style, why.as_str(), out)
 }
 
-/// Appends a line.
+/// Appends a line, with a line feed.
 pub(crate) fn push_line(text: &mut String, line: &str) -> Result<(), AllocError>
     ensures { OnOk result (string_bytes text.new ≡ string_bytes text.old ++ text_line line.now) }
 {

@@ -1,6 +1,8 @@
-use Rattle.lapd_cli_live.proofs.Turns.{SomeDue}
+use Rattle.std.proofs.Common.{◌≡◌}
+use Rattle.lapd_cli_live.specs.Log.{state_of}
+use Rattle.lapd_cli_live.proofs.Steps.{SomeDue}
 use Rattle.lapd_cli_live.proofs.live_side.LiveSide.do_due.Given as goal
 
 abbrev pub invariant-loop-tick : goal.invariant-loop-tick
 invariant-loop-tick g l =
-    SomeDue l.fn.now (g.O.Outside.deeds l.initial.self.outside) (g.O.Outside.deeds l.self.outside) l.initial.self.side l.self.side
+    SomeDue l.now (state_of g.O.Outside.deeds g.W.Write.contents l.initial.self) (state_of g.O.Outside.deeds g.W.Write.contents l.self)

@@ -1,8 +1,21 @@
-use Rattle.lapd_cli_live.proofs.Turns.{all_turns, more_turns}
+use Rattle.std.proofs.Common.{Option, subst}
+use Rattle.lapd_cli_live.specs.declared.service.Came.{Came}
+use Rattle.lapd_cli_live.specs.Log.{state_of}
+use Rattle.lapd_cli_live.specs.Steps.{Step}
+use Rattle.lapd_cli_live.proofs.Steps.{all_steps, more_steps, no_steps}
 use Rattle.lapd_cli_live.proofs.live_side.LiveSide.serve.Goals as goal
 
-pub loop-turn-preserved : goal.loop-turn-preserved
-loop-turn-preserved g c = more_turns _ _ _ _ _ _ _ c.loop-turn.invariant c.in_ok-came.ensures
+pub loop-step-init : goal.loop-step-init
+loop-step-init g c = no_steps _ _
 
-pub returns-then-ends : goal.returns-then-ends
-returns-then-ends g c = all_turns _ _ _ _ _ (more_turns _ _ _ _ _ _ _ c.loop-turn.invariant c.in_ok-came.ensures)
+pub returns-in-Some : goal.returns-in-Some
+returns-in-Some g c =
+    let step = subst (λ (came : Option Came). Step c.args.service (state_of g.O.Outside.deeds g.W.Write.contents c.loop-step.self)
+    (state_of g.O.Outside.deeds g.W.Write.contents c.step.new.self) came) c.in-Some.is c.in_ok-came.ensures in
+    all_steps _ _ _ _ _ c.loop-step.invariant step
+
+pub loop-step-preserved : goal.loop-step-preserved
+loop-step-preserved g c =
+    let step = subst (λ (came : Option Came). Step c.args.service (state_of g.O.Outside.deeds g.W.Write.contents c.loop-step.self)
+    (state_of g.O.Outside.deeds g.W.Write.contents c.step.new.self) came) c.in_default.is c.in_ok-came.ensures in
+    more_steps _ _ _ _ c.loop-step.invariant step

@@ -1,6 +1,7 @@
-use Rattle.lapd_cli_live.proofs.Turns.{SomeTurns}
+use Rattle.lapd_cli_live.specs.Log.{state_of}
+use Rattle.lapd_cli_live.proofs.Steps.{SomeSteps}
 use Rattle.lapd_cli_live.proofs.live_side.LiveSide.serve.Given as goal
 
-abbrev pub invariant-loop-turn : goal.invariant-loop-turn
-invariant-loop-turn g l =
-    SomeTurns l.fn.end (g.O.Outside.deeds l.initial.self.outside) (g.O.Outside.deeds l.self.outside) l.initial.self.side l.self.side
+abbrev pub invariant-loop-step : goal.invariant-loop-step
+invariant-loop-step g l =
+    SomeSteps l.service (state_of g.O.Outside.deeds g.W.Write.contents l.initial.self) (state_of g.O.Outside.deeds g.W.Write.contents l.self)

@@ -1,20 +1,17 @@
-use Rattle.std.proofs.Common.{refl, rules, subst}
-use Rattle.lapd_cli_live.specs.Deeds.{Adds, waited}
-use Rattle.lapd_cli_live.specs.declared.outside.Woken.{Woken}
-use Rattle.lapd_cli_live.proofs.Turns.{and_heard}
+use Rattle.std.proofs.Common.{◌≡◌, ℕ, Option, [], ◌∷◌, subst}
+use Rattle.lapd_sides.specs.Either.{side_of}
+use Rattle.lapd_cli_live.specs.Deeds.{Adds, Waits}
+use Rattle.lapd_cli_live.proofs.Steps.{flushed_and_waited}
 use Rattle.lapd_cli_live.proofs.live_side.LiveSide.wait.Goals as goal
 
-pub returns-in_ok-hear-in-Frame : goal.returns-in_ok-hear-in-Frame
-returns-in_ok-hear-in-Frame g c =
-    let adds = subst (λ (woken : Woken). Adds (g.O.Outside.deeds c.args.self.now.outside) (g.O.Outside.deeds c.wait.new.self) (waited c.sooner-until.result c.wait.new.frame woken))
-    c.in-Frame.is c.in_ok-count.ensures.deeds in
-    and_heard _ _ _ _ _ _ _ _ _ _ c.next_deadline.ensures c.sooner-until.ensures refl adds c.in_ok-hear-in-Frame.ensures
-
-pub returns-in-Line : goal.returns-in-Line
-returns-in-Line g c = search rules
-
-pub returns-in-Due : goal.returns-in-Due
-returns-in-Due g c = search rules
-
-pub returns-in-Closed : goal.returns-in-Closed
-returns-in-Closed g c = search rules
+pub returns : goal.returns
+returns g c =
+    let adds = subst (λ (until : Option ℕ). Adds (g.O.Outside.deeds c.args.self.now.outside) (g.O.Outside.deeds c.wait.new.self) (Waits until c.in_ok-woken.woken ∷ []))
+    c.sooner-until.ensures c.in_ok-woken.ensures.deeds in
+    record {
+      deadline = c.next_deadline.result;
+      is_next = c.next_deadline.ensures;
+      woken = c.in_ok-woken.woken;
+      waits = flushed_and_waited g.W.Write.contents c.args.self.now.side _ _ _ _ _ _ (c.in_ok-flush.ensures (side_of c.args.self.now.side)) adds;
+      is = c.came_of.ensures;
+    }

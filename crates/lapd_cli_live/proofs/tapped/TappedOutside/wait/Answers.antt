@@ -1,7 +1,5 @@
-use Rattle.lapd_cli_live.proofs.Passed.{still_known}
+use Rattle.lapd_cli_live.proofs.Passed.{told_waited}
 use Rattle.lapd_cli_live.proofs.tapped.TappedOutside.wait.Goals as goal
 
-pub invariant_of-self-in_default : goal.invariant_of-self-in_default
-invariant_of-self-in_default g c = record {
-  told = still_known c.args.self.now.own c.args.self.now.is_broken _ _ _ _ _ c.args.self.now.told c.in_default.ensures.deeds c.in_default.ensures.handed;
-}
+pub invariant_of-self : goal.invariant_of-self
+invariant_of-self g c = record { told = told_waited c.args.self.now.own _ _ _ c.args.until c.wait.result c.args.self.now.told c.wait.ensures.deeds c.wait.ensures.err }

@@ -1,0 +1,228 @@
+-- What happens, one event after another.
+use Rattle.std.proofs.Common.{◌≡◌, ℕ, ◌+◌, ◌<◌, List, [], ◌∷◌, ◌++◌, get_or, length, map, take, Option, None, Some, Result, Ok, Err, OnOk, refl, sym, ap, subst, ◌∙◌, append_assoc, append-nil}
+use Rattle.std.specs.Prelude.{Bool, true, false, ◌||◌, flat_map, fold, ⊤}
+use Rattle.std.specs.List.{list_any}
+use Rattle.std.proofs.KnownBytes.{Appends-nil, Appends-trans}
+use Rattle.std.specs.Io.KnownBytes.{Appends}
+use Rattle.std.proofs.lemmas.List.{map-append, take_more}
+use Rattle.std.proofs.lemmas.List.Sums.{fold-append}
+use Rattle.std.proofs.lemmas.List.Folds.{list_any-append}
+use Rattle.std.proofs.lemmas.Grind.{flat_map-append}
+use Rattle.lapd_frame.specs.declared.Side.{Side}
+use Rattle.lapd_sides_links.specs.declared.primitive.Primitive.{Primitive}
+use Rattle.lapd_sides_links.specs.Effects.{Effects}
+use Rattle.lapd_sides.specs.declared.either_side.EitherSide.{EitherSide}
+use Rattle.lapd_sides.specs.Either.{side_of}
+use Rattle.lapd_cli_live.specs.declared.outside.Sending.{Sending}
+use Rattle.lapd_cli_live.specs.declared.outside.Sending.TheVariants.{Sent as WasSent, Lost as WasLost}
+use Rattle.lapd_cli_live.specs.declared.style.Style.{Style}
+use Rattle.lapd_cli_live.specs.declared.printer.Printer.{Printer}
+use Rattle.lapd_cli_live.specs.Deeds.{Adds, Deed, Sends, all_sent}
+use Rattle.lapd_cli_live.specs.Entries.{Entry, Outgoing, Prints, Sent, Shown, Told, counted, entries_text, entry_text, is_awaited, moment_after, octets_of, outgoing_entry, sent_entry}
+use Rattle.lapd_cli_live.specs.Printers.{PrintsOn, SendsAll, shown}
+use Rattle.lapd_cli_live.specs.Log.{Around, CarriesOut, CarriesOutAll, Chain, Happen, HappenBeside, IsCarriedOut, LiveEvent, LiveState, Shows, deeds_in, entries_in, moment_of, sending_events, told_event}
+use Rattle.lapd_cli_live.proofs.Deeds.{adds_both, adds_none}
+
+-- ---- Events.
+
+deeds_both : (xs ys : List LiveEvent) → deeds_in (xs ++ ys) ≡ deeds_in xs ++ deeds_in ys
+deeds_both [] ys = refl
+deeds_both (Around deed ∷ xs) ys = ap (λ (deeds : List Deed). deed ∷ deeds) (deeds_both xs ys)
+deeds_both (Shows entry ∷ xs) ys = deeds_both xs ys
+
+entries_both : (xs ys : List LiveEvent) → entries_in (xs ++ ys) ≡ entries_in xs ++ entries_in ys
+entries_both [] ys = refl
+entries_both (Around deed ∷ xs) ys = entries_both xs ys
+entries_both (Shows entry ∷ xs) ys = ap (λ (entries : List Entry). entry ∷ entries) (entries_both xs ys)
+
+-- ---- Entries.
+
+text_both : (style : Style) (own : Side) (now : ℕ) (xs ys : List Entry)
+    → entries_text style own now (xs ++ ys) ≡ entries_text style own now xs ++ entries_text style own (fold moment_after now xs) ys
+text_both style own now [] ys = refl
+text_both style own now (x ∷ xs) ys =
+    ap (λ (text : List ℕ). entry_text style own now x ++ text) (text_both style own (moment_after now x) xs ys)
+    ∙ sym (append_assoc (entry_text style own now x) (entries_text style own (moment_after now x) xs)
+    (entries_text style own (fold moment_after (moment_after now x) xs) ys))
+
+or_none : (a : Bool) → a ≡ (a || false)
+or_none true = refl
+or_none false = refl
+
+or_both : (a b c : Bool) → ((a || b) || c) ≡ (a || (b || c))
+or_both true b c = refl
+or_both false b c = refl
+
+pub prints_none : (style : Style) (own : Side) (a : Shown) → Prints style own [] a a
+prints_none style own a = record {
+  text = Appends-nil a.text;
+  now = refl;
+  stats = refl;
+  awaited = refl;
+  found = or_none a.found;
+}
+
+pub prints_both : (style : Style) (own : Side) (xs ys : List Entry) (a b c : Shown) → Prints style own xs a b → Prints style own ys b c
+    → Prints style own (xs ++ ys) a c
+prints_both style own xs ys a b c p q =
+    let texts : entries_text style own a.now xs ++ entries_text style own b.now ys ≡ entries_text style own a.now (xs ++ ys) =
+    ap (λ (now : ℕ). entries_text style own a.now xs ++ entries_text style own now ys) p.now ∙ sym (text_both style own a.now xs ys) in
+    let any : list_any (is_awaited style own b.awaited) ys ≡ list_any (is_awaited style own a.awaited) ys =
+    ap (λ (words : List ℕ). list_any (is_awaited style own words) ys) p.awaited in
+    record {
+      text = subst (Appends a.text c.text) texts (Appends-trans a.text b.text c.text _ _ p.text q.text);
+      now = q.now ∙ ap (λ (now : ℕ). fold moment_after now ys) p.now ∙ sym (fold-append moment_after a.now xs ys);
+      stats = q.stats ∙ ap (λ stats. fold (counted own) stats ys) p.stats ∙ sym (fold-append (counted own) a.stats xs ys);
+      awaited = q.awaited ∙ p.awaited;
+      found = q.found ∙ ap (λ (found : Bool). found || list_any (is_awaited style own b.awaited) ys) p.found
+      ∙ ap (λ (found : Bool). (a.found || list_any (is_awaited style own a.awaited) xs) || found) any
+      ∙ or_both a.found (list_any (is_awaited style own a.awaited) xs) (list_any (is_awaited style own a.awaited) ys)
+      ∙ ap (λ (found : Bool). a.found || found) (sym (list_any-append (is_awaited style own a.awaited) xs ys));
+    }
+
+prints_as : (style other : Style) (own same : Side) (xs : List Entry) (a b : Shown) → style ≡ other → own ≡ same → Prints style own xs a b
+    → Prints other same xs a b
+prints_as style other own same xs a b is are p =
+    subst (λ (x : Style). Prints x same xs a b) is (subst (λ (x : Side). Prints style x xs a b) are p)
+
+pub prints_on_none : {W : Type 0} (contents : W → Option (List ℕ)) (own : Side) (p : Printer W) → PrintsOn contents own [] p p
+prints_on_none contents own p = record { style = refl; prints = prints_none p.style own (shown contents p) }
+
+pub prints_on_both : {W : Type 0} (contents : W → Option (List ℕ)) (own : Side) (xs ys : List Entry) (p q r : Printer W)
+    → PrintsOn contents own xs p q → PrintsOn contents own ys q r → PrintsOn contents own (xs ++ ys) p r
+prints_on_both contents own xs ys p q r first last = record {
+  style = last.style ∙ first.style;
+  prints = prints_both p.style own xs ys (shown contents p) (shown contents q) (shown contents r) first.prints
+      (prints_as q.style p.style own own ys (shown contents q) (shown contents r) first.style refl last.prints);
+}
+
+-- ---- What happens.
+
+pub happen_both : (xs ys : List LiveEvent) (a b c : LiveState) → Happen xs a b → Happen ys b c → Happen (xs ++ ys) a c
+happen_both xs ys a b c p q = record {
+  own = q.own ∙ p.own;
+  style = q.style ∙ p.style;
+  deeds = subst (Adds a.deeds c.deeds) (sym (deeds_both xs ys)) (adds_both a.deeds b.deeds c.deeds _ _ p.deeds q.deeds);
+  shown = subst (λ (entries : List Entry). Prints a.style (side_of a.side) entries a.shown c.shown) (sym (entries_both xs ys))
+      (prints_both a.style (side_of a.side) (entries_in xs) (entries_in ys) a.shown b.shown c.shown p.shown
+      (prints_as b.style a.style (side_of b.side) (side_of a.side) (entries_in ys) b.shown c.shown p.style p.own q.shown));
+}
+
+pub happen_none : (a : LiveState) → Happen [] a a
+happen_none a = record { own = refl; style = refl; deeds = adds_none a.deeds; shown = prints_none a.style (side_of a.side) a.shown }
+
+-- ---- Frames that are sent, and what layer 3 is told.
+
+one_moment : (now : ℕ) (octets : List ℕ) (sending : Sending) → moment_after now (sent_entry octets sending) ≡ now
+one_moment now octets WasSent = refl
+one_moment now octets WasLost = refl
+
+sent_moment : (now : ℕ) (outgoing : List Outgoing) → fold moment_after now (map outgoing_entry outgoing) ≡ now
+sent_moment now [] = refl
+sent_moment now (first ∷ outgoing) =
+    ap (λ (x : ℕ). fold moment_after x (map outgoing_entry outgoing)) (one_moment now first.octets first.sending) ∙ sent_moment now outgoing
+
+told_moment : (now : ℕ) (primitives : List Primitive) → fold moment_after now (map Told primitives) ≡ now
+told_moment now [] = refl
+told_moment now (primitive ∷ primitives) = told_moment now primitives
+
+deeds_of_told : (primitives : List Primitive) → deeds_in (map told_event primitives) ≡ []
+deeds_of_told [] = refl
+deeds_of_told (primitive ∷ primitives) = deeds_of_told primitives
+
+entries_of_told : (primitives : List Primitive) → entries_in (map told_event primitives) ≡ map Told primitives
+entries_of_told [] = refl
+entries_of_told (primitive ∷ primitives) = ap (λ (entries : List Entry). Told primitive ∷ entries) (entries_of_told primitives)
+
+deeds_of_sent : (outgoing : List Outgoing) → deeds_in (flat_map sending_events outgoing) ≡ all_sent (map octets_of outgoing)
+deeds_of_sent [] = refl
+deeds_of_sent (first ∷ outgoing) = ap (λ (deeds : List Deed). Sends first.octets ∷ deeds) (deeds_of_sent outgoing)
+
+entries_of_sent : (outgoing : List Outgoing) → entries_in (flat_map sending_events outgoing) ≡ map outgoing_entry outgoing
+entries_of_sent [] = refl
+entries_of_sent (first ∷ outgoing) = ap (λ (entries : List Entry). outgoing_entry first ∷ entries) (entries_of_sent outgoing)
+
+pub sends_none : {W : Type 0} (own : Side) (contents : W → Option (List ℕ)) (a : Option (List Deed)) (p : Printer W) → SendsAll own [] a a contents p p
+sends_none own contents a p = record { outgoing = []; octets = refl; deeds = adds_none a; prints = prints_on_none contents own p }
+
+pub sends_more : {W : Type 0} (own : Side) (frames : List (List ℕ)) (frame : List ℕ) (sending : Sending) (a b c : Option (List Deed))
+    (contents : W → Option (List ℕ)) (p q r : Printer W) → SendsAll own frames a b contents p q → Adds b c (Sends frame ∷ [])
+    → PrintsOn contents own (sent_entry frame sending ∷ []) q r → SendsAll own (frames ++ frame ∷ []) a c contents p r
+sends_more own frames frame sending a b c contents p q r some adds prints =
+    let one : Outgoing = record { octets = frame; sending = sending } in
+    record {
+      outgoing = some.outgoing ++ one ∷ [];
+      octets = map-append octets_of some.outgoing (one ∷ []) ∙ ap (λ xs. xs ++ frame ∷ []) some.octets;
+      deeds = subst (Adds a c) (sym (map-append Sends frames (frame ∷ []))) (adds_both a b c _ _ some.deeds adds);
+      prints = subst (λ (entries : List Entry). PrintsOn contents own entries p r) (sym (map-append outgoing_entry some.outgoing (one ∷ [])))
+          (prints_on_both contents own (map outgoing_entry some.outgoing) (outgoing_entry one ∷ []) p q r some.prints prints);
+    }
+
+-- the next of some frames is sent
+pub sends_next : {F W : Type 0} (octets : F → List ℕ) (own : Side) (frames : List F) (at : ℕ) (frame : F) (item : List ℕ) (sending : Sending)
+    (a b c : Option (List Deed)) (contents : W → Option (List ℕ)) (p q r : Printer W) → at < length frames → frame ≡ get_or frames at frame
+    → item ≡ octets frame → SendsAll own (map octets (take at frames)) a b contents p q → Adds b c (Sends item ∷ [])
+    → PrintsOn contents own (sent_entry item sending ∷ []) q r → SendsAll own (map octets (take (at + 1) frames)) a c contents p r
+sends_next octets own frames at frame item sending a b c contents p q r within is says some adds prints =
+    let one : take (at + 1) frames ≡ take at frames ++ frame ∷ [] = take_more frames at frame within ∙ ap (λ x. take at frames ++ x ∷ []) (sym is) in
+    let all : map octets (take (at + 1) frames) ≡ map octets (take at frames) ++ item ∷ [] =
+    ap (map octets) one ∙ map-append octets (take at frames) (frame ∷ []) ∙ ap (λ x. map octets (take at frames) ++ x ∷ []) (sym says) in
+    subst (λ (xs : List (List ℕ)). SendsAll own xs a c contents p r) (sym all)
+    (sends_more own (map octets (take at frames)) item sending a b c contents p q r some adds prints)
+
+-- the next of some primitives is printed
+pub told_next : {W : Type 0} (own : Side) (primitives : List Primitive) (at : ℕ) (primitive : Primitive) (contents : W → Option (List ℕ)) (p q r : Printer W)
+    → at < length primitives → primitive ≡ get_or primitives at primitive → PrintsOn contents own (map Told (take at primitives)) p q
+    → PrintsOn contents own (Told primitive ∷ []) q r → PrintsOn contents own (map Told (take (at + 1) primitives)) p r
+told_next own primitives at primitive contents p q r within is some now =
+    let one : take (at + 1) primitives ≡ take at primitives ++ primitive ∷ [] =
+    take_more primitives at primitive within ∙ ap (λ x. take at primitives ++ x ∷ []) (sym is) in
+    let all : map Told (take (at + 1) primitives) ≡ map Told (take at primitives) ++ Told primitive ∷ [] =
+    ap (map Told) one ∙ map-append Told (take at primitives) (primitive ∷ []) in
+    subst (λ (entries : List Entry). PrintsOn contents own entries p r) (sym all)
+    (prints_on_both contents own (map Told (take at primitives)) (Told primitive ∷ []) p q r some now)
+
+-- a side that is served, by its parts
+abbrev pub live : {W : Type 0} → EitherSide → Option (List Deed) → (W → Option (List ℕ)) → Printer W → LiveState
+live side deeds contents printer = record { side = side; style = printer.style; deeds = deeds; shown = shown contents printer }
+
+pub carried : {W : Type 0} (contents : W → Option (List ℕ)) (side : EitherSide) (own : Side) (frames : List (List ℕ)) (primitives : List Primitive) (acts : Effects)
+    (a b : Option (List Deed)) (p q r : Printer W) → own ≡ side_of side → frames ≡ acts.frames → primitives ≡ acts.primitives
+    → SendsAll own frames a b contents p q → PrintsOn contents own (map Told primitives) q r
+    → IsCarriedOut acts (live side a contents p) (live side b contents r)
+carried contents side own frames primitives acts a b p q r is are same sends found =
+    let told : PrintsOn contents own (map Told acts.primitives) q r =
+    subst (λ (x : List Primitive). PrintsOn contents own (map Told x) q r) same found in
+    let events : List LiveEvent = flat_map sending_events sends.outgoing ++ map told_event acts.primitives in
+    let deeds : deeds_in events ≡ all_sent frames =
+    deeds_both (flat_map sending_events sends.outgoing) (map told_event acts.primitives)
+    ∙ ap (λ (deeds : List Deed). deeds_in (flat_map sending_events sends.outgoing) ++ deeds) (deeds_of_told acts.primitives)
+    ∙ append-nil (deeds_in (flat_map sending_events sends.outgoing)) ∙ deeds_of_sent sends.outgoing ∙ ap all_sent sends.octets in
+    let entries : entries_in events ≡ map outgoing_entry sends.outgoing ++ map Told acts.primitives =
+    entries_both (flat_map sending_events sends.outgoing) (map told_event acts.primitives)
+    ∙ ap (λ (entries : List Entry). entries ++ entries_in (map told_event acts.primitives)) (entries_of_sent sends.outgoing)
+    ∙ ap (λ (entries : List Entry). map outgoing_entry sends.outgoing ++ entries) (entries_of_told acts.primitives) in
+    let prints : PrintsOn contents own (map outgoing_entry sends.outgoing ++ map Told acts.primitives) p r =
+    prints_on_both contents own (map outgoing_entry sends.outgoing) (map Told acts.primitives) p q r sends.prints told in
+    record {
+      events = events;
+      carries = record { outgoing = sends.outgoing; frames = sends.octets ∙ are; are = refl };
+      beside = record {
+        side = refl;
+        moment = prints.prints.now ∙ fold-append moment_after p.moment (map outgoing_entry sends.outgoing) (map Told acts.primitives)
+            ∙ ap (λ (now : ℕ). fold moment_after now (map Told acts.primitives)) (sent_moment p.moment sends.outgoing) ∙ told_moment p.moment acts.primitives;
+        happen = record {
+          own = refl;
+          style = prints.style;
+          deeds = subst (Adds a b) (sym deeds) sends.deeds;
+          shown = subst (λ (xs : List Entry). Prints p.style (side_of side) xs (shown contents p) (shown contents r)) (sym entries)
+              (subst (λ (x : Side). Prints p.style x (map outgoing_entry sends.outgoing ++ map Told acts.primitives) (shown contents p) (shown contents r)) is prints.prints);
+        };
+      };
+    }
+
+-- ---- Chains.
+
+pub chain_more : (R : LiveState → LiveState → Type 0) (states : List LiveState) (a b c : LiveState) → Chain R states a b → R b c → Chain R (states ++ c ∷ []) a c
+chain_more R [] a b c are one = (subst (λ (x : LiveState). R x c) are one, refl)
+chain_more R (mid ∷ states) a b c are one = (are.0, chain_more R states mid b c are.1 one)

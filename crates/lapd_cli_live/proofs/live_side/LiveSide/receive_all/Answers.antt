@@ -1,0 +1,26 @@
+use Rattle.std.proofs.Common.{◌≡◌, Option, Some, None, sym, subst, ◌∙◌, arith, ap}
+use Rattle.std.specs.Prelude.{Bool, true, false}
+use Rattle.lapd_cli_live.specs.Log.{state_of}
+use Rattle.lapd_cli_live.specs.Steps.{Looks, ended_by}
+use Rattle.lapd_cli_live.proofs.Steps.{ends_by_frame, more_taken, none_taken, takes_all, takes_most, taken_by, looked_in_vain, none_came, received_by}
+use Rattle.lapd_cli_live.proofs.live_side.LiveSide.receive_all.Goals as goal
+
+pub loop-frame-init : goal.loop-frame-init
+loop-frame-init g c = none_taken _ _
+
+pub returns-then-not-branch : goal.returns-then-not-branch
+returns-then-not-branch g c =
+    takes_all _ c.loop-frame._frame _ _ _ c.loop-frame.invariant c.loop-frame-test.true (looked_in_vain _ _ _ c.if-not-branch.true c.in_ok-look.ensures)
+
+pub returns-then-is_some : goal.returns-then-is_some
+returns-then-is_some g c =
+    received_by c.args.until c.loop-frame._frame c.ended_by-came.result _ _ _ c.loop-frame.invariant (taken_by _ _ _ c.if-not-branch.false c.in_ok-look.ensures)
+    (c.ended_by-came.ensures ∙ ap (ended_by c.args.until true) c.is_found.ensures) (sym c.is_some.ensures ∙ c.if-is_some.true)
+
+pub loop-frame-preserved : goal.loop-frame-preserved
+loop-frame-preserved g c =
+    more_taken _ c.loop-frame._frame _ _ _ c.loop-frame.invariant (taken_by _ _ _ c.if-not-branch.false c.in_ok-look.ensures)
+    (none_came c.ended_by-came.result _ (c.ended_by-came.ensures ∙ ap (ended_by c.args.until true) c.is_found.ensures) (sym c.is_some.ensures ∙ c.if-is_some.false))
+
+pub returns : goal.returns
+returns g c = takes_most _ c.loop-frame._frame _ _ c.loop-frame.invariant (omega arith)

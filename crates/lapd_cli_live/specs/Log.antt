@@ -1,0 +1,114 @@
+-- What happens at a side while it is served, in order: what is done around it, and what it prints and counts.
+use Rattle.std.specs.Prelude.{◌≡◌, ℕ, ◌≤◌, Bool, List, [], ◌∷◌, ◌++◌, map, flat_map, Option}
+use Rattle.lapd_sides_links.specs.declared.primitive.Primitive.{Primitive}
+use Rattle.lapd_sides_links.specs.Effects.{Effects}
+use Rattle.lapd_sides.specs.declared.either_side.EitherSide.{EitherSide}
+use Rattle.lapd_sides.specs.Either.{side_of}
+use Rattle.lapd_cli_live.specs.declared.style.Style.{Style}
+use Rattle.lapd_cli_live.specs.declared.live_side.LiveSide.{LiveSide}
+use Rattle.lapd_cli_live.specs.Deeds.{Adds, Comes, Deed, FindsNone, Reads, Sends}
+use Rattle.lapd_cli_live.specs.Entries.{Dated, Entry, Outgoing, Prints, Received, Shown, Told, octets_of, outgoing_entry}
+use Rattle.lapd_cli_live.specs.Printers.{shown}
+
+-- something is done around the side, or an entry is printed and counted
+pub data LiveEvent : Type 0 where
+  Around : (deed : Deed) → LiveEvent
+  Shows : (entry : Entry) → LiveEvent
+
+-- the deeds of some events, and the entries
+abbrev pub deeds_in : List LiveEvent → List Deed
+deeds_in [] = []
+deeds_in (Around deed ∷ events) = deed ∷ deeds_in events
+deeds_in (Shows entry ∷ events) = deeds_in events
+
+abbrev pub entries_in : List LiveEvent → List Entry
+entries_in [] = []
+entries_in (Around deed ∷ events) = entries_in events
+entries_in (Shows entry ∷ events) = entry ∷ entries_in events
+
+-- A side that is served: how it prints, what is known of what was done around it, and what it has printed and counted. Its lines
+-- are of the moment at which the clock was read last.
+pub record LiveState : Type 0 where
+  pub side : EitherSide
+  pub style : Style
+  pub deeds : Option (List Deed)
+  pub shown : Shown
+
+abbrev pub state_of : {O W : Type 0} → (O → Option (List Deed)) → (W → Option (List ℕ))
+    → LiveSide O W → LiveState
+state_of deeds contents live = record {
+  side = live.side;
+  style = live.printer.style;
+  deeds = deeds live.outside;
+  shown = shown contents live.printer;
+}
+
+abbrev pub moment_of : LiveState → ℕ
+moment_of s = s.shown.now
+
+abbrev pub is_found : LiveState → Bool
+is_found s = s.shown.found
+
+-- this holds of a live side before and after a call
+abbrev pub Between : {O W : Type 0} → (O → Option (List Deed)) → (W → Option (List ℕ))
+    → LiveSide O W → LiveSide O W → (LiveState → LiveState → Type 0) → Type 0
+Between deeds contents old new R = R (state_of deeds contents old) (state_of deeds contents new)
+
+-- exactly these events happen
+pub record Happen (events : List LiveEvent) (a b : LiveState) : Type 0 where
+  pub own : side_of b.side ≡ side_of a.side
+  pub style : b.style ≡ a.style
+  pub deeds : Adds a.deeds b.deeds (deeds_in events)
+  pub shown : Prints a.style (side_of a.side) (entries_in events) a.shown b.shown
+
+-- they happen, and the side and the moment of its lines stay
+pub record HappenBeside (events : List LiveEvent) (a b : LiveState) : Type 0 where
+  pub side : b.side ≡ a.side
+  pub moment : moment_of b ≡ moment_of a
+  pub happen : Happen events a b
+
+-- ---- The clock.
+
+-- the clock is read: it did not go back, and lines are of this moment from here on
+abbrev pub read_at : ℕ → List LiveEvent
+read_at now = Around (Reads now) ∷ Shows (Dated now) ∷ []
+
+pub record ReadsClock (now : ℕ) (a b : LiveState) : Type 0 where
+  pub side : b.side ≡ a.side
+  pub moment : moment_of b ≡ now
+  pub rises : moment_of a ≤ now
+  pub happen : Happen (read_at now) a b
+
+-- ---- What a call of the side gives.
+
+-- it is sent, and then printed and counted
+abbrev pub sending_events : Outgoing → List LiveEvent
+sending_events outgoing =
+    Around (Sends outgoing.octets) ∷ Shows (outgoing_entry outgoing) ∷ []
+
+abbrev pub told_event : Primitive → LiveEvent
+told_event primitive = Shows (Told primitive)
+
+-- each frame that a call gave is sent and printed, in order, and then what layer 3 is told is printed
+pub record CarriesOut (acts : Effects) (events : List LiveEvent) : Type 0 where
+  pub outgoing : List Outgoing
+  pub frames : map octets_of outgoing ≡ acts.frames
+  pub are : events
+      ≡ flat_map sending_events outgoing ++ map told_event acts.primitives
+
+-- the same for several calls, one after another
+abbrev pub CarriesOutAll : List Effects → List LiveEvent → Type 0
+CarriesOutAll [] events = events ≡ []
+CarriesOutAll (acts ∷ calls) events = (first : List LiveEvent) × (rest : List LiveEvent)
+    × CarriesOut acts first × CarriesOutAll calls rest × (events ≡ first ++ rest)
+
+-- what a call gave is carried out, and nothing else happens
+pub record IsCarriedOut (acts : Effects) (a b : LiveState) : Type 0 where
+  pub events : List LiveEvent
+  pub carries : CarriesOut acts events
+  pub beside : HappenBeside events a b
+
+-- one after another, each between two states that follow each other
+abbrev pub Chain : (LiveState → LiveState → Type 0) → List LiveState → LiveState → LiveState → Type 0
+Chain R [] a b = b ≡ a
+Chain R (mid ∷ more) a b = R a mid × Chain R more mid b

@@ -1,0 +1,52 @@
+-- What a printer shows.
+use Rattle.std.specs.Prelude.{◌≡◌, ℕ, ◌||◌, false, List, ◌++◌, map, Option}
+use Rattle.std.specs.Io.KnownBytes.{append_known}
+use Rattle.lapd_frame.specs.declared.Side.{Side}
+use Rattle.lapd_cli_live.specs.declared.printer.Printer.{Printer}
+use Rattle.lapd_cli_live.specs.Deeds.{Adds, Deed, all_sent}
+use Rattle.lapd_cli_live.specs.Entries.{Entry, Outgoing, Prints, Shown, begins_so, octets_of, outgoing_entry, printed_line}
+
+-- what was printed is what the writer has taken, and the text that it is still to be given
+abbrev pub shown : {W : Type 0} → (W → Option (List ℕ)) → Printer W → Shown
+shown contents printer = record {
+  text = append_known (contents printer.out) printer.text.items;
+  now = printer.moment;
+  stats = printer.stats;
+  awaited = printer.awaited.items;
+  found = printer.is_found;
+}
+
+-- exactly these entries are printed and counted, in the same style
+pub record PrintsOn {W : Type 0} (contents : W → Option (List ℕ)) (own : Side) (entries : List Entry)
+    (old new : Printer W) : Type 0 where
+  pub style : new.style ≡ old.style
+  pub prints : Prints old.style own entries (shown contents old) (shown contents new)
+
+-- the line that stands in the room for it is printed, or its object, and nothing else changes
+pub record PutsLine {W : Type 0} (line object : List ℕ) (old new : Printer W) : Type 0 where
+  pub out : new.out ≡ old.out
+  pub style : new.style ≡ old.style
+  pub moment : new.moment ≡ old.moment
+  pub stats : new.stats ≡ old.stats
+  pub awaited : new.awaited ≡ old.awaited
+  pub text : new.text.items
+      ≡ old.text.items ++ printed_line old.style old.moment line object
+  pub found : new.is_found ≡ (old.is_found || begins_so old.awaited.items line)
+
+-- from here on a line is awaited that begins with these words, and none was printed since
+pub record Awaits {W : Type 0} (words : List ℕ) (old new : Printer W) : Type 0 where
+  pub out : new.out ≡ old.out
+  pub style : new.style ≡ old.style
+  pub moment : new.moment ≡ old.moment
+  pub stats : new.stats ≡ old.stats
+  pub text : new.text ≡ old.text
+  pub awaited : new.awaited.items ≡ words
+  pub found : new.is_found ≡ false
+
+-- these frames are sent, and each is printed once it is sent
+pub record SendsAll {W : Type 0} (own : Side) (frames : List (List ℕ)) (before after : Option (List Deed))
+    (contents : W → Option (List ℕ)) (old new : Printer W) : Type 0 where
+  pub outgoing : List Outgoing
+  pub octets : map octets_of outgoing ≡ frames
+  pub deeds : Adds before after (all_sent frames)
+  pub prints : PrintsOn contents own (map outgoing_entry outgoing) old new

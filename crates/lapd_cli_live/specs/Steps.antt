@@ -1,0 +1,227 @@
+-- What a side does while it is served, step by step. A step receives every frame that had arrived, then expires every timer that
+-- is due, and then waits once, until the next deadline.
+use Rattle.std.specs.Prelude.{◌≡◌, ◌⊎◌, ℕ, ◌+◌, ◌-◌, ◌^◌, ◌<◌, ◌≤◌, Bool, true, false, List, [], ◌∷◌, ◌++◌, length, min, Option, None, Some, Result, Ok, Err, ⊤}
+use Rattle.lapd_sides_links.specs.Effects.{Effects}
+use Rattle.lapd_sides_links.specs.declared.side_fault.SideFault.{SideFault}
+use Rattle.lapd_sides.specs.declared.request.Request.{Request}
+use Rattle.lapd_sides.specs.Either.{Answers, HasNextDeadline, Takes}
+use Rattle.lapd_cli_side_lines.specs.Calls.{ExpireInTurn}
+use Rattle.lapd_cli_live.specs.declared.outside.Lines.{Lines}
+use Rattle.lapd_cli_live.specs.declared.outside.Lines.TheVariants.{Awaited, Ignored}
+use Rattle.lapd_cli_live.specs.declared.outside.Woken.{Woken}
+use Rattle.lapd_cli_live.specs.declared.outside.Woken.TheVariants as woken
+use Rattle.lapd_cli_live.specs.declared.service.Service.{Service}
+use Rattle.lapd_cli_live.specs.declared.service.Until.{Until}
+use Rattle.lapd_cli_live.specs.declared.service.Until.TheVariants as until
+use Rattle.lapd_cli_live.specs.declared.service.Came.{Came}
+use Rattle.lapd_cli_live.specs.declared.service.Came.TheVariants as came
+use Rattle.lapd_cli_live.specs.Deeds.{Comes, FindsNone, Waits}
+use Rattle.lapd_cli_live.specs.Entries.{Received, refused}
+use Rattle.lapd_cli_live.specs.Log.{Around, CarriesOut, CarriesOutAll, Chain, Happen, HappenBeside, LiveEvent, LiveState, ReadsClock, Shows, is_found, moment_of, read_at}
+
+-- ---- What ends a service.
+
+-- a frame that was taken ends it, or a line that was printed, if that is what the service lasts for
+abbrev pub ended_by : Until → Bool → Bool → Option Came
+ended_by until.End taken found = None
+ended_by until.Frame true found = Some came.Frame
+ended_by until.Frame false found = None
+ended_by until.Found taken true = Some came.Found
+ended_by until.Found taken false = None
+
+-- what ended a wait ends the service, or it does not
+abbrev pub came_of : Lines → Woken → Option Came
+came_of lines woken.Arrival = None
+came_of lines woken.Due = None
+came_of lines woken.Closed = Some came.Closed
+came_of Awaited woken.Line = Some came.Line
+came_of Ignored woken.Line = None
+
+-- an end that is set has come
+abbrev pub HasCome : Option ℕ → ℕ → Type 0
+HasCome None now = ⊥
+HasCome (Some end) now = end ≤ now
+
+-- the sooner of two moments that may be set
+abbrev pub sooner : Option ℕ → Option ℕ → Option ℕ
+sooner None other = other
+sooner (Some one) None = Some one
+sooner (Some one) (Some other) = Some (min one other)
+
+-- ---- What has arrived.
+
+-- a frame had arrived by the moment at which the line is looked at: it is received and taken, once, and what this gives is carried
+-- out
+pub record TakesFrame (a b : LiveState) : Type 0 where
+  pub frame : List ℕ
+  pub acts : Effects
+  pub takes : Takes frame (moment_of b) (Ok tt) a.side b.side acts
+  pub given : List LiveEvent
+  pub carries : CarriesOut acts given
+  pub rises : moment_of a ≤ moment_of b
+  pub happen : Happen
+      (read_at (moment_of b) ++ (Around (Comes frame) ∷ Shows (Received frame) ∷ given)) a b
+
+-- no frame had arrived by that moment that was not received
+pub record LooksInVain (a b : LiveState) : Type 0 where
+  pub side : b.side ≡ a.side
+  pub rises : moment_of a ≤ moment_of b
+  pub happen : Happen (read_at (moment_of b) ++ (Around FindsNone ∷ [])) a b
+
+-- a frame is taken, and it does not end the service
+pub record TakesAndGoesOn (until : Until) (a b : LiveState) : Type 0 where
+  pub takes : TakesFrame a b
+  pub going : ended_by until true (is_found b) ≡ None
+
+-- the most frames that a step receives, so that timers run however many frames arrive
+abbrev pub most_frames : ℕ
+most_frames = 4096
+
+-- every frame is taken that had arrived by a moment
+pub record TakesAll (until : Until) (a b : LiveState) : Type 0 where
+  pub taken : List LiveState
+  pub within : length taken < most_frames
+  pub last : LiveState
+  pub are : Chain (TakesAndGoesOn until) taken a last
+  pub looks : LooksInVain last b
+
+-- or as many as a step receives
+pub record TakesMost (until : Until) (a b : LiveState) : Type 0 where
+  pub taken : List LiveState
+  pub count : length taken ≡ most_frames
+  pub are : Chain (TakesAndGoesOn until) taken a b
+
+abbrev pub Receives : Until → LiveState → LiveState → Type 0
+Receives until a b = TakesAll until a b ⊎ TakesMost until a b
+
+-- or one of the frames ends the service, and no more is received
+pub record EndsByFrame (until : Until) (why : Came) (a b : LiveState) : Type 0 where
+  pub taken : List LiveState
+  pub last : LiveState
+  pub are : Chain (TakesAndGoesOn until) taken a last
+  pub takes : TakesFrame last b
+  pub ends : ended_by until true (is_found b) ≡ Some why
+
+-- a frame is taken at this moment
+pub record TakesAt (frame : List ℕ) (now : ℕ) (a b : LiveState) : Type 0 where
+  pub acts : Effects
+  pub takes : Takes frame now (Ok tt) a.side b.side acts
+  pub given : List LiveEvent
+  pub carries : CarriesOut acts given
+  pub moment : moment_of b ≡ moment_of a
+  pub happen : Happen (Shows (Received frame) ∷ given) a b
+
+-- the line is looked at once: a frame had arrived and is taken, or none had arrived
+abbrev pub Looks : Bool → LiveState → LiveState → Type 0
+Looks true a b = TakesFrame a b
+Looks false a b = LooksInVain a b
+
+-- what has arrived is received, or a frame ends the service
+abbrev pub HasReceived : Until → Option Came → LiveState → LiveState → Type 0
+HasReceived until None a b = Receives until a b
+HasReceived until (Some why) a b = EndsByFrame until why a b
+
+-- ---- What is due.
+
+-- all that is due at the moment expires in turn, until nothing is due, and what this gives is carried out
+pub record DoesDue (a b : LiveState) : Type 0 where
+  pub calls : List Effects
+  pub in_turn : ExpireInTurn (moment_of a) calls a.side b.side
+  pub events : List LiveEvent
+  pub carries : CarriesOutAll calls events
+  pub moment : moment_of b ≡ moment_of a
+  pub happen : Happen events a b
+
+-- The side has caught up with the clock: what had arrived is taken first, and then what is due is done.
+pub record CatchesUp (until : Until) (a b : LiveState) : Type 0 where
+  pub received : LiveState
+  pub receives : Receives until a received
+  pub due : DoesDue received b
+
+-- ---- Steps.
+
+-- an awaited line was printed, for which the service lasts
+pub record IsFound (service : Service) (a b : LiveState) (outcome : Option Came) : Type 0 where
+  pub why : Came
+  pub found : ended_by service.until false (is_found a) ≡ Some why
+  pub is : outcome ≡ Some why
+  pub same : b ≡ a
+
+-- or its end has come
+pub record IsOver (service : Service) (a b : LiveState) (outcome : Option Came) : Type 0 where
+  pub going : ended_by service.until false (is_found a) ≡ None
+  pub come : HasCome service.end (moment_of a)
+  pub is : outcome ≡ Some came.End
+  pub same : b ≡ a
+
+-- one wait: until the next moment at which something is due, or until the end, whichever comes first
+pub record WaitsFor (service : Service) (outcome : Option Came) (a b : LiveState) : Type 0 where
+  pub deadline : Option ℕ
+  pub is_next : HasNextDeadline a.side deadline
+  pub woken : Woken
+  pub waits : HappenBeside (Around (Waits (sooner deadline service.end) woken) ∷ []) a b
+  pub is : outcome ≡ came_of service.lines woken
+
+-- or neither, and there is one wait
+pub record WaitsOnce (service : Service) (a b : LiveState) (outcome : Option Came) : Type 0 where
+  pub going : ended_by service.until false (is_found a) ≡ None
+  pub not_over : ¬ HasCome service.end (moment_of a)
+  pub waits : WaitsFor service outcome a b
+
+-- a step that no frame ends
+pub record WholeStep (service : Service) (a b : LiveState) (outcome : Option Came) : Type 0 where
+  pub ready : LiveState
+  pub catches_up : CatchesUp service.until a ready
+  pub then : IsFound service ready b outcome ⊎ IsOver service ready b outcome
+      ⊎ WaitsOnce service ready b outcome
+
+-- A step of a service, which goes on where the outcome is none.
+pub record CutStep (service : Service) (a b : LiveState) (outcome : Option Came) : Type 0 where
+  pub why : Came
+  pub ends : EndsByFrame service.until why a b
+  pub is : outcome ≡ Some why
+
+abbrev pub Step : Service → LiveState → LiveState → Option Came → Type 0
+Step service a b outcome = CutStep service a b outcome ⊎ WholeStep service a b outcome
+
+-- a step with which the service goes on
+abbrev pub GoesOn : Service → LiveState → LiveState → Type 0
+GoesOn service a b = Step service a b None
+
+-- A side is served: step after step, at least one, until one of them ends the service, for exactly this reason.
+pub record IsServed (service : Service) (came : Came) (a b : LiveState) : Type 0 where
+  pub passed : List LiveState
+  pub last : LiveState
+  pub are : Chain (GoesOn service) passed a last
+  pub ends : Step service last b (Some came)
+
+-- ---- Requests.
+
+-- that a request is refused is printed, with the reason
+abbrev pub refusal_events : Result ⊤ SideFault → List LiveEvent
+refusal_events (Ok done) = []
+refusal_events (Err fault) = Shows (refused fault.kind) ∷ []
+
+-- The side catches up with the clock, and is then asked for something. What this gives is carried out.
+pub record IsAsked (request : Request) (a b : LiveState) : Type 0 where
+  pub ready : LiveState
+  pub catches_up : CatchesUp until.End a ready
+  pub result : Result ⊤ SideFault
+  pub acts : Effects
+  pub answers : Answers request (moment_of ready) result ready.side b.side acts
+  pub given : List LiveEvent
+  pub carries : CarriesOut acts given
+  pub moment : moment_of b ≡ moment_of ready
+  pub happen : Happen (given ++ refusal_events result) ready b
+
+-- ---- Spans.
+
+-- the moment so many milliseconds from the one that the clock shows
+abbrev pub end_after : ℕ → Option ℕ → Option ℕ
+end_after now None = None
+end_after now (Some ms) = Some (min (now + ms) (2 ^ 64 - 1))
+
+pub record EndsAfter (ms end : Option ℕ) (a b : LiveState) : Type 0 where
+  pub now : ℕ
+  pub reads : ReadsClock now a b
+  pub is : end ≡ end_after now ms

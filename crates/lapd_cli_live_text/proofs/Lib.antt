@@ -1,0 +1,3 @@
+pub mod Cuts
+mod Expected
+mod ShownChars
