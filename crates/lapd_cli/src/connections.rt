@@ -4,32 +4,28 @@
 ghost use Rattle.std.specs.Prelude.{◌≤◌, IfOk, IfSome};
 
 use crate::clock::RealClock;
-use crate::dialler::{Attempt, Dialler};
+use crate::dialler::Dialler;
 use crate::discards::Discards;
 use crate::door::Door;
 use crate::frame_stream::FrameStream;
+use crate::further::{COMING, Coming, DIALLED, Further};
 use crate::input::Input;
-use crate::lost::{Lost, words_of};
+use crate::lost::words_of;
 use crate::notes::Notes;
 use crate::peers::{LostPeer, Peers};
 use crate::reason::Reason;
-use lapd_cli_live::{Impairment, Lines, Outside, Sending, Woken};
+use lapd_cli_live::{Lines, Outside, Sending, Woken};
+use lapd_cli_live_text::Impairment;
 use lapd_port::{MOST_OCTETS, PortFault};
 use lapd_sides::LinkId;
 use mio::net::{TcpListener, TcpStream};
 use mio::{Events, Poll, Token};
-use std::io;
+use std::io::{self, ErrorKind};
 use std::net::SocketAddr;
 use std::time::Duration;
 
 /// The token of standard input. Those of connections are their places, below 127.
 const INPUT: Token = Token(1000);
-
-/// The token of connections that come.
-const COMING: Token = Token(1001);
-
-/// The token of a connection that is being made.
-const DIALLED: Token = Token(1002);
 
 /// How many reports a poll takes at most.
 const EVENTS: usize = 130;
@@ -55,17 +51,6 @@ pub struct Connections<'a> {
     taken: u32,
     /// Whether the only connection is closed, and each frame was taken that arrived over it.
     is_closed: bool,
-}
-
-/// Where further connections come from.
-#[derive(Drop)]
-enum Further {
-    /// Nowhere: the side is served over its first connection.
-    Nowhere,
-    /// They are accepted when there is room for them.
-    Door(Door),
-    /// The first connection is made again when it is lost.
-    Dialler(Dialler),
 }
 
 impl<'a> Connections<'a> {
@@ -130,7 +115,7 @@ impl<'a> Connections<'a> {
 
     /// Says that the other side has closed the only connection, if it has, and nothing is left to be read.
     pub fn tell_closed(&self) {
-        if matches!(self.further, Further::Nowhere) && self.peers.is_closed() {
+        if self.further.is_nowhere() && self.peers.is_closed() {
             self.notes.say(words_of(PortFault::End));
         }
     }
@@ -157,13 +142,13 @@ impl<'a> Connections<'a> {
 
     /// A connection is lost. A further one may take its place; without it the side's service ends.
     fn lose(&mut self, lost: LostPeer) -> Result<(), PortFault> {
-        match (&self.further, lost.why.fault()) {
-            (Further::Nowhere, PortFault::End) => {
+        match (self.further.is_nowhere(), lost.why.fault()) {
+            (true, PortFault::End) => {
                 self.is_closed = true;
                 Ok(())
             }
-            (Further::Nowhere, fault) => Err(fault),
-            _ => {
+            (true, fault) => Err(fault),
+            (false, _) => {
                 self.let_go(lost);
                 Ok(())
             }
@@ -173,77 +158,33 @@ impl<'a> Connections<'a> {
     /// Lets go of a connection whose place is for the next one, and says so.
     fn let_go(&mut self, lost: LostPeer) {
         let is_alone = self.peers.is_alone();
-        let Some(peer) = self.peers.remove(lost.place) else {
-            return;
-        };
-        let why = lost.why;
-        match &mut self.further {
-            Further::Dialler(dialler) => {
-                let pause = dialler.begin(self.clock.latest());
-                let next = format_args!("connecting again in {pause} ms");
-                self.notes
-                    .say(format_args!("connection lost: {why}; {next}"));
-            }
-            Further::Door(door) => {
-                door.retry();
-                if is_alone {
-                    self.notes.say(format_args!("connection lost: {why}; waiting for the next"));
-                } else {
-                    self.notes.say(format_args!("{peer}: {why}"));
-                }
-            }
-            Further::Nowhere => {}
+        if let Some(peer) = self.peers.remove(lost.place) {
+            let now = self.clock.latest();
+            self.further.lose(peer, lost.why, is_alone, now, self.notes);
         }
     }
 
-    /// Accepts the connections that wait, while there is room, or goes on with the one that is being made.
+    /// Adds the further connections that there are, while there is room.
     fn connect_further(&mut self) {
         for _connection in 0..self.peers.most() {
-            if !self.peers.has_room() || !self.connect_one() {
+            if !self.peers.has_room() {
                 return;
             }
-        }
-    }
-
-    /// Accepts a connection that waits, or goes on with the one that is being made. `false` if there is none.
-    fn connect_one(&mut self) -> bool {
-        let now = self.clock.latest();
-        match &mut self.further {
-            Further::Nowhere => false,
-            Further::Door(door) => match door.accept(now) {
-                Ok(Some((stream, peer))) => {
-                    self.greet(stream, peer, "connected by");
-                    true
-                }
-                Ok(None) => false,
-                Err(error) => {
-                    self.notes.say(format_args!(
-                        "no connection can be accepted now: {}",
-                        Reason(&error)
-                    ));
-                    false
-                }
-            },
-            Further::Dialler(dialler) => match dialler.go_on(self.rt, &self.poll, DIALLED, now) {
-                Attempt::Open => false,
-                Attempt::Made(stream) => {
-                    let peer = dialler.address();
-                    self.greet(stream, peer, "connected to");
-                    true
-                }
-                Attempt::Failed(error, pause) => {
-                    self.notes.say(format_args!(
-                        "cannot connect: {}; connecting again in {pause} ms",
-                        Reason(&error)
-                    ));
-                    false
-                }
-            },
+            let now = self.clock.latest();
+            match self.further.next(self.rt, &self.poll, self.notes, now) {
+                Some(coming) => self.greet(coming),
+                None => return,
+            }
         }
     }
 
     /// Adds a further connection, and says so.
-    fn greet(&mut self, stream: TcpStream, peer: SocketAddr, words: &str) {
+    fn greet(&mut self, coming: Coming) {
+        let Coming {
+            stream,
+            peer,
+            words,
+        } = coming;
         match self.add(stream, peer) {
             Ok(()) => self.notes.say(format_args!("{words} {peer}")),
             Err(error) => self.notes.say(format_args!("{peer}: {}", Reason(&error))),
@@ -297,9 +238,19 @@ impl<'a> Connections<'a> {
         Some(next.saturating_sub(now))
     }
 
-    /// What has come of which a wait is to tell.
+    /// Whether a line of input is awaited that can be read.
+    fn has_line(&self, lines: Lines) -> bool {
+        matches!(lines, Lines::Awaited) && self.input.is_ready()
+    }
+
+    /// Whether something is known that ends a wait.
+    fn is_awake(&self, lines: Lines) -> bool {
+        self.has_line(lines) || self.peers.is_ready() || self.is_closed
+    }
+
+    /// What ends a wait, if something is known that does.
     fn woken(&mut self, lines: Lines) -> Option<Woken> {
-        if lines == Lines::Awaited && self.input.is_ready() {
+        if self.has_line(lines) {
             self.input.pass_on();
             Some(Woken::Line)
         } else if self.peers.is_ready() {
@@ -313,16 +264,13 @@ impl<'a> Connections<'a> {
 
     /// Waits.
     fn wait_for(&mut self, until: Option<u64>, lines: Lines) -> io::Result<Woken> {
-        if lines == Lines::Awaited {
+        if matches!(lines, Lines::Awaited) {
             self.input.request(&self.poll, INPUT)?;
         }
         for _sleep in 0..u64::MAX {
             let now = self.clock.now()?;
             self.connect_further();
-            let is_known = self.peers.is_ready()
-                || self.is_closed
-                || lines == Lines::Awaited && self.input.is_ready();
-            let left = if is_known {
+            let left = if self.is_awake(lines) {
                 Some(0)
             } else {
                 self.left(until, now)
@@ -336,27 +284,7 @@ impl<'a> Connections<'a> {
                 return Ok(Woken::Due);
             }
         }
-        Err(io::Error::from(io::ErrorKind::TimedOut))
-    }
-}
-
-impl Further {
-    /// Something was reported of it.
-    fn wake(&mut self) {
-        match self {
-            Further::Nowhere => {}
-            Further::Door(door) => door.wake(),
-            Further::Dialler(dialler) => dialler.wake(),
-        }
-    }
-
-    /// When there is something to be done, in milliseconds. `None` while nothing is.
-    fn next_moment(&self) -> Option<u64> {
-        match self {
-            Further::Nowhere => None,
-            Further::Door(door) => door.next_attempt(),
-            Further::Dialler(dialler) => dialler.next_moment(),
-        }
+        Err(io::Error::from(ErrorKind::TimedOut))
     }
 }
 
@@ -408,9 +336,10 @@ impl Outside for Connections<'_> {
         if self.peers.send(frame) {
             return Ok(Sending::Sent);
         }
-        match self.further {
-            Further::Nowhere => Err(PortFault::Device),
-            Further::Door(_) | Further::Dialler(_) => Ok(Sending::Lost),
+        if self.further.is_nowhere() {
+            Err(PortFault::Device)
+        } else {
+            Ok(Sending::Lost)
         }
     }
 

@@ -4,7 +4,8 @@ ghost use Rattle.std.specs.Prelude.{◌≡◌, ◌<◌, ◌%◌, ◌≤◌, leng
 ghost use Rattle.lapd_port.specs.SocketText.{IsFrameLength};
 
 use arrayvec::ArrayVec;
-use lapd_cli_live::{Impairment, Lines, Outside, Sending, Woken};
+use lapd_cli_live::{Lines, Outside, Sending, Woken};
+use lapd_cli_live_text::Impairment;
 use lapd_port::{MOST_OCTETS, PortFault};
 use lapd_sides::LinkId;
 use rand_core::SeedableRng;
@@ -129,8 +130,9 @@ impl<O: Outside> Outside for Impaired<O> {
             self.send_due()?;
             let next = sooner(until, self.next_moment());
             let woken = self.inner.wait(next, lines)?;
-            if woken != Woken::Due || self.has_come(until)? {
-                return Ok(woken);
+            match woken {
+                Woken::Due if !self.has_come(until)? => {}
+                _ => return Ok(woken),
             }
         }
         Err(PortFault::TooManyTurns)

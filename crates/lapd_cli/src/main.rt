@@ -17,6 +17,7 @@ mod discards;
 mod door;
 mod ending;
 mod frame_stream;
+mod further;
 mod greeting;
 mod impaired;
 mod input;
