@@ -8,8 +8,7 @@ use crate::lost::words_of;
 use crate::reason::{KindReason, Reason};
 use crate::taps::NoTaps;
 use lapd_cli_console::{Script, reason};
-use lapd_cli_live::LiveReason;
-use lapd_cli_options::{Clock, NoInvocation, Side, WordsFault};
+use lapd_cli_options::{Clock, NoInvocation, WordsFault};
 use lapd_cli_script::ScriptFault;
 use std::io::{self, ErrorKind};
 use std::process::ExitCode;
@@ -121,8 +120,8 @@ fn say_fault(rt: &HostRuntime, ending: &Ending<'_>, fault: ScriptFault) {
 // Says why there is no connection.
 fn say_no_connection(rt: &HostRuntime, ending: &Ending<'_>, error: &io::Error) {
     let (what, whom) = match ending.script {
-        Script::Net => ("listen on", ending.address),
-        Script::User => ("connect to", ending.address),
+        Script::Net | Script::LiveNet => ("listen on", ending.address),
+        Script::User | Script::LiveUser => ("connect to", ending.address),
         _ => ("connect to", "itself"),
     };
     say_impossible(rt, what, whom, error);
@@ -146,17 +145,10 @@ fn say_no_taps(rt: &HostRuntime, ending: &Ending<'_>, taps: &NoTaps) {
     }
 }
 
-// Says what is wrong with a line, where it is known.
+// Says what is wrong with a line, if it is known.
 fn say_bad_line(rt: &HostRuntime, ending: &Ending<'_>) {
-    let line = ending.line;
-    if line.is_empty() {
-        return;
-    }
-    if matches!(ending.clock, Clock::Script) {
-        say_reason(rt, ending.script, line);
-    } else {
-        let side = side_of(ending.script);
-        let _ = eprintln!(rt; "{}", LiveReason { side, line });
+    if !ending.line.is_empty() {
+        say_reason(rt, ending.script, ending.line);
     }
 }
 
@@ -169,14 +161,6 @@ fn say_reason(rt: &HostRuntime, script: Script, line: &[u8]) {
         ),
         _ => Ok(()),
     };
-}
-
-// The side whose command this is.
-fn side_of(script: Script) -> Side {
-    match script {
-        Script::User => Side::User,
-        _ => Side::Network,
-    }
 }
 
 // Says which device failed, and how.

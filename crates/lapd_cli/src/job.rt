@@ -27,16 +27,18 @@ pub struct SideSetup<'a> {
     pub lines: LineStyle,
 }
 
-/// The command whose script this is.
-pub fn script_of(job: &Job) -> Script {
-    match job {
-        Job::Answer(_) => Script::Answer,
-        Job::Bus { .. } => Script::Bus,
-        Job::Pair { .. } => Script::Pair,
-        Job::Loop { .. } => Script::Loop,
-        Job::Net(_) => Script::Net,
-        Job::User(_) => Script::User,
-        Job::Decode(_) => Script::Decode,
+/// The command whose script this is, with this clock.
+pub fn script_of(job: &Job, clock: &Clock<'_>) -> Script {
+    match (job, clock) {
+        (Job::Answer(_), _) => Script::Answer,
+        (Job::Bus { .. }, _) => Script::Bus,
+        (Job::Pair { .. }, _) => Script::Pair,
+        (Job::Loop { .. }, _) => Script::Loop,
+        (Job::Net(_), Clock::Script) => Script::Net,
+        (Job::Net(_), Clock::Real(_)) => Script::LiveNet,
+        (Job::User(_), Clock::Script) => Script::User,
+        (Job::User(_), Clock::Real(_)) => Script::LiveUser,
+        (Job::Decode(_), _) => Script::Decode,
     }
 }
 

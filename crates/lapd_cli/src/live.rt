@@ -8,6 +8,7 @@ use crate::job::{SideSetup, config_of};
 use crate::notes::Notes;
 use crate::person::Speaker;
 use crate::taps::Taps;
+use lapd_cli_console::Script;
 use lapd_cli_live::{LiveSide, LiveStop, Printer, Style, Tapped, live_script, live_session};
 use lapd_cli_options::{Interface, LiveOptions};
 use lapd_cli_script::ScriptFault;
@@ -48,7 +49,7 @@ pub fn do_live<R: Read, W: Write>(
         return Err(Stop::Script(ScriptFault::Memory));
     };
     let live = LiveSide::new(rt.alloc(), made, acts, line, printer);
-    serve(rt, &notes, live, script, options.serve).map_err(stop_of)
+    serve(rt, &notes, side, live, script, options.serve).map_err(stop_of)
 }
 
 /// The line to the other side, and where its frames are recorded.
@@ -74,18 +75,27 @@ fn tapped_line<'a>(
 fn serve<R: Read, W: Write>(
     rt: &HostRuntime,
     notes: &Notes<'_>,
+    side: Side,
     live: LiveSide<Line<'_>, &mut W>,
     script: &mut R,
     serve_on: bool,
 ) -> Result<(), LiveStop> {
     let (ended, live) = if rt.stdin().is_terminal() {
-        let mut person = Speaker::new(rt.alloc(), notes);
+        let mut person = Speaker::new(rt.alloc(), lines_of(side), notes);
         live_session(rt.alloc(), live, script, &mut person, serve_on)
     } else {
         live_script(rt.alloc(), live, script, serve_on)
     };
     close(live);
     ended
+}
+
+/// The lines of a side with the real clock.
+fn lines_of(side: Side) -> Script {
+    match side {
+        Side::Network => Script::LiveNet,
+        Side::User => Script::LiveUser,
+    }
 }
 
 /// What was printed before a fault is written all the same. The writer knows what it could not write.

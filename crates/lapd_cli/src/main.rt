@@ -62,7 +62,7 @@ fn do_chosen(rt: &HostRuntime, chosen: &Invocation<'_>) -> ExitCode {
 // Does what the words chose, over standard input and output. At a terminal a bad line is told, and the next one awaited.
 fn do_lines(rt: &HostRuntime, chosen: &Invocation<'_>) -> ExitCode {
     if rt.stdin().is_terminal() && has_forms(chosen) {
-        let script = script_of(&chosen.job);
+        let script = script_of(&chosen.job, &chosen.clock);
         let session = Session::new(rt.alloc(), script, rt.reader(), rt.stderr());
         do_script(rt, chosen, Greeting::new(session, rt.stderr()))
     } else {
@@ -91,7 +91,7 @@ fn do_script<R: Read + Drop>(rt: &HostRuntime, chosen: &Invocation<'_>, reader: 
     let output = watched.fault();
     let refusals = watched.into_inner();
     let ending = Ending {
-        script: script_of(&chosen.job),
+        script: script_of(&chosen.job, &chosen.clock),
         clock: chosen.clock,
         address: chosen.address.unwrap_or(""),
         strict: chosen.strict,

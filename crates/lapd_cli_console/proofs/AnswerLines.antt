@@ -14,7 +14,7 @@ use Rattle.lapd_cli_console.specs.declared.form.Argument.{Argument}
 use Rattle.lapd_cli_console.specs.declared.form.Argument.TheVariants.{Hex, OnOff}
 use Rattle.lapd_cli_console.specs.declared.script.Script.{Script}
 use Rattle.lapd_cli_console.specs.declared.script.Script.TheVariants.{Answer}
-use Rattle.lapd_cli_console.specs.Forms.{Shape, are_said, are_words_of, fits, is_line_of, shape_named}
+use Rattle.lapd_cli_console.specs.Forms.{Shape, are_said, are_words_of, by_arguments, fits, is_line_of, shape_named}
 
 -- ---- No word of a line has a space.
 
@@ -77,7 +77,7 @@ busy_fits s (word ∷ behind) =
 -- ---- The first word.
 
 next_shape : (word text : List ℕ) (arguments : List Argument) (outcome more : Outcome Session) (shapes : Option Shape) (behind : List (List ℕ))
-    → is_some outcome ≡ are_said arguments behind → is_some more ≡ fits shapes behind
+    → is_some outcome ≡ are_said arguments (by_arguments arguments behind) → is_some more ≡ fits shapes behind
     → is_some (cond (bytes_eq word text) outcome more) ≡ fits (cond (bytes_eq word text) (Some (text, arguments)) shapes) behind
 next_shape word text arguments outcome more shapes behind p q =
     let P : Bool → Type 0 = λ b. is_some (cond b outcome more) ≡ fits (cond b (Some (text, arguments)) shapes) behind in

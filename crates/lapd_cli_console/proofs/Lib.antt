@@ -1,2 +1,4 @@
 mod AnswerLines
 mod Shapes
+mod TextWords
+mod TypedLine

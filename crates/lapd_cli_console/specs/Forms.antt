@@ -1,14 +1,15 @@
 -- Which lines are lines of a command by their form.
-use Rattle.std.specs.Prelude.{ℕ, ◌==◌, ◌&&◌, ◌||◌, nat_le, Bool, true, false, List, [], ◌∷◌, ◌++◌, length, codes, if◌then◌else◌, Option, Some, None, is_some, option_and_then, find}
-use Rattle.std.specs.Str.{bytes_eq}
+use Rattle.std.specs.Prelude.{ℕ, ◌-◌, ◌==◌, ◌&&◌, ◌||◌, nat_le, not, Bool, true, false, List, [], ◌∷◌, ◌++◌, length, slice_index, take, codes, if◌then◌else◌, Option, Some, None, is_some, option_and_then, find}
+use Rattle.std.specs.List.{join_with_byte}
+use Rattle.std.specs.Str.{bytes_eq, is_utf8}
 use Rattle.lapd_frame.specs.Address.{sapi_at, number_at}
 use Rattle.lapd_cli_script.specs.Line.{number_said, octets_behind, words_of}
 use Rattle.lapd_cli_script.specs.Script.{is_passed_over}
 use Rattle.lapd_cli_console.specs.declared.form.Argument.{Argument}
-use Rattle.lapd_cli_console.specs.declared.form.Argument.TheVariants.{Hex, Message, Milliseconds, OnOff, Place, Reference, Sapi, Side, Tei, Terminal}
+use Rattle.lapd_cli_console.specs.declared.form.Argument.TheVariants.{Delay, Hex, Loss, Message, Milliseconds, OnOff, OptionalMilliseconds, OptionalSapi, Place, Reference, Sapi, Side, Tei, Terminal, Words}
 use Rattle.lapd_cli_console.specs.declared.form.Form.{Form}
 use Rattle.lapd_cli_console.specs.declared.script.Script.{Script}
-use Rattle.lapd_cli_console.specs.declared.script.Script.TheVariants.{Answer, Bus, Decode, Loop, Net, Pair, User}
+use Rattle.lapd_cli_console.specs.declared.script.Script.TheVariants.{Answer, Bus, Decode, LiveNet, LiveUser, Loop, Net, Pair, User}
 
 -- the first word of a line, and what the words behind it are
 abbrev pub Shape : Type 0
@@ -42,6 +43,30 @@ side_shapes =
     ∷ (codes "release", Sapi ∷ Tei ∷ []) ∷ (codes "give", Sapi ∷ Tei ∷ Hex ∷ [])
     ∷ (codes "unit", Sapi ∷ Tei ∷ Hex ∷ []) ∷ []
 
+-- the lines by which both wait, with the real clock
+abbrev pub waiting_shapes : List Shape
+waiting_shapes =
+    (codes "read", OptionalMilliseconds ∷ []) ∷ (codes "run", OptionalMilliseconds ∷ [])
+    ∷ (codes "wait", Milliseconds ∷ []) ∷ (codes "expect", Words ∷ Milliseconds ∷ []) ∷ []
+
+-- the lines of `net` with the real clock
+abbrev pub live_net_shapes : List Shape
+live_net_shapes = waiting_shapes ++
+    (codes "establish", Sapi ∷ Tei ∷ []) ∷ (codes "release", Sapi ∷ Tei ∷ [])
+    ∷ (codes "give", Sapi ∷ Tei ∷ Hex ∷ []) ∷ (codes "unit", Sapi ∷ Tei ∷ Hex ∷ [])
+    ∷ (codes "busy", Sapi ∷ Tei ∷ OnOff ∷ []) ∷ (codes "check", Tei ∷ [])
+    ∷ (codes "state", OptionalSapi ∷ Tei ∷ []) ∷ (codes "stats", [])
+    ∷ (codes "impair", Loss ∷ Delay ∷ []) ∷ []
+
+-- and those of `user`, which name no TEI: its links have the terminal's own
+abbrev pub live_user_shapes : List Shape
+live_user_shapes = waiting_shapes ++
+    (codes "establish", Sapi ∷ []) ∷ (codes "release", Sapi ∷ [])
+    ∷ (codes "give", Sapi ∷ Hex ∷ []) ∷ (codes "unit", Sapi ∷ Hex ∷ [])
+    ∷ (codes "busy", Sapi ∷ OnOff ∷ []) ∷ (codes "ask", [])
+    ∷ (codes "state", OptionalSapi ∷ []) ∷ (codes "stats", [])
+    ∷ (codes "impair", Loss ∷ Delay ∷ []) ∷ []
+
 abbrev pub bus_shapes : List Shape
 bus_shapes =
     (codes "ask", Terminal ∷ Reference ∷ []) ∷ (codes "t202", Terminal ∷ Reference ∷ [])
@@ -54,6 +79,8 @@ abbrev pub shapes_of : Script → List Shape
 shapes_of Answer = answer_shapes
 shapes_of Bus = bus_shapes
 shapes_of Decode = (codes "user", Hex ∷ []) ∷ (codes "net", Hex ∷ []) ∷ []
+shapes_of LiveNet = live_net_shapes
+shapes_of LiveUser = live_user_shapes
 shapes_of Loop = loop_shapes
 shapes_of Net = side_shapes ++ (codes "check", Tei ∷ []) ∷ []
 shapes_of Pair = loop_shapes ++ (codes "settle", []) ∷ []
@@ -83,36 +110,104 @@ is_span ms = nat_le 1 ms && nat_le ms 3600000
 abbrev pub span_at : ℕ → Option ℕ
 span_at ms = if is_span ms then Some ms else None
 
+-- 0 to 100 per cent, in digits that may have a `%` behind them
+abbrev pub without_percent : List ℕ → List ℕ
+without_percent word = if slice_index word (length word - 1) == 37
+    then take (length word - 1) word else word
+
+abbrev pub percent_at : ℕ → Option ℕ
+percent_at n = if nat_le n 100 then Some n else None
+
+abbrev pub loss_said : List ℕ → Option ℕ
+loss_said word = option_and_then percent_at (number_said (without_percent word))
+
+-- by how many milliseconds frames are delayed
+abbrev pub delay_at : ℕ → Option ℕ
+delay_at ms = if nat_le ms 3600000 then Some ms else None
+
+-- text of one octet at least
+abbrev pub is_text : List ℕ → Bool
+is_text octets = not (length octets == 0) && is_utf8 octets
+
 -- a word is what this argument has to be
 abbrev pub is_said : Argument → List ℕ → Bool
+is_said Delay word = is_some (option_and_then delay_at (number_said word))
 is_said Hex word = is_some (octets_said word)
+is_said Loss word = is_some (loss_said word)
 is_said Message word = is_some (number_said word)
 is_said Milliseconds word = is_some (option_and_then span_at (number_said word))
 is_said OnOff word = bytes_eq word (codes "on") || bytes_eq word (codes "off")
+is_said OptionalMilliseconds word = is_some (option_and_then span_at (number_said word))
+is_said OptionalSapi word = is_some (option_and_then sapi_at (octet_said word))
 is_said Place word = is_some (number_said word)
 is_said Reference word = (length word == 4) && is_some (octets_said word)
 is_said Sapi word = is_some (option_and_then sapi_at (octet_said word))
 is_said Side word = bytes_eq word (codes "user") || bytes_eq word (codes "net")
 is_said Tei word = is_some (option_and_then number_at (octet_said word))
 is_said Terminal word = is_some (number_said word)
+is_said Words word = is_text word
 
 -- ---- The words of a line.
 
--- the word of this argument may be left out
+-- octets in hexadecimal digits
+abbrev pub is_hex : Argument → Bool
+is_hex Hex = true
+is_hex argument = false
+
+-- a square bracket shows that the word of this argument may be left out
+abbrev pub has_bracket : Argument → Bool
+has_bracket Delay = true
+has_bracket OptionalMilliseconds = true
+has_bracket OptionalSapi = true
+has_bracket argument = false
+
+-- the word of this argument may be left out, with all words behind it
 abbrev pub is_left_out : Argument → Bool
 is_left_out Hex = true
-is_left_out argument = false
+is_left_out argument = has_bracket argument
 
 -- these words say what the arguments have to be, in order, and none is left
 abbrev pub are_said : List Argument → List (List ℕ) → Bool
 are_said [] [] = true
 are_said [] (word ∷ words) = false
-are_said (argument ∷ arguments) [] = is_left_out argument && are_said arguments []
+are_said (argument ∷ arguments) [] = is_left_out argument
 are_said (argument ∷ arguments) (word ∷ words) = is_said argument word && are_said arguments words
+
+-- the words up to the last one, and the last one
+abbrev pub words_before : List ℕ → List (List ℕ) → List (List ℕ)
+words_before word [] = []
+words_before word (next ∷ words) = word ∷ words_before next words
+
+abbrev pub last_word : List ℕ → List (List ℕ) → List ℕ
+last_word word [] = word
+last_word word (next ∷ words) = last_word next words
+
+-- two words: all words up to the last one as one, with the spaces between them, and the last one; or a word that is alone
+abbrev pub text_and_last_of : List ℕ → List (List ℕ) → List (List ℕ)
+text_and_last_of word [] = word ∷ []
+text_and_last_of word (next ∷ words) = join_with_byte 32 (words_before word (next ∷ words))
+    ∷ last_word word (next ∷ words) ∷ []
+
+abbrev pub text_and_last : List (List ℕ) → List (List ℕ)
+text_and_last [] = []
+text_and_last (word ∷ words) = text_and_last_of word words
+
+-- the arguments begin with WORDS..
+abbrev pub is_words : Argument → Bool
+is_words Words = true
+is_words argument = false
+
+abbrev pub begin_with_words : List Argument → Bool
+begin_with_words [] = false
+begin_with_words (argument ∷ arguments) = is_words argument
+
+-- the words of a line by the arguments of its form: for WORDS.. all up to the last one count as one
+abbrev pub by_arguments : List Argument → List (List ℕ) → List (List ℕ)
+by_arguments arguments words = if begin_with_words arguments then text_and_last words else words
 
 abbrev pub fits : Option Shape → List (List ℕ) → Bool
 fits None behind = false
-fits (Some shape) behind = are_said shape.1 behind
+fits (Some shape) behind = are_said shape.1 (by_arguments shape.1 behind)
 
 -- these are the words of a line of the command
 abbrev pub are_words_of : Script → List (List ℕ) → Bool

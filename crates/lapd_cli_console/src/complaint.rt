@@ -1,12 +1,12 @@
-//! What is wrong with a line by its form.
+//! Complaints about the form of a line.
 
 use crate::form::{Argument, Form, Forms};
-use crate::line_forms::forms;
+use crate::line_forms::{form_of, forms};
 use crate::script::Script;
 use crate::shown::Shown;
 use std::fmt;
 
-/// What is wrong with a line by its form.
+/// A complaint about the form of a line.
 #[derive(Clone, Copy)]
 pub(crate) enum Complaint<'a> {
     /// Not all of its octets are UTF-8.
@@ -21,17 +21,17 @@ pub(crate) enum Complaint<'a> {
     SpaceAtEnd,
     /// Two spaces follow each other.
     TwoSpaces,
-    /// Its first word begins no line of this command.
+    /// No line of this command begins with this word.
     NoLine(Script, &'a [u8]),
-    /// It has this form, and the word of this argument is left out.
+    /// The word of this argument is missing.
     Missing(Form, Argument),
-    /// It has this form, and this word is not what the argument has to be.
+    /// This word is not a valid value of the argument.
     OutOfRange(Form, Argument, &'a [u8]),
-    /// It has this form, and this octet is no hexadecimal digit.
+    /// This octet is not a hexadecimal digit.
     NoDigit(Form, u8),
-    /// It has this form, and half an octet is left over.
+    /// The number of hexadecimal digits is odd.
     OddDigits(Form),
-    /// It has this form, and this word stands behind.
+    /// This word follows a line that is whole without it.
     Behind(Form, &'a [u8]),
 }
 
@@ -58,18 +58,35 @@ impl fmt::Display for Complaint<'_> {
     }
 }
 
-/// Says which words begin a line of this command, as this one does not.
+/// Says that no line of this command begins with this word: the word needs the other clock, or the command has other lines.
 fn put_no_line<W: fmt::Write>(
     script: Script,
     word: &[u8],
     f: &mut fmt::Formatter<W>,
 ) -> fmt::Result {
-    let word = Shown(word);
+    let shown = Shown(word);
+    if needs_real_clock(script, word) {
+        return write!(f, "{shown} needs --clock real");
+    }
+    if script.has_real_clock() && word == b"tick".as_slice() {
+        return write!(f, "{shown} {PASSES}");
+    }
     let lines = Forms(forms(script));
-    write!(f, "{word} is no line of {script}; its lines are: {lines}")
+    write!(f, "{shown} is no line of {script}; its lines are: {lines}")
 }
 
-/// Says what the argument has to be, as this word is not.
+/// Why the real clock has no `tick`.
+const PASSES: &str = "is a line of the script's clock; with --clock real time passes by itself";
+
+/// Whether only the same command with the real clock has lines that begin with this word.
+fn needs_real_clock(script: Script, word: &[u8]) -> bool {
+    match script.with_real_clock() {
+        Some(script) => form_of(script, word).is_some(),
+        None => false,
+    }
+}
+
+/// Says which values the argument has, and that this word is not one.
 fn put_out_of_range<W: fmt::Write>(
     form: &Form,
     argument: Argument,
@@ -81,7 +98,7 @@ fn put_out_of_range<W: fmt::Write>(
     write!(f, "{form}: {argument} is {range}, not {word}")
 }
 
-/// Says which octet is no hexadecimal digit.
+/// Says which octet is not a hexadecimal digit.
 fn put_no_digit<W: fmt::Write>(form: &Form, octet: u8, f: &mut fmt::Formatter<W>) -> fmt::Result {
     write!(
         f,
@@ -90,7 +107,7 @@ fn put_no_digit<W: fmt::Write>(form: &Form, octet: u8, f: &mut fmt::Formatter<W>
     )
 }
 
-/// Says which word stands behind a line that is whole without it.
+/// Says which word follows a line that is whole without it.
 fn put_behind<W: fmt::Write>(form: &Form, word: &[u8], f: &mut fmt::Formatter<W>) -> fmt::Result {
     let word = Shown(word);
     write!(f, "{form}: nothing may stand behind it, and {word} does")

@@ -1,18 +1,26 @@
-//! The form of a line: its first word and what stands behind it.
+//! The form of a line: its first word and the words behind it.
 
 use std::fmt;
 
-/// What a word behind the first word of a line says.
+/// The meaning of a word behind the first word of a line.
 #[derive(Clone, Copy)]
 pub enum Argument {
+    /// By how many milliseconds each frame that is sent is delayed, 0 to 3,600,000. It may be left out.
+    Delay,
     /// Octets in hexadecimal digits, which end the line. For no octets the word is left out.
     Hex,
+    /// The chance that a frame that is sent is lost, 0 to 100 per cent, with or without a `%`.
+    Loss,
     /// The place of a message among those on their way.
     Message,
-    /// By how many milliseconds the clock goes on, 1 to 3,600,000.
+    /// A time in milliseconds, 1 to 3,600,000.
     Milliseconds,
     /// `on` or `off`.
     OnOff,
+    /// A time in milliseconds, 1 to 3,600,000, which may be left out.
+    OptionalMilliseconds,
+    /// A SAPI: 0, 16 or 63. It may be left out with all that stands behind it.
+    OptionalSapi,
     /// The place of a frame among those on their way.
     Place,
     /// A reference of TEI management, four hexadecimal digits.
@@ -25,48 +33,82 @@ pub enum Argument {
     Tei,
     /// The number of a terminal.
     Terminal,
+    /// All words up to the last one, with the spaces between them: text of an octet at least.
+    Words,
 }
 
 impl Argument {
     ghost use Rattle.std.specs.Prelude.{◌≡◌};
-    ghost use Rattle.lapd_cli_console.specs.Forms.{is_left_out};
+    ghost use Rattle.lapd_cli_console.specs.Forms.{has_bracket, is_hex, is_left_out, is_words};
 
-    /// The name that stands for the word in a form.
+    /// The name of the argument in a form.
     pub fn name(self) -> &'static str {
         match self {
+            Argument::Delay => "DELAY MS",
             Argument::Hex => "HEX",
+            Argument::Loss => "LOSS%",
             Argument::Message => "I",
-            Argument::Milliseconds => "MS",
+            Argument::Milliseconds | Argument::OptionalMilliseconds => "MS",
             Argument::OnOff => "on|off",
             Argument::Place => "N",
             Argument::Reference => "RI",
-            Argument::Sapi => "SAPI",
+            Argument::Sapi | Argument::OptionalSapi => "SAPI",
             Argument::Side => "SIDE",
             Argument::Tei => "TEI",
             Argument::Terminal => "T",
+            Argument::Words => "WORDS..",
         }
     }
 
-    /// Whether the word may be left out.
+    /// Whether the word may be left out, with all words behind it.
     pub fn may_be_left_out(self) -> bool
         ensures { result ≡ is_left_out self }
+    {
+        matches!(self, Argument::Hex) || self.has_bracket()
+    }
+
+    /// Whether a square bracket shows in a form that the word may be left out.
+    fn has_bracket(self) -> bool
+        ensures { result ≡ has_bracket self }
+    {
+        matches!(
+            self,
+            Argument::Delay | Argument::OptionalMilliseconds | Argument::OptionalSapi
+        )
+    }
+
+    /// Whether the argument is octets in hexadecimal digits.
+    pub(crate) fn is_hex(self) -> bool
+        ensures { result ≡ is_hex self }
     {
         matches!(self, Argument::Hex)
     }
 
-    /// What the word has to be.
+    /// Whether the argument is all words up to the last one.
+    pub(crate) fn is_words(self) -> bool
+        ensures { result ≡ is_words self }
+    {
+        matches!(self, Argument::Words)
+    }
+
+    /// The values of the word, in words.
     pub fn range(self) -> &'static str {
         match self {
+            Argument::Delay => "a number from 0 to 3,600,000",
             Argument::Hex => "octets in hexadecimal digits",
+            Argument::Loss => "a number from 0 to 100",
             Argument::Message | Argument::Place | Argument::Terminal => {
                 "a number below 2^64 in decimal digits"
             }
-            Argument::Milliseconds => "a number from 1 to 3,600,000",
+            Argument::Milliseconds | Argument::OptionalMilliseconds => {
+                "a number from 1 to 3,600,000"
+            }
             Argument::OnOff => "'on' or 'off'",
             Argument::Reference => "four hexadecimal digits",
-            Argument::Sapi => "0, 16 or 63",
+            Argument::Sapi | Argument::OptionalSapi => "0, 16 or 63",
             Argument::Side => "'user' or 'net'",
             Argument::Tei => "a number from 0 to 127",
+            Argument::Words => "text",
         }
     }
 }
@@ -77,23 +119,29 @@ impl fmt::Display for Argument {
     }
 }
 
-/// The form of a line, as `give SIDE HEX`. Single spaces part its words.
+/// The form of a line, as `give SIDE HEX` or `state [SAPI TEI]`. Single spaces part its words. Square brackets hold words that may be
+/// left out, all of them.
 #[derive(Clone, Copy)]
 pub struct Form {
     /// The first word.
     pub word: &'static str,
-    /// What stands behind it, in order.
+    /// The words behind it, in order.
     pub arguments: &'static [Argument],
 }
 
 impl fmt::Display for Form {
     fn fmt<W: fmt::Write>(&self, f: &mut fmt::Formatter<W>) -> fmt::Result {
         f.write_str(self.word)?;
+        let mut end = "";
         for argument in self.arguments {
             f.write_str(" ")?;
+            if argument.has_bracket() {
+                f.write_str("[")?;
+                end = "]";
+            }
             f.write_str(argument.name())?;
         }
-        Ok(())
+        f.write_str(end)
     }
 }
 

@@ -1,32 +1,35 @@
-//! Why a line is none of its command's.
+//! Why a line is not a line of its command.
 
-ghost use Rattle.std.specs.Prelude.{◌≡◌, [], is_none, option_map, is_some, IfOk};
-ghost use Rattle.std.specs.List.{find};
-ghost use Rattle.std.specs.Str.{bytes_eq};
-ghost use Rattle.lapd_cli_script.specs.Line.{words_of};
+ghost use Rattle.std.specs.Prelude.{◌≡◌, ◌∷◌, [], drop, is_none, is_some, IfOk};
+ghost use Rattle.std.specs.Str.{is_utf8 as utf8_told};
+ghost use Rattle.lapd_cli_script.specs.Line.{HasNoSpace, words_of};
 ghost use Rattle.lapd_cli_script.specs.Script.{is_passed_over as passed_over, outcome_of};
 ghost use Rattle.lapd_cli_commands.specs.Answer.{Session, answer_step};
-ghost use Rattle.lapd_cli_console.specs.Forms.{are_said, are_words_of, shape_named, shape_of, is_line_of, is_said, octet_said, octets_said};
+ghost use Rattle.lapd_cli_console.specs.Forms.{are_said, are_words_of, begin_with_words as arguments_begin_with_words, by_arguments, is_line_of, is_said, octet_said, octets_said, text_and_last, without_percent as digits_of_percent};
 
 use crate::complaint::Complaint;
+use crate::cuts::{behind_first_word, cut_at_last_space};
 use crate::form::{Argument, Form};
-use crate::line_forms::forms;
+use crate::line_forms::form_of;
 use crate::script::Script;
 use lapd_cli_script::{LineFault, Words, number_of};
 use lapd_frame::{Sapi, Tei};
 use memchr::memmem;
 use std::alloc::{AllocError, Global};
 
-/// By how many milliseconds `tick` moves the clock on at most.
+/// The longest time that a line names, in milliseconds: an hour.
 const MOST_MS: u64 = 3_600_000;
 
-/// What is wrong with a line of a command's script by its form, in one line of text without a line feed. The line comes
-/// without its line feed. `None` where nothing is wrong with it, and where a script's line is passed over. A `tick` that
-/// takes the clock of `net` or `user` past its end is right by its form.
+/// The greatest loss, in per cent.
+const MOST_LOSS: u64 = 100;
+
+/// Returns what is wrong with a line of a command by its form, as one line of text without a line feed. The line has no line feed
+/// either. Returns `None` if the form is right, and for empty lines and comments. A `tick` that takes the clock of `net` or `user` past
+/// its end is right by its form.
 ///
 /// # Errors
 ///
-/// `AllocError` where memory was refused.
+/// `AllocError` if an allocation fails.
 pub fn reason(alloc: Global, script: Script, line: &[u8]) -> Result<Option<String>, AllocError>
     ensures form { IfOk result (λ reason. is_none reason ≡ is_line_of script line.now) }
     ensures answer { IfOk result (λ reason. script ≡ Script.Answer → (s : Session)
@@ -38,11 +41,11 @@ pub fn reason(alloc: Global, script: Script, line: &[u8]) -> Result<Option<Strin
     }
 }
 
-/// What is wrong with a line by its form.
+/// Finds what is wrong with a line by its form.
 ///
 /// # Errors
 ///
-/// `AllocError` where memory was refused.
+/// `AllocError` if an allocation fails.
 fn complaint<'a>(
     alloc: Global,
     script: Script,
@@ -66,11 +69,11 @@ fn is_passed_over(line: &[u8]) -> bool
     matches!(line, [] | [b'#', ..])
 }
 
-/// What is wrong with the words of a line.
+/// Finds what is wrong with the words of a line.
 ///
 /// # Errors
 ///
-/// `AllocError` where memory was refused.
+/// `AllocError` if an allocation fails.
 fn of_words<'a>(
     alloc: Global,
     script: Script,
@@ -84,12 +87,43 @@ fn of_words<'a>(
         return Ok(Some(Complaint::NoLine(script, &[])));
     };
     match form_of(script, word) {
-        Some(form) => of_arguments(alloc, form, words),
+        Some(form) => of_behind(alloc, form, line, words),
         None => Ok(Some(Complaint::NoLine(script, word))),
     }
 }
 
-/// What is wrong with the octets of a line, whatever its words are.
+/// Finds what is wrong with the words behind the first one, which `behind` holds. Its form begins with that word.
+///
+/// # Errors
+///
+/// `AllocError` if an allocation fails.
+fn of_behind<'a>(
+    alloc: Global,
+    form: Form,
+    line: &'a [u8],
+    behind: Words<'a>,
+) -> Result<Option<Complaint<'a>>, AllocError>
+    ensures { behind.entry ≡ drop 1 (words_of line.now) → IfOk result (λ complaint. is_none complaint
+        ≡ are_said form.arguments.now (by_arguments form.arguments.now behind.entry)) }
+{
+    if begin_with_words(form.arguments) {
+        of_text(alloc, form, line)
+    } else {
+        of_arguments(alloc, form, form.arguments, behind)
+    }
+}
+
+/// Whether the first argument is WORDS..
+fn begin_with_words(arguments: &[Argument]) -> bool
+    ensures { result ≡ arguments_begin_with_words arguments.now }
+{
+    match arguments {
+        [argument, ..] => argument.is_words(),
+        [] => false,
+    }
+}
+
+/// Finds what is wrong with the octets of a line, whatever its words are.
 fn of_spacing<'a>(line: &'a [u8]) -> Option<Complaint<'a>> {
     if str::from_utf8(line).is_err() {
         Some(Complaint::NotUtf8)
@@ -108,43 +142,105 @@ fn of_spacing<'a>(line: &'a [u8]) -> Option<Complaint<'a>> {
     }
 }
 
-/// The form of a command's lines that begin with this word.
-fn form_of(script: Script, word: &[u8]) -> Option<Form>
-    ensures { option_map shape_of result ≡ shape_named script word.now }
-{
-    form_among(forms(script), word)
-}
-
-/// The first of these forms that begins with this word.
-fn form_among(forms: &[Form], word: &[u8]) -> Option<Form>
-    ensures { result ≡ find (λ form. bytes_eq word.now form.word.now) forms.now }
-{
-    forms
-        .iter()
-        .copied()
-        .find(|form| word == form.word.as_bytes())
-}
-
-/// What is wrong with the words behind the first word of this form.
+/// Finds what is wrong with a line whose words up to the last one count as one, as WORDS.. of its form.
 ///
 /// # Errors
 ///
-/// `AllocError` where memory was refused.
+/// `AllocError` if an allocation fails.
+fn of_text<'a>(
+    alloc: Global,
+    form: Form,
+    line: &'a [u8],
+) -> Result<Option<Complaint<'a>>, AllocError>
+    ensures { IfOk result (λ complaint. is_none complaint
+        ≡ are_said form.arguments.now (text_and_last (drop 1 (words_of line.now)))) }
+{
+    match behind_first_word(line) {
+        Some(behind) => of_text_behind(alloc, form, behind),
+        None => Ok(of_missing(form, form.arguments)),
+    }
+}
+
+/// Finds what is wrong with the words behind the first one of such a line.
+///
+/// # Errors
+///
+/// `AllocError` if an allocation fails.
+#[tactic(auto, using(crate::proofs::TextWords::text_cut, crate::proofs::TextWords::text_whole))]
+fn of_text_behind<'a>(
+    alloc: Global,
+    form: Form,
+    behind: &'a [u8],
+) -> Result<Option<Complaint<'a>>, AllocError>
+    ensures { IfOk result (λ complaint. is_none complaint
+        ≡ are_said form.arguments.now (text_and_last (words_of behind.now))) }
+{
+    match cut_at_last_space(behind) {
+        Some((text, last)) => of_text_and_last(alloc, form, text, last),
+        None => of_arguments(alloc, form, form.arguments, Words::of(behind)),
+    }
+}
+
+/// Finds what is wrong with a text and the one word behind it.
+///
+/// # Errors
+///
+/// `AllocError` if an allocation fails.
+fn of_text_and_last<'a>(
+    alloc: Global,
+    form: Form,
+    text: &'a [u8],
+    last: &'a [u8],
+) -> Result<Option<Complaint<'a>>, AllocError>
+    ensures { HasNoSpace last.now → IfOk result (λ complaint. is_none complaint
+        ≡ are_said form.arguments.now (text.now ∷ last.now ∷ [])) }
+{
+    let Some((argument, rest)) = form.arguments.split_first() else {
+        return Ok(Some(Complaint::Behind(form, text)));
+    };
+    match of_argument(alloc, form, *argument, text)? {
+        None => of_last(alloc, form, rest, last),
+        complaint => Ok(complaint),
+    }
+}
+
+/// Finds what is wrong if one word is left for these arguments of this form.
+///
+/// # Errors
+///
+/// `AllocError` if an allocation fails.
+fn of_last<'a>(
+    alloc: Global,
+    form: Form,
+    arguments: &[Argument],
+    word: &'a [u8],
+) -> Result<Option<Complaint<'a>>, AllocError>
+    ensures { HasNoSpace word.now → IfOk result (λ complaint. is_none complaint
+        ≡ are_said arguments.now (word.now ∷ [])) }
+{
+    of_arguments(alloc, form, arguments, Words::of(word))
+}
+
+/// Finds what is wrong with the words that are left for these arguments of this form.
+///
+/// # Errors
+///
+/// `AllocError` if an allocation fails.
 fn of_arguments<'a>(
     alloc: Global,
     form: Form,
+    arguments: &[Argument],
     mut words: Words<'a>,
 ) -> Result<Option<Complaint<'a>>, AllocError>
-    ensures { IfOk result (λ complaint. is_none complaint
-        ≡ are_said form.arguments.now words.entry) }
+    ensures { IfOk result (λ complaint. is_none complaint ≡ are_said arguments.now words.entry) }
 {
-    let mut left = form.arguments;
+    let mut left = arguments;
     while let [argument, rest @ ..] = left {
         let Some(word) = words.next_word() else {
             return Ok(of_missing(form, left));
         };
-        if !is_in_range(alloc, *argument, word)? {
-            return Ok(Some(of_word(form, *argument, word)));
+        if let Some(complaint) = of_argument(alloc, form, *argument, word)? {
+            return Ok(Some(complaint));
         }
         left = rest;
     }
@@ -154,39 +250,64 @@ fn of_arguments<'a>(
     }
 }
 
-/// What is wrong where no words are left for these arguments.
+/// Finds what is wrong if no words are left for these arguments.
 fn of_missing<'a>(form: Form, arguments: &[Argument]) -> Option<Complaint<'a>>
     ensures { is_none result ≡ are_said arguments.now [] }
 {
-    let mut left = arguments;
-    while let [argument, rest @ ..] = left {
-        if !argument.may_be_left_out() {
-            return Some(Complaint::Missing(form, *argument));
-        }
-        left = rest;
+    match arguments {
+        [argument, ..] if !argument.may_be_left_out() => Some(Complaint::Missing(form, *argument)),
+        _ => None,
     }
-    None
 }
 
-/// Whether a word is what this argument has to be.
+/// Finds what is wrong with the word of this argument.
 ///
 /// # Errors
 ///
-/// `AllocError` where memory was refused.
+/// `AllocError` if an allocation fails.
+fn of_argument<'a>(
+    alloc: Global,
+    form: Form,
+    argument: Argument,
+    word: &'a [u8],
+) -> Result<Option<Complaint<'a>>, AllocError>
+    ensures { IfOk result (λ complaint. is_none complaint ≡ is_said argument word.now) }
+{
+    if is_in_range(alloc, argument, word)? {
+        Ok(None)
+    } else {
+        Ok(Some(of_word(form, argument, word)))
+    }
+}
+
+/// Whether a word is a valid value of this argument.
+///
+/// # Errors
+///
+/// `AllocError` if an allocation fails.
 fn is_in_range(alloc: Global, argument: Argument, word: &[u8]) -> Result<bool, AllocError>
     ensures { IfOk result (λ is. is ≡ is_said argument word.now) }
 {
     match argument {
+        Argument::Delay => Ok(number_of(word).is_some_and(|ms| ms <= MOST_MS)),
         Argument::Hex => are_octets(alloc, word),
+        Argument::Loss => {
+            Ok(number_of(without_percent(word)).is_some_and(|loss| loss <= MOST_LOSS))
+        }
         Argument::Message | Argument::Place | Argument::Terminal => {
             Ok(number_of(word).is_some())
         }
-        Argument::Milliseconds => Ok(number_of(word).is_some_and(|ms| 1 <= ms && ms <= MOST_MS)),
+        Argument::Milliseconds | Argument::OptionalMilliseconds => {
+            Ok(number_of(word).is_some_and(|ms| 1 <= ms && ms <= MOST_MS))
+        }
         Argument::OnOff => Ok(matches!(word, b"on" | b"off")),
         Argument::Reference => Ok(word.len() == 4 && are_octets(alloc, word)?),
-        Argument::Sapi => Ok(octet_of(word).is_some_and(|sapi| Sapi::new(sapi).is_some())),
+        Argument::Sapi | Argument::OptionalSapi => {
+            Ok(octet_of(word).is_some_and(|sapi| Sapi::new(sapi).is_some()))
+        }
         Argument::Side => Ok(matches!(word, b"user" | b"net")),
         Argument::Tei => Ok(octet_of(word).is_some_and(|tei| Tei::new(tei).is_some())),
+        Argument::Words => Ok(!word.is_empty() && is_utf8(word)),
     }
 }
 
@@ -194,7 +315,7 @@ fn is_in_range(alloc: Global, argument: Argument, word: &[u8]) -> Result<bool, A
 ///
 /// # Errors
 ///
-/// `AllocError` where memory was refused.
+/// `AllocError` if an allocation fails.
 fn are_octets(alloc: Global, word: &[u8]) -> Result<bool, AllocError>
     ensures { IfOk result (λ are. are ≡ is_some (octets_said word.now)) }
 {
@@ -205,6 +326,16 @@ fn are_octets(alloc: Global, word: &[u8]) -> Result<bool, AllocError>
     }
 }
 
+/// A word without the `%` at its end.
+fn without_percent(word: &[u8]) -> &[u8]
+    ensures { result.now ≡ digits_of_percent word.now }
+{
+    match word {
+        [digits @ .., b'%'] => digits,
+        digits => digits,
+    }
+}
+
 /// The number below 256 that a word writes in decimal digits.
 fn octet_of(word: &[u8]) -> Option<u8>
     ensures { result ≡ octet_said word.now }
@@ -212,7 +343,7 @@ fn octet_of(word: &[u8]) -> Option<u8>
     u8::try_from(number_of(word)?).ok()
 }
 
-/// What is wrong with a word that is not what this argument has to be.
+/// The complaint about a word that is not a valid value of this argument.
 fn of_word<'a>(form: Form, argument: Argument, word: &'a [u8]) -> Complaint<'a> {
     if argument != Argument::Hex {
         return Complaint::OutOfRange(form, argument, word);
@@ -223,4 +354,15 @@ fn of_word<'a>(form: Form, argument: Argument, word: &'a [u8]) -> Complaint<'a> 
         }
     }
     Complaint::OddDigits(form)
+}
+
+/// Whether octets are UTF-8.
+#[tactic(auto, using(crate::proofs::TextWords::are_utf8, crate::proofs::TextWords::not_utf8))]
+fn is_utf8(octets: &[u8]) -> bool
+    ensures { result ≡ utf8_told octets.now }
+{
+    match str::from_utf8(octets) {
+        Ok(_) => true,
+        Err(_) => false,
+    }
 }

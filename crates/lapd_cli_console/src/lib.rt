@@ -3,11 +3,14 @@
 //! [`reason`] says in one line of text what is wrong with a line of a command's script, and [`forms`] which lines a command
 //! has. [`KeptLines`] reads a script and keeps the lines that were read last, so that the line of a number can be shown.
 //! [`Watched`] is a writer that remembers how a write failed, and [`Refusals`] one that notes the first line that begins
-//! with `refused`. [`Session`] reads lines that are typed, and hands on those that are right by their form.
+//! with `refused`. [`Session`] reads lines that are typed, and hands on those that are right by their form; [`tidied`] is a typed
+//! line as it is meant. The lines with the real clock are those of [`Script::LiveNet`] and [`Script::LiveUser`].
 #![tactic(auto)]
 
 mod complaint;
+mod cuts;
 mod form;
+mod help;
 mod judge;
 mod kept_lines;
 mod line_forms;
@@ -15,13 +18,16 @@ mod refusals;
 mod script;
 mod session;
 mod shown;
+mod typed_line;
 mod watched;
 
 pub use form::{Argument, Form};
+pub use help::put_help;
 pub use judge::reason;
 pub use kept_lines::KeptLines;
 pub use line_forms::forms;
 pub use refusals::Refusals;
 pub use script::Script;
 pub use session::Session;
+pub use typed_line::tidied;
 pub use watched::Watched;

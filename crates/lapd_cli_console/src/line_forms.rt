@@ -1,16 +1,19 @@
 //! The forms of each command's lines.
 
-ghost use Rattle.std.specs.Prelude.{◌≡◌, map};
-ghost use Rattle.lapd_cli_console.specs.Forms.{shape_of, shapes_of};
+ghost use Rattle.std.specs.Prelude.{◌≡◌, map, option_map};
+ghost use Rattle.std.specs.List.{find};
+ghost use Rattle.std.specs.Str.{bytes_eq};
+ghost use Rattle.lapd_cli_console.specs.Forms.{shape_named, shape_of, shapes_of};
 
 use crate::form::Argument::{
-    Hex, Message, Milliseconds, OnOff, Place, Reference, Sapi, Side, Tei, Terminal,
+    Delay, Hex, Loss, Message, Milliseconds, OnOff, OptionalMilliseconds, OptionalSapi, Place,
+    Reference, Sapi, Side, Tei, Terminal, Words,
 };
 use crate::form::Form;
 use crate::script::Script;
 
-/// The forms of a command's lines. A line of any of them is a line of the command, and no other is, but for those that are
-/// passed over. A form of `net` and `user` may still ask for what its clock can't do.
+/// The forms of a command's lines. A line is a line of the command exactly if it has one of these forms, is empty or is a comment.
+/// A `tick` of `net` or `user` may still take the clock past its end.
 pub fn forms(script: Script) -> &'static [Form]
     ensures { map shape_of result.now ≡ shapes_of script }
 {
@@ -18,11 +21,30 @@ pub fn forms(script: Script) -> &'static [Form]
         Script::Answer => ANSWER,
         Script::Bus => BUS,
         Script::Decode => DECODE,
+        Script::LiveNet => LIVE_NET,
+        Script::LiveUser => LIVE_USER,
         Script::Loop => LOOP,
         Script::Net => NET,
         Script::Pair => PAIR,
         Script::User => USER,
     }
+}
+
+/// The form of a command's lines that begin with this word.
+pub(crate) fn form_of(script: Script, word: &[u8]) -> Option<Form>
+    ensures { option_map shape_of result ≡ shape_named script word.now }
+{
+    form_among(forms(script), word)
+}
+
+/// The first of these forms that begins with this word.
+fn form_among(forms: &[Form], word: &[u8]) -> Option<Form>
+    ensures { result ≡ find (λ form. bytes_eq word.now form.word.now) forms.now }
+{
+    forms
+        .iter()
+        .copied()
+        .find(|form| word == form.word.as_bytes())
 }
 
 /// The form of this first word and these words behind it.
@@ -89,6 +111,38 @@ const USER: &[Form] = &[
     line!("give" Sapi Tei Hex),
     line!("unit" Sapi Tei Hex),
     line!("ask"),
+];
+
+const LIVE_NET: &[Form] = &[
+    line!("read" OptionalMilliseconds),
+    line!("run" OptionalMilliseconds),
+    line!("wait" Milliseconds),
+    line!("expect" Words Milliseconds),
+    line!("establish" Sapi Tei),
+    line!("release" Sapi Tei),
+    line!("give" Sapi Tei Hex),
+    line!("unit" Sapi Tei Hex),
+    line!("busy" Sapi Tei OnOff),
+    line!("check" Tei),
+    line!("state" OptionalSapi Tei),
+    line!("stats"),
+    line!("impair" Loss Delay),
+];
+
+const LIVE_USER: &[Form] = &[
+    line!("read" OptionalMilliseconds),
+    line!("run" OptionalMilliseconds),
+    line!("wait" Milliseconds),
+    line!("expect" Words Milliseconds),
+    line!("establish" Sapi),
+    line!("release" Sapi),
+    line!("give" Sapi Hex),
+    line!("unit" Sapi Hex),
+    line!("busy" Sapi OnOff),
+    line!("ask"),
+    line!("state" OptionalSapi),
+    line!("stats"),
+    line!("impair" Loss Delay),
 ];
 
 const BUS: &[Form] = &[

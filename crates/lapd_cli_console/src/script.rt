@@ -11,13 +11,17 @@ pub enum Script {
     Bus,
     /// `lapd decode`
     Decode,
+    /// `lapd net --clock real`
+    LiveNet,
+    /// `lapd user --clock real`
+    LiveUser,
     /// `lapd loop`
     Loop,
-    /// `lapd net`
+    /// `lapd net`, with the script's clock
     Net,
     /// `lapd pair`
     Pair,
-    /// `lapd user`
+    /// `lapd user`, with the script's clock
     User,
 }
 
@@ -29,10 +33,24 @@ impl Script {
             Script::Bus => "bus",
             Script::Decode => "decode",
             Script::Loop => "loop",
-            Script::Net => "net",
+            Script::Net | Script::LiveNet => "net",
             Script::Pair => "pair",
-            Script::User => "user",
+            Script::User | Script::LiveUser => "user",
         }
+    }
+
+    /// The same command with the real clock. `None` if it has none, or has it already.
+    pub(crate) fn with_real_clock(self) -> Option<Script> {
+        match self {
+            Script::Net => Some(Script::LiveNet),
+            Script::User => Some(Script::LiveUser),
+            _ => None,
+        }
+    }
+
+    /// Whether the command goes by the real clock.
+    pub(crate) fn has_real_clock(self) -> bool {
+        matches!(self, Script::LiveNet | Script::LiveUser)
     }
 }
 

@@ -2,15 +2,16 @@
 
 ghost use Rattle.std.specs.Prelude.{◌≤◌, length, vec_len};
 
+use crate::help::put_help;
 use crate::judge::reason;
-use crate::line_forms::forms;
 use crate::script::Script;
+use crate::typed_line::tidied;
 use std::alloc::Global;
 use std::io::{self, BufRead, ErrorKind, Read, Write};
 
-/// A reader of lines that a person types. It hands on one whole line a read, where nothing is wrong with it by its form. Any
-/// other line is told on the error writer, and the next one is read. `help` tells the command's lines, and `quit` and
-/// `exit` end the input. What the error writer does not take is given up.
+/// A reader of lines that a person types. Each line is read as it is meant ([`tidied`]). A line with a valid form is passed on whole, one
+/// a read. For any other line the reason is printed on the error writer, and the next line is read. `help` prints the forms of the
+/// command's lines, and `quit` and `exit` end the input. A failed write to the error writer is ignored.
 #[derive(Drop)]
 pub struct Session<R, E> {
     alloc: Global,
@@ -25,10 +26,10 @@ pub struct Session<R, E> {
     ghost given_in_line: { given ≤ vec_len line },
 }
 
-/// What becomes of a line that was typed.
+/// The fate of a line that was typed.
 enum Fate {
-    /// It is handed on.
-    HandedOn,
+    /// It is passed on.
+    PassedOn,
     /// It was answered here.
     Answered,
     /// It ends the input.
@@ -36,7 +37,7 @@ enum Fate {
 }
 
 impl<R: BufRead, E: Write> Session<R, E> {
-    /// Reads lines of this command, and tells by the error writer of those that are none.
+    /// Reads lines of this command, and reports on the error writer why other lines are refused.
     pub fn new(alloc: Global, script: Script, reader: R, errors: E) -> Session<R, E> {
         Session {
             alloc,
@@ -50,12 +51,12 @@ impl<R: BufRead, E: Write> Session<R, E> {
         }
     }
 
-    /// How the last read failed. `None` where none did.
+    /// How the last read failed. `None` if none did.
     pub fn fault(&self) -> Option<ErrorKind> {
         self.fault
     }
 
-    /// Reads up to the next line that is handed on. There is none where the input ends.
+    /// Reads up to the next line that is passed on. There is none at the end of the input.
     fn next_line(&mut self) -> io::Result<()> {
         for _turn in 0..u64::MAX {
             self.line.clear();
@@ -68,7 +69,7 @@ impl<R: BufRead, E: Write> Session<R, E> {
                 return Ok(());
             }
             match self.judge()? {
-                Fate::HandedOn => return Ok(()),
+                Fate::PassedOn => return Ok(()),
                 Fate::Answered => {}
                 Fate::Ends => self.is_ended = true,
             }
@@ -76,23 +77,34 @@ impl<R: BufRead, E: Write> Session<R, E> {
         Ok(())
     }
 
-    /// Looks at the line that was typed, and answers it where it is none of the command's.
+    /// Checks the line that was typed, and answers it if it is not a line of the command.
     fn judge(&mut self) -> io::Result<Fate> {
-        let line = without_feed(self.line.as_slice());
-        match line {
+        let line = tidied(self.alloc, self.script, without_feed(self.line.as_slice()))?;
+        match line.as_slice() {
             b"help" => {
                 let _ = put_help(self.script, &mut self.errors);
                 Ok(Fate::Answered)
             }
             b"quit" | b"exit" => Ok(Fate::Ends),
-            _ => match reason(self.alloc, self.script, line)? {
+            typed => match reason(self.alloc, self.script, typed)? {
                 Some(reason) => {
                     let _ = writeln!(self.errors, "not done: {reason}");
                     Ok(Fate::Answered)
                 }
-                None => Ok(Fate::HandedOn),
+                None => {
+                    self.pass_on(line)?;
+                    Ok(Fate::PassedOn)
+                }
             },
         }
+    }
+
+    /// Passes on a line, with its line feed.
+    fn pass_on(&mut self, mut line: Vec<u8>) -> io::Result<()> {
+        line.push(b'\n')?;
+        self.line = line;
+        self.given = 0;
+        Ok(())
     }
 
     /// Gives as much of the line as there is room for.
@@ -112,6 +124,8 @@ impl<R: BufRead, E: Write> Read for Session<R, E> {
         if self.given == self.line.len() {
             if let Err(error) = self.next_line() {
                 self.fault = Some(error.kind());
+                self.given = 0;
+                self.line.clear();
                 return Err(error);
             }
         }
@@ -122,13 +136,4 @@ impl<R: BufRead, E: Write> Read for Session<R, E> {
 /// The line without its line feed, which the last may lack.
 fn without_feed(line: &[u8]) -> &[u8] {
     line.strip_suffix(b"\n").unwrap_or(line)
-}
-
-/// Tells the lines of a command, and those of a session.
-fn put_help<E: Write>(script: Script, errors: &mut E) -> io::Result<()> {
-    writeln!(errors, "the lines of {script}:")?;
-    for form in forms(script) {
-        writeln!(errors, "  {form}")?;
-    }
-    errors.write_all(b"and help, which tells these, and quit, which ends the script\n")
 }

@@ -12,9 +12,9 @@ pub(crate) fn text_of(script: Script) -> &'static str {
         Script::Bus => help::BUS,
         Script::Decode => help::DECODE,
         Script::Loop => help::LOOP,
-        Script::Net => help::NET,
+        Script::Net | Script::LiveNet => help::NET,
         Script::Pair => help::PAIR,
-        Script::User => help::USER,
+        Script::User | Script::LiveUser => help::USER,
     }
 }
 

@@ -1,15 +1,17 @@
 //! Why a line is none of its command's: worked lines, and drawn ones, of each command. What calls a line bad is the command,
-//! which prints nothing for it.
+//! which prints nothing for it; with the real clock, `read_live_line`.
 
 mod lines;
 
 use crate::plays::words_of;
 use crate::run::run;
 use arrayvec::ArrayVec;
-use lapd_cli_console::{Script, reason};
+use lapd_cli_console::{Script, reason, tidied};
+use lapd_cli_live_text::read_live_line;
 use lapd_cli_options::{Invocation, parse_words};
-use lapd_cli_script::ScriptFault;
+use lapd_cli_script::{LineFault, ScriptFault};
 use lapd_cli_side_commands::{FromRead, FromWrite, Port};
+use lapd_sides::{Side, Tei};
 use rand_core::{Rng, SeedableRng};
 use rand_pcg::Pcg32;
 use std::alloc::Global;
@@ -21,6 +23,8 @@ const COMMANDS: &[(Script, &str)] = &[
     (Script::Answer, "lapd answer"),
     (Script::Bus, "lapd bus"),
     (Script::Decode, "lapd decode"),
+    (Script::LiveNet, "lapd net --listen a:1 --clock real"),
+    (Script::LiveUser, "lapd user --connect a:1 --clock real"),
     (Script::Loop, "lapd loop"),
     (Script::Net, "lapd net --listen a:1"),
     (Script::Pair, "lapd pair"),
@@ -46,7 +50,14 @@ const UNSEEN: &[(&[u8], &str)] = &[
 const WORDS: &str =
     "frame|t200|t203|establish|release|give|unit|busy|state|deliver|lose|expire200|expire203|restart|settle|\
     read|tick|check|ask|t202|hear|drop|hear-up|drop-up|t201|leave|user|net|user|net|on|off|0|1|16|63|64|127|128|255|256|320|\
-    3600000|3600001|18446744073709551615|18446744073709551616|00|000|ab|0g|abc|12aB|0000|+1|-1||#|frame 00|\t|\r|é";
+    3600000|3600001|18446744073709551615|18446744073709551616|00|000|ab|0g|abc|12aB|0000|+1|-1||#|frame 00|\t|\r|é|\
+    run|wait|expect|stats|impair|read|state|busy|expect é 5|100%|101%|20%|%|100|101";
+
+/// How many these are.
+const WORD_COUNT: usize = 76;
+
+/// How many good lines there are of which some are changed.
+const GOOD_COUNT: usize = 94;
 
 /// Octets that are put into lines.
 const OCTETS: &[u8] = b" 0g1#\t\r\xff";
@@ -56,19 +67,44 @@ type Command<'a> = (Script, &'a Invocation<'a>);
 
 /// Whether a line has a reason just where its command calls it bad, and it is this one; `?` stands for any reason, and `*` for
 /// any or none.
-fn has_reason(alloc: Global, (script, chosen): Command<'_>, line: &[u8], wanted: &str) -> bool {
-    match reason(alloc, script, line) {
+fn has_reason(alloc: Global, command: Command<'_>, line: &[u8], wanted: &str) -> bool {
+    let is_bad = is_bad(alloc, command, line);
+    match reason(alloc, command.0, line) {
         Ok(Some(reason)) => {
-            is_bad(alloc, chosen, line)
-                && (reason.as_str() == wanted || wanted == "?" || wanted == "*")
+            is_bad && (reason.as_str() == wanted || wanted == "?" || wanted == "*")
         }
-        Ok(None) => !is_bad(alloc, chosen, line) && (wanted.is_empty() || wanted == "*"),
+        Ok(None) => !is_bad && (wanted.is_empty() || wanted == "*"),
         Err(_) => false,
     }
 }
 
+/// The name of a command before its rows.
+fn name_of(script: Script) -> &'static str {
+    match script {
+        Script::LiveNet => "live net",
+        Script::LiveUser => "live user",
+        script => script.name(),
+    }
+}
+
+/// Whether a command calls a line bad.
+fn is_bad(alloc: Global, (script, chosen): Command<'_>, line: &[u8]) -> bool {
+    match script {
+        Script::LiveNet => is_bad_live(alloc, Side::Network, line),
+        Script::LiveUser => is_bad_live(alloc, Side::User, line),
+        _ => is_bad_script(alloc, chosen, line),
+    }
+}
+
+/// Whether a line is none of a side's with the real clock.
+fn is_bad_live(alloc: Global, side: Side, line: &[u8]) -> bool {
+    let is_passed_over = matches!(line, [] | [b'#', ..]);
+    let read = read_live_line(alloc, side, Tei::group(), line);
+    !is_passed_over && matches!(&read, Err(LineFault::Bad))
+}
+
 /// Whether a command calls a script of this line bad, and prints nothing.
-fn is_bad(alloc: Global, chosen: &Invocation<'_>, mut line: &[u8]) -> bool {
+fn is_bad_script(alloc: Global, chosen: &Invocation<'_>, mut line: &[u8]) -> bool {
     let mut printed = Vec::new(alloc);
     let port = Port::new(FromRead::new(b"".as_slice()), FromWrite::new(io::sink()));
     let (ended, _port) = run(alloc, chosen, &mut line, &mut printed, port);
@@ -80,7 +116,7 @@ fn wrong_row(alloc: Global, command: Command<'_>) -> Option<&'static str> {
     for row in lines::BAD.lines().chain(lines::GOOD.lines()) {
         let (name, row) = row.split_once(": ").unwrap_or((row, ""));
         let (line, wanted) = row.split_once(" => ").unwrap_or((row, ""));
-        if name == command.0.name() && !has_reason(alloc, command, line.as_bytes(), wanted) {
+        if name == name_of(command.0) && !has_reason(alloc, command, line.as_bytes(), wanted) {
             return Some(row);
         }
     }
@@ -92,7 +128,7 @@ fn good_line(alloc: Global, command: Command<'_>) -> Option<&'static str> {
     for row in lines::NONE.lines() {
         let (name, row) = row.split_once(": ").unwrap_or((row, ""));
         for line in row.split('|') {
-            if name.contains(command.0.name())
+            if name.split(", ").any(|name| name == name_of(command.0))
                 && !has_reason(alloc, command, line.as_bytes(), "?")
             {
                 return Some(line);
@@ -125,7 +161,10 @@ type Drawn = ArrayVec<u8, 256>;
 fn draw_words(random: &mut Pcg32, line: &mut Drawn) {
     line.clear();
     for _word in 0..=below(random, 5) {
-        let word = WORDS.split('|').nth(below(random, 64)).unwrap_or("net");
+        let word = WORDS
+            .split('|')
+            .nth(below(random, WORD_COUNT))
+            .unwrap_or("net");
         let _ = line.try_extend_from_slice(word.as_bytes());
         let _ = line.try_push(b' ');
     }
@@ -136,7 +175,7 @@ fn draw_words(random: &mut Pcg32, line: &mut Drawn) {
 fn draw_changed(random: &mut Pcg32, line: &mut Drawn) {
     let row = lines::GOOD
         .lines()
-        .nth(below(random, 64))
+        .nth(below(random, GOOD_COUNT))
         .unwrap_or("answer: state");
     let (_, good) = row.split_once(": ").unwrap_or(("", row));
     line.clear();
@@ -174,11 +213,11 @@ fn lines_hold(alloc: Global, command: Command<'_>) -> Result<(), Fail> {
         .or(good_line(alloc, command))
         .or(wrong_octets(alloc, command));
     match wrong {
-        Some(row) => Err(Fail::new(format_args!("{}: {row}", command.0))),
+        Some(row) => Err(Fail::new(format_args!("{}: {row}", name_of(command.0)))),
         None if agrees(alloc, command, &mut drawn) => Ok(()),
         None => Err(Fail::new(format_args!(
             "{}: '{}': a reason and no bad line, or none and one",
-            command.0,
+            name_of(command.0),
             drawn.as_slice().escape_ascii()
         ))),
     }
@@ -192,6 +231,34 @@ fn lines_have_reasons(rt: HostRuntime) -> Result<(), Fail> {
             Ok(chosen) => lines_hold(rt.alloc(), (*script, &chosen))?,
             Err(_) => return Err(Fail::new(format_args!("{script}: no such words"))),
         }
+    }
+    Ok(())
+}
+
+/// Whether a typed line of a command is meant so.
+fn is_meant(alloc: Global, script: Script, typed: &str, meant: &str) -> bool {
+    match tidied(alloc, script, typed.as_bytes()) {
+        Ok(line) => line.as_slice() == meant.as_bytes(),
+        Err(_) => false,
+    }
+}
+
+/// Fails the test at the first typed line of a command that is meant otherwise.
+fn typed_lines_hold(alloc: Global, script: Script) -> Result<(), Fail> {
+    for row in lines::TYPED.lines() {
+        let (name, row) = row.split_once(": ").unwrap_or((row, ""));
+        let (typed, meant) = row.split_once(" => ").unwrap_or((row, ""));
+        if name == name_of(script) && !is_meant(alloc, script, typed, meant) {
+            return Err(Fail::new(format_args!("{name}: {row}")));
+        }
+    }
+    Ok(())
+}
+
+#[test]
+fn typed_lines_are_tidied(rt: HostRuntime) -> Result<(), Fail> {
+    for (script, _words) in COMMANDS {
+        typed_lines_hold(rt.alloc(), *script)?;
     }
     Ok(())
 }

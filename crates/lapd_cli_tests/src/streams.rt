@@ -181,8 +181,14 @@ frame 0
     not done: frame HEX: an odd number of digits
 
 # frame 0
-state
+state 
     state 4
+frame 0x00 81:7f
+    send 008173
+    established
+    start T203
+state
+    state 7
 quit
 !
 ";

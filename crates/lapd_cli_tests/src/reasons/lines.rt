@@ -36,6 +36,35 @@ net: check 128 => check TEI: TEI is a number from 0 to 127, not '128'
 net: ask => 'ask' is no line of net; its lines are: read, tick MS, establish SAPI TEI, release SAPI TEI, give SAPI TEI HEX, unit SAPI TEI HEX, check TEI
 user: give 0 64 0g => give SAPI TEI HEX: 'g' is no hexadecimal digit
 user: check 64 => 'check' is no line of user; its lines are: read, tick MS, establish SAPI TEI, release SAPI TEI, give SAPI TEI HEX, unit SAPI TEI HEX, ask
+net: state => 'state' needs --clock real
+net: run 5 => 'run' needs --clock real
+net: wait => 'wait' needs --clock real
+net: expect 0 64 established 5 => 'expect' needs --clock real
+net: busy 0 64 on => 'busy' needs --clock real
+user: stats => 'stats' needs --clock real
+user: impair 5% => 'impair' needs --clock real
+live net: tick 5 => 'tick' is a line of the script's clock; with --clock real time passes by itself
+live net: read 0 => read [MS]: MS is a number from 1 to 3,600,000, not '0'
+live net: run 1 1 => run [MS]: nothing may stand behind it, and '1' does
+live net: wait => wait MS: MS is missing
+live net: expect => expect WORDS.. MS: WORDS.. is missing
+live net: expect 5 => expect WORDS.. MS: MS is missing
+live net: expect  5 => there are two spaces in a row in the line
+live net: expect a b 0 => expect WORDS.. MS: MS is a number from 1 to 3,600,000, not '0'
+live net: establish 0 => establish SAPI TEI: TEI is missing
+live net: give 0 64 080 => give SAPI TEI HEX: an odd number of digits
+live net: busy 0 64 => busy SAPI TEI on|off: on|off is missing
+live net: busy 0 64 of => busy SAPI TEI on|off: on|off is 'on' or 'off', not 'of'
+live net: state 0 => state [SAPI TEI]: TEI is missing
+live net: state 1 64 => state [SAPI TEI]: SAPI is 0, 16 or 63, not '1'
+live net: state 0 64 1 => state [SAPI TEI]: nothing may stand behind it, and '1' does
+live net: impair => impair LOSS% [DELAY MS]: LOSS% is missing
+live net: impair 101% => impair LOSS% [DELAY MS]: LOSS% is a number from 0 to 100, not '101%'
+live net: impair 1% x => impair LOSS% [DELAY MS]: DELAY MS is a number from 0 to 3,600,000, not 'x'
+live net: ask => 'ask' is no line of net; its lines are: read [MS], run [MS], wait MS, expect WORDS.. MS, establish SAPI TEI, release SAPI TEI, give SAPI TEI HEX, unit SAPI TEI HEX, busy SAPI TEI on|off, check TEI, state [SAPI TEI], stats, impair LOSS% [DELAY MS]
+live user: give 0 64 0801 => give SAPI HEX: nothing may stand behind it, and '0801' does
+live user: state 1 => state [SAPI]: SAPI is 0, 16 or 63, not '1'
+live user: check 64 => 'check' is no line of user; its lines are: read [MS], run [MS], wait MS, expect WORDS.. MS, establish SAPI, release SAPI, give SAPI HEX, unit SAPI HEX, busy SAPI on|off, ask, state [SAPI], stats, impair LOSS% [DELAY MS]
 bus: ask 0 12 => ask T RI: RI is four hexadecimal digits, not '12'
 bus: ask x 1234 => ask T RI: T is a number below 2^64 in decimal digits, not 'x'
 bus: hear 0 1 => hear I T RI: RI is missing
@@ -97,6 +126,38 @@ user: release 63 1
 user: give 0 64
 user: unit 16 127 0102
 user: ask
+live net: read
+live net: read 3600000
+live net: run
+live net: run 1
+live net: wait 5
+live net: expect 0 64 established 100
+live net: expect  é  5
+live net: establish 0 64
+live net: release 0 64
+live net: give 0 64 0801
+live net: unit 0 127
+live net: busy 0 64 on
+live net: check 64
+live net: state
+live net: state 0 64
+live net: stats
+live net: impair 20%
+live net: impair 0 3600000
+live user: read 1
+live user: run
+live user: wait 1
+live user: expect \x1b 1
+live user: establish 0
+live user: release 16
+live user: give 0
+live user: unit 0 01
+live user: busy 0 off
+live user: ask
+live user: state
+live user: state 16
+live user: stats
+live user: impair 100% 0
 bus: ask 0 12aB
 bus: t202 18446744073709551615 0000
 bus: hear 0 1 ffff
@@ -108,6 +169,32 @@ bus: t201
 bus: leave 1
 decode: user
 decode: net 00817f";
+
+/// Lines that are typed, and how they are meant.
+pub(crate) const TYPED: &str = "\
+answer:   frame 00 81 7f  => frame 00817f
+answer: frame 0x00817f => frame 00817f
+answer: frame 00:81:7F => frame 00817F
+answer: frame  00 0X81:0x7f => frame 00817f
+answer: frame => frame
+answer: frame 0x => frame 0x
+answer: frame :  : => frame :  :
+answer: frame 008 17f => frame 00817f
+answer: busy  on  => busy  on
+answer: fram 0x00 81 => fram 0x00 81
+answer:   # note  => # note
+answer:   => 
+answer:  help => help
+decode: user 00 81 7f => user 00817f
+net: give 0 64 08:01 => give 0 64 0801
+net: give 0 64 0x08 01 => give 0 64 0801
+net: give 0x0 64 08 01 => give 0x0 64 0801
+net: give 0 => give 0
+net: check 0x40 => check 0x40
+live net:  unit 0 127 0x01 => unit 0 127 01
+live net: expect 0x 0 :  5 => expect 0x 0 :  5
+live user: give 0 08 01 => give 0 0801
+live user: state  => state";
 
 /// Commands, and lines that are none of theirs, between bars.
 pub(crate) const NONE: &str = "\
@@ -122,6 +209,12 @@ pair: establish|establish user net|establish users|establish User|establish netw
     lose net 18446744073709551616|lose net 99999999999999999999999999999999999999999|lose 0 net|expire user 200|expire200|\
     expire201 user|t200 user|busy user|busy on user|busy user On|busy user on off|give 01 user|give user 0|give user 01 02|\
     unit net 0g|restart|restart user net|settle | settle|settle user|settle 9|settles|Settle|state|frame user 00817f
+live net: read |read 3600001|read -1|run 0|run x|wait|wait 0|wait 1 1|expect|expect |expect 5|expect  5|expect a|\
+    expect a 0|expect a 3600001|expect a  5 |state 0|state 0 128|state 0 64 |state  0 64|stats 1|ask|establish 0|give 0 0801|\
+    check|Read|busy 0 64|busy 0 on|busy 0 64 On|busy 0 64 on off|busy 1 64 on|impair|impair |impair %|impair 101|impair 1%%|\
+    impair %1|impair 1 3600001|impair 1 2 3|impair -1|tick 5|settle
+live user: tick 5|check 64|establish 0 64|give 0 64 0801|give 0 080|state 0 64|ask 1|release|establish 1|busy 0 64 on|\
+    busy 0|busy on|expect 5|impair
 net, user: read 1|read | read|Read|tick|tick |tick 0|tick 3600001|tick 18446744073709551617|tick -1|tick +1|tick 0x1|\
     tick 1 1|tick  1|check|check 128|check 256|check 384|check -1|check 64 64|check 64 |ask 64|ask |establish|establish 0|\
     establish 0 |establish 1 64|establish 256 64|establish 62 64|establish 0 128|establish 0 320|establish 0 64 1|\

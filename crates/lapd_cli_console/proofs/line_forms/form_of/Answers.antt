@@ -3,7 +3,7 @@ use Rattle.std.specs.Prelude.{find, option_map}
 use Rattle.std.specs.Str.{bytes_eq}
 use Rattle.lapd_cli_console.proofs.Shapes.{shape_found}
 use Rattle.lapd_cli_console.specs.Forms.{shape_of}
-use Rattle.lapd_cli_console.proofs.judge.form_of.Goals as goal
+use Rattle.lapd_cli_console.proofs.line_forms.form_of.Goals as goal
 
 pub returns : goal.returns
 returns c =

@@ -1,9 +1,0 @@
-use Rattle.std.proofs.Common.{◌≡◌, length, []}
-use Rattle.lapd_cli_console.specs.Forms.{are_said}
-use Rattle.lapd_cli_console.proofs.judge.of_missing.Given as goal
-
-abbrev pub invariant-loop-left : goal.invariant-loop-left
-invariant-loop-left l = are_said l.initial.left [] ≡ are_said l.left []
-
-abbrev pub decreases-loop-left : goal.decreases-loop-left
-decreases-loop-left l = length l.left

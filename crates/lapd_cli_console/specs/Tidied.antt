@@ -1,0 +1,80 @@
+-- A line as it is meant that was typed at a terminal.
+use Rattle.std.specs.Prelude.{◌≢◌, ℕ, ◌==◌, ◌&&◌, ◌||◌, if◌then◌else◌, List, [], ◌∷◌, ◌++◌, Option, Some, None, codes, drop, length, take}
+use Rattle.std.specs.List.{AllByRecursion, flat_map, slice_split}
+use Rattle.std.specs.Str.{bytes_eq}
+use Rattle.lapd_cli_script.specs.Line.{words_of}
+use Rattle.lapd_cli_console.specs.declared.form.Argument.{Argument}
+use Rattle.lapd_cli_console.specs.declared.script.Script.{Script}
+use Rattle.lapd_cli_console.specs.Forms.{Shape, is_hex, shape_named}
+
+-- ---- Spaces around a line.
+
+abbrev pub without_front : List ℕ → List ℕ
+without_front [] = []
+without_front (octet ∷ octets) = if octet == 32 then without_front octets else octet ∷ octets
+
+-- an octet before what is left of those behind it: a space before nothing is dropped
+abbrev pub before_kept : ℕ → List ℕ → List ℕ
+before_kept octet [] = if octet == 32 then [] else octet ∷ []
+before_kept octet (next ∷ octets) = octet ∷ next ∷ octets
+
+abbrev pub without_end : List ℕ → List ℕ
+without_end [] = []
+without_end (octet ∷ octets) = before_kept octet (without_end octets)
+
+abbrev pub trimmed : List ℕ → List ℕ
+trimmed line = without_end (without_front line)
+
+-- ---- The digits of HEX.
+
+-- without a `0x` in front
+abbrev pub digits_of_part : List ℕ → List ℕ
+digits_of_part part = if bytes_eq (take 2 part) (codes "0x") || bytes_eq (take 2 part) (codes "0X")
+    then drop 2 part else part
+
+-- no octet is a colon
+abbrev pub HasNoColon : List ℕ → Type 0
+HasNoColon octets = AllByRecursion (λ octet. octet ≢ 58) octets
+
+-- the parts between colons, each so
+abbrev pub digits_of_word : List ℕ → List ℕ
+digits_of_word word = flat_map digits_of_part (slice_split (λ octet. octet == 58) word)
+
+-- the digits as one word, unless there are none
+abbrev pub digits_or : List (List ℕ) → List ℕ → List (List ℕ)
+digits_or words [] = words
+digits_or words (digit ∷ digits) = (digit ∷ digits) ∷ []
+
+abbrev pub hex_words : List (List ℕ) → List (List ℕ)
+hex_words words = digits_or words (flat_map digits_of_word words)
+
+-- ---- A line.
+
+-- the arguments of the form that begins with this word, none if no form does
+abbrev pub arguments_of : Option Shape → List Argument
+arguments_of None = []
+arguments_of (Some shape) = shape.1
+
+abbrev pub arguments_named : Script → List ℕ → List Argument
+arguments_named script word = arguments_of (shape_named script word)
+
+-- the words behind the first one: those of HEX, if it is the last argument, are one
+abbrev pub tidied_behind : List Argument → List (List ℕ) → List (List ℕ)
+tidied_behind [] words = words
+tidied_behind (argument ∷ arguments) [] = []
+tidied_behind (argument ∷ arguments) (word ∷ words) =
+    if is_hex argument && (length arguments == 0) then hex_words (word ∷ words)
+    else word ∷ tidied_behind arguments words
+
+-- each word with a space before it
+abbrev pub spaced : List (List ℕ) → List ℕ
+spaced words = flat_map (λ word. 32 ∷ word) words
+
+abbrev pub tidied_words : Script → List (List ℕ) → List ℕ
+tidied_words script [] = []
+tidied_words script (word ∷ behind) = word
+    ++ spaced (tidied_behind (arguments_named script word) behind)
+
+-- a line of the command without spaces around it, and without `0x`, spaces and colons in HEX
+abbrev pub tidied_line : Script → List ℕ → List ℕ
+tidied_line script line = tidied_words script (words_of (trimmed line))

@@ -1,0 +1,27 @@
+//! What `help` prints where lines are typed.
+
+use crate::line_forms::forms;
+use crate::script::Script;
+use std::io::{self, Write};
+
+/// Prints the forms of a command's lines, and `help` and `quit` below them.
+///
+/// # Errors
+///
+/// Those of the writer.
+pub fn put_help<W: Write>(script: Script, out: &mut W) -> io::Result<()> {
+    let end = if script.has_real_clock() {
+        out.write_all(b"the lines with the real clock:\n")?;
+        "session"
+    } else {
+        writeln!(out, "the lines of {script}:")?;
+        "script"
+    };
+    for form in forms(script) {
+        writeln!(out, "  {form}")?;
+    }
+    writeln!(
+        out,
+        "and help, which tells these, and quit, which ends the {end}"
+    )
+}
