@@ -82,6 +82,7 @@ static uint64_t dl_schedule_next(struct dl *dl)
 	return moment;
 }
 
+/* Expires the timers that are due. Pass every frame that had arrived by `now` to dl_receive first. */
 static void dl_schedule_run(struct dl *dl, uint64_t now)
 {
 	uint8_t expired;

@@ -3,12 +3,16 @@
  * A side is the network or the user end of one interface: its links, its TEI management and its timers. It has no input and
  * no output, no clock, no thread and no call-back. A program
  *
- *   hands in  a frame from the line (lapd_side_take), what layer 3 asks for (lapd_side_establish, lapd_side_give and the other
- *             requests), and the time (lapd_side_tick);
- *   fetches   what calls gave: frames to be sent (lapd_side_frame) and what layer 3 is told (lapd_side_primitive), each in
- *             order, until there are none. It may go on with other calls before it has fetched all, as with a request that
- *             answers what layer 3 is told; what they give waits behind the rest;
- *   sleeps    until lapd_side_deadline, or until something comes.
+ *   passes in  each frame from the line (lapd_side_take), the requests of layer 3 (lapd_side_establish, lapd_side_give and the
+ *              others), and moments for which timers expire (lapd_side_tick);
+ *   fetches    the frames to be sent (lapd_side_frame) and the primitives for layer 3 (lapd_side_primitive), each in order, until
+ *              there are none. It may make other calls before it has fetched all, such as a request that answers a primitive;
+ *              their frames and primitives wait behind the rest;
+ *   waits      until lapd_side_deadline, or until a frame arrives.
+ *
+ * Before you expire timers for a moment, pass in every frame that had arrived by then. A loop reads the clock, takes frames
+ * without waiting until none is left, calls lapd_side_tick for the moment that was read before the look that found none, and waits
+ * (terminal.c).
  *
  * A frame is its address, control and information field: 3 to 264 octets, with no flag, no zero that was inserted and no frame
  * check sequence. Hand in none whose check sequence was wrong. `now` is in milliseconds, of any clock that does not go back.
@@ -84,8 +88,9 @@ enum lapd_kind {
 
 /* What a side is made with. */
 typedef struct lapd_settings {
-	uint64_t seed;   /* user side: where its references (Ri) begin; terminals of one bus are to have different seeds */
-	uint32_t t200;   /* ms, 1 to 3600000: how long an answer is waited for; longer than the way there and back */
+	uint64_t seed;   /* user side: where its references (Ri) begin. Terminals of one bus that draw the same references get the same
+	                  * TEI: draw the seed from the system, as by getrandom, and not from the time or a constant */
+	uint32_t t200;   /* ms, 1 to 3600000: how long the side waits for an answer; longer than the way there and back */
 	uint32_t t201;   /* ms, 1 to 3600000: network side, an identity check */
 	uint32_t t202;   /* ms, 1 to 3600000: user side, an identity request */
 	uint32_t t203;   /* ms, 1 to 3600000: how long a link may be silent before the peer is asked */
@@ -169,14 +174,17 @@ uint32_t lapd_side_ask_tei(lapd_side *side, uint64_t now);
 /* Whether terminals have the TEI is to be asked; 127 is all of them. A user side does nothing. */
 uint32_t lapd_side_check_tei(lapd_side *side, uint8_t tei, uint64_t now);
 
-/* The first timer that is due at `now` expires; *expired is 1 where one was due, else 0. Call it until it is 0. */
+/* The first timer that is due at `now` expires; *expired is 1 if one was due, else 0. Call it until it is 0. Before you expire timers
+ * for a moment, pass in every frame that had arrived by then: else T200 expires although its answer has arrived, and the peer
+ * receives a second SABME, or a message again. */
 uint32_t lapd_side_tick(lapd_side *side, uint64_t now, uint8_t *expired);
 
 /* The next moment at which lapd_side_tick has something to do; before it, it has not. LAPD_NEVER where no timer runs, and where
  * the handle owns no side. It changes with the calls that hand something in. */
 uint32_t lapd_side_deadline(lapd_side *side, uint64_t *moment);
 
-/* The moment of lapd_side_deadline. */
+/* The moment of lapd_side_deadline. Wait until then, or until a frame arrives; then take every frame that has arrived, and only then
+ * call lapd_side_tick. */
 uint32_t lapd_side_quiet_until(lapd_side *side, uint64_t *moment);
 
 /* How many frames lapd_side_take has discarded since the side was made; it stays at UINT64_MAX. 0 where there is no side. */

@@ -3,15 +3,13 @@
 #include "tcp_line.h"
 
 #include <arpa/inet.h>
+#include <errno.h>
 #include <netinet/in.h>
 #include <stdio.h>
 #include <stdlib.h>
 #include <string.h>
 #include <sys/socket.h>
 #include <time.h>
-
-#define LENGTH_OCTETS 2
-#define MOST 1024
 
 uint64_t clock_now(void)
 {
@@ -67,28 +65,44 @@ int connected(bool listens, const char *port)
 	return line;
 }
 
-void write_frame(int line, const uint8_t *frame, size_t length)
+void write_frame(int socket, const uint8_t *frame, size_t length)
 {
-	uint8_t octets[LENGTH_OCTETS + MOST];
+	uint8_t octets[LENGTH_OCTETS + LAPD_MOST_FRAME];
 
-	if (length > MOST)
+	if (length > LAPD_MOST_FRAME)
 		return;
 	octets[0] = (uint8_t)(length >> 8);
 	octets[1] = (uint8_t)length;
 	memcpy(octets + LENGTH_OCTETS, frame, length);
-	if (send(line, octets, LENGTH_OCTETS + length, MSG_NOSIGNAL) != (ssize_t)(LENGTH_OCTETS + length))
+	if (send(socket, octets, LENGTH_OCTETS + length, MSG_NOSIGNAL | MSG_DONTWAIT) != (ssize_t)(LENGTH_OCTETS + length))
 		fail("send");
 }
 
-int read_frame(int line, uint8_t *frame, size_t size)
+/* How many octets the next frame has with its length, as far as that is known. */
+static size_t wanted(const struct tcp_line *line)
 {
-	uint8_t octets[LENGTH_OCTETS];
-	size_t length;
+	if (line->count < LENGTH_OCTETS)
+		return LENGTH_OCTETS;
+	return LENGTH_OCTETS + ((size_t)line->octets[0] << 8 | line->octets[1]);
+}
 
-	if (recv(line, octets, LENGTH_OCTETS, MSG_WAITALL) != LENGTH_OCTETS)
-		return -1;
-	length = (size_t)octets[0] << 8 | octets[1];
-	if (length > size || recv(line, frame, length, MSG_WAITALL) != (ssize_t)length)
-		return -1;
-	return (int)length;
+int next_frame(struct tcp_line *line, uint8_t *frame)
+{
+	size_t length;
+	ssize_t got;
+
+	while (line->count < wanted(line)) {
+		if (wanted(line) > sizeof line->octets)
+			return -1;
+		got = recv(line->socket, line->octets + line->count, wanted(line) - line->count, MSG_DONTWAIT);
+		if (got < 0 && errno == EAGAIN)
+			return 0;
+		if (got <= 0)
+			return -1;
+		line->count += (size_t)got;
+	}
+	length = line->count - LENGTH_OCTETS;
+	memcpy(frame, line->octets + LENGTH_OCTETS, length);
+	line->count = 0;
+	return length > 0 ? (int)length : -1;
 }

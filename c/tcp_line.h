@@ -1,5 +1,5 @@
-/* A line over TCP on this machine, and a clock: what the examples have in place of a D channel and its driver. Each frame has its
- * length before it, two octets, the high one first, as `lapd net` and `lapd user` have it. What fails ends the program. */
+/* A line over TCP on this machine, and a clock: the examples use them in place of a D channel and its driver. Each frame follows its
+ * length: two octets, the high one first, as with `lapd net` and `lapd user`. A failure ends the program. */
 #ifndef TCP_LINE_H
 #define TCP_LINE_H
 
@@ -7,20 +7,30 @@
 
 #include <stdbool.h>
 
+#define LENGTH_OCTETS 2
+
+/* A connection, and the part of the next frame that has arrived: its length, and octets behind it. */
+struct tcp_line {
+	int socket;
+	size_t count;
+	uint8_t octets[LENGTH_OCTETS + LAPD_MOST_FRAME];
+};
+
 /* Milliseconds of a clock that does not go back. */
 uint64_t clock_now(void);
 
-/* Ends the program where a call failed: of the system, or of the library. */
+/* Ends the program: a call of the system, or of the library, has failed. */
 void fail(const char *what);
 void check(uint32_t code, const char *what);
 
-/* A connection on this machine, waited for at this port, 1 to 65535, or made to it. */
+/* Waits for a connection on this machine at this port, 1 to 65535, or makes one to it. Returns its socket. */
 int connected(bool listens, const char *port);
 
-/* Sends a frame of at most 1,024 octets. A longer one is not sent. */
-void write_frame(int line, const uint8_t *frame, size_t length);
+/* Sends a frame of at most LAPD_MOST_FRAME octets. It does not wait: a line that does not take the frame at once has failed. */
+void write_frame(int socket, const uint8_t *frame, size_t length);
 
-/* Reads a frame of which the first octet has come, or waits for one; -1 where the other side has hung up, or it is longer. */
-int read_frame(int line, uint8_t *frame, size_t size);
+/* Takes the next frame that has arrived whole, without waiting, into LAPD_MOST_FRAME octets. Returns its length, or 0 if no whole frame
+ * had arrived, or -1 if the other side has hung up or sent a length that is not from 1 to LAPD_MOST_FRAME. */
+int next_frame(struct tcp_line *line, uint8_t *frame);
 
 #endif

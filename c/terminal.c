@@ -1,6 +1,6 @@
-/* A side of a primary rate interface by the real clock: one link, of SAPI 0 and TEI 0. `terminal net 4000` waits for a connection
- * on this machine; `terminal user 4000` makes one, establishes the link, sends a message, and hangs up when it is acknowledged.
- * tcp_line.c is in place of the D channel. */
+/* One side of a primary rate interface with the real clock: one link, SAPI 0 and TEI 0. `terminal net 4000` waits for a connection
+ * on this machine. `terminal user 4000` makes one, establishes the link, sends a message, and hangs up when it is acknowledged.
+ * tcp_line.c takes the place of the D channel. */
 #include "tcp_line.h"
 
 #include <poll.h>
@@ -8,14 +8,16 @@
 #include <string.h>
 #include <unistd.h>
 
+#define MOST_FRAMES 4096 /* received before timers get their turn, so that a flood of frames can't stop them */
+
 struct terminal {
 	lapd_side side;
-	int line;
+	struct tcp_line line;
 	bool finished;
 };
 
-/* Sends and tells what calls gave. Layer 3 of this program wants one thing: a message, once there is a link. */
-static void hand_on(struct terminal *t)
+/* Sends the frames of the calls so far, and prints what they report to layer 3, which sends a message once the link is established. */
+static void send_and_report(struct terminal *t)
 {
 	static const uint8_t setup[] = { 0x08, 0x01 };
 	uint8_t octets[LAPD_MOST_FRAME];
@@ -24,7 +26,7 @@ static void hand_on(struct terminal *t)
 
 	do {
 		while (check(lapd_side_frame(&t->side, octets, sizeof octets, &length), "frame"), length > 0)
-			write_frame(t->line, octets, length);
+			write_frame(t->line.socket, octets, length);
 		check(lapd_side_primitive(&t->side, &told, octets, sizeof octets), "primitive");
 		if (told.kind != LAPD_NOTHING)
 			printf("kind %u, SAPI %u, TEI %u, %u octets\n", told.kind, told.sapi, told.tei, (unsigned)told.octets);
@@ -34,61 +36,63 @@ static void hand_on(struct terminal *t)
 	} while (told.kind != LAPD_NOTHING);
 }
 
-/* How long poll may sleep, in milliseconds; -1 is for ever. */
-static int sleep_until(uint64_t moment)
+/* Passes in every frame that has arrived. Returns a moment for which timers may expire: no other frame had arrived by then. */
+static uint64_t receive(struct terminal *t)
 {
+	uint8_t frame[LAPD_MOST_FRAME];
 	uint64_t now = clock_now();
+	int length, left;
 
-	if (moment == LAPD_NEVER)
-		return -1;
-	if (moment <= now)
-		return 0;
-	return moment - now < 1000000 ? (int)(moment - now) : 1000000;
+	for (left = MOST_FRAMES; left > 0 && !t->finished; left--) {
+		length = next_frame(&t->line, frame);
+		t->finished = length < 0;
+		if (length <= 0)
+			break;
+		check(lapd_side_take(&t->side, frame, (size_t)length, now), "take");
+		send_and_report(t);
+		now = clock_now();
+	}
+	return now;
 }
 
-/* Does what is due, and hears what comes, until the other side hangs up or nothing is left to be done. */
-static void run(struct terminal *t)
+/* Waits until octets arrive or a timer is due. */
+static void wait_for_octets(struct terminal *t)
 {
-	struct pollfd line = { t->line, POLLIN, 0 };
-	uint8_t frame[LAPD_MOST_FRAME], expired;
-	uint64_t moment;
-	int length;
+	struct pollfd line = { t->line.socket, POLLIN, 0 };
+	uint64_t now = clock_now(), moment;
 
-	while (!t->finished) {
-		do {
-			check(lapd_side_tick(&t->side, clock_now(), &expired), "tick");
-			hand_on(t);
-		} while (expired);
-		check(lapd_side_quiet_until(&t->side, &moment), "quiet_until");
-		if (t->finished || poll(&line, 1, sleep_until(moment)) <= 0)
-			continue;
-		length = read_frame(t->line, frame, sizeof frame);
-		if (length < 0)
-			return;
-		check(lapd_side_take(&t->side, frame, (size_t)length, clock_now()), "take");
-	}
+	check(lapd_side_quiet_until(&t->side, &moment), "quiet_until");
+	moment = moment <= now ? 0 : moment - now;
+	poll(&line, 1, moment < 1000000 ? (int)moment : 1000000);
 }
 
 int main(int count, char **words)
 {
-	struct terminal t = { LAPD_SIDE_INIT, 0, false };
+	struct terminal t = { LAPD_SIDE_INIT, { 0 }, false };
 	lapd_settings settings = LAPD_PRIMARY;
 	const uint8_t tei = 0;
 	bool network = count == 3 && strcmp(words[1], "net") == 0;
+	uint8_t expired;
 
 	if (!network && (count != 3 || strcmp(words[1], "user") != 0)) {
 		fprintf(stderr, "usage: terminal net|user PORT\n");
 		return 2;
 	}
-	t.line = connected(network, words[2]);
+	t.line.socket = connected(network, words[2]);
 	if (network) {
 		check(lapd_side_network(&t.side, &settings, &tei, 1), "network");
 	} else {
 		check(lapd_side_user(&t.side, &settings, tei), "user");
 		check(lapd_side_establish(&t.side, 0, tei, clock_now()), "establish");
+		send_and_report(&t);
 	}
-	run(&t);
+	while (!t.finished) {
+		check(lapd_side_tick(&t.side, receive(&t), &expired), "tick");
+		send_and_report(&t);
+		if (!expired && !t.finished)
+			wait_for_octets(&t);
+	}
 	lapd_side_free(&t.side);
-	close(t.line);
+	close(t.line.socket);
 	return 0;
 }

@@ -17,7 +17,8 @@
 static bool is_primary, we_are_network;
 static struct pri *pri;
 static lapd_side side = LAPD_SIDE_INIT;
-static int our_line, their_line;
+static struct tcp_line our_line;
+static int their_line;
 static uint8_t tei; /* of the link: 0, or what was given or got */
 static bool we_lose, they_lose; /* the next I frame is lost */
 static struct {
@@ -44,7 +45,7 @@ static void send_frame(const uint8_t *frame, size_t length)
 	if (is_lost)
 		we_lose = false;
 	else
-		write_frame(our_line, frame, length);
+		write_frame(our_line.socket, frame, length);
 }
 
 /* ---- Our layer 3. */
@@ -130,23 +131,35 @@ static void fetch(void)
 	}
 }
 
-static void take_frame(void)
+static void take_frame(const uint8_t *frame, size_t length, uint64_t now)
 {
-	uint8_t frame[LAPD_MOST_FRAME];
-	int length = read_frame(our_line, frame, sizeof frame);
-	bool is_lost;
+	bool is_lost = they_lose && is_i_frame(frame, length);
 
-	if (length < 0)
-		fail("read");
-	is_lost = they_lose && is_i_frame(frame, (size_t)length);
-	trace(frame, (size_t)length, !we_are_network, is_lost ? " (lost)" : "");
-	seen.their_polls += is_poll(frame, (size_t)length, !we_are_network);
-	seen.their_answers += is_answer(frame, (size_t)length, !we_are_network);
+	trace(frame, length, !we_are_network, is_lost ? " (lost)" : "");
+	seen.their_polls += is_poll(frame, length, !we_are_network);
+	seen.their_answers += is_answer(frame, length, !we_are_network);
 	seen.rejects += length == 4 && (frame[2] & 15) == 9;
 	if (is_lost)
 		they_lose = false;
 	else
-		check(lapd_side_take(&side, frame, (size_t)length, clock_now()), "take");
+		check(lapd_side_take(&side, frame, length, now), "take");
+	fetch();
+}
+
+/* Passes in every frame that has arrived. Returns a moment for which timers may expire: no other frame had arrived by then. */
+static uint64_t receive(void)
+{
+	uint8_t frame[LAPD_MOST_FRAME];
+	uint64_t now = clock_now();
+	int length;
+
+	while ((length = next_frame(&our_line, frame)) > 0) {
+		take_frame(frame, (size_t)length, now);
+		now = clock_now();
+	}
+	if (length < 0)
+		fail("read");
+	return now;
 }
 
 static void on_event(pri_event *event)
@@ -161,37 +174,39 @@ static void on_event(pri_event *event)
 
 /* ---- The loop. */
 
-/* One turn: what is due at either end is done, and then what comes is waited for, until the moment. */
-static void turn(uint64_t moment)
+/* Each end receives what has arrived, and then expires its timers. */
+static void step(void)
 {
-	struct pollfd lines[2] = { { our_line, POLLIN, 0 }, { their_line, POLLIN, 0 } };
-	uint64_t now = clock_now(), due;
+	uint64_t now = receive();
 	uint8_t expired;
 
 	do
 		check(lapd_side_tick(&side, now, &expired), "tick");
 	while (expired);
-	on_event(libpri_tick(pri));
 	fetch();
-	check(lapd_side_deadline(&side, &due), "deadline");
-	due = due < moment ? due : moment;
-	now = clock_now();
-	if (poll(lines, 2, libpri_wait(pri, due > now ? (int)(due - now) : 0)) <= 0)
-		return;
-	if (lines[0].revents != 0)
-		take_frame();
-	if (lines[1].revents != 0)
+	while (is_readable(their_line, 0))
 		on_event(pri_check_event(pri));
-	fetch();
+	on_event(libpri_tick(pri));
 }
 
-/* Goes on until a count is as much as is wanted; false where it is not in so many milliseconds. */
+/* Waits until a frame arrives at either end, a timer is due or this moment has come. */
+static void wait_until(uint64_t moment)
+{
+	struct pollfd lines[2] = { { our_line.socket, POLLIN, 0 }, { their_line, POLLIN, 0 } };
+	uint64_t now = clock_now(), due;
+
+	check(lapd_side_deadline(&side, &due), "deadline");
+	due = due < moment ? due : moment;
+	poll(lines, 2, libpri_wait(pri, due > now ? (int)(due - now) : 0));
+}
+
+/* Goes on until a count is as much as is wanted; false if it is not in so many milliseconds. */
 static bool reaches(const int *count, int wanted, uint64_t milliseconds)
 {
 	uint64_t end = clock_now() + milliseconds;
 
-	while (*count < wanted && clock_now() < end)
-		turn(end);
+	for (step(); *count < wanted && clock_now() < end; step())
+		wait_until(end);
 	return *count >= wanted;
 }
 
@@ -213,7 +228,7 @@ static void begin(void)
 	settings.seed = 921;
 	if (socketpair(AF_UNIX, SOCK_STREAM, 0, pair) != 0)
 		fail("socketpair");
-	our_line = pair[0];
+	our_line.socket = pair[0];
 	their_line = pair[1];
 	if (we_are_network)
 		check(lapd_side_network(&side, &settings, &tei, is_primary ? 1 : 0), "network");

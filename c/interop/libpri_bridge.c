@@ -35,14 +35,15 @@ int main(int count, char **words)
 	line = connected(strcmp(words[3], "listen") == 0, words[4]);
 	end = libpri_end(line, is_primary, strcmp(words[2], "net") == 0);
 	while (!libpri_line_closed) {
+		while (!libpri_line_closed && is_readable(line, 0))
+			on_event(end, pri_check_event(end));
 		on_event(end, libpri_tick(end));
 		if (calls && clock_now() >= began + CALL_AFTER) {
 			calls = false;
 			libpri_call(end, is_primary);
 		}
 		wait = libpri_wait(end, calls ? CALL_AFTER : LONGEST);
-		if (is_readable(line, calls && wait > 100 ? 100 : wait))
-			on_event(end, pri_check_event(end));
+		is_readable(line, calls && wait > 100 ? 100 : wait);
 	}
 	return 0;
 }

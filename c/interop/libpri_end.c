@@ -11,17 +11,19 @@
 
 bool libpri_line_closed;
 
+static struct tcp_line line;
+
 static int on_read(struct pri *end, void *octets, int size)
 {
 	int length;
 
-	if (!is_readable(pri_fd(end), 0))
+	(void)end;
+	if (size < LAPD_MOST_FRAME + CHECK_SEQUENCE)
+		fail("libpri's buffer");
+	length = next_frame(&line, octets);
+	libpri_line_closed = length < 0;
+	if (length <= 0)
 		return 0;
-	length = read_frame(pri_fd(end), octets, (size_t)size - CHECK_SEQUENCE);
-	if (length < 0) {
-		libpri_line_closed = true;
-		return 0;
-	}
 	memset((uint8_t *)octets + length, 0, CHECK_SEQUENCE);
 	return length + CHECK_SEQUENCE;
 }
@@ -40,17 +42,18 @@ static void on_words(struct pri *end, char *words)
 		fputs(words, stderr);
 }
 
-struct pri *libpri_end(int line, bool is_primary, bool network)
+struct pri *libpri_end(int socket, bool is_primary, bool network)
 {
 	int type = network ? PRI_NETWORK : PRI_CPE;
 	struct pri *end;
 
+	line.socket = socket;
 	pri_set_message(on_words);
 	pri_set_error(on_words);
 	if (is_primary)
-		end = pri_new_cb(line, type, PRI_SWITCH_EUROISDN_E1, on_read, on_write, NULL);
+		end = pri_new_cb(socket, type, PRI_SWITCH_EUROISDN_E1, on_read, on_write, NULL);
 	else
-		end = pri_new_bri_cb(line, 0, type, PRI_SWITCH_EUROISDN_E1, on_read, on_write, NULL);
+		end = pri_new_bri_cb(socket, 0, type, PRI_SWITCH_EUROISDN_E1, on_read, on_write, NULL);
 	if (end == NULL)
 		fail("libpri");
 	if (getenv("INTEROP_LOG") != NULL)

@@ -7,8 +7,8 @@
 
 #include <libpri.h>
 
-/* An end of a basic rate interface with TEIs that are assigned, or of a primary rate interface. */
-struct pri *libpri_end(int line, bool is_primary, bool network);
+/* An end of a basic rate interface with TEIs that are assigned, or of a primary rate interface. A process has one. */
+struct pri *libpri_end(int socket, bool is_primary, bool network);
 
 /* Whether the other side has hung up. */
 extern bool libpri_line_closed;

@@ -11,12 +11,12 @@
 #define LONGEST 1000000
 
 static struct lapd_instance *end;
-static int line;
+static struct tcp_line line;
 static uint8_t tei;
 
 static void on_write(const uint8_t *frame, size_t length)
 {
-	write_frame(line, frame, length);
+	write_frame(line.socket, frame, length);
 }
 
 static void on_tell(enum osmo_dl_prim primitive, const uint8_t *octets, size_t length)
@@ -41,17 +41,16 @@ int main(int count, char **words)
 		return 2;
 	}
 	tei = (uint8_t)atoi(words[4]);
-	line = connected(strcmp(words[2], "listen") == 0, words[3]);
+	line.socket = connected(strcmp(words[2], "listen") == 0, words[3]);
 	end = osmocom_end(strcmp(words[1], "net") == 0, tei, 7, 10, &calls);
 	if (count > 5)
 		lapd_sap_start(end, tei, 0);
 	for (;;) {
-		osmocom_tick();
-		if (!is_readable(line, osmocom_wait(LONGEST)))
-			continue;
-		length = read_frame(line, frame, sizeof frame);
+		while ((length = next_frame(&line, frame)) > 0)
+			osmocom_take(end, frame, (size_t)length);
 		if (length < 0)
 			return 0;
-		osmocom_take(end, frame, (size_t)length);
+		osmocom_tick();
+		is_readable(line.socket, osmocom_wait(LONGEST));
 	}
 }

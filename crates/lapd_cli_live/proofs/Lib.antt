@@ -3,3 +3,4 @@ pub mod Passed
 pub mod Printers
 pub mod Log
 pub mod Steps
+pub mod WaitingLines

@@ -1,15 +1,29 @@
-//! A side served in real time.
+//! A side served in real time: what `net` and `user` do with the real clock.
+//!
+//! A [`LiveSide`] is a side with what is around it, which is anything that implements [`Outside`]: connections and a clock, or a
+//! device in memory. [`LiveSide::serve`] goes step by step. A step receives every frame that has arrived, then expires every timer
+//! that is due, and then waits once, until the next deadline. So no timer expires while its answer has arrived: *before you expire
+//! timers for a moment, pass in every frame that had arrived by then.* specs/Steps.antt defines a step, and specs/Entries.antt what
+//! is printed and counted. [`live_script`] serves a side over a script, and [`live_session`] while lines are typed. A [`Tapped`]
+//! line passes each frame to a [`Tap`].
 #![tactic(auto)]
 
 mod fault;
+mod input;
+mod live_lines;
 mod live_side;
 mod outside;
 mod printer;
 mod service;
 mod style;
 mod tapped;
+mod typed_lines;
+mod unseen;
 
 pub use fault::LiveFault;
+pub use input::{LiveStop, Person, live_script, live_session};
+pub use lapd_cli_live_text::Impairment;
+pub use lapd_cli_side_lines::LineStyle;
 pub use live_side::LiveSide;
 pub use outside::{Lines, Outside, Sending, Woken};
 pub use printer::Printer;

@@ -13,6 +13,7 @@ ghost use Rattle.lapd_cli_side_lines.specs.SideTexts.{frame_text_line};
 use crate::fault::LiveFault;
 use crate::outside::Sending;
 use crate::style::Style;
+use crate::unseen::Unseen;
 use lapd_cli_live_text::{Stats, words_object};
 use lapd_cli_script::LineFault;
 use lapd_cli_side_lines::{LineStyle, push_primitive, push_trace};
@@ -38,6 +39,8 @@ pub struct Printer<W> {
     pub(crate) awaited: Vec<u8>,
     pub(crate) is_found: bool,
     pub(crate) stats: Stats,
+    /// The lines that were printed while a line of input was awaited.
+    pub(crate) unseen: Unseen,
 }
 
 impl<W: Write> Printer<W> {
@@ -60,6 +63,7 @@ impl<W: Write> Printer<W> {
             awaited: Vec::new(alloc),
             is_found: false,
             stats: Stats::new(),
+            unseen: Unseen::new(alloc),
         }
     }
 
@@ -107,6 +111,28 @@ impl<W: Write> Printer<W> {
         self.awaited.clear();
         self.is_found = false;
         was_found
+    }
+
+    /// A line of input is awaited: lines that are printed meanwhile are kept for an `expect` that comes next.
+    pub(crate) fn keep_unseen(&mut self)
+        ensures { self.new ≡ record self.old { unseen = self.new.unseen } }
+    {
+        self.unseen.keep();
+    }
+
+    /// A line of input is done now, which looks for no line.
+    pub(crate) fn forget_unseen(&mut self)
+        ensures { self.new ≡ record self.old { unseen = self.new.unseen } }
+    {
+        self.unseen.forget();
+    }
+
+    /// Whether a line was printed that begins with these words, while a line of input was awaited. It is forgotten, with the lines
+    /// before it; all of them are, if there is none.
+    pub(crate) fn take_unseen(&mut self, words: &[u8]) -> bool
+        ensures { self.new ≡ record self.old { unseen = self.new.unseen } }
+    {
+        self.unseen.take(words)
     }
 
     /// Whether an awaited line was printed.
@@ -339,7 +365,7 @@ impl<W: Write> Printer<W> {
         if self.line.is_empty() {
             return Ok(());
         }
-        self.notice_line();
+        self.notice_line()?;
         push_moment(self.style, self.moment, &mut self.text)?;
         self.text.extend_from_slice(self.line.as_bytes())?;
         Ok(())
@@ -354,20 +380,22 @@ impl<W: Write> Printer<W> {
         if self.line.is_empty() {
             return Ok(());
         }
-        self.notice_line();
+        self.notice_line()?;
         push_object(self.style, self.moment, object.as_bytes(), &mut self.text)?;
         Ok(())
     }
 
-    /// Notices whether the line that stands in the room for it is awaited.
-    fn notice_line(&mut self)
-        ensures { self.new ≡ record self.old {
+    /// Notices whether the line that stands in the room for it is awaited, and keeps it for an `expect` to come.
+    fn notice_line(&mut self) -> Result<(), AllocError>
+        ensures { OnOk result (self.new ≡ record self.old {
             is_found = self.old.is_found || begins self.old.awaited.items (string_bytes self.old.line);
-        } }
+            unseen = self.new.unseen;
+        }) }
     {
         if begins_so(self.awaited.as_slice(), self.line.as_bytes()) {
             self.is_found = true;
         }
+        self.unseen.add(self.line.as_bytes())
     }
 }
 

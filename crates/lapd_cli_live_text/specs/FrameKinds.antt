@@ -21,12 +21,12 @@ control_kind (control.Ui p) = Ui
 control_kind (control.Frmr f) = Frmr
 control_kind (control.Xid pf) = Xid
 
--- the kind of octets, by what is read in them
+-- the kind of octets, by what a reader finds in them
 abbrev pub kind_of : Result Fields FrameFault → FrameKind
 kind_of (Ok frame) = control_kind frame.control
 kind_of (Err fault) = Other
 
--- the name that its count is printed with
+-- the name before its count
 abbrev pub kind_name : FrameKind → List ℕ
 kind_name I = codes "I"
 kind_name Rr = codes "RR"
@@ -41,7 +41,7 @@ kind_name Frmr = codes "FRMR"
 kind_name Xid = codes "XID"
 kind_name Other = codes "other"
 
--- the place of its count
+-- the index of its count
 abbrev pub kind_place : FrameKind → ℕ
 kind_place I = 0
 kind_place Rr = 1
@@ -56,6 +56,6 @@ kind_place Frmr = 9
 kind_place Xid = 10
 kind_place Other = 11
 
--- all of them, in the order in which they are printed
+-- all kinds, in the order in which their counts are printed
 abbrev pub kinds : List FrameKind
 kinds = I ∷ Rr ∷ Rnr ∷ Rej ∷ Sabme ∷ Disc ∷ Ua ∷ Dm ∷ Ui ∷ Frmr ∷ Xid ∷ Other ∷ []

@@ -5,3 +5,5 @@ pub mod LineObjects
 pub mod LineParts
 pub mod AwaitedText
 pub mod LiveWishes
+pub mod Histories
+pub mod Worked

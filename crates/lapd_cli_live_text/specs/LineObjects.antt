@@ -6,24 +6,25 @@ use Rattle.lapd_cli_script.specs.Line.{number_said, words_of}
 
 -- ---- A word.
 
--- what stands before the first `=` and behind it, in a word that has one
+-- the parts of a word before and behind its first `=`, if it has one
 abbrev pub parts_at_equals : List ℕ → Option (List ℕ × List ℕ)
 parts_at_equals [] = None
 parts_at_equals (octet ∷ octets) = if octet == 61 then Some ([], octets)
     else option_map (λ parts. (octet ∷ parts.0, parts.1)) (parts_at_equals octets)
 
--- the name of a word without `=`, by its place in the line: the first one is the SAPI, the second one the TEI
+-- the name of a number without `=`, by the index of the word in its line: the SAPI is the first
+-- word, the TEI the second
 abbrev pub name_of_place : ℕ → Option (List ℕ)
 name_of_place place = if place == 0 then Some (codes "sapi")
     else (if place == 1 then Some (codes "tei") else None)
 
--- the name of a word and what it is to say in digits, where the word has a name
+-- the name of a word, if it has one, and the digits behind it
 abbrev pub named_digits : ℕ → List ℕ → Option (List ℕ × List ℕ) → Option (List ℕ × List ℕ)
 named_digits place word (Some parts) = Some parts
 named_digits place word None = option_map (λ name. (name, word)) (name_of_place place)
 
--- the member that a word in this place of the line is, by name and number: the word is NAME=NUMBER, or a number in one of the
--- first two places. Such a number is below 2^64.
+-- The name and the number of a word that is a member: NAME=NUMBER, or a number as the first or the
+-- second word. The number is below 2^64 and has decimal digits alone.
 abbrev pub member_of : ℕ → List ℕ → Option (List ℕ × ℕ)
 member_of place word =
     option_and_then (λ parts. option_map (λ number. (parts.0, number)) (number_said parts.1))
@@ -31,7 +32,8 @@ member_of place word =
 
 -- ---- A line.
 
--- the members of an object so far, and the words that are none of them
+-- the members of an object so far, and the words that are no members, with single spaces between
+-- them
 pub record Parts : Type 0 where
   pub members : Members
   pub words : List ℕ
@@ -39,12 +41,12 @@ pub record Parts : Type 0 where
 abbrev pub no_parts : Parts
 no_parts = record { members = no_members; words = [] }
 
--- a word behind others, with a space between them
+-- a word behind others
 abbrev pub joined : List ℕ → List ℕ → List ℕ
 joined [] word = word
 joined (octet ∷ octets) word = (octet ∷ octets) ++ 32 ∷ word
 
--- one word more: a member, in place of one of the same name, or one of the other words
+-- one word more: a member, which replaces a member of the same name, or one of the other words
 abbrev pub with_parted : Option (List ℕ × ℕ) → List ℕ → Parts → Parts
 with_parted None word parts = record parts { words = joined parts.words word }
 with_parted (Some member) word parts =
@@ -53,13 +55,13 @@ with_parted (Some member) word parts =
 abbrev pub with_word : ℕ → List ℕ → Parts → Parts
 with_word place word parts = with_parted (member_of place word) word parts
 
--- the words from this place on, from left to right
+-- the words from this index on, from left to right
 abbrev pub with_words : ℕ → List (List ℕ) → Parts → Parts
 with_words place [] parts = parts
 with_words place (word ∷ words) parts =
     with_words (place + 1) words (with_word place word parts)
 
--- the other words as the member `line`, if there are any, in place of a member of that name
+-- the other words, if any, as the member `line`, which replaces a member of that name
 abbrev pub with_other_words : List ℕ → Members → Members
 with_other_words [] members = members
 with_other_words (octet ∷ octets) members = with_text (codes "line") (octet ∷ octets) members
@@ -67,10 +69,11 @@ with_other_words (octet ∷ octets) members = with_text (codes "line") (octet �
 abbrev pub parts_members : Parts → Members
 parts_members parts = with_other_words parts.words parts.members
 
--- the members of the object for a line of these words; an object's members stand in the order of their names
+-- the members of the object for a line of these words; `put` keeps the members sorted by their
+-- names
 abbrev pub words_members : List (List ℕ) → Members
 words_members words = parts_members (with_words 0 words no_parts)
 
 -- the text of the object for a line
-unfoldable pub words_text : List ℕ → List ℕ
-words_text line = object_text (words_members (words_of line))
+unfoldable pub words_object : List ℕ → List ℕ
+words_object line = object_text (words_members (words_of line))

@@ -1,4 +1,4 @@
--- How the parts of a line are seen.
+-- The parts of a line, as clauses see them.
 use Rattle.std.specs.String.{string_bytes}
 use Rattle.serde_json.specs.View.{members_view}
 use Rattle.lapd_cli_live_text.specs.declared.line_parts.LineParts.{LineParts}

@@ -1,4 +1,4 @@
--- The lines that tell the state of a link and of timers, in words (docs/SPECIFICATION.md, "With the real clock").
+-- Lines with the state of links and timers (docs/SPECIFICATION.md, "With the real clock").
 use Rattle.std.specs.Prelude.{ℕ, ◌-◌, ◌||◌, if◌then◌else◌, Bool, List, [], ◌∷◌, ◌++◌, codes, Option, Some, None, is_some}
 use Rattle.std.specs.Fmt.{decimal}
 use Rattle.lapd_timers.specs.Due.{Timers}
@@ -17,12 +17,13 @@ number_text name number = 32 ∷ name ++ 61 ∷ decimal number
 
 -- ---- Timers.
 
--- the milliseconds that are left of a timer at the moment `now`, none of them after its deadline; nothing if it does not run
+-- a timer that runs, with the milliseconds from the moment `now` to its deadline: 0 if the deadline
+-- is past
 abbrev pub timer_text : ℕ → Timer → Option ℕ → List ℕ
 timer_text now timer None = []
 timer_text now timer (Some deadline) = number_text (timer_name timer) (deadline - now)
 
--- of each timer that runs
+-- each timer that runs
 unfoldable pub timers_text : Timers → ℕ → List ℕ
 timers_text timers now = timer_text now T200 timers.t200 ++ (timer_text now T201 timers.t201
     ++ (timer_text now T202 timers.t202 ++ timer_text now T203 timers.t203))
@@ -51,7 +52,8 @@ abbrev pub busy_text : StateVariables → List ℕ
 busy_text window = word_if window.own_busy (codes " own-busy")
     ++ word_if window.peer_busy (codes " peer-busy")
 
--- an end of a link: its state, its variables, RC, and how many messages are neither acknowledged nor dropped
+-- an end of a link: its state, its variables, RC, and the number of messages that are neither
+-- acknowledged nor dropped
 abbrev pub end_text : End → List ℕ
 end_text e = codes "state " ++ (decimal (state_number e.state) ++ (numbers_text e.window
     ++ (number_text (codes "RC") e.rc ++ (number_text (codes "queue") (waiting e)

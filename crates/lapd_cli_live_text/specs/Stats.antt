@@ -1,5 +1,6 @@
--- What went over the line of a side and what the side reported: counts, frame by frame and primitive by primitive.
-use Rattle.std.specs.Prelude.{ℕ, ◌==◌, ◌+◌, ◌*◌, ◌-◌, ◌%◌, ◌^◌, min, if◌then◌else◌, List, [], ◌∷◌, ◌++◌, length, replicate, slice_index, slice_set, sum, flat_map, codes, Result, Ok, Err}
+-- Statistics of a side: how each frame and each primitive changes the counts, and the lines that
+-- print them.
+use Rattle.std.specs.Prelude.{ℕ, ◌==◌, ◌+◌, ◌-◌, ◌%◌, ◌^◌, min, if◌then◌else◌, List, [], ◌∷◌, ◌++◌, length, replicate, slice_index, slice_set, sum, flat_map, codes, Result, Ok, Err}
 use Rattle.lapd_frame.specs.declared.Side.{Side}
 use Rattle.lapd_frame.specs.declared.Sapi.{Sapi}
 use Rattle.lapd_frame.specs.declared.Sapi.TheVariants.{Call, Packet, Management}
@@ -23,20 +24,20 @@ use Rattle.lapd_cli_live_text.specs.LinkText.{number_text}
 
 -- ---- Counts.
 
--- no count is greater than 2^64 - 1
+-- a count that reaches 2^64 - 1 stays there
 abbrev pub up_to_most : ℕ → ℕ
 up_to_most n = min n (2 ^ 64 - 1)
 
--- the count in this place, one greater
+-- the count with this index is one greater
 abbrev pub one_more_at : ℕ → List ℕ → List ℕ
 one_more_at place counts = slice_set counts place (up_to_most (slice_index counts place + 1))
 
--- ---- One way.
+-- ---- Frames and octets that were sent, or that were received.
 
 unfoldable pub no_traffic : Traffic
 no_traffic = record { frames = replicate 12 0; octets = 0 }
 
--- a frame of this kind and so many octets goes over the line
+-- a frame of this kind, which has so many octets
 abbrev pub counted : FrameKind → ℕ → Traffic → Traffic
 counted kind octets traffic = record {
   frames = one_more_at (kind_place kind) traffic.frames;
@@ -50,24 +51,24 @@ sapi_place Call = 0
 sapi_place Packet = 128
 sapi_place Management = 256
 
--- the place of the link that frames with this address are for
+-- the index of the link with this address: 128 TEIs of each SAPI
 abbrev pub link_place : Address → ℕ
 link_place address = sapi_place address.sapi + address.tei
 
--- a link is established: its numbers begin anew with 0 (Q.921 5.5.1.2)
+-- a link is established: its numbers restart at 0 (Q.921 5.5.1.2)
 abbrev pub restarted : ℕ → Stats → Stats
 restarted place stats = record stats { next = slice_set stats.next place 0 }
 
--- An I frame with this N(S) is sent. It is new if its N(S) is the link's next one; the N(S) after it is then the next, modulo
--- 128 (Q.921 3.5.2.1). Any other I frame is sent again.
+-- An I frame with this N(S) is sent. If the N(S) is the next new one of its link, the next one is
+-- one greater, modulo 128 (Q.921 3.5.2.1). Any other I frame is sent again.
 abbrev pub numbered : ℕ → ℕ → Stats → Stats
 numbered place ns stats = if slice_index stats.next place == ns
     then record stats { next = slice_set stats.next place ((ns + 1) % 128) }
     else record stats { again = up_to_most (stats.again + 1) }
 
--- ---- What is counted.
+-- ---- Frames and primitives.
 
--- what is counted of the numbers in a frame that this side sends
+-- how a frame that this side sends changes the numbers of its link
 abbrev pub after_sent_control : Control → ℕ → Stats → Stats
 after_sent_control (control.I ns nr p) place stats = numbered place ns stats
 after_sent_control (control.Ua f) place stats = restarted place stats
@@ -77,7 +78,7 @@ abbrev pub after_sent : Result Fields FrameFault → Stats → Stats
 after_sent (Ok frame) stats = after_sent_control frame.control (link_place frame.address) stats
 after_sent (Err fault) stats = stats
 
--- and in one that this side receives
+-- and a frame that this side receives
 abbrev pub after_received_control : Control → ℕ → Stats → Stats
 after_received_control (control.Ua f) place stats = restarted place stats
 after_received_control other place stats = stats
@@ -87,29 +88,29 @@ after_received (Ok frame) stats =
     after_received_control frame.control (link_place frame.address) stats
 after_received (Err fault) stats = stats
 
--- these octets are sent by this side, which is `from`
+-- this side, `from`, sends these octets
 unfoldable pub sent_counted : Stats → Side → List ℕ → Stats
 sent_counted stats from octets = after_sent (frame_at from octets) (record stats {
   sent = counted (kind_of (frame_at from octets)) (length octets) stats.sent;
 })
 
--- these octets are received from the other side, which is `from`
+-- this side receives these octets from the other side, `from`
 unfoldable pub received_counted : Stats → Side → List ℕ → Stats
 received_counted stats from octets = after_received (frame_at from octets) (record stats {
   received = counted (kind_of (frame_at from octets)) (length octets) stats.received;
 })
 
--- the place of the count of reports with this letter
+-- the index of the count of reports with this letter
 abbrev pub letter_place : Letter → ℕ
 letter_place letter = letter_code letter - 65
 
--- a report is counted by its letter (Q.921 Appendix II), and no other primitive
+-- a report is counted by its letter (Q.921 Appendix II); no other primitive is counted
 unfoldable pub told_counted : Stats → Primitive → Stats
 told_counted stats (Of id (what.Report letter)) =
     record stats { reports = one_more_at (letter_place letter) stats.reports }
 told_counted stats primitive = stats
 
--- before anything is sent, received or reported
+-- all counts and numbers are 0
 unfoldable pub nothing_counted : Stats
 nothing_counted = record {
   sent = no_traffic;
@@ -121,18 +122,18 @@ nothing_counted = record {
 
 -- ---- The lines.
 
--- a count with its name, nothing for a count of 0
+-- a count with its name, or nothing for a count of 0
 abbrev pub count_text : List ℕ → ℕ → List ℕ
 count_text name count = if count == 0 then [] else number_text name count
 
 abbrev pub kind_text : List ℕ → FrameKind → List ℕ
 kind_text counts kind = count_text (kind_name kind) (slice_index counts (kind_place kind))
 
--- each kind of which there were frames
+-- each kind with a count above 0
 unfoldable pub kinds_text : List ℕ → List ℕ
 kinds_text counts = flat_map (kind_text counts) kinds
 
--- how many frames and octets, and how many frames of each kind
+-- the numbers of frames and octets, and of frames of each kind
 abbrev pub traffic_text : Traffic → List ℕ
 traffic_text traffic = number_text (codes "frames") (up_to_most (sum traffic.frames))
     ++ (number_text (codes "octets") traffic.octets ++ kinds_text traffic.frames)
@@ -145,18 +146,18 @@ abbrev pub letter_text : List ℕ → Letter → List ℕ
 letter_text counts letter =
     count_text (letter_code letter ∷ []) (slice_index counts (letter_place letter))
 
--- each letter by which there were reports
+-- each letter with a count above 0
 unfoldable pub letters_text : List ℕ → List ℕ
 letters_text counts = flat_map (letter_text counts) letters
 
-unfoldable pub sent_text : Stats → List ℕ
-sent_text stats = codes "sent"
+unfoldable pub sent_words : Stats → List ℕ
+sent_words stats = codes "sent"
     ++ (traffic_text stats.sent ++ number_text (codes "again") stats.again)
 
--- with how many of the frames were discarded
-unfoldable pub received_text : Stats → ℕ → List ℕ
-received_text stats discarded = codes "received"
+-- `discarded` of the frames were discarded
+unfoldable pub received_words : Stats → ℕ → List ℕ
+received_words stats discarded = codes "received"
     ++ (traffic_text stats.received ++ number_text (codes "discarded") discarded)
 
-unfoldable pub reports_text : Stats → List ℕ
-reports_text stats = codes "reports" ++ letters_text stats.reports
+unfoldable pub reports_words : Stats → List ℕ
+reports_words stats = codes "reports" ++ letters_text stats.reports

@@ -5,10 +5,11 @@ ghost use Rattle.lapd_cli_live_text.specs.FrameKinds.{control_kind, kind_name, k
 
 use lapd_frame::Control;
 
-/// How many kinds exist.
+/// The number of kinds.
 pub(crate) const KINDS: usize = 12;
 
-/// What octets on the line are: a frame with this control field (Q.921 Table 5), or octets that do not form a valid frame.
+/// The kind of some octets: a frame with this control field (Q.921 Table 5), or octets that do not
+/// form a valid frame.
 #[derive(Clone, Copy)]
 pub(crate) enum FrameKind {
     I,
@@ -26,7 +27,7 @@ pub(crate) enum FrameKind {
     Other,
 }
 
-/// All kinds, in the order in which they are printed.
+/// All kinds, in the order in which their counts are printed.
 pub(crate) const ALL_KINDS: [FrameKind; KINDS] = [
     FrameKind::I,
     FrameKind::Rr,
@@ -62,7 +63,7 @@ impl FrameKind {
         }
     }
 
-    /// The name that its count is printed with.
+    /// The name before its count.
     pub(crate) fn name(self) -> &'static str
         ensures { result.now ≡ kind_name self }
     {
@@ -82,7 +83,7 @@ impl FrameKind {
         }
     }
 
-    /// The place of its count.
+    /// The index of its count.
     pub(crate) fn place(self) -> usize
         ensures value { result ≡ kind_place self }
         ensures within { result < KINDS }

@@ -1,15 +1,17 @@
 //! The texts and the statistics of a side that is served with the real clock.
 //!
-//! [`push_link`], [`push_timers`] and [`push_management`] print the state of links and of timers (specs/LinkText.antt). [`Stats`]
-//! counts what goes over the line and what is reported, and prints the counts (specs/Stats.antt). [`words_object`] makes a JSON
-//! object of such a line (specs/LineObjects.antt).
+//! [`push_link`], [`push_timers`] and [`push_management`] print the state of links and timers
+//! (specs/LinkText.antt). [`Stats`] counts frames, octets and reports, and prints the counts
+//! (specs/Stats.antt). [`words_object`] makes a JSON object of such a line
+//! (specs/LineObjects.antt).
 //!
-//! [`read_live_line`] parses a line of such a side; `live_wish_of_line` in specs/LiveWishes.antt defines its meaning.
-//! [`awaited_text`] shows what was awaited in vain (specs/AwaitedText.antt).
+//! [`read_live_line`] parses a line of such a side; `live_wish_of_line` in specs/LiveWishes.antt
+//! defines its meaning. [`awaited_text`] shows what was awaited in vain (specs/AwaitedText.antt).
 #![tactic(auto)]
 
 mod awaited;
 mod frame_kind;
+mod laws;
 mod line_objects;
 mod line_parts;
 mod link_text;
@@ -18,6 +20,7 @@ mod traffic;
 mod words;
 
 pub use awaited::awaited_text;
+pub use laws::{each_event_is_counted, rejected_message_is_sent_again, worked_lines};
 pub use line_objects::words_object;
 pub use link_text::{push_link, push_management, push_number, push_timers};
 pub use stats::Stats;

@@ -3,16 +3,19 @@
 ghost use Rattle.std.specs.Prelude.{◌≡◌, ◌<◌, ◌∷◌, [], IfOk, IfSome, MatchOption, OnOk, length, option_map};
 ghost use Rattle.std.specs.String.{string_bytes};
 ghost use Rattle.lapd_cli_script.specs.Line.{words_of};
-ghost use Rattle.lapd_cli_live_text.specs.LineObjects.{member_of, name_of_place, named_digits, parts_at_equals, with_word, with_words, words_text};
+ghost use Rattle.lapd_cli_live_text.specs.LineObjects.{member_of, name_of_place, named_digits, parts_at_equals, with_word, with_words, words_object};
 ghost use Rattle.lapd_cli_live_text.specs.LineParts.{parts_of};
 
 use crate::line_parts::LineParts;
 use lapd_cli_script::number_of;
 use std::alloc::{AllocError, Global};
 
-/// The JSON object for a line of words that single spaces part, in one line with no line feed. A number is the member `sapi` as
-/// the first word, and `tei` as the second one. `NAME=NUMBER` is a member of that name. The other words are the member `line`.
-/// Of several members with the same name the last one stays. The members stand in the order of their names.
+/// The JSON object for a line of words with single spaces between them. The object has no line
+/// feed.
+///
+/// A number as the first word is the member `sapi`, and as the second word `tei`. `NAME=NUMBER` is
+/// a member of that name. The other words are the member `line`. If several members have one name,
+/// the last one stays. Members are sorted by their names.
 ///
 /// ```text
 /// 0 64 state 7 RC=0        {"RC":0,"line":"state 7","sapi":0,"tei":64}
@@ -22,9 +25,9 @@ use std::alloc::{AllocError, Global};
 /// # Errors
 ///
 /// `AllocError`.
-#[tactic(auto, unfolding(crate::specs::LineObjects::words_text))]
+#[tactic(auto, unfolding(crate::specs::LineObjects::words_object))]
 pub fn words_object(alloc: Global, line: &str) -> Result<String, AllocError>
-    ensures { IfOk result (λ text. string_bytes text ≡ words_text line.now) }
+    ensures { IfOk result (λ text. string_bytes text ≡ words_object line.now) }
 {
     let mut parts = LineParts::new(alloc);
     add_line(&mut parts, line)?;
@@ -46,7 +49,7 @@ fn add_line(parts: &mut LineParts, line: &str) -> Result<(), AllocError>
     add_word(parts, place, rest)
 }
 
-/// Adds the word in this place of a line.
+/// Adds the word with this index of a line.
 fn add_word(parts: &mut LineParts, place: usize, word: &str) -> Result<(), AllocError>
     ensures { OnOk result (parts_of parts.new
         ≡ with_word place word.now (parts_of parts.old)) }
@@ -57,7 +60,8 @@ fn add_word(parts: &mut LineParts, place: usize, word: &str) -> Result<(), Alloc
     }
 }
 
-/// The member that the word in this place is: its name and its number.
+/// The name and the number of a word that is a member. `place` is the index of the word in its
+/// line.
 fn member_of(place: usize, word: &str) -> Option<(&str, u64)>
     ensures { option_map (λ member. (member.0.now, member.1)) result ≡ member_of place word.now }
 {
@@ -66,7 +70,7 @@ fn member_of(place: usize, word: &str) -> Option<(&str, u64)>
     Some((name, number))
 }
 
-/// The name of the word in this place, and what it is to say in digits.
+/// The name of a word and the digits behind it.
 fn named_digits(place: usize, word: &str) -> Option<(&str, &str)>
     ensures { option_map (λ parts. (parts.0.now, parts.1.now)) result
         ≡ named_digits place word.now (parts_at_equals word.now) }
@@ -77,14 +81,14 @@ fn named_digits(place: usize, word: &str) -> Option<(&str, &str)>
     }
 }
 
-/// What stands before the first `=` of a word and behind it.
+/// Splits a word at its first `=`.
 fn cut_at_equals(word: &str) -> Option<(&str, &str)>
     ensures { option_map (λ parts. (parts.0.now, parts.1.now)) result ≡ parts_at_equals word.now }
 {
     word.split_once('=')
 }
 
-/// The name of a word without `=` in this place.
+/// The name of a number without a name of its own.
 fn name_of_place(place: usize) -> Option<&'static str>
     ensures { option_map (λ name. name.now) result ≡ name_of_place place }
 {
@@ -95,7 +99,7 @@ fn name_of_place(place: usize) -> Option<&'static str>
     }
 }
 
-/// The first word of a line, and what stands behind the space after it. `None` for a line of one word.
+/// Splits a line behind its first word. `None` if the line is one word.
 fn cut_at_space(line: &str) -> Option<(&str, &str)>
     ensures words { MatchOption result (words_of line.now ≡ line.now ∷ [])
         (λ parts. words_of line.now ≡ parts.0.now ∷ words_of parts.1.now) }

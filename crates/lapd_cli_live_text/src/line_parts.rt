@@ -1,4 +1,4 @@
-//! The parts of a line that its JSON object is made of.
+//! The parts of a line for its JSON object.
 
 ghost use Rattle.std.specs.Prelude.{◌≡◌, false};
 ghost use Rattle.serde_json.specs.View.{members_view};
@@ -7,12 +7,12 @@ ghost use Rattle.serde_json.specs.Written.{members_have_float};
 use serde_json::{Map, Value, put};
 use std::alloc::{AllocError, Global};
 
-/// The members of the object of a line so far, and the words that are none of them.
+/// The members of a line's object so far, and the words that are no members.
 #[derive(Drop)]
 pub(crate) struct LineParts {
     alloc: Global,
     members: Map<String, Value>,
-    /// The other words, with a space between two of them.
+    /// The words that are no members, with single spaces between them.
     words: String,
     ghost no_float: { members_have_float (members_view members.entries) ≡ false },
 }
@@ -24,7 +24,7 @@ impl LineParts {
     ghost use Rattle.lapd_cli_live_text.specs.LineObjects.{joined, no_parts, parts_members};
     ghost use Rattle.lapd_cli_live_text.specs.LineParts.{parts_of};
 
-    /// No word.
+    /// The parts of a line without words.
     pub(crate) fn new(alloc: Global) -> LineParts
         ensures { parts_of result ≡ no_parts }
     {
@@ -35,7 +35,7 @@ impl LineParts {
         }
     }
 
-    /// Puts a number, in place of a member of the same name.
+    /// Sets a member to a number.
     pub(crate) fn put_number(&mut self, name: &str, number: u64) -> Result<(), AllocError>
         ensures { OnOk result (parts_of self.new ≡ record (parts_of self.old) {
           members = with_number name.now number (parts_of self.old).members;
@@ -56,7 +56,7 @@ impl LineParts {
         self.words.push_str(word)
     }
 
-    /// The text of the object, in one line with no line feed.
+    /// The text of the object. It has no line feed.
     pub(crate) fn into_text(mut self) -> Result<String, AllocError>
         ensures { IfOk result (λ text.
             string_bytes text ≡ object_text (parts_members (parts_of self))) }
@@ -67,7 +67,7 @@ impl LineParts {
         Value::Object(self.members).to_string(self.alloc)
     }
 
-    /// Puts the other words as the member `line`.
+    /// Sets the member `line` to the words that are no members.
     fn put_words(&mut self) -> Result<(), AllocError>
         ensures { OnOk result (members_view self.new.members.entries
             ≡ with_text (codes "line") (string_bytes self.old.words)

@@ -1,4 +1,4 @@
-//! The lines that tell the state of a link and of timers, and numbers with their names.
+//! Lines with the state of links and timers, and numbers with their names.
 
 ghost use Rattle.std.specs.Prelude.{◌≡◌, ◌++◌, OnOk};
 ghost use Rattle.std.specs.Option.{option_copied};
@@ -13,8 +13,11 @@ use lapd_link::{Link, Window};
 use lapd_sides_links::{LinkId, Timer, TimerSet};
 use std::alloc::AllocError;
 
-/// Appends the line of a link, without its line feed: its state, and what is left of its timers at the moment `now`, in
-/// milliseconds.
+/// Appends the line of a link, without a line feed: its state, its variables, and its timers that
+/// run.
+///
+/// `now` is the moment in milliseconds; each timer is printed with the milliseconds left until its
+/// deadline.
 ///
 /// # Errors
 ///
@@ -35,7 +38,8 @@ pub fn push_link(
     push_link_timers(timers, now, text)
 }
 
-/// Appends the timers that run, each with the milliseconds that are left of it at the moment `now`: 0 after its deadline.
+/// Appends each timer that runs, with the milliseconds from the moment `now` to its deadline: 0 if
+/// the deadline is past.
 ///
 /// # Errors
 ///
@@ -51,7 +55,8 @@ pub fn push_timers(timers: &TimerSet, now: u64, text: &mut String) -> Result<(),
     push_timer(timers, Timer::T203, now, text)
 }
 
-/// Appends the line of the timers of TEI management, without its line feed. Appends nothing if none of them runs.
+/// Appends the line of the timers of TEI management, without a line feed. Appends nothing if no
+/// timer runs.
 ///
 /// # Errors
 ///
@@ -81,7 +86,7 @@ pub fn push_number(name: &str, number: u64, text: &mut String) -> Result<(), All
     write!(text, " {name}={number}")
 }
 
-/// Appends SAPI and TEI of a link, and a space behind each.
+/// Appends SAPI and TEI of a link, each with a space behind it.
 fn push_id(id: &LinkId, text: &mut String) -> Result<(), AllocError>
     ensures { OnOk result (string_bytes text.new ≡ string_bytes text.old ++ id_text id.now) }
 {
@@ -90,7 +95,7 @@ fn push_id(id: &LinkId, text: &mut String) -> Result<(), AllocError>
     write!(text, "{sapi} {tei} ")
 }
 
-/// Appends the state of a link, its variables, RC, and how many messages wait.
+/// Appends the state of a link, its variables, RC, and the number of messages in its queue.
 fn push_end(link: &Link, text: &mut String) -> Result<(), AllocError>
     ensures { (e : End) → LinkStandsFor link.now e → OnOk result (string_bytes text.new
         ≡ string_bytes text.old ++ end_text e) }
@@ -143,7 +148,7 @@ fn push_link_timers(
     }
 }
 
-/// Appends what is left of a timer, if it runs.
+/// Appends a timer and the milliseconds left, if it runs.
 fn push_timer(
     timers: &TimerSet,
     timer: Timer,

@@ -1,8 +1,8 @@
-//! What went over the line of a side and what the side reported, in counts.
+//! Statistics of a side: frames and octets on the line, and reports.
 
 ghost use Rattle.std.specs.Prelude.{◌≡◌, ◌<◌, ◌++◌, OnOk, flat_map};
 ghost use Rattle.std.specs.String.{string_bytes};
-ghost use Rattle.lapd_cli_live_text.specs.Stats.{after_received_control, after_sent_control, letter_place, letter_text, letters_text, link_place, nothing_counted, numbered, received_counted, received_text, reports_text, restarted, sent_counted, sent_text, told_counted};
+ghost use Rattle.lapd_cli_live_text.specs.Stats.{after_received_control, after_sent_control, letter_place, letter_text, letters_text, link_place, nothing_counted, numbered, received_counted, received_words, reports_words, restarted, sent_counted, sent_words, told_counted};
 
 use crate::frame_kind::FrameKind;
 use crate::link_text::push_number;
@@ -12,13 +12,13 @@ use lapd_link::Letter;
 use lapd_sides_links::{Primitive, What};
 use std::alloc::AllocError;
 
-/// How many letters reports have (Q.921 Appendix II).
+/// The number of letters of reports (Q.921 Appendix II).
 const LETTERS: usize = 15;
 
-/// How many links may exist: 128 TEIs of each of three SAPIs.
+/// The number of links that may exist: 128 TEIs of each of three SAPIs.
 const LINKS: usize = 384;
 
-/// All letters, in the order in which they are printed.
+/// All letters, in the order in which their counts are printed.
 const ALL_LETTERS: [Letter; LETTERS] = [
     Letter::A,
     Letter::B,
@@ -37,7 +37,8 @@ const ALL_LETTERS: [Letter; LETTERS] = [
     Letter::O,
 ];
 
-/// What went over the line so far, and what was reported. No count is greater than `u64::MAX`.
+/// Counts of frames and octets on the line, and of reports. A count that reaches `u64::MAX` stays
+/// there.
 #[derive(Drop)]
 pub struct Stats {
     sent: Traffic,
@@ -51,7 +52,7 @@ pub struct Stats {
 }
 
 impl Stats {
-    /// Nothing.
+    /// Statistics with all counts 0.
     #[tactic(auto, unfolding(crate::specs::Stats::nothing_counted))]
     pub fn new() -> Stats
         ensures { result ≡ nothing_counted }
@@ -65,8 +66,8 @@ impl Stats {
         }
     }
 
-    /// Counts octets that this side sent, which is `from`. An I frame was sent again if its N(S) is not the link's next new
-    /// one. A UA starts the link's numbers at 0.
+    /// Counts a frame that this side, `from`, sent. An I frame was sent again unless its N(S) is
+    /// the next new one of its link. A UA restarts its link's numbers at 0.
     #[tactic(auto, unfolding(crate::specs::Stats::sent_counted))]
     pub fn count_sent(&mut self, from: Side, octets: &[u8])
         ensures { self.new ≡ sent_counted self.old from octets.now }
@@ -81,7 +82,8 @@ impl Stats {
         }
     }
 
-    /// Counts octets that this side received from the other one, which is `from`. A UA starts the link's numbers at 0.
+    /// Counts a frame that this side received from the other side, `from`. A UA restarts its link's
+    /// numbers at 0.
     #[tactic(auto, unfolding(crate::specs::Stats::received_counted))]
     pub fn count_received(&mut self, from: Side, octets: &[u8])
         ensures { self.new ≡ received_counted self.old from octets.now }
@@ -107,51 +109,52 @@ impl Stats {
         }
     }
 
-    /// Appends the line of what was sent, without its line feed.
+    /// Appends the line of sent frames, without a line feed.
     ///
     /// # Errors
     ///
     /// `AllocError`. A front of the line may have been appended.
-    #[tactic(auto, unfolding(crate::specs::Stats::sent_text))]
+    #[tactic(auto, unfolding(crate::specs::Stats::sent_words))]
     pub fn push_sent(&self, text: &mut String) -> Result<(), AllocError>
         ensures { OnOk result (string_bytes text.new
-            ≡ string_bytes text.old ++ sent_text self.now) }
+            ≡ string_bytes text.old ++ sent_words self.now) }
     {
         text.push_str("sent")?;
         self.sent.push(text)?;
         push_number("again", self.again, text)
     }
 
-    /// Appends the line of what was received, without its line feed, with how many of these frames were discarded.
+    /// Appends the line of received frames, without a line feed. `discarded` of them were
+    /// discarded.
     ///
     /// # Errors
     ///
     /// `AllocError`. A front of the line may have been appended.
-    #[tactic(auto, unfolding(crate::specs::Stats::received_text))]
+    #[tactic(auto, unfolding(crate::specs::Stats::received_words))]
     pub fn push_received(&self, discarded: u64, text: &mut String) -> Result<(), AllocError>
         ensures { OnOk result (string_bytes text.new
-            ≡ string_bytes text.old ++ received_text self.now discarded) }
+            ≡ string_bytes text.old ++ received_words self.now discarded) }
     {
         text.push_str("received")?;
         self.received.push(text)?;
         push_number("discarded", discarded, text)
     }
 
-    /// Appends the line of what was reported, without its line feed.
+    /// Appends the line of reports, without a line feed.
     ///
     /// # Errors
     ///
     /// `AllocError`. A front of the line may have been appended.
-    #[tactic(auto, unfolding(crate::specs::Stats::reports_text))]
+    #[tactic(auto, unfolding(crate::specs::Stats::reports_words))]
     pub fn push_reports(&self, text: &mut String) -> Result<(), AllocError>
         ensures { OnOk result (string_bytes text.new
-            ≡ string_bytes text.old ++ reports_text self.now) }
+            ≡ string_bytes text.old ++ reports_words self.now) }
     {
         text.push_str("reports")?;
         push_all_letters(&self.reports, text)
     }
 
-    /// Follows the numbers of a link by a frame that was sent.
+    /// Updates the numbers of a link after a frame was sent.
     fn follow_sent(&mut self, control: &Control, place: usize)
         requires { place < LINKS }
         ensures { self.new ≡ after_sent_control control.now place self.old }
@@ -163,7 +166,7 @@ impl Stats {
         }
     }
 
-    /// Follows the numbers of a link by a frame that was received.
+    /// Updates the numbers of a link after a frame was received.
     fn follow_received(&mut self, control: &Control, place: usize)
         requires { place < LINKS }
         ensures { self.new ≡ after_received_control control.now place self.old }
@@ -173,7 +176,7 @@ impl Stats {
         }
     }
 
-    /// An I frame with this N(S) was sent: again, unless it is the link's next new one.
+    /// Counts an I frame with this N(S) as sent again, unless it is the next new one of its link.
     fn count_ns(&mut self, place: usize, ns: u8)
         requires { place < LINKS }
         ensures { self.new ≡ numbered place ns self.old }
@@ -210,7 +213,7 @@ fn push_letters(
     Ok(())
 }
 
-/// The place of the link that frames with this address are for.
+/// The index of the link with this address.
 fn place_of(address: Address) -> usize
     ensures value { result ≡ link_place address }
     ensures within { result < LINKS }
@@ -223,7 +226,7 @@ fn place_of(address: Address) -> usize
     first + usize::from(address.tei.value())
 }
 
-/// The place of a letter's count.
+/// The index of a letter's count.
 fn place_of_letter(letter: Letter) -> usize
     ensures value { result ≡ letter_place letter }
     ensures within { result < LETTERS }

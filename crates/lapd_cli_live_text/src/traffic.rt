@@ -1,4 +1,4 @@
-//! Counts of the frames that went over the line one way.
+//! Counts of the frames that were sent, or of those that were received.
 
 ghost use Rattle.std.specs.Prelude.{◌≡◌, ◌++◌, OnOk, flat_map, sum};
 ghost use Rattle.std.specs.String.{string_bytes};
@@ -8,7 +8,8 @@ use crate::frame_kind::{ALL_KINDS, FrameKind, KINDS};
 use crate::link_text::push_number;
 use std::alloc::AllocError;
 
-/// How many frames of each kind went one way, and how many octets they had. No count is greater than `u64::MAX`.
+/// The numbers of frames of each kind, and of their octets, that were sent or received. A count
+/// that reaches `u64::MAX` stays there.
 #[derive(Drop)]
 pub(crate) struct Traffic {
     frames: [u64; KINDS],
@@ -16,7 +17,7 @@ pub(crate) struct Traffic {
 }
 
 impl Traffic {
-    /// Nothing.
+    /// All counts 0.
     #[tactic(auto, unfolding(crate::specs::Stats::no_traffic))]
     pub(crate) fn new() -> Traffic
         ensures { result ≡ no_traffic }
@@ -27,7 +28,7 @@ impl Traffic {
         }
     }
 
-    /// Counts a frame of this kind and so many octets.
+    /// Counts a frame of this kind, which has so many octets.
     pub(crate) fn count(&mut self, kind: FrameKind, octets: usize)
         ensures { self.new ≡ counted kind octets self.old }
     {
@@ -36,7 +37,7 @@ impl Traffic {
         self.octets = self.octets.saturating_add(octets as u64);
     }
 
-    /// Appends how many frames and octets went this way, and how many frames of each kind.
+    /// Appends the numbers of frames and octets, and of frames of each kind.
     pub(crate) fn push(&self, text: &mut String) -> Result<(), AllocError>
         ensures { OnOk result (string_bytes text.new
             ≡ string_bytes text.old ++ traffic_text self.now) }

@@ -1,16 +1,21 @@
-//! A side of a primary rate interface over TCP, by the real clock: one link, of SAPI 0 and TEI 0, with k = 7 (Q.921 5.9).
-//! `lapd_example net 127.0.0.1:4000` waits for a connection. `user` in place of `net` makes one, establishes the link, and gives
-//! a message when that is confirmed. Both print what layer 3 is told, until the other side hangs up.
+//! One side of a primary rate interface over TCP, with the real clock: one link, SAPI 0 and TEI 0, with k = 7 (Q.921 5.9).
+//! `lapd_example net 127.0.0.1:4000` waits for a connection. `lapd_example user 127.0.0.1:4000` makes one, establishes the link,
+//! and sends a message once that is confirmed. Both print what is reported to layer 3, until the other side hangs up.
 #![tactic(auto)]
 
+mod line;
+
 use anyhow::{Result, bail};
-use lapd_port::{FromRead, FromWrite, MOST_OCTETS, Port};
 use lapd_sides::{
     Acts, Config, EitherSide, LinkId, NetSide, Primitive, Request, Sapi, Tei, UserSide, What,
 };
-use std::io::{self, ErrorKind};
+use line::Line;
+use std::io;
 use std::net::{TcpListener, TcpStream};
 use std::time::{Duration, Instant};
+
+/// How many frames are received before timers get their turn, so that a flood of frames can't stop them.
+const MOST_FRAMES: u32 = 4096;
 
 fn main(rt: HostRuntime) -> Result<()> {
     let mut words = std::env::args(&rt)?.skip(1);
@@ -35,70 +40,69 @@ fn user(rt: &HostRuntime, stream: &TcpStream) -> Result<()> {
     run(rt, &mut EitherSide::User(side), stream, Some(link))
 }
 
-/// Establishes this link, if any, and serves the connection.
+/// Establishes this link, if any, and serves the side until the other side hangs up.
 fn run(
     rt: &HostRuntime,
     side: &mut EitherSide,
     stream: &TcpStream,
     link: Option<LinkId>,
 ) -> Result<()> {
-    let mut endpoint = Endpoint::new(rt, side, stream)?;
+    let mut endpoint = Endpoint {
+        side,
+        acts: Acts::new(rt.alloc())?,
+        line: Line::new(rt, stream)?,
+        start: Instant::now(rt)?,
+    };
     if let Some(link) = link {
         endpoint.request(rt, Request::Establish(link))?;
     }
     endpoint.serve(rt)
 }
 
-/// A side with a connection to the other one, what its last call gave, and a clock.
+/// A side, the outcome of its last call, its line and its clock.
 #[derive(Drop)]
 struct Endpoint<'s> {
     side: &'s mut EitherSide,
     acts: Acts,
-    stream: &'s TcpStream,
-    port: Port<FromRead<&'s TcpStream>, FromWrite<&'s TcpStream>>,
+    line: Line<'s>,
     start: Instant,
 }
 
-impl<'s> Endpoint<'s> {
-    fn new(rt: &HostRuntime, side: &'s mut EitherSide, stream: &'s TcpStream) -> Result<Self> {
-        Ok(Endpoint {
-            side,
-            acts: Acts::new(rt.alloc())?,
-            stream,
-            port: Port::new(FromRead::new(stream), FromWrite::new(stream)),
-            start: Instant::now(rt)?,
-        })
-    }
-
-    /// Does what is due, or waits until something is, and hears what comes, until the other side hangs up.
+impl Endpoint<'_> {
+    /// Receives, expires timers, and waits, in this order, until the other side hangs up.
     fn serve(&mut self, rt: &HostRuntime) -> Result<()> {
         for _ in 0..u64::MAX {
-            let now = self.now(rt)?;
+            let now = self.receive(rt)?;
             if self.side.tick(now, &mut self.acts) {
-                self.hand_on(rt)?;
+                self.send_and_report(rt)?;
                 continue;
             }
             let until = self.side.next_deadline();
             let sleep = until.map(|then| Duration::from_millis(then.saturating_sub(now)));
-            self.stream.set_read_timeout(sleep)?;
-            match self.stream.peek(&mut [0]) {
-                Ok(0) => break,
-                Ok(_) => self.hear(rt)?,
-                Err(error) if error.kind() == ErrorKind::WouldBlock => {}
-                Err(error) => return Err(error.into()),
+            if !self.line.wait(sleep)? {
+                break;
             }
         }
         Ok(())
     }
 
-    /// Reads a frame to its end, and hears it. When a link is confirmed, it is given a message.
-    fn hear(&mut self, rt: &HostRuntime) -> Result<()> {
-        let mut frame = [0; MOST_OCTETS];
-        self.stream.set_read_timeout(None)?;
-        let count = self.port.read_frame(&mut frame)?;
-        let now = self.now(rt)?;
-        self.side.take(&frame[..count], now, &mut self.acts)?;
-        self.hand_on(rt)?;
+    /// Passes in every frame that has arrived. Returns a moment for which timers may expire: no other frame had arrived by then.
+    fn receive(&mut self, rt: &HostRuntime) -> Result<u64> {
+        let mut now = self.now(rt)?;
+        for _ in 0..MOST_FRAMES {
+            let Some(frame) = self.line.next_frame(rt)? else {
+                break;
+            };
+            self.take(rt, &frame, now)?;
+            now = self.now(rt)?;
+        }
+        Ok(now)
+    }
+
+    /// Passes in a frame. Once a link is confirmed, layer 3 sends a message.
+    fn take(&mut self, rt: &HostRuntime, frame: &[u8], now: u64) -> Result<()> {
+        self.side.take(frame, now, &mut self.acts)?;
+        self.send_and_report(rt)?;
         let Some(Primitive::Of(id, What::Confirmed)) = self.acts.primitives().first() else {
             return Ok(());
         };
@@ -109,13 +113,13 @@ impl<'s> Endpoint<'s> {
     fn request(&mut self, rt: &HostRuntime, request: Request) -> Result<()> {
         let now = self.now(rt)?;
         self.side.request(request, now, &mut self.acts)?;
-        self.hand_on(rt)
+        self.send_and_report(rt)
     }
 
-    /// Sends the frames that the last call gave, and prints what layer 3 is told.
-    fn hand_on(&mut self, rt: &HostRuntime) -> Result<()> {
+    /// Sends the frames of the last call, and prints what it reports to layer 3.
+    fn send_and_report(&mut self, rt: &HostRuntime) -> Result<()> {
         for frame in self.acts.frames() {
-            self.port.write_frame(frame.as_slice())?;
+            self.line.send(rt, frame.as_slice())?;
         }
         for primitive in self.acts.primitives() {
             println!(rt; "{primitive}")?;

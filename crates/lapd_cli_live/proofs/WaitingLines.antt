@@ -1,0 +1,42 @@
+-- What lines of input do, put together.
+use Rattle.std.proofs.Common.{◌≡◌, ◌⊎◌, ℕ, List, [], Option, refl, sym, ap, subst, inl, inr, ◌∙◌}
+use Rattle.std.specs.Prelude.{Bool, false}
+use Rattle.std.specs.Io.KnownBytes.{append_known}
+use Rattle.lapd_sides.specs.declared.either_side.EitherSide.{EitherSide}
+use Rattle.lapd_cli_live.specs.declared.printer.Printer.{Printer}
+use Rattle.lapd_cli_live.specs.declared.service.Came.{Came}
+use Rattle.lapd_cli_live.specs.declared.service.Came.TheVariants as came
+use Rattle.lapd_cli_live.specs.Deeds.{Deed}
+use Rattle.lapd_cli_live.specs.Entries.{Shown}
+use Rattle.lapd_cli_live.specs.Printers.{Awaits, shown}
+use Rattle.lapd_cli_live.specs.Log.{HappenBeside, LiveState}
+use Rattle.lapd_cli_live.specs.WaitingLines.{awaiting, read_events}
+use Rattle.lapd_cli_live.proofs.Log.{live}
+use Rattle.lapd_cli_live.proofs.Steps.{beside_none}
+
+-- what a printer shows that awaits a line
+shown_awaiting : {W : Type 0} (contents : W → Option (List ℕ)) (words : List ℕ) (p q : Printer W) → Awaits words p q
+    → shown contents q ≡ record (shown contents p) { awaited = words; found = false }
+shown_awaiting {W = W} contents words p q awaits =
+    ap (λ (x : W). record { text = append_known (contents x) q.text.items; now = q.moment; stats = q.stats; awaited = q.awaited.items; found = q.is_found }) awaits.out
+    ∙ ap (λ text. record { text = append_known (contents p.out) text.items; now = q.moment; stats = q.stats; awaited = q.awaited.items; found = q.is_found }) awaits.text
+    ∙ ap (λ moment. record { text = append_known (contents p.out) p.text.items; now = moment; stats = q.stats; awaited = q.awaited.items; found = q.is_found }) awaits.moment
+    ∙ ap (λ stats. record { text = append_known (contents p.out) p.text.items; now = p.moment; stats = stats; awaited = q.awaited.items; found = q.is_found }) awaits.stats
+    ∙ ap (λ (awaited : List ℕ). record { text = append_known (contents p.out) p.text.items; now = p.moment; stats = p.stats; awaited = awaited; found = q.is_found }) awaits.awaited
+    ∙ ap (λ (found : Bool). record { text = append_known (contents p.out) p.text.items; now = p.moment; stats = p.stats; awaited = words; found = found }) awaits.found
+
+-- a side whose printer awaits a line
+pub is_awaiting : {W : Type 0} (contents : W → Option (List ℕ)) (side : EitherSide) (deeds : Option (List Deed)) (words : List ℕ) (p q : Printer W)
+    → Awaits words p q → live side deeds contents q ≡ awaiting words (live side deeds contents p)
+is_awaiting contents side deeds words p q awaits =
+    ap (λ style. record { side = side; style = style; deeds = deeds; shown = shown contents q }) awaits.style
+    ∙ ap (λ (x : Shown). record { side = side; style = p.style; deeds = deeds; shown = x }) (shown_awaiting contents words p q awaits)
+
+-- nothing is printed by `read` if a frame was taken
+pub read_nothing : (why : Came) (a : LiveState) → (why ≡ came.Frame) ⊎ ((why ≡ came.Found) ⊎ (why ≡ came.Line)) → HappenBeside (read_events why) a a
+read_nothing why a (inl is) = subst (λ (x : Came). HappenBeside (read_events x) a a) (sym is) (beside_none a)
+read_nothing why a (inr (inl is)) = subst (λ (x : Came). HappenBeside (read_events x) a a) (sym is) (beside_none a)
+read_nothing why a (inr (inr is)) = subst (λ (x : Came). HappenBeside (read_events x) a a) (sym is) (beside_none a)
+
+pub read_as : (why is : Came) (a b : LiveState) → why ≡ is → HappenBeside (read_events is) a b → HappenBeside (read_events why) a b
+read_as why is a b same happen = subst (λ (x : Came). HappenBeside (read_events x) a b) (sym same) happen

@@ -1,0 +1,280 @@
+//! Lines of input of a side that is served: a script, or lines that a person types.
+
+ghost use Rattle.std.specs.Prelude.{◌≡◌};
+ghost use Rattle.lapd_cli_script.specs.Script.{is_passed_over as passed_over};
+ghost use Rattle.lapd_cli_live.specs.Typed.{deed_of};
+
+use crate::fault::LiveFault;
+use crate::live_side::LiveSide;
+use crate::outside::{Lines, Outside};
+use crate::service::Came;
+use crate::typed_lines::TypedLines;
+use lapd_cli_script::{LineFault, ScriptFault};
+use std::alloc::{AllocError, Global};
+use std::io::{ErrorKind, Read, Write};
+
+/// How many octets one read takes at most.
+const PART: usize = 8192;
+
+/// How lines of input end that are not done to their end.
+#[derive(Clone, Copy, PartialEq, Eq)]
+pub enum LiveStop {
+    /// As any script ends.
+    Script(ScriptFault),
+    /// An expected line was not printed in time.
+    Unmet,
+}
+
+/// What a person at a terminal is told beside what is printed. No call may wait.
+pub trait Person {
+    /// Lines are awaited.
+    fn greet(&mut self);
+
+    /// A line as it is meant: without spaces around it, and without `0x`, spaces and colons inside hexadecimal digits.
+    ///
+    /// # Errors
+    ///
+    /// `AllocError`.
+    fn tidied(&self, line: &[u8]) -> Result<Vec<u8>, AllocError>;
+
+    /// A line is not done, since it is no line of the side.
+    fn refuse_line(&mut self, line: &[u8]);
+
+    /// The lines of the side are listed.
+    fn help(&mut self);
+}
+
+/// What is done with a line that was typed.
+#[derive(Clone, Copy)]
+pub(crate) enum TypedDeed {
+    /// Nothing: it is empty or a comment.
+    Pass,
+    /// The lines of the side are listed.
+    Help,
+    /// The session ends.
+    Quit,
+    /// It is done as the line of a script is.
+    Obey,
+}
+
+/// Serves a side over a script: also while the next line of the script is awaited. The first line that is no line of the side ends
+/// it, and so does an expected line that is not printed in time. With `serve_on` the side is served behind the script's end, until
+/// the connection is closed. The side is returned.
+///
+/// # Errors
+///
+/// `BadLine` at the first line that is no line of the side, `Device`, `Memory`, `Port` and `Unmet`.
+pub fn live_script<R: Read, O: Outside, W: Write>(
+    alloc: Global,
+    mut live: LiveSide<O, W>,
+    script: &mut R,
+    serve_on: bool,
+) -> (Result<(), LiveStop>, LiveSide<O, W>) {
+    let mut number = 0;
+    let ended = go_over(alloc, &mut live, script, &mut number, serve_on);
+    (stopped_at(ended, number), live)
+}
+
+/// Serves a side while lines are typed, until the connection is closed or the lines end. Each line is done once it is typed whole,
+/// in order, as the line of a script. A line that is no line of the side is reported, and the session goes on, as it does after
+/// a line that was expected in vain. `help` lists the lines, and `quit` and `exit` end the session. With `serve_on` the side is
+/// served behind the end of the lines, until the connection is closed. The side is returned.
+///
+/// # Errors
+///
+/// `Device` if a read of the lines or a write fails, `Memory` and `Port`.
+pub fn live_session<R: Read, P: Person, O: Outside, W: Write>(
+    alloc: Global,
+    mut live: LiveSide<O, W>,
+    lines: &mut R,
+    person: &mut P,
+    serve_on: bool,
+) -> (Result<(), LiveStop>, LiveSide<O, W>) {
+    person.greet();
+    let ended = converse(alloc, &mut live, lines, person, serve_on);
+    (stopped_at(ended, 0), live)
+}
+
+/// Why lines of input ended, the last of which had this number.
+fn stopped_at(ended: Result<(), LiveFault>, number: u64) -> Result<(), LiveStop> {
+    match ended {
+        Ok(()) => Ok(()),
+        Err(LiveFault::Unmet) => Err(LiveStop::Unmet),
+        Err(LiveFault::Port(fault)) => Err(LiveStop::Script(ScriptFault::Port(fault))),
+        Err(LiveFault::Line(fault)) => Err(LiveStop::Script(match fault {
+            LineFault::Bad => ScriptFault::BadLine(number),
+            LineFault::Device => ScriptFault::Device,
+            LineFault::Memory => ScriptFault::Memory,
+        })),
+    }
+}
+
+/// Serves a side over a script, and counts its lines.
+fn go_over<R: Read, O: Outside, W: Write>(
+    alloc: Global,
+    live: &mut LiveSide<O, W>,
+    script: &mut R,
+    number: &mut u64,
+    serve_on: bool,
+) -> Result<(), LiveFault> {
+    let mut lines = TypedLines::new(alloc);
+    for _read in 0..u64::MAX {
+        // If the connection is closed, the script goes on all the same.
+        live.await_input()?;
+        if !read_part(script, &mut lines)? {
+            do_script_line(live, lines.last_line(), number)?;
+            return serve_to_end(live, serve_on);
+        }
+        do_script_lines(live, &mut lines, number)?;
+    }
+    Ok(())
+}
+
+/// Does the lines of a script that have ended.
+fn do_script_lines<O: Outside, W: Write>(
+    live: &mut LiveSide<O, W>,
+    lines: &mut TypedLines,
+    number: &mut u64,
+) -> Result<(), LiveFault> {
+    for _line in 0..u64::MAX {
+        let Some(line) = lines.next_line()? else {
+            return Ok(());
+        };
+        do_script_line(live, line.as_slice(), number)?;
+    }
+    Ok(())
+}
+
+/// Counts a line of a script, and does it unless it is passed over.
+fn do_script_line<O: Outside, W: Write>(
+    live: &mut LiveSide<O, W>,
+    line: &[u8],
+    number: &mut u64,
+) -> Result<(), LiveFault> {
+    *number = number.saturating_add(1);
+    if is_passed_over(line) {
+        return Ok(());
+    }
+    live.obey(line, Lines::Ignored)
+}
+
+/// Serves a side while lines are typed.
+fn converse<R: Read, P: Person, O: Outside, W: Write>(
+    alloc: Global,
+    live: &mut LiveSide<O, W>,
+    lines: &mut R,
+    person: &mut P,
+    serve_on: bool,
+) -> Result<(), LiveFault> {
+    let mut typed = TypedLines::new(alloc);
+    for _read in 0..u64::MAX {
+        if live.await_input()? == Came::Closed {
+            return Ok(());
+        }
+        if !read_part(lines, &mut typed)? {
+            do_typed(live, typed.last_line(), person)?;
+            return serve_to_end(live, serve_on);
+        }
+        if !do_typed_lines(live, &mut typed, person)? {
+            return Ok(());
+        }
+    }
+    Ok(())
+}
+
+/// Does the lines that were typed whole. `false` if one of them ends the session.
+fn do_typed_lines<P: Person, O: Outside, W: Write>(
+    live: &mut LiveSide<O, W>,
+    typed: &mut TypedLines,
+    person: &mut P,
+) -> Result<bool, LiveFault> {
+    for _line in 0..u64::MAX {
+        let Some(line) = typed.next_line()? else {
+            return Ok(true);
+        };
+        if !do_typed(live, line.as_slice(), person)? {
+            return Ok(false);
+        }
+    }
+    Ok(true)
+}
+
+/// Does a line that was typed. `false` if it ends the session.
+fn do_typed<P: Person, O: Outside, W: Write>(
+    live: &mut LiveSide<O, W>,
+    line: &[u8],
+    person: &mut P,
+) -> Result<bool, LiveFault> {
+    let line = person.tidied(line)?;
+    let line = line.as_slice();
+    match typed_deed(line) {
+        TypedDeed::Pass => {}
+        TypedDeed::Help => person.help(),
+        TypedDeed::Quit => return Ok(false),
+        TypedDeed::Obey => obey_typed(live, line, person)?,
+    }
+    Ok(true)
+}
+
+/// What is done with a line.
+pub(crate) fn typed_deed(line: &[u8]) -> TypedDeed
+    ensures { result ≡ deed_of line.now }
+{
+    if is_passed_over(line) {
+        TypedDeed::Pass
+    } else if line == b"help".as_slice() {
+        TypedDeed::Help
+    } else if line == b"quit".as_slice() || line == b"exit".as_slice() {
+        TypedDeed::Quit
+    } else {
+        TypedDeed::Obey
+    }
+}
+
+/// Whether a line is empty, or begins with `#`.
+fn is_passed_over(line: &[u8]) -> bool
+    ensures { result ≡ passed_over line.now }
+{
+    matches!(line, [] | [b'#', ..])
+}
+
+/// Does a line of a person, or reports why it is no line of the side.
+fn obey_typed<P: Person, O: Outside, W: Write>(
+    live: &mut LiveSide<O, W>,
+    line: &[u8],
+    person: &mut P,
+) -> Result<(), LiveFault> {
+    match live.obey(line, Lines::Awaited) {
+        Err(LiveFault::Line(LineFault::Bad)) => {
+            person.refuse_line(line);
+            Ok(())
+        }
+        Err(LiveFault::Unmet) => Ok(()),
+        obeyed => obeyed,
+    }
+}
+
+/// Serves the side until the connection is closed, if that is wanted.
+fn serve_to_end<O: Outside, W: Write>(
+    live: &mut LiveSide<O, W>,
+    serve_on: bool,
+) -> Result<(), LiveFault> {
+    if serve_on {
+        return live.run(None, Lines::Ignored);
+    }
+    Ok(())
+}
+
+/// Reads lines once. `false` if they have ended.
+fn read_part<R: Read>(lines: &mut R, read: &mut TypedLines) -> Result<bool, LiveFault> {
+    let mut part = [0; PART];
+    match lines.read(&mut part) {
+        Ok(0) => Ok(false),
+        Ok(count) => {
+            read.push(&part[..count])?;
+            Ok(true)
+        }
+        Err(error) if error.kind() == ErrorKind::Interrupted => Ok(true),
+        Err(error) => Err(LiveFault::from(error)),
+    }
+}

@@ -1,0 +1,176 @@
+//! What the lines of a side do that is served with the real clock.
+
+ghost use Rattle.std.specs.Prelude.{◌≡◌, true, None, Some, IfOk, OnErr, OnOk};
+
+use crate::fault::LiveFault;
+use crate::live_side::LiveSide;
+use crate::outside::{Lines, Outside};
+use crate::service::{Came, Service, Until};
+use lapd_cli_live_text::{
+    LiveLine, awaited_text, push_link, push_management, read_live_line,
+};
+use lapd_sides::{EitherSide, LinkId, SideKind, Tei};
+use std::io::Write;
+
+impl<O: Outside, W: Write> LiveSide<O, W> {
+    ghost use Rattle.lapd_cli_live.specs.Log.{Between};
+    ghost use Rattle.lapd_cli_live.specs.WaitingLines.{Expects, Reads, Runs};
+
+    /// Does what a line requests, which comes without its line feed. If `lines` are awaited, a further line of input cuts the waits
+    /// of this one short. Whatever the line requests, every frame that had arrived is taken before, and then what is due is
+    /// done.
+    ///
+    /// # Errors
+    ///
+    /// `Line(Bad)` if the line is no line of the side, `Unmet` if an expected line was not printed in time, `Line(Device)`,
+    /// `Line(Memory)` and `Port`.
+    pub fn obey(&mut self, line: &[u8], lines: Lines) -> Result<(), LiveFault> {
+        let side = self.side.side();
+        let line = read_live_line(self.alloc, side, self.own_tei(), line)?;
+        if !matches!(&line, LiveLine::Expect(..)) {
+            self.printer.forget_unseen();
+        }
+        let done = self.do_line(line, lines);
+        let flushed = self.printer.flush();
+        done.and(flushed)
+    }
+
+    /// Does what is requested.
+    fn do_line(&mut self, line: LiveLine<'_>, lines: Lines) -> Result<(), LiveFault> {
+        match line {
+            LiveLine::Read(ms) => self.read(ms, lines),
+            LiveLine::Run(ms) => self.run(ms, lines),
+            LiveLine::Expect(words, ms) => self.expect(words, ms, lines),
+            LiveLine::State(Some(id)) => self.put_link(&id),
+            LiveLine::State(None) => self.put_links(),
+            LiveLine::Stats => self.put_stats(),
+            LiveLine::Ask(request) => self.ask(request),
+            LiveLine::Impair(impairment) => {
+                self.outside.impair(impairment);
+                Ok(())
+            }
+        }
+    }
+
+    /// The TEI of the links that a line of the user side names: its own, or the group TEI if it has none.
+    fn own_tei(&self) -> Tei {
+        match &self.side {
+            EitherSide::User(side) => side.terminal().tei().unwrap_or(Tei::group()),
+            EitherSide::Network(_) => Tei::group(),
+        }
+    }
+
+    /// Serves the side until a line of input can be read, or the connection is closed.
+    pub(crate) fn await_input(&mut self) -> Result<Came, LiveFault> {
+        self.printer.keep_unseen();
+        self.serve(Service {
+            end: None,
+            until: Until::End,
+            lines: Lines::Awaited,
+        })
+    }
+
+    /// Serves the side until the connection is closed, or for so many milliseconds.
+    pub(crate) fn run(&mut self, ms: Option<u64>, lines: Lines) -> Result<(), LiveFault>
+        ensures { OnOk result (Between O.deeds W.contents self.old self.new (Runs ms lines)) }
+    {
+        let end = self.end_after(ms)?;
+        self.serve(Service {
+            end,
+            until: Until::End,
+            lines,
+        })?;
+        Ok(())
+    }
+
+    /// Serves the side until the next frame was taken, for so many milliseconds if they are given.
+    fn read(&mut self, ms: Option<u64>, lines: Lines) -> Result<(), LiveFault>
+        ensures { OnOk result (Between O.deeds W.contents self.old self.new (Reads ms lines)) }
+    {
+        let end = self.end_after(ms)?;
+        let service = Service {
+            end,
+            until: Until::Frame,
+            lines,
+        };
+        match self.serve(service)? {
+            Came::Closed => self.printer.put_named("refused", "S1 End"),
+            Came::End => self.printer.put_words("nothing"),
+            Came::Frame | Came::Found | Came::Line => Ok(()),
+        }
+    }
+
+    /// Serves the side until a line is printed that begins with these words, unless one was printed while this line of input was
+    /// awaited.
+    fn expect(&mut self, words: &[u8], ms: u64, lines: Lines) -> Result<(), LiveFault> {
+        if self.printer.take_unseen(words) {
+            return Ok(());
+        }
+        if self.await_words(words, ms, lines)? {
+            return Ok(());
+        }
+        let text = awaited_text(self.alloc, words)?;
+        self.printer.put_named("expected", text.as_str())?;
+        Err(LiveFault::Unmet)
+    }
+
+    /// Serves the side until a line is printed that begins with these words. Whether one was.
+    fn await_words(&mut self, words: &[u8], ms: u64, lines: Lines) -> Result<bool, LiveFault>
+        ensures { IfOk result (λ found. Between O.deeds W.contents self.old self.new
+            (Expects words.now ms lines found)) }
+    {
+        let end = self.end_after(Some(ms))?;
+        self.printer.await_line(words)?;
+        self.serve(Service {
+            end,
+            until: Until::Found,
+            lines,
+        })?;
+        Ok(self.printer.end_wait())
+    }
+
+    /// Prints the statistics.
+    fn put_stats(&mut self) -> Result<(), LiveFault> {
+        self.catch_up()?;
+        let discarded = self.side.discarded();
+        self.printer.put_stats(discarded)
+    }
+
+    /// Prints the state of a link, or that the side does not have it.
+    fn put_link(&mut self, id: &LinkId) -> Result<(), LiveFault> {
+        self.catch_up()?;
+        if self.put_state(id)? {
+            return Ok(());
+        }
+        self.printer.put_refused(SideKind::NoLink)
+    }
+
+    /// Prints the state of each link, and the timer of TEI management that runs, if one does.
+    fn put_links(&mut self) -> Result<(), LiveFault> {
+        let now = self.catch_up()?;
+        for id in &self.side.table().ids()? {
+            self.put_state(id)?;
+        }
+        let Some(timers) = self.side.timers(None) else {
+            return Ok(());
+        };
+        let mut words = String::new(self.alloc);
+        push_management(timers, now, &mut words)?;
+        if words.is_empty() {
+            return Ok(());
+        }
+        self.printer.put_words(words.as_str())
+    }
+
+    /// Prints the state of a link, as it is at the moment of the printer. `false` if the side does not have the link.
+    fn put_state(&mut self, id: &LinkId) -> Result<bool, LiveFault> {
+        let Some(link) = self.side.table().link(*id) else {
+            return Ok(false);
+        };
+        let timers = self.side.timers(Some(*id));
+        let mut words = String::new(self.alloc);
+        push_link(id, link, timers, self.printer.moment(), &mut words)?;
+        self.printer.put_words(words.as_str())?;
+        Ok(true)
+    }
+}

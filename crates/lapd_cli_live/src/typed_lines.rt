@@ -1,0 +1,82 @@
+//! Lines that are typed, as their octets come.
+
+ghost use Rattle.std.specs.Prelude.{◌≡◌, ◌++◌, ◌∷◌, [], option_map, IfOk, IfSome, IfNone, OnOk};
+ghost use Rattle.lapd_cli_script.specs.WalkState.{HasNoFeed};
+ghost use Rattle.lapd_cli_live.specs.Typed.{IsFirstLine};
+
+use memchr::memchr;
+use std::alloc::{AllocError, Global};
+
+/// What was typed and is not handed out yet.
+#[derive(Drop)]
+pub(crate) struct TypedLines {
+    alloc: Global,
+    text: Vec<u8>,
+}
+
+impl TypedLines {
+    /// Nothing.
+    pub(crate) fn new(alloc: Global) -> TypedLines
+        ensures { result.text.items ≡ [] }
+    {
+        TypedLines {
+            alloc,
+            text: Vec::new(alloc),
+        }
+    }
+
+    /// Puts these octets behind.
+    ///
+    /// # Errors
+    ///
+    /// `AllocError`.
+    pub(crate) fn push(&mut self, octets: &[u8]) -> Result<(), AllocError>
+        ensures { OnOk result (self.new.text.items ≡ self.old.text.items ++ octets.now) }
+    {
+        self.text.extend_from_slice(octets)
+    }
+
+    /// Takes the first line off that has ended, and gives it without its line feed.
+    ///
+    /// # Errors
+    ///
+    /// `AllocError`.
+    pub(crate) fn next_line(&mut self) -> Result<Option<Vec<u8>>, AllocError>
+        ensures { IfOk result (λ line. IsFirstLine self.old.text.items
+            (option_map (λ line. line.items) line) self.new.text.items) }
+    {
+        let Some((line, rest)) = first_line(self.text.as_slice()) else {
+            return Ok(None);
+        };
+        let line = owned(self.alloc, line)?;
+        let rest = owned(self.alloc, rest)?;
+        self.text = rest;
+        Ok(Some(line))
+    }
+
+    /// What was typed of a line that has not ended, which is the last one.
+    pub(crate) fn last_line(&self) -> &[u8]
+        ensures { result.now ≡ self.now.text.items }
+    {
+        self.text.as_slice()
+    }
+}
+
+/// The octets before the first line feed, and those behind it.
+fn first_line(octets: &[u8]) -> Option<(&[u8], &[u8])>
+    ensures found { IfSome result (λ parts. HasNoFeed parts.0.now
+        × (octets.now ≡ parts.0.now ++ 10 ∷ parts.1.now)) }
+    ensures none { IfNone result (HasNoFeed octets.now) }
+{
+    let end = memchr(b'\n', octets)?;
+    Some((&octets[..end], &octets[end + 1..]))
+}
+
+/// These octets, in memory of their own.
+fn owned(alloc: Global, octets: &[u8]) -> Result<Vec<u8>, AllocError>
+    ensures { IfOk result (λ copy. copy.items ≡ octets.now) }
+{
+    let mut copy = Vec::new(alloc);
+    copy.extend_from_slice(octets)?;
+    Ok(copy)
+}
