@@ -3,13 +3,14 @@
 use crate::connection;
 use crate::connections::Connections;
 use crate::ending::Stop;
-use crate::impaired::Impaired;
 use crate::job::{SideSetup, config_of};
 use crate::notes::Notes;
 use crate::person::Speaker;
 use crate::taps::Taps;
 use lapd_cli_console::Script;
-use lapd_cli_live::{LiveSide, LiveStop, Printer, Style, Tapped, live_script, live_session};
+use lapd_cli_live::{
+    Impaired, LiveSide, LiveStop, Printer, Style, Tapped, live_script, live_session,
+};
 use lapd_cli_options::{Interface, LiveOptions};
 use lapd_cli_script::ScriptFault;
 use lapd_sides::{Acts, Config, EitherSide, NetSide, Side, UserSide};

@@ -19,7 +19,6 @@ mod ending;
 mod frame_stream;
 mod further;
 mod greeting;
-mod impaired;
 mod input;
 mod job;
 mod live;

@@ -6,3 +6,4 @@ pub mod Steps
 pub mod WaitingLines
 pub mod Passed
 pub mod Typed
+pub mod Delays
