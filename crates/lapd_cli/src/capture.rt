@@ -2,7 +2,7 @@
 
 use crate::ending::say_memory;
 use crate::job::style_of;
-use crate::reason::Reason;
+use crate::reason::{KindReason, Reason};
 use lapd_cli_console::Watched;
 use lapd_cli_decode::{Capture, CaptureStop, CaptureStyle, decode_capture};
 use lapd_cli_options::DecodeOptions;
@@ -71,7 +71,7 @@ fn say_stop(
         (CaptureStop::Device, Some(ErrorKind::BrokenPipe)) => {}
         (CaptureStop::Device, Some(kind)) => {
             let _ = eprintln!(rt; "{stop}");
-            let _ = eprintln!(rt; "standard output: {kind}");
+            let _ = eprintln!(rt; "standard output: {}", KindReason(kind));
         }
         (CaptureStop::Device, None) => {
             let _ = eprintln!(rt; "{stop}");

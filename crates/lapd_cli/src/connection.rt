@@ -1,6 +1,8 @@
-//! The TCP connections of the program, and what is told of them on standard error. What standard error does not take is given
-//! up.
+//! The TCP connections of the program, and what is said of them on standard error.
 
+use crate::lost::words_of;
+use crate::notes::Notes;
+use lapd_port::PortFault;
 use std::io::{self, ErrorKind};
 use std::net::{SocketAddr, TcpListener, TcpStream};
 
@@ -28,58 +30,58 @@ fn far_end(listener: &TcpListener, near: &TcpStream) -> io::Result<TcpStream> {
     }
 }
 
-/// The connection that comes first to this address, which is listened on, as [`listening`] and [`next`] do and tell.
+/// The connection that comes first to this address, which is listened on, as [`listening`] and [`next`] do and say.
 ///
 /// # Errors
 ///
 /// Those of the system.
-pub fn accepted(rt: &HostRuntime, address: &str) -> io::Result<TcpStream> {
-    let listener = listening(rt, address)?;
-    let (stream, _from) = next(rt, &listener)?;
+pub fn accepted(rt: &HostRuntime, notes: &Notes<'_>, address: &str) -> io::Result<TcpStream> {
+    let listener = listening(rt, notes, address)?;
+    let (stream, _from) = next(notes, &listener)?;
     Ok(stream)
 }
 
-/// Listens on this address. Told is the address, with the port that is listened on.
+/// Listens on this address, and says so, with the port that is listened on.
 ///
 /// # Errors
 ///
 /// Those of the system.
-pub fn listening(rt: &HostRuntime, address: &str) -> io::Result<TcpListener> {
+pub fn listening(rt: &HostRuntime, notes: &Notes<'_>, address: &str) -> io::Result<TcpListener> {
     let listener = TcpListener::bind(rt, address)?;
     let own = listener.local_addr()?;
-    let _ = eprintln!(rt; "listening on {own}");
+    notes.say(format_args!("listening on {own}"));
     Ok(listener)
 }
 
-/// The next connection that comes here, and from where it comes, which is told.
+/// The next connection that comes here, and from where it comes, which is said.
 ///
 /// # Errors
 ///
 /// Those of the system.
-pub fn next(rt: &HostRuntime, listener: &TcpListener) -> io::Result<(TcpStream, SocketAddr)> {
+pub fn next(notes: &Notes<'_>, listener: &TcpListener) -> io::Result<(TcpStream, SocketAddr)> {
     let (stream, from) = listener.accept()?;
-    let _ = eprintln!(rt; "connected by {from}");
+    notes.say(format_args!("connected by {from}"));
     stream.set_nodelay(true)?;
     Ok((stream, from))
 }
 
-/// A connection to this address, which is told.
+/// A connection to this address, which is said.
 ///
 /// # Errors
 ///
 /// Those of the system.
-pub fn made(rt: &HostRuntime, address: &str) -> io::Result<TcpStream> {
+pub fn made(rt: &HostRuntime, notes: &Notes<'_>, address: &str) -> io::Result<TcpStream> {
     let stream = TcpStream::connect(rt, address)?;
     let peer = stream.peer_addr()?;
-    let _ = eprintln!(rt; "connected to {peer}");
+    notes.say(format_args!("connected to {peer}"));
     stream.set_nodelay(true)?;
     Ok(stream)
 }
 
-/// Tells that the other side has closed the connection, where it has and nothing is left to be read.
-pub fn tell_closed(rt: &HostRuntime, stream: &TcpStream) {
+/// Says that the other side has closed the connection, if it has and nothing is left to be read.
+pub fn tell_closed(notes: &Notes<'_>, stream: &TcpStream) {
     if is_closed(stream) {
-        let _ = eprintln!(rt; "the other side has closed the connection");
+        notes.say(words_of(PortFault::End));
     }
 }
 

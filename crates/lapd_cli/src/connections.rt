@@ -1,347 +1,352 @@
-//! What is around a side of the program that goes by the real clock: one TCP connection with the other side behind it, or
-//! several with a terminal behind each; the clock; and lines that are typed. There is one wait for all of them. What is told of
-//! connections goes to standard error, and what that does not take is given up.
+//! What is around a side of the program with the real clock: one TCP connection with the other side behind it, or several
+//! with a terminal behind each; the clock; and standard input. One wait serves all of them.
 
-ghost use Rattle.std.specs.Prelude.{IfOk, IfSome};
-ghost use Rattle.lapd_cli_live.specs.Deeds.{HasRoom};
+ghost use Rattle.std.specs.Prelude.{◌≤◌, IfOk, IfSome};
 
-use crate::ending::words_of;
+use crate::clock::RealClock;
+use crate::dialler::Dialler;
+use crate::discards::Discards;
+use crate::door::Door;
 use crate::frame_stream::FrameStream;
-use lapd_cli_live::{Outside, Woken};
+use crate::further::{COMING, Coming, DIALLED, Further};
+use crate::input::Input;
+use crate::lost::words_of;
+use crate::notes::Notes;
+use crate::peers::{LostPeer, Peers};
+use crate::reason::Reason;
+use lapd_cli_live::{Impairment, Lines, Outside, Sending, Woken};
 use lapd_port::{MOST_OCTETS, PortFault};
+use lapd_sides::LinkId;
 use mio::net::{TcpListener, TcpStream};
-use mio::unix::SourceFd;
-use mio::{Events, Interest, Poll, Token};
-use slab::Slab;
+use mio::{Events, Poll, Token};
 use std::io::{self, ErrorKind};
 use std::net::SocketAddr;
-use std::os::fd::RawFd;
-use std::time::{Duration, Instant};
+use std::time::Duration;
 
-/// The descriptor of standard input.
-const STANDARD_INPUT: RawFd = 0;
+/// The token of standard input. Those of connections are their places, below 127.
+const INPUT: Token = Token(1000);
 
-/// What a wait tells of lines that are typed, and of connections that come. Other tokens are places of connections.
-const TYPED: Token = Token(1000);
-
-const COMING: Token = Token(1001);
-
-/// How many things a wait tells at most.
+/// How many reports a poll takes at most.
 const EVENTS: usize = 130;
 
-/// How many frames are told one after another before it is looked whether something else has come.
+/// How many frames are taken one after another before it is polled what else has arrived.
 const MOST_IN_TURN: u32 = 64;
 
 /// Connections, and a clock that begins when they are made.
 #[derive(Drop)]
 pub struct Connections<'a> {
     rt: &'a HostRuntime,
-    start: Instant,
+    notes: &'a Notes<'a>,
+    clock: RealClock<'a>,
     poll: Poll,
     events: Events,
-    streams: Slab<FrameStream>,
-    /// The place at which the next frame is looked for first.
-    turn: usize,
-    /// How many frames were told since a wait.
-    told: u32,
-    /// How many connections there are at most.
-    most: usize,
-    /// Where connections come.
-    listener: Option<TcpListener>,
-    /// Whether connections may wait there.
-    is_coming: bool,
-    typing: Typing,
-}
-
-/// What is known of lines that are typed.
-#[derive(Clone, Copy, PartialEq, Eq)]
-enum Typing {
-    /// None are.
-    Never,
-    /// None was told since the wait before, which tells of the next one.
-    Awaited,
-    /// There is one to be read.
-    Ready,
-    /// One was told, and the next wait is to tell anew.
-    Told,
+    input: Input,
+    peers: Peers,
+    further: Further,
+    /// How many milliseconds a connection may send no whole frame, if that is limited.
+    idle_limit: Option<u64>,
+    discards: Discards,
+    /// How many frames were taken since the last poll.
+    taken: u32,
+    /// Whether the only connection is closed, and each frame was taken that arrived over it.
+    is_closed: bool,
 }
 
 impl<'a> Connections<'a> {
-    /// Room for one connection, or for up to so many.
+    /// Room for up to so many connections, 1 to 127, of a side at primary rate or at basic access.
     ///
     /// # Errors
     ///
-    /// Those of the system, and that there is no memory.
-    pub fn new(rt: &'a HostRuntime, most: u8) -> io::Result<Connections<'a>> {
+    /// Those of the system, and out of memory.
+    pub fn new(
+        rt: &'a HostRuntime,
+        notes: &'a Notes<'a>,
+        most: u8,
+        is_primary: bool,
+    ) -> io::Result<Connections<'a>> {
+        let poll = Poll::new(rt)?;
         Ok(Connections {
             rt,
-            start: Instant::now(rt)?,
-            poll: Poll::new(rt)?,
+            notes,
+            clock: RealClock::start(rt)?,
             events: Events::with_capacity(rt.alloc(), EVENTS)?,
-            streams: Slab::new(rt.alloc()),
-            turn: 0,
-            told: 0,
-            most: usize::from(most),
-            listener: None,
-            is_coming: false,
-            typing: Typing::Never,
+            input: Input::register(&poll, INPUT),
+            peers: Peers::new(rt, most),
+            further: Further::Nowhere,
+            idle_limit: None,
+            discards: Discards::new(is_primary),
+            taken: 0,
+            is_closed: false,
+            poll,
         })
     }
 
-    /// Takes this connection in, which does not wait in its calls.
+    /// Adds this connection. It must not wait in its calls.
     ///
     /// # Errors
     ///
-    /// Those of the system, and that there is no memory.
+    /// Those of the system, and out of memory.
     pub fn add(&mut self, stream: TcpStream, peer: SocketAddr) -> io::Result<()> {
+        let _ = stream.set_nodelay(true);
         let stream = FrameStream::new(self.rt, stream, peer)?;
-        let Ok(place) = self.streams.insert(stream) else {
-            return Err(io::Error::from(ErrorKind::OutOfMemory));
-        };
-        match self.streams.get_mut(place) {
-            Some(stream) => stream.register(&self.poll, Token(place)),
-            None => Ok(()),
-        }
+        self.peers.add(&self.poll, stream, self.clock.latest())
     }
 
-    /// Takes in those that come here from now on, while there is room. The listener does not wait in its calls.
+    /// Accepts further connections here from now on, when there is room. The listener must not wait in its calls.
     ///
     /// # Errors
     ///
     /// Those of the system.
-    pub fn listen(&mut self, mut listener: TcpListener) -> io::Result<()> {
-        self.poll
-            .registry()
-            .register(&mut listener, COMING, Interest::READABLE)?;
-        self.listener = Some(listener);
-        self.is_coming = true;
+    pub fn accept_from(&mut self, listener: TcpListener) -> io::Result<()> {
+        self.further = Further::Door(Door::new(&self.poll, COMING, listener)?);
         Ok(())
     }
 
-    /// Waits for lines that are typed on standard input, too.
-    ///
-    /// # Errors
-    ///
-    /// Those of the system.
-    pub fn hear_typed(&mut self) -> io::Result<()> {
-        let mut input = SourceFd(&STANDARD_INPUT);
-        self.poll
-            .registry()
-            .register(&mut input, TYPED, Interest::READABLE)?;
-        self.typing = Typing::Awaited;
-        Ok(())
+    /// Connects to this address again when the connection is lost.
+    pub fn dial(&mut self, address: SocketAddr) {
+        self.further = Further::Dialler(Dialler::new(address));
     }
 
-    /// The clock begins anew, at moment 0.
-    ///
-    /// # Errors
-    ///
-    /// That there is no clock.
-    pub fn start_clock(&mut self) -> io::Result<()> {
-        self.start = Instant::now(self.rt)?;
-        Ok(())
+    /// Lets go of a connection that sends no whole frame for so many milliseconds.
+    pub fn limit_idle(&mut self, limit: Option<u64>) {
+        self.idle_limit = limit;
     }
 
-    /// Tells that the other side has closed the connection, where it has, there is one alone, and nothing is left to be read.
+    /// Says that the other side has closed the only connection, if it has, and nothing is left to be read.
     pub fn tell_closed(&self) {
-        if self.most == 1 && self.streams.get(0).is_some_and(FrameStream::is_closed) {
-            let _ = eprintln!(self.rt; "{}", words_of(PortFault::End));
+        if self.further.is_nowhere() && self.peers.is_closed() {
+            self.notes.say(words_of(PortFault::End));
         }
     }
 
-    /// The moment, in milliseconds since the start.
-    fn now(&self) -> io::Result<u64> {
-        let elapsed = self.start.elapsed(self.rt)?;
-        Ok(u64::try_from(elapsed.as_millis()).unwrap_or(u64::MAX))
-    }
-
-    /// What has come and was not told, where there is something: lines that are typed, once after each wait, before frames.
-    fn next_come(&mut self, frame: &mut [u8; MOST_OCTETS]) -> Result<Option<Woken>, PortFault>
-        ensures { IfOk result (λ woken. IfSome woken HasRoom) }
+    /// The next frame, of those that were reported.
+    fn next_frame(&mut self, frame: &mut [u8; MOST_OCTETS]) -> Result<Option<usize>, PortFault>
+        ensures { IfOk result (λ count. IfSome count (λ count. count ≤ MOST_OCTETS)) }
     {
-        if self.typing == Typing::Ready {
-            self.typing = Typing::Told;
-            return Ok(Some(Woken::Line));
-        }
-        self.take_in();
-        self.next_heard(frame)
-    }
-
-    /// The next frame that came, and how a connection ended; those of the connections are told in turn.
-    fn next_heard(&mut self, frame: &mut [u8; MOST_OCTETS]) -> Result<Option<Woken>, PortFault>
-        ensures { IfOk result (λ woken. IfSome woken HasRoom) }
-    {
-        for _place in 0..self.most {
-            let place = self.turn;
-            self.turn = place_behind(place, self.most);
-            if let Some(woken) = self.come_from(place, frame)? {
-                self.told = self.told.saturating_add(1);
-                return Ok(Some(woken));
+        for _lost in 0..=self.peers.most() {
+            match self.peers.next_frame(frame, self.clock.latest()) {
+                Ok(Some(count)) => {
+                    self.taken = self.taken.saturating_add(1);
+                    return Ok(Some(count));
+                }
+                Ok(None) => return Ok(None),
+                Err(lost) => self.lose(lost)?,
+            }
+            if self.is_closed {
+                return Ok(None);
             }
         }
         Ok(None)
     }
 
-    /// Looks whether something else has come, behind so many frames: a line that is typed, or a connection, does not wait until
-    /// no frame comes any more.
-    fn look_round(&mut self) -> io::Result<()> {
-        if self.told < MOST_IN_TURN {
-            return Ok(());
-        }
-        self.sleep(Some(Duration::ZERO))
-    }
-
-    /// What has come over the connection at this place.
-    fn come_from(
-        &mut self,
-        place: usize,
-        frame: &mut [u8; MOST_OCTETS],
-    ) -> Result<Option<Woken>, PortFault>
-        ensures { IfOk result (λ woken. IfSome woken HasRoom) }
-    {
-        let Some(stream) = self.streams.get_mut(place) else {
-            return Ok(None);
-        };
-        match stream.next_frame(frame) {
-            Ok(Some(count)) => Ok(Some(Woken::Frame(count))),
-            Ok(None) => Ok(None),
-            Err(fault) if 1 < self.most => {
-                self.let_go(place, words_of(fault));
-                Ok(None)
+    /// A connection is lost. A further one may take its place; without it the side's service ends.
+    fn lose(&mut self, lost: LostPeer) -> Result<(), PortFault> {
+        match (self.further.is_nowhere(), lost.why.fault()) {
+            (true, PortFault::End) => {
+                self.is_closed = true;
+                Ok(())
             }
-            Err(PortFault::End) => Ok(Some(Woken::Closed)),
-            Err(fault) => Err(fault),
+            (true, fault) => Err(fault),
+            (false, _) => {
+                self.let_go(lost);
+                Ok(())
+            }
         }
     }
 
-    /// Lets go of the connection at this place, and tells why.
-    fn let_go(&mut self, place: usize, why: &str) {
-        if let Some(stream) = self.streams.try_remove(place) {
-            let _ = eprintln!(self.rt; "{}: {why}", stream.peer());
+    /// Lets go of a connection whose place is for the next one, and says so.
+    fn let_go(&mut self, lost: LostPeer) {
+        let is_alone = self.peers.is_alone();
+        if let Some(peer) = self.peers.remove(lost.place) {
+            let now = self.clock.latest();
+            self.further.lose(peer, lost.why, is_alone, now, self.notes);
         }
     }
 
-    /// Takes in the connections that wait, while there is room, and tells from where they come.
-    fn take_in(&mut self) {
-        for _connection in 0..self.most {
-            if !self.may_come() {
+    /// Adds the further connections that there are, while there is room.
+    fn connect_further(&mut self) {
+        for _connection in 0..self.peers.most() {
+            if !self.peers.has_room() {
                 return;
             }
-            match self.accept() {
-                Ok((stream, peer)) => self.greet(stream, peer),
-                Err(_) => self.is_coming = false,
+            let now = self.clock.latest();
+            match self.further.next(self.rt, &self.poll, self.notes, now) {
+                Some(coming) => self.greet(coming),
+                None => return,
             }
         }
     }
 
-    /// Whether a connection may wait, and there is room for it.
-    fn may_come(&self) -> bool {
-        self.is_coming && self.streams.len() < self.most
-    }
-
-    /// The next connection that waits.
-    fn accept(&self) -> io::Result<(TcpStream, SocketAddr)> {
-        let Some(listener) = &self.listener else {
-            return Err(io::Error::from(ErrorKind::WouldBlock));
-        };
-        let (stream, peer) = listener.accept()?;
-        stream.set_nodelay(true)?;
-        Ok((stream, peer))
-    }
-
-    /// Takes a connection in, and tells from where it comes.
-    fn greet(&mut self, stream: TcpStream, peer: SocketAddr) {
-        let _ = match self.add(stream, peer) {
-            Ok(()) => eprintln!(self.rt; "connected by {peer}"),
-            Err(error) => eprintln!(self.rt; "{peer}: {}", error.kind()),
-        };
-    }
-
-    /// Waits until something comes, for so long at most.
-    fn sleep(&mut self, left: Option<Duration>) -> io::Result<()> {
-        self.told = 0;
-        if self.typing == Typing::Told {
-            let mut input = SourceFd(&STANDARD_INPUT);
-            self.poll
-                .registry()
-                .reregister(&mut input, TYPED, Interest::READABLE)?;
-            self.typing = Typing::Awaited;
+    /// Adds a further connection, and says so.
+    fn greet(&mut self, coming: Coming) {
+        let Coming {
+            stream,
+            peer,
+            words,
+        } = coming;
+        match self.add(stream, peer) {
+            Ok(()) => self.notes.say(format_args!("{words} {peer}")),
+            Err(error) => self.notes.say(format_args!("{peer}: {}", Reason(&error))),
         }
+    }
+
+    /// Lets go of the connections that were idle for too long at this moment, in milliseconds. What had arrived by then has to
+    /// be reported before.
+    fn drop_idle(&mut self, now: u64) {
+        let Some(limit) = self.idle_limit else {
+            return;
+        };
+        for _place in 0..self.peers.most() {
+            match self.peers.idle_peer(limit, now) {
+                Some(lost) => self.let_go(lost),
+                None => return,
+            }
+        }
+    }
+
+    /// Polls what has arrived, for so many milliseconds at most, or until something has.
+    fn poll(&mut self, left: Option<u64>) -> io::Result<()> {
+        self.taken = 0;
+        let left = left.map(Duration::from_millis);
         self.poll.poll(&mut self.events, left)?;
         for event in self.events.iter() {
             let token = event.token();
-            if token == TYPED {
-                self.typing = Typing::Ready;
-            } else if token == COMING {
-                self.is_coming = true;
-            } else if let Some(stream) = self.streams.get_mut(token.0) {
-                stream.wake(event.is_read_closed() || event.is_error());
+            if token == INPUT {
+                self.input.wake();
+            } else if token == COMING || token == DIALLED {
+                self.further.wake();
+            } else {
+                self.peers.wake(token.0);
             }
         }
         Ok(())
     }
 
-    /// Waits until something comes, or until this moment. `false` where that moment has come.
-    fn sleep_until(&mut self, until: Option<u64>) -> io::Result<bool> {
-        let Some(until) = until else {
-            self.sleep(None)?;
-            return Ok(true);
+    /// How many milliseconds a wait may last from this moment on. `None` is without end.
+    fn left(&self, until: Option<u64>, now: u64) -> Option<u64> {
+        let idle = match self.idle_limit {
+            Some(limit) => self.peers.next_idle(limit),
+            None => None,
         };
-        let left = until.saturating_sub(self.now()?);
-        if left == 0 {
-            return Ok(false);
+        let further = if self.peers.has_room() {
+            self.further.next_moment()
+        } else {
+            None
+        };
+        let next = sooner(until, sooner(idle, further))?;
+        Some(next.saturating_sub(now))
+    }
+
+    /// Whether a line of input is awaited that can be read.
+    fn has_line(&self, lines: Lines) -> bool {
+        matches!(lines, Lines::Awaited) && self.input.is_ready()
+    }
+
+    /// Whether something is known that ends a wait.
+    fn is_awake(&self, lines: Lines) -> bool {
+        self.has_line(lines) || self.peers.is_ready() || self.is_closed
+    }
+
+    /// What ends a wait, if something is known that does.
+    fn woken(&mut self, lines: Lines) -> Option<Woken> {
+        if self.has_line(lines) {
+            self.input.pass_on();
+            Some(Woken::Line)
+        } else if self.peers.is_ready() {
+            Some(Woken::Arrival)
+        } else if self.is_closed {
+            Some(Woken::Closed)
+        } else {
+            None
         }
-        self.sleep(Some(Duration::from_millis(left)))?;
-        Ok(true)
+    }
+
+    /// Waits.
+    fn wait_for(&mut self, until: Option<u64>, lines: Lines) -> io::Result<Woken> {
+        if matches!(lines, Lines::Awaited) {
+            self.input.request(&self.poll, INPUT)?;
+        }
+        for _sleep in 0..u64::MAX {
+            let now = self.clock.now()?;
+            self.connect_further();
+            let left = if self.is_awake(lines) {
+                Some(0)
+            } else {
+                self.left(until, now)
+            };
+            self.poll(left)?;
+            self.drop_idle(now);
+            if let Some(woken) = self.woken(lines) {
+                return Ok(woken);
+            }
+            if has_come(until, self.clock.now()?) {
+                return Ok(Woken::Due);
+            }
+        }
+        Err(io::Error::from(ErrorKind::TimedOut))
     }
 }
 
-// The place behind this one among so many, of which the first is behind the last.
-fn place_behind(place: usize, most: usize) -> usize {
-    let next = place.saturating_add(1);
-    if next < most { next } else { 0 }
+/// The sooner of two moments that may be set.
+fn sooner(one: Option<u64>, other: Option<u64>) -> Option<u64> {
+    match (one, other) {
+        (Some(one), Some(other)) => Some(one.min(other)),
+        (Some(one), None) => Some(one),
+        (None, other) => other,
+    }
+}
+
+/// Whether a moment that is set has come.
+fn has_come(until: Option<u64>, now: u64) -> bool {
+    match until {
+        Some(until) => until <= now,
+        None => false,
+    }
 }
 
 impl Outside for Connections<'_> {
     fn moment(&mut self) -> Result<u64, PortFault> {
-        self.now().map_err(|_| PortFault::Device)
+        self.clock.now().map_err(|_| PortFault::Device)
     }
 
-    fn wait(
-        &mut self,
-        until: Option<u64>,
-        frame: &mut [u8; MOST_OCTETS],
-    ) -> Result<Woken, PortFault> {
-        for _sleep in 0..u64::MAX {
-            if self.look_round().is_err() {
-                return Err(PortFault::Device);
-            }
-            if let Some(woken) = self.next_come(frame)? {
-                return Ok(woken);
-            }
-            // One that was let go of has made room.
-            if self.may_come() {
-                continue;
-            }
-            match self.sleep_until(until) {
-                Ok(true) => {}
-                Ok(false) => return Ok(Woken::Due),
-                Err(_) => return Err(PortFault::Device),
+    fn receive(&mut self, frame: &mut [u8; MOST_OCTETS]) -> Result<Option<usize>, PortFault> {
+        if self.peers.is_alone() {
+            // Reading its connection is as good as a poll.
+            self.peers.wake(0);
+            return self.next_frame(frame);
+        }
+        if self.taken < MOST_IN_TURN {
+            if let Some(count) = self.next_frame(frame)? {
+                return Ok(Some(count));
             }
         }
-        Err(PortFault::TooManyTurns)
+        if self.poll(Some(0)).is_err() {
+            return Err(PortFault::Device);
+        }
+        self.connect_further();
+        self.next_frame(frame)
     }
 
-    fn send(&mut self, frame: &[u8]) -> Result<(), PortFault> {
-        for place in 0..self.most {
-            if let Some(stream) = self.streams.get_mut(place) {
-                match stream.send(frame) {
-                    Ok(()) => {}
-                    Err(_) if 1 < self.most => self.let_go(place, "what was sent was not taken"),
-                    Err(fault) => return Err(fault),
-                }
-            }
-        }
-        Ok(())
+    fn wait(&mut self, until: Option<u64>, lines: Lines) -> Result<Woken, PortFault> {
+        self.wait_for(until, lines).map_err(|_| PortFault::Device)
     }
+
+    fn send(&mut self, frame: &[u8]) -> Result<Sending, PortFault> {
+        if self.peers.send(frame) {
+            return Ok(Sending::Sent);
+        }
+        if self.further.is_nowhere() {
+            Err(PortFault::Device)
+        } else {
+            Ok(Sending::Lost)
+        }
+    }
+
+    fn discarded(&mut self, id: LinkId) {
+        if let Some(discard) = self.discards.add(id) {
+            self.notes.say(discard);
+        }
+    }
+
+    fn impair(&mut self, _impairment: Impairment) {}
 }

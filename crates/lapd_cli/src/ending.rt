@@ -4,12 +4,12 @@
 ghost use Rattle.std.specs.Prelude.{◌≡◌, ◌&&◌, IfNone, IfSome, if◌then◌else◌};
 ghost use Rattle.lapd_cli_script.specs.Script.{status_of as status_of_fault};
 
-use crate::reason::Reason;
+use crate::lost::words_of;
+use crate::reason::{KindReason, Reason};
 use crate::taps::NoTaps;
 use lapd_cli_console::{Script, reason};
-use lapd_cli_live::LiveReason;
-use lapd_cli_options::{Clock, NoInvocation, Side, WordsFault};
-use lapd_cli_script::{PortFault, ScriptFault};
+use lapd_cli_options::{Clock, NoInvocation, WordsFault};
+use lapd_cli_script::ScriptFault;
 use std::io::{self, ErrorKind};
 use std::process::ExitCode;
 
@@ -120,8 +120,8 @@ fn say_fault(rt: &HostRuntime, ending: &Ending<'_>, fault: ScriptFault) {
 // Says why there is no connection.
 fn say_no_connection(rt: &HostRuntime, ending: &Ending<'_>, error: &io::Error) {
     let (what, whom) = match ending.script {
-        Script::Net => ("listen on", ending.address),
-        Script::User => ("connect to", ending.address),
+        Script::Net | Script::LiveNet => ("listen on", ending.address),
+        Script::User | Script::LiveUser => ("connect to", ending.address),
         _ => ("connect to", "itself"),
     };
     say_impossible(rt, what, whom, error);
@@ -145,17 +145,10 @@ fn say_no_taps(rt: &HostRuntime, ending: &Ending<'_>, taps: &NoTaps) {
     }
 }
 
-// Says what is wrong with a line, where it is known.
+// Says what is wrong with a line, if it is known.
 fn say_bad_line(rt: &HostRuntime, ending: &Ending<'_>) {
-    let line = ending.line;
-    if line.is_empty() {
-        return;
-    }
-    if matches!(ending.clock, Clock::Script) {
-        say_reason(rt, ending.script, line);
-    } else {
-        let side = side_of(ending.script);
-        let _ = eprintln!(rt; "{}", LiveReason { side, line });
+    if !ending.line.is_empty() {
+        say_reason(rt, ending.script, ending.line);
     }
 }
 
@@ -170,36 +163,16 @@ fn say_reason(rt: &HostRuntime, script: Script, line: &[u8]) {
     };
 }
 
-// The side whose command this is.
-fn side_of(script: Script) -> Side {
-    match script {
-        Script::User => Side::User,
-        _ => Side::Network,
-    }
-}
-
 // Says which device failed, and how.
 fn say_device(rt: &HostRuntime, ending: &Ending<'_>) {
     let _ = match (ending.input, ending.output, ending.script) {
-        (Some(kind), _, _) => eprintln!(rt; "standard input: {kind}"),
-        (None, Some(kind), _) => eprintln!(rt; "standard output: {kind}"),
+        (Some(kind), _, _) => eprintln!(rt; "standard input: {}", KindReason(kind)),
+        (None, Some(kind), _) => eprintln!(rt; "standard output: {}", KindReason(kind)),
         (None, None, Script::Loop) => eprintln!(rt;
             "a frame did not come back over the connection to itself, or 1,000,000 reads did not reach the script's end"
         ),
         (None, None, _) => eprintln!(rt; "1,000,000 reads did not reach the script's end"),
     };
-}
-
-/// A fault of a port, in words.
-pub fn words_of(fault: PortFault) -> &'static str {
-    match fault {
-        PortFault::End => "the other side has closed the connection",
-        PortFault::BadLength => "a length that is not from 3 to 264 came over the connection",
-        PortFault::Cut => "the other side closed the connection inside a frame",
-        PortFault::Device => "the connection failed",
-        PortFault::TooManyTurns => "4,096 reads or writes did not move a whole frame",
-        PortFault::Failed => "the connection failed before",
-    }
 }
 
 // What was printed for a line, which is text.
@@ -241,7 +214,7 @@ fn show(rt: &HostRuntime, text: &str) -> ExitCode {
     };
     if error.kind() != ErrorKind::BrokenPipe {
         let _ = eprintln!(rt; "{}", ScriptFault::Device);
-        let _ = eprintln!(rt; "standard output: {}", error.kind());
+        let _ = eprintln!(rt; "standard output: {}", Reason(&error));
     }
     ExitCode::from(ScriptFault::Device.status())
 }

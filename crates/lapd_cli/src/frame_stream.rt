@@ -1,8 +1,9 @@
-//! A TCP connection that frames go over, each behind its length, which never waits.
+//! A TCP connection that frames go over, each behind its length. Its calls never wait.
 
 ghost use Rattle.std.specs.Prelude.{◌≡◌, ◌≤◌, length, IfOk, IfSome};
 ghost use Rattle.lapd_port.specs.SocketText.{IsFrameLength};
 
+use crate::lost::Lost;
 use lapd_port::{LEAST_OCTETS, MOST_OCTETS, PortFault};
 use mio::net::TcpStream;
 use mio::{Interest, Poll, Token};
@@ -15,44 +16,44 @@ const LENGTH_OCTETS: usize = 2;
 /// How many octets one read takes at most.
 const PART: usize = 4096;
 
-/// A connection, and what came over it and is not taken yet.
+/// A connection, and what arrived over it and was not taken yet.
 #[derive(Drop)]
 pub struct FrameStream {
     stream: TcpStream,
     peer: SocketAddr,
-    /// What came and is not taken yet, each frame behind its length.
+    /// What was read and not taken yet, each frame behind its length.
     text: Vec<u8>,
-    /// Whether there may be octets that were not read.
+    /// Whether there may be octets that were not read, or a frame that was not taken.
     is_ready: bool,
-    /// Whether the other side sends no more, behind what was not read.
-    is_closing: bool,
-    /// Whether all was read that the other side sent, which sends no more.
+    /// Whether the other side sends no more, and all that it sent was read.
     is_ended: bool,
+    /// Whether a frame was not taken. Nothing is sent any more then.
+    is_stuck: bool,
 }
 
 impl FrameStream {
-    /// This connection, from where it comes or to where it goes, which does not wait in its calls.
+    /// This connection with this peer. It must not wait in its calls.
     ///
     /// # Errors
     ///
-    /// That there is no memory.
+    /// Out of memory.
     pub fn new(rt: &HostRuntime, stream: TcpStream, peer: SocketAddr) -> io::Result<FrameStream> {
         Ok(FrameStream {
             stream,
             peer,
             text: Vec::with_capacity(rt.alloc(), PART)?,
             is_ready: true,
-            is_closing: false,
             is_ended: false,
+            is_stuck: false,
         })
     }
 
-    /// From where it comes, or to where it goes.
+    /// The address of the other side.
     pub fn peer(&self) -> SocketAddr {
         self.peer
     }
 
-    /// Has a wait tell by this token that there are octets to be read.
+    /// Has a poll report by this token that there are octets to be read.
     ///
     /// # Errors
     ///
@@ -62,40 +63,45 @@ impl FrameStream {
             .register(&mut self.stream, token, Interest::READABLE)
     }
 
-    /// There are octets to be read, which are the last ones where the other side sends no more.
-    pub fn wake(&mut self, is_closing: bool) {
+    /// There may be octets to be read.
+    pub fn wake(&mut self) {
         self.is_ready = true;
-        self.is_closing = self.is_closing || is_closing;
     }
 
-    /// Takes the first frame that came whole, and tells how many octets it has. `None` where none is there.
+    /// Whether [`FrameStream::next_frame`] may return a frame or a loss that it did not return before.
+    pub fn is_ready(&self) -> bool {
+        self.is_ready
+    }
+
+    /// Takes the first frame that arrived whole, and returns its number of octets. `None` if all that arrived was read and
+    /// holds no whole frame, or if nothing was reported since that was so.
     ///
     /// # Errors
     ///
-    /// `End` where the other side sends no more and has sent no part of a frame, `Cut` where it has, `BadLength`, and `Device`
-    /// where the connection failed or there is no memory.
-    pub fn next_frame(&mut self, frame: &mut [u8; MOST_OCTETS]) -> Result<Option<usize>, PortFault>
+    /// The connection is lost. Each frame that arrived whole was taken before.
+    pub fn next_frame(&mut self, frame: &mut [u8; MOST_OCTETS]) -> Result<Option<usize>, Lost>
         ensures { IfOk result (λ count. IfSome count (λ count. count ≤ MOST_OCTETS)) }
     {
         for _read in 0..u64::MAX {
             if let Some(count) = self.take_frame(frame)? {
                 return Ok(Some(count));
             }
-            if self.is_ended {
-                return Err(self.end());
+            if let Some(lost) = self.loss() {
+                self.is_ready = false;
+                return Err(lost);
             }
             if !self.is_ready {
                 return Ok(None);
             }
             if self.read_part().is_err() {
-                return Err(PortFault::Device);
+                return Err(Lost::Port(PortFault::Device));
             }
         }
-        Err(PortFault::TooManyTurns)
+        Err(Lost::Port(PortFault::TooManyTurns))
     }
 
-    /// Takes the first frame of what was read, where it is whole.
-    fn take_frame(&mut self, frame: &mut [u8; MOST_OCTETS]) -> Result<Option<usize>, PortFault>
+    /// Takes the first frame of what was read, if it is whole.
+    fn take_frame(&mut self, frame: &mut [u8; MOST_OCTETS]) -> Result<Option<usize>, Lost>
         ensures { IfOk result (λ count. IfSome count (λ count. count ≤ MOST_OCTETS)) }
     {
         let Some((length, behind)) = self.text.as_slice().split_first_chunk::<LENGTH_OCTETS>()
@@ -104,7 +110,7 @@ impl FrameStream {
         };
         let count = usize::from(u16::from_be_bytes(*length));
         if count < LEAST_OCTETS || MOST_OCTETS < count {
-            return Err(PortFault::BadLength);
+            return Err(Lost::Port(PortFault::BadLength));
         }
         let Some(octets) = behind.get(..count) else {
             return Ok(None);
@@ -114,24 +120,25 @@ impl FrameStream {
         Ok(Some(count))
     }
 
-    /// How a connection ends whose other side sends no more.
-    fn end(&self) -> PortFault {
-        if self.text.is_empty() {
-            PortFault::End
+    /// Why the connection is lost, if it is and no whole frame is left.
+    fn loss(&self) -> Option<Lost> {
+        if self.is_ended && self.text.is_empty() {
+            Some(Lost::Port(PortFault::End))
+        } else if self.is_ended {
+            Some(Lost::Port(PortFault::Cut))
+        } else if self.is_stuck && !self.is_ready {
+            Some(Lost::NotTaken)
         } else {
-            PortFault::Cut
+            None
         }
     }
 
-    /// Reads once, and keeps what comes. A read that does not fill its room leaves nothing behind, but for the end.
+    /// Reads once, and keeps what arrived.
     fn read_part(&mut self) -> io::Result<()> {
         let mut part = [0; PART];
         match self.stream.read(&mut part) {
             Ok(0) => self.is_ended = true,
-            Ok(count) => {
-                self.is_ready = count == PART || self.is_closing;
-                self.text.extend_from_slice(&part[..count])?;
-            }
+            Ok(count) => self.text.extend_from_slice(&part[..count])?,
             Err(error) => match error.kind() {
                 ErrorKind::Interrupted => {}
                 ErrorKind::WouldBlock => self.is_ready = false,
@@ -141,14 +148,18 @@ impl FrameStream {
         Ok(())
     }
 
-    /// Sends a frame of 3 to 264 octets, in one write with its length.
+    /// Sends a frame of 3 to 264 octets, in one write with its length. A connection that does not take it whole at once gets
+    /// nothing more, and is reported as lost when all that arrived over it was taken.
     ///
     /// # Errors
     ///
-    /// `Device` where the connection fails, or does not take it at once.
-    pub fn send(&mut self, frame: &[u8]) -> Result<(), PortFault>
+    /// The connection does not take it, or did not take an earlier frame.
+    pub fn send(&mut self, frame: &[u8]) -> Result<(), Lost>
         requires { IsFrameLength (length frame.now) }
     {
+        if self.is_stuck {
+            return Err(Lost::NotTaken);
+        }
         let mut room = [0; LENGTH_OCTETS + MOST_OCTETS];
         let text = &mut room[..LENGTH_OCTETS + frame.len()];
         let (length, octets) = text.split_at_mut(LENGTH_OCTETS);
@@ -156,7 +167,11 @@ impl FrameStream {
         octets.copy_from_slice(frame);
         match self.stream.write(text) {
             Ok(count) if count == text.len() => Ok(()),
-            _ => Err(PortFault::Device),
+            _ => {
+                self.is_stuck = true;
+                self.is_ready = true;
+                Err(Lost::NotTaken)
+            }
         }
     }
 
@@ -166,7 +181,7 @@ impl FrameStream {
         !self.has_frame() && matches!(self.stream.peek(&mut octet), Ok(0))
     }
 
-    /// Whether a frame came whole that is not taken.
+    /// Whether a frame arrived whole that is not taken.
     fn has_frame(&self) -> bool {
         match self.text.as_slice().split_first_chunk::<LENGTH_OCTETS>() {
             Some((length, behind)) => {

@@ -3,6 +3,7 @@
 use crate::connection;
 use crate::ending::Stop;
 use crate::live::do_live;
+use crate::notes::Notes;
 use lapd_cli_commands::{answer, bus, decode, loop_over, pair};
 use lapd_cli_console::Script;
 use lapd_cli_decode::{LineForm, Style, decode_good_lines, decode_lines};
@@ -11,6 +12,9 @@ use lapd_cli_script::ScriptFault;
 use lapd_cli_side_commands::{Config, FromRead, FromWrite, Port, SideRun, net, user};
 use lapd_cli_side_lines::LineStyle;
 use std::io::{Read, Write};
+
+/// Where references begin with the script's clock, if `--seed` is not given.
+const SCRIPT_SEED: u64 = 921;
 
 /// What `net` or `user` is made with, and how it prints.
 #[derive(Clone, Copy)]
@@ -23,16 +27,18 @@ pub struct SideSetup<'a> {
     pub lines: LineStyle,
 }
 
-/// The command whose script this is.
-pub fn script_of(job: &Job) -> Script {
-    match job {
-        Job::Answer(_) => Script::Answer,
-        Job::Bus { .. } => Script::Bus,
-        Job::Pair { .. } => Script::Pair,
-        Job::Loop { .. } => Script::Loop,
-        Job::Net(_) => Script::Net,
-        Job::User(_) => Script::User,
-        Job::Decode(_) => Script::Decode,
+/// The command whose script this is, with this clock.
+pub fn script_of(job: &Job, clock: &Clock<'_>) -> Script {
+    match (job, clock) {
+        (Job::Answer(_), _) => Script::Answer,
+        (Job::Bus { .. }, _) => Script::Bus,
+        (Job::Pair { .. }, _) => Script::Pair,
+        (Job::Loop { .. }, _) => Script::Loop,
+        (Job::Net(_), Clock::Script) => Script::Net,
+        (Job::Net(_), Clock::Real(_)) => Script::LiveNet,
+        (Job::User(_), Clock::Script) => Script::User,
+        (Job::User(_), Clock::Real(_)) => Script::LiveUser,
+        (Job::Decode(_), _) => Script::Decode,
     }
 }
 
@@ -164,7 +170,8 @@ fn do_net<R: Read, W: Write>(
     out: &mut W,
     setup: &SideSetup<'_>,
 ) -> Result<(), Stop> {
-    let stream = connection::accepted(rt, setup.address).map_err(Stop::NoConnection)?;
+    let notes = Notes::new(rt);
+    let stream = connection::accepted(rt, &notes, setup.address).map_err(Stop::NoConnection)?;
     let port = Port::new(FromRead::new(&stream), FromWrite::new(&stream));
     let SideRun { ended, .. } = net(
         rt.alloc(),
@@ -172,10 +179,10 @@ fn do_net<R: Read, W: Write>(
         out,
         port,
         setup.lines,
-        config_of(setup.interface),
+        config_of(setup.interface, setup.interface.seed.unwrap_or(SCRIPT_SEED)),
         setup.interface.teis.as_slice(),
     );
-    connection::tell_closed(rt, &stream);
+    connection::tell_closed(&notes, &stream);
     ended.map_err(Stop::Script)
 }
 
@@ -186,7 +193,8 @@ fn do_user<R: Read, W: Write>(
     out: &mut W,
     setup: &SideSetup<'_>,
 ) -> Result<(), Stop> {
-    let stream = connection::made(rt, setup.address).map_err(Stop::NoConnection)?;
+    let notes = Notes::new(rt);
+    let stream = connection::made(rt, &notes, setup.address).map_err(Stop::NoConnection)?;
     let port = Port::new(FromRead::new(&stream), FromWrite::new(&stream));
     let SideRun { ended, .. } = user(
         rt.alloc(),
@@ -194,20 +202,20 @@ fn do_user<R: Read, W: Write>(
         out,
         port,
         setup.lines,
-        config_of(setup.interface),
+        config_of(setup.interface, setup.interface.seed.unwrap_or(SCRIPT_SEED)),
         setup.interface.fixed(),
     );
-    connection::tell_closed(rt, &stream);
+    connection::tell_closed(&notes, &stream);
     ended.map_err(Stop::Script)
 }
 
-/// What a side of this interface is made with.
-pub fn config_of(interface: &Interface) -> Config {
+/// What a side of this interface is made with, whose references begin at this seed.
+pub fn config_of(interface: &Interface, seed: u64) -> Config {
     Config {
         sapi16: interface.sapi16,
         params0: interface.params0,
         params16: interface.params16,
         durations: interface.durations,
-        seed: interface.seed,
+        seed,
     }
 }

@@ -4,17 +4,26 @@ use crate::connection;
 use crate::connections::Connections;
 use crate::ending::Stop;
 use crate::job::{SideSetup, config_of};
+use crate::notes::Notes;
+use crate::person::Speaker;
 use crate::taps::Taps;
-use lapd_cli_live::{LiveSide, LiveStop, Printer, Style, Tapped, live_script, live_session};
+use lapd_cli_console::Script;
+use lapd_cli_live::{
+    Impaired, LiveSide, LiveStop, Printer, Style, Tapped, live_script, live_session,
+};
 use lapd_cli_options::{Interface, LiveOptions};
 use lapd_cli_script::ScriptFault;
-use lapd_sides::{Acts, EitherSide, NetSide, Side, UserSide};
+use lapd_sides::{Acts, Config, EitherSide, NetSide, Side, UserSide};
 use mio::net::{TcpListener, TcpStream};
 use std::alloc::AllocError;
 use std::io::{self, IsTerminal, Read, Write};
 use std::net::{self, SocketAddr};
+use std::random::RandomSource;
 
-/// Serves this side of an interface by the real clock: over a script, or while lines are typed where standard input is a
+/// A line to the other side, which can be impaired, and whose frames are recorded.
+type Line<'a> = Tapped<Impaired<Connections<'a>>, Taps<'a>>;
+
+/// Serves this side of an interface with the real clock: over a script, or over lines that are typed if standard input is a
 /// terminal.
 ///
 /// # Errors
@@ -28,72 +37,77 @@ pub fn do_live<R: Read, W: Write>(
     script: &mut R,
     out: &mut W,
 ) -> Result<(), Stop> {
-    let line = tapped_line(rt, side, setup.address, options)?;
+    let notes = Notes::new(rt);
+    let config = config_of(setup.interface, seed_of(rt, setup.interface));
+    let line = tapped_line(rt, &notes, side, setup, options, config.seed)?;
     let style = Style {
         time: options.time,
         quiet: options.quiet,
         lines: setup.lines,
     };
     let printer = Printer::new(rt.alloc(), out, style);
-    do_over_line(rt, side, setup.interface, line, printer, script)
+    let Ok((made, acts)) = made_side(rt, side, config, setup.interface) else {
+        return Err(Stop::Script(ScriptFault::Memory));
+    };
+    let live = LiveSide::new(rt.alloc(), made, acts, line, printer);
+    serve(rt, &notes, side, live, script, options.serve).map_err(stop_of)
 }
 
-// The line to the other side, and where its frames go besides.
+/// The line to the other side, and where its frames are recorded.
 fn tapped_line<'a>(
     rt: &'a HostRuntime,
+    notes: &'a Notes<'a>,
     side: Side,
-    address: &str,
+    setup: &SideSetup<'_>,
     options: &LiveOptions<'_>,
-) -> Result<Tapped<Connections<'a>, Taps<'a>>, Stop> {
-    let taps = Taps::open(rt, side, options.pcap, options.gsmtap).map_err(Stop::NoTaps)?;
-    match connections(rt, side, address, options.terminals) {
-        Ok(connections) => Ok(Tapped::new(side, connections, taps)),
+    seed: u64,
+) -> Result<Line<'a>, Stop> {
+    let taps = Taps::open(rt, notes, side, options.pcap, options.gsmtap).map_err(Stop::NoTaps)?;
+    match connections(rt, notes, side, setup, options) {
+        Ok(connections) => {
+            let line = Impaired::new(rt.alloc(), connections, seed);
+            Ok(Tapped::new(side, line, taps))
+        }
         Err(error) => Err(Stop::NoConnection(error)),
     }
 }
 
-// Serves a side of this interface over a line.
-fn do_over_line<R: Read, W: Write>(
-    rt: &HostRuntime,
-    side: Side,
-    interface: &Interface,
-    line: Tapped<Connections<'_>, Taps<'_>>,
-    printer: Printer<&mut W>,
-    script: &mut R,
-) -> Result<(), Stop> {
-    match made_side(rt, side, interface) {
-        Ok((side, acts)) => {
-            let live = LiveSide::new(rt.alloc(), side, acts, line, printer);
-            serve(rt, live, script).map_err(stop_of)
-        }
-        Err(_) => Err(Stop::Script(ScriptFault::Memory)),
-    }
-}
-
-// Serves a side, and tells that the other one has closed the connection, where it has.
+/// Serves a side, and says that the other one has closed the connection, if it has.
 fn serve<R: Read, W: Write>(
     rt: &HostRuntime,
-    live: LiveSide<Tapped<Connections<'_>, Taps<'_>>, &mut W>,
+    notes: &Notes<'_>,
+    side: Side,
+    live: LiveSide<Line<'_>, &mut W>,
     script: &mut R,
+    serve_on: bool,
 ) -> Result<(), LiveStop> {
     let (ended, live) = if rt.stdin().is_terminal() {
-        live_session(rt.alloc(), live, script, &mut rt.stderr())
+        let mut person = Speaker::new(rt.alloc(), lines_of(side), notes);
+        live_session(rt.alloc(), live, script, &mut person, serve_on)
     } else {
-        live_script(rt.alloc(), live, script)
+        live_script(rt.alloc(), live, script, serve_on)
     };
     close(live);
     ended
 }
 
-// What stands in front of a fault is printed all the same. What the writer does not take is known to it.
-fn close<W: Write>(live: LiveSide<Tapped<Connections<'_>, Taps<'_>>, &mut W>) {
-    let (line, out) = live.into_parts();
-    let _ = out.flush();
-    let (connections, _taps) = line.into_parts();
-    connections.tell_closed();
+/// The lines of a side with the real clock.
+fn lines_of(side: Side) -> Script {
+    match side {
+        Side::Network => Script::LiveNet,
+        Side::User => Script::LiveUser,
+    }
 }
 
-// Why the script of a side that is served was not done to its end.
+/// What was printed before a fault is written all the same. The writer knows what it could not write.
+fn close<W: Write>(live: LiveSide<Line<'_>, &mut W>) {
+    let (line, out) = live.into_parts();
+    let _ = out.flush();
+    let (line, _taps) = line.into_parts();
+    line.into_inner().tell_closed();
+}
+
+/// Why the script of a side that is served was not done to its end.
 fn stop_of(stop: LiveStop) -> Stop {
     match stop {
         LiveStop::Script(fault) => Stop::Script(fault),
@@ -101,90 +115,101 @@ fn stop_of(stop: LiveStop) -> Stop {
     }
 }
 
-// A side of this interface, and room for what a call gives.
+/// A side of this interface, and room for what a call gives.
 fn made_side(
     rt: &HostRuntime,
     side: Side,
+    config: Config,
     interface: &Interface,
 ) -> Result<(EitherSide, Acts), AllocError> {
     let acts = Acts::new(rt.alloc())?;
     match side {
-        Side::Network => Ok((network_side(rt, interface)?, acts)),
-        Side::User => Ok((user_side(rt, interface)?, acts)),
+        Side::Network => Ok((network_side(rt, config, interface)?, acts)),
+        Side::User => Ok((user_side(rt, config, interface)?, acts)),
     }
 }
 
-fn network_side(rt: &HostRuntime, interface: &Interface) -> Result<EitherSide, AllocError> {
-    let side = NetSide::new(rt.alloc(), config_of(interface), interface.teis.as_slice())?;
+fn network_side(
+    rt: &HostRuntime,
+    config: Config,
+    interface: &Interface,
+) -> Result<EitherSide, AllocError> {
+    let side = NetSide::new(rt.alloc(), config, interface.teis.as_slice())?;
     Ok(EitherSide::Network(side))
 }
 
-fn user_side(rt: &HostRuntime, interface: &Interface) -> Result<EitherSide, AllocError> {
-    let side = UserSide::new(rt.alloc(), config_of(interface), interface.fixed())?;
+fn user_side(
+    rt: &HostRuntime,
+    config: Config,
+    interface: &Interface,
+) -> Result<EitherSide, AllocError> {
+    let side = UserSide::new(rt.alloc(), config, interface.fixed())?;
     Ok(EitherSide::User(side))
 }
 
-// The connections of a side, and its clock, which begins when the first of them is there.
+/// Where the references of a side begin: at the seed that was given, or at one that the system draws, so that two terminals
+/// that ask at the same moment differ.
+fn seed_of(rt: &HostRuntime, interface: &Interface) -> u64 {
+    if let Some(seed) = interface.seed {
+        return seed;
+    }
+    let mut octets = [0; 8];
+    // Octets that the system does not draw stay 0.
+    let _ = rt.fill_bytes(&mut octets);
+    u64::from_be_bytes(octets)
+}
+
+/// The connections of a side, and its clock, which begins when the first of them is made.
 fn connections<'a>(
     rt: &'a HostRuntime,
+    notes: &'a Notes<'a>,
     side: Side,
-    address: &str,
-    terminals: u8,
+    setup: &SideSetup<'_>,
+    options: &LiveOptions<'_>,
 ) -> io::Result<Connections<'a>> {
-    let mut connections = Connections::new(rt, terminals)?;
-    connect(rt, &mut connections, side, address, terminals)?;
+    match side {
+        Side::Network => accepted(rt, notes, setup, options),
+        Side::User => made(rt, notes, setup, options),
+    }
+}
+
+/// Accepts the first connection to the address of a network side, and later ones of several terminals, or with `--keep`.
+fn accepted<'a>(
+    rt: &'a HostRuntime,
+    notes: &'a Notes<'a>,
+    setup: &SideSetup<'_>,
+    options: &LiveOptions<'_>,
+) -> io::Result<Connections<'a>> {
+    let listener = connection::listening(rt, notes, setup.address)?;
+    let (stream, peer) = connection::next(notes, &listener)?;
+    let mut connections = Connections::new(rt, notes, options.terminals, setup.interface.pri)?;
+    add(&mut connections, stream, peer)?;
+    if options.keep || 1 < options.terminals {
+        listener.set_nonblocking(true)?;
+        connections.accept_from(TcpListener::from_std(listener))?;
+    }
+    connections.limit_idle(options.idle_limit);
     Ok(connections)
 }
 
-// Connects a side, and waits for lines besides where standard input is a terminal.
-fn connect(
-    rt: &HostRuntime,
-    connections: &mut Connections<'_>,
-    side: Side,
-    address: &str,
-    terminals: u8,
-) -> io::Result<()> {
-    match side {
-        Side::Network => accept(rt, connections, address, terminals)?,
-        Side::User => add_made(rt, connections, address)?,
-    }
-    connections.start_clock()?;
-    if rt.stdin().is_terminal() {
-        connections.hear_typed()?;
-    }
-    Ok(())
-}
-
-// Takes in the first connection that comes to this address, and further ones where several terminals are taken.
-fn accept(
-    rt: &HostRuntime,
-    connections: &mut Connections<'_>,
-    address: &str,
-    terminals: u8,
-) -> io::Result<()> {
-    let listener = connection::listening(rt, address)?;
-    let (stream, peer) = connection::next(rt, &listener)?;
-    add(connections, stream, peer)?;
-    if 1 < terminals {
-        listen(connections, listener)?;
-    }
-    Ok(())
-}
-
-// Takes in those that come here from now on.
-fn listen(connections: &mut Connections<'_>, listener: net::TcpListener) -> io::Result<()> {
-    listener.set_nonblocking(true)?;
-    connections.listen(TcpListener::from_std(listener))
-}
-
-// Makes the connection of a user side to this address.
-fn add_made(rt: &HostRuntime, connections: &mut Connections<'_>, address: &str) -> io::Result<()> {
-    let stream = connection::made(rt, address)?;
+/// Makes the connection of a user side to its address, and makes it again with `--keep`.
+fn made<'a>(
+    rt: &'a HostRuntime,
+    notes: &'a Notes<'a>,
+    setup: &SideSetup<'_>,
+    options: &LiveOptions<'_>,
+) -> io::Result<Connections<'a>> {
+    let stream = connection::made(rt, notes, setup.address)?;
     let peer = stream.peer_addr()?;
-    add(connections, stream, peer)
+    let mut connections = Connections::new(rt, notes, 1, setup.interface.pri)?;
+    add(&mut connections, stream, peer)?;
+    if options.keep {
+        connections.dial(peer);
+    }
+    Ok(connections)
 }
 
-// Takes in a connection, which from now on does not wait in its calls.
+/// Adds a connection, which from now on does not wait in its calls.
 fn add(
     connections: &mut Connections<'_>,
     stream: net::TcpStream,

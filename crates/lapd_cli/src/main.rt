@@ -9,13 +9,23 @@
 #![tactic(auto)]
 
 mod capture;
+mod clock;
 mod connection;
 mod connections;
+mod dialler;
+mod discards;
+mod door;
 mod ending;
 mod frame_stream;
+mod further;
 mod greeting;
+mod input;
 mod job;
 mod live;
+mod lost;
+mod notes;
+mod peers;
+mod person;
 mod reason;
 mod taps;
 
@@ -51,7 +61,7 @@ fn do_chosen(rt: &HostRuntime, chosen: &Invocation<'_>) -> ExitCode {
 // Does what the words chose, over standard input and output. At a terminal a bad line is told, and the next one awaited.
 fn do_lines(rt: &HostRuntime, chosen: &Invocation<'_>) -> ExitCode {
     if rt.stdin().is_terminal() && has_forms(chosen) {
-        let script = script_of(&chosen.job);
+        let script = script_of(&chosen.job, &chosen.clock);
         let session = Session::new(rt.alloc(), script, rt.reader(), rt.stderr());
         do_script(rt, chosen, Greeting::new(session, rt.stderr()))
     } else {
@@ -80,7 +90,7 @@ fn do_script<R: Read + Drop>(rt: &HostRuntime, chosen: &Invocation<'_>, reader: 
     let output = watched.fault();
     let refusals = watched.into_inner();
     let ending = Ending {
-        script: script_of(&chosen.job),
+        script: script_of(&chosen.job, &chosen.clock),
         clock: chosen.clock,
         address: chosen.address.unwrap_or(""),
         strict: chosen.strict,

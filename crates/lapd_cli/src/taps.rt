@@ -2,6 +2,7 @@
 
 ghost use Rattle.std.specs.Prelude.{◌≤◌, length};
 
+use crate::notes::Notes;
 use crate::reason::Reason;
 use lapd_capture::{CaptureWriter, gsmtap_of};
 use lapd_cli_live::Tap;
@@ -21,11 +22,12 @@ pub enum NoTaps {
     Socket(io::Error),
 }
 
-/// A capture and a socket, each where it was asked for. What one of them does not take is told on standard error, once, and
-/// from then on it gets nothing more.
+/// A capture and a socket, each if it was requested. If one of them fails, that is said on standard error, once, and from then
+/// on it gets nothing more.
 #[derive(Drop)]
 pub struct Taps<'rt> {
     rt: &'rt HostRuntime,
+    notes: &'rt Notes<'rt>,
     /// The moment of the start, in milliseconds since 1970, as soon as a frame was passed.
     begun: Option<u64>,
     capture: Option<CaptureWriter<File>>,
@@ -48,6 +50,7 @@ impl<'rt> Taps<'rt> {
     /// `File` and `Socket`.
     pub fn open(
         rt: &'rt HostRuntime,
+        notes: &'rt Notes<'rt>,
         own: Side,
         pcap: Option<&str>,
         gsmtap: Option<&str>,
@@ -62,6 +65,7 @@ impl<'rt> Taps<'rt> {
         };
         Ok(Taps {
             rt,
+            notes,
             begun: None,
             capture,
             gsmtap,
@@ -87,7 +91,8 @@ impl Taps<'_> {
         let begun = begun_at(self.rt, self.begun, moment);
         self.begun = Some(begun);
         if let Err(error) = capture.write(from, begun.saturating_add(moment), frame) {
-            let _ = eprintln!(self.rt; "the capture ends here: {}", Reason(&error));
+            self.notes
+                .say(format_args!("the capture ends here: {}", Reason(&error)));
             self.capture = None;
         }
     }
@@ -100,7 +105,8 @@ impl Taps<'_> {
             return;
         };
         if let Err(error) = gsmtap.send(from, frame) {
-            let _ = eprintln!(self.rt; "GSMTAP ends here: {}", Reason(&error));
+            self.notes
+                .say(format_args!("GSMTAP ends here: {}", Reason(&error)));
             self.gsmtap = None;
         }
     }

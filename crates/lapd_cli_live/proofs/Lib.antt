@@ -6,3 +6,4 @@ pub mod Steps
 pub mod WaitingLines
 pub mod InTime
 pub mod StateAnswers
+pub mod SentLater

@@ -8,3 +8,4 @@ pub mod StateLines
 pub mod PromptLine
 pub mod Passed
 pub mod Typed
+pub mod Delays

@@ -5,10 +5,12 @@
 //! that is due, and then waits once, until the next deadline. So no timer expires while its answer has arrived: *before you expire
 //! timers for a moment, pass in every frame that had arrived by then.* specs/Steps.antt defines a step, and specs/Entries.antt what
 //! is printed and counted. [`live_script`] serves a side over a script, and [`live_session`] while lines are typed. A [`Tapped`]
-//! line passes each frame to a [`Tap`].
+//! line passes each frame to a [`Tap`], and an [`Impaired`] line loses and delays frames on purpose.
 #![tactic(auto)]
 
+mod delays;
 mod fault;
+mod impaired;
 mod input;
 mod laws;
 mod live_lines;
@@ -22,6 +24,7 @@ mod typed_lines;
 mod unseen;
 
 pub use fault::LiveFault;
+pub use impaired::Impaired;
 pub use input::{LiveStop, Person, live_script, live_session};
 pub use lapd_cli_live_text::Impairment;
 pub use lapd_cli_side_lines::LineStyle;

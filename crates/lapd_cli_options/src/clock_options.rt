@@ -4,13 +4,13 @@ use crate::invocation::{Clock, LiveOptions};
 use crate::no_invocation::NoInvocation;
 use crate::script_command::ScriptCommand;
 use clap::ArgMatches;
-use lapd_cli_values::{CONNECTED_TERMINALS, GSMTAP, terminals_written};
+use lapd_cli_values::{CONNECTED_TERMINALS, GSMTAP, IDLE_LIMIT, number_written, terminals_written};
 
 // The flags that go with the real clock.
-const REAL_FLAGS: [&str; 2] = ["time", "quiet"];
+const REAL_FLAGS: [&str; 4] = ["time", "quiet", "serve", "keep"];
 
 // The options with a value that do.
-const REAL_OPTIONS: [&str; 3] = ["pcap", "gsmtap", "terminals"];
+const REAL_OPTIONS: [&str; 4] = ["pcap", "gsmtap", "terminals", "idle-limit"];
 
 /// The clock that was chosen for this command.
 pub(crate) fn clock_of<'a>(
@@ -51,10 +51,14 @@ fn real_option_of(given: &ArgMatches<'_>) -> Option<&'static str> {
 
 // What goes with the real clock.
 fn live_options_of<'a>(given: &ArgMatches<'a>) -> Result<LiveOptions<'a>, NoInvocation<'a>> {
+    let terminals = terminals_of(given)?;
     Ok(LiveOptions {
         time: given.get_flag("time"),
         quiet: given.get_flag("quiet"),
-        terminals: terminals_of(given)?,
+        serve: given.get_flag("serve"),
+        keep: given.get_flag("keep"),
+        terminals,
+        idle_limit: idle_limit_of(given, terminals)?,
         pcap: given.get_str("pcap"),
         gsmtap: gsmtap_of(given)?,
     })
@@ -65,6 +69,18 @@ fn terminals_of<'a>(given: &ArgMatches<'a>) -> Result<u8, NoInvocation<'a>> {
     match given.get_str(CONNECTED_TERMINALS.name) {
         Some(written) => Ok(terminals_written(written)?),
         None => Ok(1),
+    }
+}
+
+// How long a terminal may send no whole frame, in milliseconds. One connection alone has no such limit.
+fn idle_limit_of<'a>(
+    given: &ArgMatches<'a>,
+    terminals: u8,
+) -> Result<Option<u64>, NoInvocation<'a>> {
+    match given.get_str(IDLE_LIMIT.name) {
+        Some(_) if terminals < 2 => Err(NoInvocation::OneTerminal),
+        Some(written) => Ok(Some(number_written(IDLE_LIMIT, written)?)),
+        None => Ok(None),
     }
 }
 

@@ -144,7 +144,7 @@ fn interface_options_of<'a>(given: &ArgMatches<'a>) -> InterfaceOptions<'a> {
         t201,
         t202,
         t203,
-        seed: number_of(given, SEED),
+        seed: given.get_str(SEED.name),
     }
 }
 

@@ -76,6 +76,12 @@ pub const TIME: &str =
 
 pub const QUIET: &str = "With --clock real, prints no trace lines of frames";
 
+pub const SERVE: &str =
+    "With --clock real, goes on after the end of the script, until the connection closes";
+
+pub const KEEP: &str =
+    "With --clock real, takes or makes the next connection when the other side has closed one";
+
 pub const LIVE_PCAP: &str =
     "With --clock real, writes each frame into this file, as pcap of link type 177 (LINUX_LAPD)";
 
@@ -543,30 +549,44 @@ line of the script stands behind <, and what is printed for it stands behind >.
   > 0 64 released
 
 With --clock real the clock goes on by itself. Moments are milliseconds since the first connection was
-there; a timer expires when it is due, and a frame is heard when it comes, wherever the side is served. At
-a terminal it is served at all times, and each line that is typed is done when it comes. A script from a
-file or a pipe goes on line by line, and its lines say where the side is served:
+made. The side is served whenever the program waits, also for the next line of a terminal or a pipe: frames
+are received when they arrive, and timers expire when they are due. A file is read as fast as its lines are
+done. These lines wait:
   read [MS]             until the next frame, for MS milliseconds at most; then `nothing` is printed
   run [MS]              for MS milliseconds, or until the other side closes the connection
   wait MS               for MS milliseconds
   expect WORDS.. MS     until a line is printed that begins with WORDS, for MS milliseconds at most; then
                         `expected WORDS..` is printed, and the script ends with exit status 5
-MS is 1 to 3600000. `tick` is no line then; the other lines above are, and these:
+MS is 1 to 3600000. `tick` is not valid then; the other lines above are, and these:
+  busy SAPI TEI on      this side becomes unable to take messages of the link (own receiver busy)
+  busy SAPI TEI off     it is able again
   state [SAPI TEI]      the state of the link, or of each: state, V(S), V(A), V(R), RC, the messages in its
                         queue, who is busy, and the timers that run with the milliseconds left of each
   stats                 the frames of each kind that were sent and received, their octets, I frames sent
                         again, frames discarded, and reports by their letters
+  impair LOSS% [MS]     from now on each frame of this side is lost with this chance, and else sent MS
+                        milliseconds later; `impair 0%` ends it
+
+A script that has ended ends the program; with --serve the side is served until the other side closes the
+connection, also with `</dev/null`. With --keep the program goes on when the other side closes the connection
+or breaks its framing: it takes the next connection, and the side goes on as over a line that was
+interrupted. Frames on the way are lost, and so is what is sent while there is no connection. Each of this is
+said on standard error. Notes there are given up if nobody reads them. Without --keep a connection that is
+closed ends `run`, and one that fails ends the script: `port`, its fault and exit status 3.
 With --terminals N up to N connections are taken, each of a terminal on the bus. Each frame of this side
-goes to all of them, and takes effect where its TEI is; give each `lapd user` a --seed of its own. One that
-closes, breaks the framing or does not take what it is sent is let go of, which is told on standard error,
-and the others go on. The script begins once the first one is there; `run` alone does not end then.
+goes to all of them, and takes effect where its TEI is. A connection that closes, breaks the framing, does
+not take what it is sent, or sends no whole frame for --idle-limit MS loses its place, which is said on
+standard error, and the others go on. The script begins when the first one is made; `run` alone does not end
+then, and --keep changes nothing.
+The first frame that is discarded because this side has no such link is said on standard error, once for
+each SAPI and TEI.
 T200 has to be longer than the way there and back, or frames are sent again that were on their way.
 With --json and --time the moment is the last member, time. expect goes by the words that are printed
 without --json; one that does not come is \"expected\". nothing, state and stats have the words in line,
 and sapi, tei and each NAME=NUMBER as members of their own.
 
 Example, with the real clock:
-  $ printf 'expect 0 64 established 60000\ngive 0 64 0807\nexpect 0 64 acknowledged 5000\nstate\n' |
+  $ printf 'expect 0 64 established 60000\\ngive 0 64 0807\\nexpect 0 64 acknowledged 5000\\nstate\\n' |
       lapd net --listen 127.0.0.1:4000 --clock real --time
   1 U>N SAPI 63 TEI 127 C UI P=0 info=0f619901ff
   1 N>U SAPI 63 TEI 127 C UI P=0 info=0f61990281
@@ -655,23 +675,27 @@ of the script stands behind <, and what is printed for it stands behind >.
   > N>U SAPI 0 TEI 64 R UA F=1
   > 0 64 release-confirmed
 
-With --clock real the clock goes on by itself. Moments are milliseconds since the connection was
-made; a timer expires when it is due, and a frame is heard when it comes, wherever the side is served. At
-a terminal it is served at all times, and each line that is typed is done when it comes. A script from a
-file or a pipe goes on line by line, and its lines say where the side is served:
-  read [MS], run [MS], wait MS, expect WORDS.. MS
-                        as `lapd net --help` tells
+With --clock real the clock goes on by itself. Moments are milliseconds since the connection was made. The
+side is served whenever the program waits, also for the next line of a terminal or a pipe: frames are received
+when they arrive, and timers expire when they are due. A file is read as fast as its lines are done. The lines:
+  read [MS], run [MS], wait MS, expect WORDS.. MS, stats, impair LOSS% [MS]
+                        as `lapd net --help` says
   establish SAPI, release SAPI, give SAPI HEX, unit SAPI HEX, ask
                         as above; no TEI is written, since it is the terminal's own
-  state [SAPI], stats   as `lapd net --help` tells
-`tick` is no line then. T200 has to be longer than the way there and back, or frames are sent again that
-were on their way.
+  busy SAPI on, busy SAPI off, state [SAPI]
+                        as `lapd net --help` says, without the TEI
+`tick` is not valid then. T200 has to be longer than the way there and back, or frames are sent again that
+were on their way. The references of TEI management begin at a number that the system draws, or at --seed.
+A script that has ended ends the program; with --serve the side is served until the other side closes the
+connection. With --keep the program connects again then, after 100 ms and, while that fails, after pauses that
+double up to 5 seconds. The side goes on as over a line that was interrupted: frames on the way are lost, and
+so is what is sent while there is no connection. Each of this is said on standard error.
 With --json and --time the moment is the last member, time. expect goes by the words that are printed
 without --json; one that does not come is \"expected\". nothing, state and stats have the words in line,
 and sapi, tei and each NAME=NUMBER as members of their own.
 
 Example, with the real clock and the `lapd net` of the example of `lapd net --help` on the other side:
-  $ printf 'establish 0\nexpect 0 64 confirmed 5000\nread 1000\n' |
+  $ printf 'establish 0\\nexpect 0 64 confirmed 5000\\nread 1000\\n' |
       lapd user --connect 127.0.0.1:4000 --clock real --time
   0 U>N SAPI 63 TEI 127 C UI P=0 info=0f619901ff
   1 N>U SAPI 63 TEI 127 C UI P=0 info=0f61990281

@@ -54,8 +54,14 @@ pub struct LiveOptions<'a> {
     pub time: bool,
     /// Whether the trace lines of frames are left out.
     pub quiet: bool,
+    /// Whether the side is served on when the script has ended, until the connection closes.
+    pub serve: bool,
+    /// Whether a connection that is lost is replaced by the next one.
+    pub keep: bool,
     /// How many terminals the network side takes, 1 to 127. Of the user side it is 1.
     pub terminals: u8,
+    /// How many milliseconds a terminal may send no whole frame, 1 to 3,600,000, if that is limited.
+    pub idle_limit: Option<u64>,
     /// The file that was written for `--pcap`, as it stands.
     pub pcap: Option<&'a str>,
     /// The address and port that were written for `--gsmtap`, as they stand.

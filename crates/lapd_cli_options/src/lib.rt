@@ -39,9 +39,8 @@ use std::convert::AsStr;
 ///
 /// # Errors
 ///
-/// `Shown`, where the words ask for help or the version; `Refused`, `OutOfRange`, `NoAddress` and `NotReal`, where they choose
-/// nothing;
-/// `Memory`.
+/// `Shown`, if the words ask for help or the version; `Refused`, `OutOfRange`, `NoAddress`, `NotReal` and `OneTerminal`, if
+/// they are not valid; `Memory`.
 pub fn parse_words<'a, S: AsStr>(
     alloc: Global,
     words: &'a [S],

@@ -10,7 +10,7 @@ pub enum NoInvocation<'a> {
     /// They ask for help or the version, which is this text. It is for standard output, and the exit status is 0.
     Shown(String),
     /// The parser does not take them, as this text says. It is for standard error, and the exit status is 2, as with
-    /// `OutOfRange`, `NoAddress` and `NotReal`.
+    /// `OutOfRange`, `NoAddress`, `NotReal` and `OneTerminal`.
     Refused(String),
     /// A number that is not in the range of its option.
     OutOfRange(OutOfRange<'a>),
@@ -18,6 +18,8 @@ pub enum NoInvocation<'a> {
     NoAddress(NoAddress<'a>),
     /// An option of this name, without the hyphens, was given that goes with the real clock alone, and that clock was not.
     NotReal(&'static str),
+    /// `--idle-limit` was given for a side that takes one connection.
+    OneTerminal,
     /// Memory ran out.
     Memory,
 }
@@ -31,6 +33,9 @@ impl fmt::Display for NoInvocation<'_> {
             NoInvocation::NoAddress(fault) => writeln!(f, "{fault}"),
             NoInvocation::NotReal(option) => {
                 writeln!(f, "error: --{option} goes with --clock real")
+            }
+            NoInvocation::OneTerminal => {
+                f.write_str("error: --idle-limit goes with --terminals above 1\n")
             }
             NoInvocation::Memory => f.write_str("out of memory\n"),
         }

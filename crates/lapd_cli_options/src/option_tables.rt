@@ -3,8 +3,8 @@
 use crate::command_option::{CommandOption, WordOption};
 use crate::help;
 use lapd_cli_values::{
-    CONNECT, CONNECTED_TERMINALS, FIXED_TEI, GSMTAP, K, KNOWN_TEI, LINK_TEI, LINKS_K, LISTEN, N200,
-    ROOM, SEED, T200, T201, T202, T203, TERMINALS,
+    CONNECT, CONNECTED_TERMINALS, FIXED_TEI, GSMTAP, IDLE_LIMIT, K, KNOWN_TEI, LINK_TEI, LINKS_K,
+    LISTEN, N200, ROOM, SEED, T200, T201, T202, T203, TERMINALS,
 };
 
 /// Those of `answer`.
@@ -42,7 +42,10 @@ pub(crate) const NET: &[&[CommandOption]] = &[
     ],
     INTERFACE,
     LIVE,
-    &[CommandOption::BareNumber(CONNECTED_TERMINALS)],
+    &[
+        CommandOption::BareNumber(CONNECTED_TERMINALS),
+        CommandOption::BareNumber(IDLE_LIMIT),
+    ],
 ];
 
 /// Those of `user`.
@@ -91,7 +94,7 @@ const INTERFACE: &[CommandOption] = &[
     CommandOption::Number(T201),
     CommandOption::Number(T202),
     CommandOption::Number(T203),
-    CommandOption::Number(SEED),
+    CommandOption::BareNumber(SEED),
 ];
 
 /// What a side prints, its clock, and what goes with the real one.
@@ -100,6 +103,8 @@ const LIVE: &[CommandOption] = &[
     CommandOption::Word(CLOCK),
     CommandOption::Flag("time", help::TIME),
     CommandOption::Flag("quiet", help::QUIET),
+    CommandOption::Flag("serve", help::SERVE),
+    CommandOption::Flag("keep", help::KEEP),
     CommandOption::File("pcap", help::LIVE_PCAP),
     CommandOption::Address(GSMTAP),
 ];

@@ -14,7 +14,8 @@ use std::test::Fail;
 
 /// Words, between spaces or bars, and what they come to, in which a `~` stands for a line feed. Of a link's parameters the window,
 /// N200, the room and the recovery are said, of an interface those of SAPI 0 and of SAPI 16, T200 to T203, whether SAPI 16 is
-/// served, the seed and the TEIs, and of the real clock the terminals, the file and the address of GSMTAP.
+/// served, the seed, `-` if none is given, and the TEIs, and of the real clock the terminals, the file, the address of GSMTAP and what
+/// else is set.
 const ROWS: &str = "\
 lapd => answer net 0 64 1 3 512 enquiry
 lapd answer => answer net 0 64 1 3 512 enquiry
@@ -35,37 +36,41 @@ lapd pair --k 7 --n200 2 --room 9 --recovery-user last => pair 7 2 9 last 7 2 9 
 lapd pair --recovery-net=last --recovery-user=enquiry => pair 1 3 512 enquiry 1 3 512 last
 lapd loop => loop 1 3 512 enquiry 1 3 512 enquiry
 lapd loop --k=7 --n200=2 --room=9 --recovery-net=last => loop 7 2 9 enquiry 7 2 9 last
-lapd net --listen 127.0.0.1:7000 => net 1 3 512 enquiry 3 3 512 enquiry 1000 1000 2000 10000 with-16 921 at 127.0.0.1:7000
-lapd|user|--connect=no address:65535 => user 1 3 512 enquiry 3 3 512 enquiry 1000 1000 2000 10000 with-16 921 at no address:65535
+lapd net --listen 127.0.0.1:7000 => net 1 3 512 enquiry 3 3 512 enquiry 1000 1000 2000 10000 with-16 - at 127.0.0.1:7000
+lapd|user|--connect=no address:65535 => user 1 3 512 enquiry 3 3 512 enquiry 1000 1000 2000 10000 with-16 - at no address:65535
 lapd answer --strict --side user => answer user 0 64 1 3 512 enquiry strict
-lapd net --listen=[::1]:0 --strict => net 1 3 512 enquiry 3 3 512 enquiry 1000 1000 2000 10000 with-16 921 at [::1]:0 strict
+lapd net --listen=[::1]:0 --strict => net 1 3 512 enquiry 3 3 512 enquiry 1000 1000 2000 10000 with-16 - at [::1]:0 strict
 lapd decode --strict => decode strict
-lapd net --listen a:1 => net 1 3 512 enquiry 3 3 512 enquiry 1000 1000 2000 10000 with-16 921 at a:1
-lapd user --connect a:1 --clock script => user 1 3 512 enquiry 3 3 512 enquiry 1000 1000 2000 10000 with-16 921 at a:1
-lapd net --listen a:1 --clock real => net 1 3 512 enquiry 3 3 512 enquiry 1000 1000 2000 10000 with-16 921 at a:1 real 1 - -
-lapd user --clock=real --time --connect=a:1 => user 1 3 512 enquiry 3 3 512 enquiry 1000 1000 2000 10000 with-16 921 at a:1 real 1 - - time
-lapd user --connect=a:1 --quiet --clock=real => user 1 3 512 enquiry 3 3 512 enquiry 1000 1000 2000 10000 with-16 921 at a:1 real 1 - - quiet
-lapd net --listen=a:1 --clock=real --terminals=127 --pcap line.pcap --gsmtap b:4729 => net 1 3 512 enquiry 3 3 512 enquiry 1000 1000 2000 10000 with-16 921 at a:1 real 127 line.pcap b:4729
-lapd net --listen=a:1 => net 1 3 512 enquiry 3 3 512 enquiry 1000 1000 2000 10000 with-16 921 at a:1
-lapd net --listen=a:1 --json => net 1 3 512 enquiry 3 3 512 enquiry 1000 1000 2000 10000 with-16 921 at a:1 json
-lapd user --json --connect=a:1 --clock=real => user 1 3 512 enquiry 3 3 512 enquiry 1000 1000 2000 10000 with-16 921 at a:1 real 1 - - json
+lapd net --listen a:1 => net 1 3 512 enquiry 3 3 512 enquiry 1000 1000 2000 10000 with-16 - at a:1
+lapd user --connect a:1 --clock script => user 1 3 512 enquiry 3 3 512 enquiry 1000 1000 2000 10000 with-16 - at a:1
+lapd net --listen a:1 --clock real => net 1 3 512 enquiry 3 3 512 enquiry 1000 1000 2000 10000 with-16 - at a:1 real 1 - -
+lapd user --clock=real --time --connect=a:1 => user 1 3 512 enquiry 3 3 512 enquiry 1000 1000 2000 10000 with-16 - at a:1 real 1 - - time
+lapd user --connect=a:1 --quiet --clock=real => user 1 3 512 enquiry 3 3 512 enquiry 1000 1000 2000 10000 with-16 - at a:1 real 1 - - quiet
+lapd net --listen=a:1 --clock=real --terminals=127 --pcap line.pcap --gsmtap b:4729 => net 1 3 512 enquiry 3 3 512 enquiry 1000 1000 2000 10000 with-16 - at a:1 real 127 line.pcap b:4729
+lapd net --listen=a:1 --clock=real --serve => net 1 3 512 enquiry 3 3 512 enquiry 1000 1000 2000 10000 with-16 - at a:1 real 1 - - serve
+lapd user --keep --connect=a:1 --clock=real => user 1 3 512 enquiry 3 3 512 enquiry 1000 1000 2000 10000 with-16 - at a:1 real 1 - - keep
+lapd net --listen=a:1 --clock=real --terminals=2 --idle-limit 3600000 => net 1 3 512 enquiry 3 3 512 enquiry 1000 1000 2000 10000 with-16 - at a:1 real 2 - - idle 3600000
+lapd net --listen=a:1 => net 1 3 512 enquiry 3 3 512 enquiry 1000 1000 2000 10000 with-16 - at a:1
+lapd net --listen=a:1 --json => net 1 3 512 enquiry 3 3 512 enquiry 1000 1000 2000 10000 with-16 - at a:1 json
+lapd user --json --connect=a:1 --clock=real => user 1 3 512 enquiry 3 3 512 enquiry 1000 1000 2000 10000 with-16 - at a:1 real 1 - - json
 lapd decode --json => decode
-lapd net --listen 127.0.0.1:4000 => net 1 3 512 enquiry 3 3 512 enquiry 1000 1000 2000 10000 with-16 921 at 127.0.0.1:4000
-lapd user --connect 127.0.0.1:4000 => user 1 3 512 enquiry 3 3 512 enquiry 1000 1000 2000 10000 with-16 921 at 127.0.0.1:4000
-lapd net --listen 127.0.0.1:4000 --pri => net 7 3 512 enquiry 7 3 512 enquiry 1000 1000 2000 10000 without-16 921 0 at 127.0.0.1:4000
-lapd user --connect 127.0.0.1:4000 --pri => user 7 3 512 enquiry 7 3 512 enquiry 1000 1000 2000 10000 without-16 921 0 at 127.0.0.1:4000
-lapd net --listen 127.0.0.1:4000 --pri --sapi16 => net 7 3 512 enquiry 7 3 512 enquiry 1000 1000 2000 10000 with-16 921 0 at 127.0.0.1:4000
-lapd net --listen 127.0.0.1:4000 --pri --k 127 => net 127 3 512 enquiry 127 3 512 enquiry 1000 1000 2000 10000 without-16 921 0 at 127.0.0.1:4000
-lapd net --listen 127.0.0.1:4000 --pri --tei 64 => net 7 3 512 enquiry 7 3 512 enquiry 1000 1000 2000 10000 without-16 921 64 at 127.0.0.1:4000
-lapd net --listen 127.0.0.1:4000 --tei 0 --tei 126 => net 1 3 512 enquiry 3 3 512 enquiry 1000 1000 2000 10000 with-16 921 0 126 at 127.0.0.1:4000
-lapd user --connect 127.0.0.1:4000 --tei 126 => user 1 3 512 enquiry 3 3 512 enquiry 1000 1000 2000 10000 with-16 921 126 at 127.0.0.1:4000
-lapd user --connect 127.0.0.1:4000 --k 1 => user 1 3 512 enquiry 1 3 512 enquiry 1000 1000 2000 10000 with-16 921 at 127.0.0.1:4000
-lapd user --connect 127.0.0.1:4000 --n200 100 --room 1024 => user 1 100 1024 enquiry 3 100 1024 enquiry 1000 1000 2000 10000 with-16 921 at 127.0.0.1:4000
-lapd user --connect 127.0.0.1:4000 --n200 1 --room 1 => user 1 1 1 enquiry 3 1 1 enquiry 1000 1000 2000 10000 with-16 921 at 127.0.0.1:4000
-lapd user --connect 127.0.0.1:4000 --recovery last => user 1 3 512 last 3 3 512 last 1000 1000 2000 10000 with-16 921 at 127.0.0.1:4000
-lapd user --connect 127.0.0.1:4000 --t200 1 --t201 2 --t202 3 --t203 3600000 => user 1 3 512 enquiry 3 3 512 enquiry 1 2 3 3600000 with-16 921 at 127.0.0.1:4000
+lapd net --listen 127.0.0.1:4000 => net 1 3 512 enquiry 3 3 512 enquiry 1000 1000 2000 10000 with-16 - at 127.0.0.1:4000
+lapd user --connect 127.0.0.1:4000 => user 1 3 512 enquiry 3 3 512 enquiry 1000 1000 2000 10000 with-16 - at 127.0.0.1:4000
+lapd net --listen 127.0.0.1:4000 --pri => net 7 3 512 enquiry 7 3 512 enquiry 1000 1000 2000 10000 without-16 - 0 at 127.0.0.1:4000
+lapd user --connect 127.0.0.1:4000 --pri => user 7 3 512 enquiry 7 3 512 enquiry 1000 1000 2000 10000 without-16 - 0 at 127.0.0.1:4000
+lapd net --listen 127.0.0.1:4000 --pri --sapi16 => net 7 3 512 enquiry 7 3 512 enquiry 1000 1000 2000 10000 with-16 - 0 at 127.0.0.1:4000
+lapd net --listen 127.0.0.1:4000 --pri --k 127 => net 127 3 512 enquiry 127 3 512 enquiry 1000 1000 2000 10000 without-16 - 0 at 127.0.0.1:4000
+lapd net --listen 127.0.0.1:4000 --pri --tei 64 => net 7 3 512 enquiry 7 3 512 enquiry 1000 1000 2000 10000 without-16 - 64 at 127.0.0.1:4000
+lapd net --listen 127.0.0.1:4000 --tei 0 --tei 126 => net 1 3 512 enquiry 3 3 512 enquiry 1000 1000 2000 10000 with-16 - 0 126 at 127.0.0.1:4000
+lapd user --connect 127.0.0.1:4000 --tei 126 => user 1 3 512 enquiry 3 3 512 enquiry 1000 1000 2000 10000 with-16 - 126 at 127.0.0.1:4000
+lapd user --connect 127.0.0.1:4000 --k 1 => user 1 3 512 enquiry 1 3 512 enquiry 1000 1000 2000 10000 with-16 - at 127.0.0.1:4000
+lapd user --connect 127.0.0.1:4000 --n200 100 --room 1024 => user 1 100 1024 enquiry 3 100 1024 enquiry 1000 1000 2000 10000 with-16 - at 127.0.0.1:4000
+lapd user --connect 127.0.0.1:4000 --n200 1 --room 1 => user 1 1 1 enquiry 3 1 1 enquiry 1000 1000 2000 10000 with-16 - at 127.0.0.1:4000
+lapd user --connect 127.0.0.1:4000 --recovery last => user 1 3 512 last 3 3 512 last 1000 1000 2000 10000 with-16 - at 127.0.0.1:4000
+lapd user --connect 127.0.0.1:4000 --t200 1 --t201 2 --t202 3 --t203 3600000 => user 1 3 512 enquiry 3 3 512 enquiry 1 2 3 3600000 with-16 - at 127.0.0.1:4000
 lapd net --listen 127.0.0.1:4000 --seed 18446744073709551615 => net 1 3 512 enquiry 3 3 512 enquiry 1000 1000 2000 10000 with-16 18446744073709551615 at 127.0.0.1:4000
 lapd net --listen 127.0.0.1:4000 --seed 0 => net 1 3 512 enquiry 3 3 512 enquiry 1000 1000 2000 10000 with-16 0 at 127.0.0.1:4000
+lapd user --connect a:1 --clock real --seed 921 => user 1 3 512 enquiry 3 3 512 enquiry 1000 1000 2000 10000 with-16 921 at a:1 real 1 - -
 lapd answer --sapi 16 --tei 126 --k 3 --side user => answer user 16 126 3 3 512 enquiry
 lapd answer --sapi 0 --tei 0 => answer net 0 0 1 3 512 enquiry
 lapd --side user => refused
@@ -95,6 +100,10 @@ lapd net --listen a:1 --listen a:1 => refused
 lapd user => refused
 lapd user --listen 127.0.0.1:7000 => refused
 lapd user --connect a:1 --clock real --terminals 2 => refused
+lapd user --connect a:1 --clock real --idle-limit 1000 => refused
+lapd net --listen a:1 --clock real --serve --serve => refused
+lapd net --listen a:1 --clock real --keep 3 => refused
+lapd answer --serve => refused
 lapd net --listen a:1 --clock other => refused
 lapd answer --clock real => refused
 lapd decode --side user => refused
@@ -151,6 +160,13 @@ lapd bus --terminals 128 => error: invalid value '128' for '--terminals <TERMINA
 lapd user --connect=a:1 --time => error: --time goes with --clock real~
 lapd net --listen=a:1 --clock=script --quiet => error: --quiet goes with --clock real~
 lapd net --listen=a:1 --terminals 1 => error: --terminals goes with --clock real~
+lapd net --listen=a:1 --serve => error: --serve goes with --clock real~
+lapd user --connect=a:1 --clock=script --keep => error: --keep goes with --clock real~
+lapd net --listen=a:1 --idle-limit 1000 => error: --idle-limit goes with --clock real~
+lapd net --listen=a:1 --clock=real --idle-limit 1000 => error: --idle-limit goes with --terminals above 1~
+lapd net --listen=a:1 --clock=real --terminals=1 --idle-limit=1000 => error: --idle-limit goes with --terminals above 1~
+lapd net --listen=a:1 --clock=real --terminals=2 --idle-limit=0 => error: invalid value '0' for '--idle-limit <MS>': not a number from 1 to 3600000 in decimal digits~
+lapd net --listen=a:1 --clock=real --terminals=2 --idle-limit=3600001 => error: invalid value '3600001' for '--idle-limit <MS>': not a number from 1 to 3600000 in decimal digits~
 lapd net --listen=a:1 --pcap line.pcap => error: --pcap goes with --clock real~
 lapd user --connect=a:1 --gsmtap b:4729 => error: --gsmtap goes with --clock real~
 lapd net --listen=a:1 --clock=real --terminals=128 => error: invalid value '128' for '--terminals <TERMINALS>': not a number from 1 to 127 in decimal digits~
@@ -221,6 +237,11 @@ fn show(text: &mut String, chosen: &Invocation<'_>) {
         let _ = write!(text, " real {} {pcap} {gsmtap}", options.terminals);
         let _ = text.push_str(if options.time { " time" } else { "" });
         let _ = text.push_str(if options.quiet { " quiet" } else { "" });
+        let _ = text.push_str(if options.serve { " serve" } else { "" });
+        let _ = text.push_str(if options.keep { " keep" } else { "" });
+        if let Some(limit) = options.idle_limit {
+            let _ = write!(text, " idle {limit}");
+        }
     }
     let _ = text.push_str(if chosen.json { " json" } else { "" });
     let _ = text.push_str(if chosen.strict { " strict" } else { "" });
@@ -270,7 +291,11 @@ fn show_interface(text: &mut String, job: &str, interface: &Interface) {
     show_ends(text, job, &interface.params0, &interface.params16);
     show_durations(text, &interface.durations);
     let served = if interface.sapi16 { "with" } else { "without" };
-    let _ = write!(text, " {served}-16 {}", interface.seed);
+    let _ = write!(text, " {served}-16");
+    let _ = match interface.seed {
+        Some(seed) => write!(text, " {seed}"),
+        None => text.push_str(" -"),
+    };
     for tei in interface.teis.as_slice() {
         let _ = write!(text, " {}", tei.value());
     }

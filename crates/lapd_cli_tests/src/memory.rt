@@ -166,11 +166,12 @@ fn sides_without_memory(rt: HostRuntime) -> Result<(), Fail> {
 
 fn basic_access(alloc: Global) -> Interface {
     Interface {
+        pri: false,
         params0: Params::basic(Sapi::Call),
         params16: Params::basic(Sapi::Packet),
         durations: Durations::standard(),
         sapi16: true,
-        seed: 921,
+        seed: Some(921),
         teis: Vec::new(alloc),
     }
 }

@@ -80,6 +80,6 @@ fn config_of(interface: &Interface) -> Config {
         params0: interface.params0,
         params16: interface.params16,
         durations: interface.durations,
-        seed: interface.seed,
+        seed: interface.seed.unwrap_or(921),
     }
 }

@@ -1,13 +1,12 @@
 -- What was written for the options of `net` and `user`, and what it chooses.
 use Rattle.std.specs.Prelude.{◌≡◌, ℕ, List, option_map, ◌||◌, not, ⊤}
-use Rattle.std.specs.Str.Parse.{digits_value}
 use Rattle.lapd_frame.specs.declared.Sapi.{Sapi}
 use Rattle.lapd_frame.specs.declared.Sapi.TheVariants.{Call, Packet}
 use Rattle.lapd_cli_values.specs.declared.interface.Interface.{Interface}
 use Rattle.lapd_cli_values.specs.declared.interface_options.InterfaceFault.{InterfaceFault}
 use Rattle.lapd_cli_values.specs.declared.interface_options.InterfaceFault.TheVariants.{OutOfRange, Memory}
 use Rattle.lapd_cli_values.specs.declared.interface_options.InterfaceOptions.{InterfaceOptions}
-use Rattle.lapd_cli_values.specs.Interfaces.{AreLengths, AreTeis, lengths_written, link_written, teis_meant, teis_written, window_meant}
+use Rattle.lapd_cli_values.specs.Interfaces.{AreLengths, AreTeis, IsSeed, lengths_written, link_written, seed_meant, teis_meant, teis_written, window_meant}
 use Rattle.lapd_cli_values.specs.Numerals.{AreWritten}
 use Rattle.lapd_cli_values.specs.Options.{IsNumberFrom}
 
@@ -22,7 +21,7 @@ pub record IsChosenBy (options : InterfaceOptions) (teis : List (List ℕ)) (int
   pub links0 : AreWritten (window_of options Call) options.n200.now options.room.now
   pub links16 : AreWritten (window_of options Packet) options.n200.now options.room.now
   pub lengths : AreLengths options.t200.now options.t201.now options.t202.now options.t203.now
-  pub seeds : IsNumberFrom 0 18446744073709551615 options.seed.now
+  pub seeds : IsSeed (option_map (λ s. s.now) options.seed)
   pub numbers : AreTeis teis
   pub params0 : interface.params0 ≡ link_written (window_of options Call) options.n200.now
       options.room.now options.recovery
@@ -30,8 +29,9 @@ pub record IsChosenBy (options : InterfaceOptions) (teis : List (List ℕ)) (int
       options.room.now options.recovery
   pub durations : interface.durations ≡ lengths_written options.t200.now options.t201.now
       options.t202.now options.t203.now
+  pub pri : interface.pri ≡ options.pri
   pub sapi16 : interface.sapi16 ≡ (not options.pri || options.sapi16)
-  pub seed : interface.seed ≡ digits_value 10 options.seed.now
+  pub seed : interface.seed ≡ seed_meant (option_map (λ s. s.now) options.seed)
   pub known : interface.teis.items ≡ teis_meant options.pri (teis_written teis)
 
 -- what is refused is none of the range that is told

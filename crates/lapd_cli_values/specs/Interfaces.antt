@@ -1,5 +1,5 @@
 -- What the options of `net` and `user` choose, and how a TEI is written.
-use Rattle.std.specs.Prelude.{ℕ, List, [], ◌∷◌, map, codes, Bool, true, false, Option, Some, None}
+use Rattle.std.specs.Prelude.{ℕ, List, [], ◌∷◌, map, codes, Bool, true, false, Option, Some, None, option_map, ⊤}
 use Rattle.std.specs.List.{All}
 use Rattle.std.specs.Str.Parse.{digits_value}
 use Rattle.lapd_frame.specs.declared.Sapi.{Sapi}
@@ -40,6 +40,15 @@ pub record AreLengths (t200 t201 t202 t203 : List ℕ) : Type 0 where
   pub t201_is : IsNumberFrom 1 3600000 t201
   pub t202_is : IsNumberFrom 1 3600000 t202
   pub t203_is : IsNumberFrom 1 3600000 t203
+
+-- ---- The seed, which may be left out.
+
+abbrev pub IsSeed : Option (List ℕ) → Type 0
+IsSeed None = ⊤
+IsSeed (Some text) = IsNumberFrom 0 18446744073709551615 text
+
+abbrev pub seed_meant : Option (List ℕ) → Option ℕ
+seed_meant seed = option_map (digits_value 10) seed
 
 -- ---- TEIs.
 

@@ -9,6 +9,8 @@ use lapd_timers::Durations;
 /// What a side of an interface is made with.
 #[derive(Drop)]
 pub struct Interface {
+    /// Whether it is one at primary rate.
+    pub pri: bool,
     /// What the links of SAPI 0 are made with.
     pub params0: Params,
     /// What those of SAPI 16 are made with.
@@ -17,8 +19,8 @@ pub struct Interface {
     pub durations: Durations,
     /// Whether SAPI 16 is served beside SAPI 0.
     pub sapi16: bool,
-    /// Where the references of the user side begin.
-    pub seed: u64,
+    /// Where the references of the user side begin, if `--seed` was given.
+    pub seed: Option<u64>,
     /// The TEIs that are known, each 0 to 126: of the network side all, and of the user side its fixed one.
     pub teis: Vec<Tei>,
     ghost own: { All (λ tei. tei < 127) teis.items },

@@ -3,7 +3,7 @@
 ghost use Rattle.std.specs.Prelude.{◌≡◌, ◌<◌, [], ◌∷◌, map, option_map, IfOk, MatchResult};
 ghost use Rattle.std.specs.List.{All};
 ghost use Rattle.std.specs.Str.Parse.{digits_value};
-ghost use Rattle.lapd_cli_values.specs.Interfaces.{AreLengths, AreTeis, lengths_written, link_written, teis_meant, teis_written, usual_window, window_meant};
+ghost use Rattle.lapd_cli_values.specs.Interfaces.{AreLengths, AreTeis, IsSeed, lengths_written, link_written, seed_meant, teis_meant, teis_written, usual_window, window_meant};
 ghost use Rattle.lapd_cli_values.specs.InterfaceChoices.{IsChosenBy, IsNoneOfItsRange, window_of};
 ghost use Rattle.lapd_cli_values.specs.Numerals.{AreWritten};
 ghost use Rattle.lapd_cli_values.specs.Options.{IsNumberFrom};
@@ -39,7 +39,7 @@ pub struct InterfaceOptions<'a> {
     /// How long T203 runs.
     pub t203: &'a str,
     /// Where the references of the user side begin.
-    pub seed: &'a str,
+    pub seed: Option<&'a str>,
 }
 
 /// Why what was written for an interface chooses none.
@@ -69,11 +69,12 @@ pub fn interface_written<'a>(
     let links0 = links_written(options, Sapi::Call);
     let links16 = links_written(options, Sapi::Packet);
     let durations = durations_written(options.t200, options.t201, options.t202, options.t203);
-    let seed = number_written(SEED, options.seed);
+    let seed = seed_written(options.seed);
     match (links0, links16, durations, seed) {
         (Ok(params0), Ok(params16), Ok(durations), Ok(seed)) => {
             match known_teis(alloc, options.pri, teis) {
                 Ok(teis) => Ok(Interface {
+                    pri: options.pri,
                     params0,
                     params16,
                     durations,
@@ -152,6 +153,22 @@ pub fn durations_written<'a>(
     match Durations::new(t200, t201, t202, t203) {
         Some(durations) => Ok(durations),
         None => unreachable!(),
+    }
+}
+
+// The seed, if one is written.
+fn seed_written<'a>(written: Option<&'a str>) -> Result<Option<u64>, OutOfRange<'a>>
+    ensures { MatchResult result
+        (λ seed. IsSeed (option_map (λ s. s.now) written.entry)
+        × (seed ≡ seed_meant (option_map (λ s. s.now) written.entry)))
+        (λ fault. ¬ IsNumberFrom fault.option.least fault.option.most fault.written.now) }
+{
+    match written {
+        Some(written) => match number_written(SEED, written) {
+            Ok(seed) => Ok(Some(seed)),
+            Err(fault) => Err(fault),
+        },
+        None => Ok(None),
     }
 }
 

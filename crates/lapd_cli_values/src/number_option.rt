@@ -72,6 +72,16 @@ pub const CONNECTED_TERMINALS: NumberOption = NumberOption {
     most: 127,
 };
 
+/// How long a terminal may send no whole frame before its connection is closed. By default there is no limit.
+pub const IDLE_LIMIT: NumberOption = NumberOption {
+    name: "idle-limit",
+    value_name: "MS",
+    help: "With --terminals above 1, closes a connection that has sent no whole frame for so many milliseconds, 1 to 3600000",
+    default: "",
+    least: 1,
+    most: 3_600_000,
+};
+
 /// The TEI of the link of the command `answer` (Q.921 3.3.4).
 pub const LINK_TEI: NumberOption = NumberOption {
     name: "tei",
@@ -152,12 +162,12 @@ pub const T203: NumberOption = NumberOption {
     most: 3_600_000,
 };
 
-/// Where the references of TEI management begin (Q.921 5.3.1.1).
+/// Where the references of TEI management begin (Q.921 5.3.1.1). Its default depends on the clock.
 pub const SEED: NumberOption = NumberOption {
     name: "seed",
     value_name: "NUMBER",
-    help: "Where the references of the user side's TEI management begin, 0 to 18446744073709551615",
-    default: "921",
+    help: "Where the references of the user side's TEI management begin, 0 to 18446744073709551615 [default: 921; with --clock real drawn from the system]",
+    default: "",
     least: 0,
     most: 18_446_744_073_709_551_615,
 };

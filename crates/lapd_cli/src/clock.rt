@@ -1,0 +1,51 @@
+//! The clock of a side that is served.
+
+ghost use Rattle.std.specs.Prelude.{◌≡◌, ◌≤◌, IfOk};
+
+use std::io;
+use std::time::Instant;
+
+/// A clock that begins at 0 when it is made, and never goes back.
+#[derive(Drop)]
+pub struct RealClock<'a> {
+    rt: &'a HostRuntime,
+    start: Instant,
+    latest: u64,
+}
+
+impl<'a> RealClock<'a> {
+    /// The present moment is 0.
+    ///
+    /// # Errors
+    ///
+    /// There is no clock.
+    pub fn start(rt: &'a HostRuntime) -> io::Result<RealClock<'a>> {
+        Ok(RealClock {
+            rt,
+            start: Instant::now(rt)?,
+            latest: 0,
+        })
+    }
+
+    /// The present moment, in milliseconds since the start.
+    ///
+    /// # Errors
+    ///
+    /// There is no clock.
+    pub fn now(&mut self) -> io::Result<u64>
+        ensures latest { IfOk result (λ now. self.new.latest ≡ now) }
+        ensures rises { self.old.latest ≤ self.new.latest }
+    {
+        let elapsed = self.start.elapsed(self.rt)?;
+        let now = u64::try_from(elapsed.as_millis()).unwrap_or(u64::MAX);
+        self.latest = self.latest.max(now);
+        Ok(self.latest)
+    }
+
+    /// The moment that was read last.
+    pub fn latest(&self) -> u64
+        ensures { result ≡ self.now.latest }
+    {
+        self.latest
+    }
+}

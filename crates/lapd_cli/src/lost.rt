@@ -1,0 +1,45 @@
+use lapd_port::PortFault;
+use std::fmt;
+
+/// Why a connection is lost.
+#[derive(Clone, Copy, PartialEq, Eq)]
+pub enum Lost {
+    /// A read ended so.
+    Port(PortFault),
+    /// It did not take at once what was sent.
+    NotTaken,
+    /// No whole frame arrived for so many milliseconds.
+    Idle(u64),
+}
+
+impl Lost {
+    /// The fault that a loss is, if the connection is the only one.
+    pub fn fault(self) -> PortFault {
+        match self {
+            Lost::Port(fault) => fault,
+            Lost::NotTaken | Lost::Idle(_) => PortFault::Device,
+        }
+    }
+}
+
+impl fmt::Display for Lost {
+    fn fmt<W: fmt::Write>(&self, f: &mut fmt::Formatter<W>) -> fmt::Result {
+        match self {
+            Lost::Port(fault) => f.write_str(words_of(*fault)),
+            Lost::NotTaken => f.write_str("what was sent was not taken"),
+            Lost::Idle(limit) => write!(f, "no whole frame came for {limit} ms"),
+        }
+    }
+}
+
+/// A fault of a connection, in words.
+pub fn words_of(fault: PortFault) -> &'static str {
+    match fault {
+        PortFault::End => "the other side has closed the connection",
+        PortFault::BadLength => "a length that is not from 3 to 264 came over the connection",
+        PortFault::Cut => "the other side closed the connection inside a frame",
+        PortFault::Device => "the connection failed",
+        PortFault::TooManyTurns => "4,096 reads or writes did not move a whole frame",
+        PortFault::Failed => "the connection failed before",
+    }
+}

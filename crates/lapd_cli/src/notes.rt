@@ -1,0 +1,133 @@
+//! What the program says to people on standard error while a side is served. It never waits for standard error.
+
+use mio::unix::SourceFd;
+use mio::{Events, Interest, Poll, Token};
+use std::alloc::AllocError;
+use std::cell::RefCell;
+use std::fmt::Display;
+use std::io::{self, Write};
+use std::os::fd::RawFd;
+use std::time::Duration;
+
+/// The descriptor of standard error.
+const STANDARD_ERROR: RawFd = 2;
+
+/// How many octets a note has at most, with its line feed. A pipe that can be written to has room for so many.
+const MOST_OCTETS: usize = 4096;
+
+/// Notes on standard error, from several parts of the program. A note that would have to wait for standard error is given up,
+/// and the next one that is written says how many were.
+#[derive(Drop)]
+pub struct Notes<'a> {
+    rt: &'a HostRuntime,
+    errors: RefCell<Errors>,
+}
+
+/// Standard error, and how many notes were given up since the last one was written.
+#[derive(Drop)]
+struct Errors {
+    /// `None` for a regular file, which is always ready, and if no watch can be had.
+    watch: Option<Watch>,
+    given_up: u64,
+}
+
+/// Tells whether standard error can be written to.
+#[derive(Drop)]
+struct Watch {
+    poll: Poll,
+    events: Events,
+}
+
+impl<'a> Notes<'a> {
+    /// Notes on the standard error of this process.
+    pub fn new(rt: &'a HostRuntime) -> Notes<'a> {
+        let errors = Errors {
+            watch: Watch::new(rt).ok(),
+            given_up: 0,
+        };
+        Notes {
+            rt,
+            errors: RefCell::new(errors),
+        }
+    }
+
+    /// Writes a note and a line feed, or gives the note up. A note is cut to 4,095 octets.
+    pub fn say<D: Display + Drop>(&self, note: D) {
+        if let Ok(mut errors) = self.errors.try_borrow_mut() {
+            errors.say(self.rt, note);
+        }
+    }
+}
+
+impl Errors {
+    fn say<D: Display + Drop>(&mut self, rt: &HostRuntime, note: D) {
+        if !self.is_ready() {
+            self.give_up();
+            return;
+        }
+        match self.text_of(rt, note) {
+            Ok(text) => {
+                self.given_up = 0;
+                let _ = rt.stderr().write(text.as_slice());
+            }
+            Err(_) => self.give_up(),
+        }
+    }
+
+    fn give_up(&mut self) {
+        self.given_up = self.given_up.saturating_add(1);
+    }
+
+    /// Whether a note can be written without waiting.
+    fn is_ready(&mut self) -> bool {
+        match &mut self.watch {
+            Some(watch) => watch.is_ready(),
+            None => true,
+        }
+    }
+
+    /// The octets of a note, behind a line about those that were given up.
+    fn text_of<D: Display + Drop>(&self, rt: &HostRuntime, note: D) -> Result<Vec<u8>, AllocError> {
+        let text = match self.given_up {
+            0 => format!(in rt.alloc(); "{note}")?,
+            count => format!(in rt.alloc(); "notes that were given up here: {count}\n{note}")?,
+        };
+        let mut octets = text.into_bytes();
+        octets.truncate(MOST_OCTETS - 1);
+        octets.push(b'\n')?;
+        Ok(octets)
+    }
+}
+
+impl Watch {
+    /// # Errors
+    ///
+    /// Standard error is a regular file, or those of the system.
+    fn new(rt: &HostRuntime) -> io::Result<Watch> {
+        let watch = Watch {
+            poll: Poll::new(rt)?,
+            events: Events::with_capacity(rt.alloc(), 1)?,
+        };
+        let mut errors = SourceFd(&STANDARD_ERROR);
+        let registry = watch.poll.registry();
+        registry.register(&mut errors, Token(0), Interest::WRITABLE)?;
+        Ok(watch)
+    }
+
+    /// Asks whether standard error can be written to.
+    fn is_ready(&mut self) -> bool {
+        let mut errors = SourceFd(&STANDARD_ERROR);
+        let registry = self.poll.registry();
+        match registry.reregister(&mut errors, Token(0), Interest::WRITABLE) {
+            Ok(()) => self.is_reported(),
+            Err(_) => false,
+        }
+    }
+
+    fn is_reported(&mut self) -> bool {
+        match self.poll.poll(&mut self.events, Some(Duration::ZERO)) {
+            Ok(()) => self.events.iter().next().is_some(),
+            Err(_) => false,
+        }
+    }
+}

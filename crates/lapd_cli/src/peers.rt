@@ -1,0 +1,213 @@
+//! The connections of a side: one, or a place for each of several terminals on a bus.
+
+ghost use Rattle.std.specs.Prelude.{◌≤◌, IfOk, IfSome, length};
+ghost use Rattle.lapd_port.specs.SocketText.{IsFrameLength};
+
+use crate::frame_stream::FrameStream;
+use crate::lost::Lost;
+use lapd_port::MOST_OCTETS;
+use mio::{Poll, Token};
+use slab::Slab;
+use std::io::{self, ErrorKind};
+use std::net::SocketAddr;
+
+/// Connections at places from 0 on. The token of a connection is its place.
+#[derive(Drop)]
+pub struct Peers {
+    streams: Slab<Peer>,
+    /// The most connections.
+    most: usize,
+    /// The place at which the next frame is looked for first.
+    turn: usize,
+}
+
+/// A connection.
+#[derive(Drop)]
+struct Peer {
+    stream: FrameStream,
+    /// When it was made or sent its last whole frame, in milliseconds.
+    heard: u64,
+}
+
+/// A connection that is lost.
+#[derive(Clone, Copy)]
+pub struct LostPeer {
+    /// Its place.
+    pub place: usize,
+    /// Why it is lost.
+    pub why: Lost,
+}
+
+impl Peers {
+    /// Room for so many connections, 1 to 127.
+    pub fn new(rt: &HostRuntime, most: u8) -> Peers {
+        Peers {
+            streams: Slab::new(rt.alloc()),
+            most: usize::from(most),
+            turn: 0,
+        }
+    }
+
+    /// The most connections.
+    pub fn most(&self) -> usize {
+        self.most
+    }
+
+    /// Whether a further connection has room.
+    pub fn has_room(&self) -> bool {
+        self.streams.len() < self.most
+    }
+
+    /// Whether there is one connection and no room for others.
+    pub fn is_alone(&self) -> bool {
+        self.most == 1 && self.streams.len() == 1
+    }
+
+    /// Adds a connection that was made at this moment, in milliseconds, and has the poll report what arrives over it.
+    ///
+    /// # Errors
+    ///
+    /// Those of the system, and out of memory.
+    pub fn add(&mut self, poll: &Poll, stream: FrameStream, now: u64) -> io::Result<()> {
+        let Ok(place) = self.streams.insert(Peer { stream, heard: now }) else {
+            return Err(io::Error::from(ErrorKind::OutOfMemory));
+        };
+        let registered = match self.streams.get_mut(place) {
+            Some(peer) => peer.stream.register(poll, Token(place)),
+            None => Ok(()),
+        };
+        if registered.is_err() {
+            let _ = self.streams.try_remove(place);
+        }
+        registered
+    }
+
+    /// Removes the connection at this place, and returns the address of its other side.
+    pub fn remove(&mut self, place: usize) -> Option<SocketAddr> {
+        let peer = self.streams.try_remove(place)?;
+        Some(peer.stream.peer())
+    }
+
+    /// Something may have arrived over the connection at this place.
+    pub fn wake(&mut self, place: usize) {
+        if let Some(peer) = self.streams.get_mut(place) {
+            peer.stream.wake();
+        }
+    }
+
+    /// Whether [`Peers::next_frame`] may return a frame or a loss that it did not return before.
+    pub fn is_ready(&self) -> bool {
+        (0..self.most).any(|place| self.is_ready_at(place))
+    }
+
+    fn is_ready_at(&self, place: usize) -> bool {
+        match self.streams.get(place) {
+            Some(peer) => peer.stream.is_ready(),
+            None => false,
+        }
+    }
+
+    /// Takes the next frame that arrived whole, of the connections in turn, at a moment in milliseconds. `None` if each
+    /// connection of which something was reported was read until nothing was left.
+    ///
+    /// # Errors
+    ///
+    /// A connection is lost. It keeps its place until it is removed.
+    pub fn next_frame(
+        &mut self,
+        frame: &mut [u8; MOST_OCTETS],
+        now: u64,
+    ) -> Result<Option<usize>, LostPeer>
+        ensures { IfOk result (λ count. IfSome count (λ count. count ≤ MOST_OCTETS)) }
+    {
+        for _place in 0..self.most {
+            let place = self.turn;
+            self.turn = place_behind(place, self.most);
+            match self.next_frame_at(place, frame, now) {
+                Ok(Some(count)) => return Ok(Some(count)),
+                Ok(None) => {}
+                Err(why) => return Err(LostPeer { place, why }),
+            }
+        }
+        Ok(None)
+    }
+
+    fn next_frame_at(
+        &mut self,
+        place: usize,
+        frame: &mut [u8; MOST_OCTETS],
+        now: u64,
+    ) -> Result<Option<usize>, Lost>
+        ensures { IfOk result (λ count. IfSome count (λ count. count ≤ MOST_OCTETS)) }
+    {
+        let Some(peer) = self.streams.get_mut(place) else {
+            return Ok(None);
+        };
+        let count = peer.stream.next_frame(frame)?;
+        if count.is_some() {
+            peer.heard = now;
+        }
+        Ok(count)
+    }
+
+    /// Sends a frame of 3 to 264 octets over each connection. Returns whether one of them took it.
+    pub fn send(&mut self, frame: &[u8]) -> bool
+        requires { IsFrameLength (length frame.now) }
+    {
+        let mut is_taken = false;
+        for place in 0..self.most {
+            if let Some(peer) = self.streams.get_mut(place) {
+                is_taken = peer.stream.send(frame).is_ok() || is_taken;
+            }
+        }
+        is_taken
+    }
+
+    /// The first connection that has sent no whole frame for so many milliseconds at this moment, and of which nothing was
+    /// reported that is not read.
+    pub fn idle_peer(&self, limit: u64, now: u64) -> Option<LostPeer> {
+        let place = (0..self.most).find(|place| self.is_idle_at(*place, limit, now))?;
+        Some(LostPeer {
+            place,
+            why: Lost::Idle(limit),
+        })
+    }
+
+    fn is_idle_at(&self, place: usize, limit: u64, now: u64) -> bool {
+        match self.streams.get(place) {
+            Some(peer) => peer.idle_moment(limit) <= now && !peer.stream.is_ready(),
+            None => false,
+        }
+    }
+
+    /// The first moment at which a connection may have sent no whole frame for so many milliseconds.
+    pub fn next_idle(&self, limit: u64) -> Option<u64> {
+        let mut next = None;
+        for (_place, peer) in self.streams.iter() {
+            let moment = peer.idle_moment(limit);
+            next = Some(next.map_or(moment, |next: u64| next.min(moment)));
+        }
+        next
+    }
+
+    /// Whether the other side has closed the only connection, and each frame that it sent was taken.
+    pub fn is_closed(&self) -> bool {
+        match self.streams.get(0) {
+            Some(peer) => self.is_alone() && peer.stream.is_closed(),
+            None => false,
+        }
+    }
+}
+
+impl Peer {
+    /// When it will have sent no whole frame for so many milliseconds.
+    fn idle_moment(&self, limit: u64) -> u64 {
+        self.heard.saturating_add(limit)
+    }
+}
+
+/// The place behind this one among so many. The first is behind the last.
+fn place_behind(place: usize, most: usize) -> usize {
+    let next = place.saturating_add(1);
+    if next < most { next } else { 0 }
+}

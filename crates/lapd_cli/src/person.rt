@@ -1,0 +1,57 @@
+//! A person at the terminal of a live session, who is spoken to by notes.
+
+use crate::notes::Notes;
+use lapd_cli_console::{Script, put_help, reason, tidied};
+use lapd_cli_live::Person;
+use std::alloc::{AllocError, Global};
+
+/// Says by notes which lines a command has, and what is wrong with a line.
+#[derive(Drop)]
+pub struct Speaker<'a> {
+    alloc: Global,
+    script: Script,
+    notes: &'a Notes<'a>,
+}
+
+impl<'a> Speaker<'a> {
+    /// Speaks of the lines of this command.
+    pub fn new(alloc: Global, script: Script, notes: &'a Notes<'a>) -> Speaker<'a> {
+        Speaker {
+            alloc,
+            script,
+            notes,
+        }
+    }
+
+    /// The forms of the command's lines.
+    fn help_text(&self) -> Vec<u8> {
+        let mut text = Vec::new(self.alloc);
+        // If memory runs out the text ends early.
+        let _ = put_help(self.script, &mut text);
+        text
+    }
+}
+
+impl Person for Speaker<'_> {
+    fn greet(&mut self) {
+        self.notes.say("lines are awaited: help lists them, and quit ends the session");
+    }
+
+    fn tidied(&self, line: &[u8]) -> Result<Vec<u8>, AllocError> {
+        tidied(self.alloc, self.script, line)
+    }
+
+    fn refuse_line(&mut self, line: &[u8]) {
+        match reason(self.alloc, self.script, line) {
+            Ok(Some(why)) => self.notes.say(format_args!("not done: {why}")),
+            Ok(None) => self.notes.say("not done"),
+            Err(_) => self.notes.say("not done: out of memory"),
+        }
+    }
+
+    fn help(&mut self) {
+        let text = self.help_text();
+        let text = str::from_utf8(text.as_slice()).unwrap_or("");
+        self.notes.say(text.trim_end());
+    }
+}
