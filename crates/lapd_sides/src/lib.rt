@@ -12,28 +12,33 @@
 //!    and changes nothing.
 //! 4. After each call that was not refused it sends the octets of `Acts::frames`, 3 to 264 of each, in order, and does what
 //!    `Acts::primitives` tell. A [`Primitive`] prints in words, as `0 64 established`.
-//! 5. It calls `tick` with the moment it is until it answers `false`, and does 4 after each `true`.
-//! 6. It sleeps until `next_deadline`, or until octets or a request come: before that moment `tick` has nothing to do. Where it
+//! 5. Before you expire timers for a moment, pass in every frame that had arrived by then. So it reads the clock and takes a frame
+//!    without waiting, again and again until no frame has arrived; and then it calls `tick` with the moment that was read before
+//!    that last look, until `tick` returns `false`. It does 4 after each `take` and each `true`. A flood must not stop the
+//!    timers, so a program takes at most some thousand frames before it calls `tick`.
+//! 6. It sleeps until `next_deadline`, or until octets or a request come: before that moment `tick` has nothing to do. If it
 //!    is `None`, no timer runs.
 //!
 //! ```text
 //! let mut side = EitherSide::User(UserSide::new(alloc, config, Some(tei))?);
 //! let mut acts = Acts::new(alloc)?;
-//! side.request(Request::Establish(id), now, &mut acts)?;
+//! side.request(Request::Establish(id), clock(), &mut acts)?;
+//! send_and_tell(&acts);
 //! loop {
-//!     for frame in acts.frames() { send(frame.as_slice()); }
-//!     for primitive in acts.primitives() { println!(rt; "{primitive}")?; }
-//!     let now = clock();
-//!     if side.tick(now, &mut acts) { continue; }
-//!     match octets_before(side.next_deadline()) {
-//!         Some(octets) => side.take(octets, clock(), &mut acts)?,
-//!         None => {}
+//!     let mut now = clock();
+//!     while let Some(octets) = octets_arrived() {
+//!         side.take(octets, now, &mut acts)?;
+//!         send_and_tell(&acts);
+//!         now = clock();
 //!     }
+//!     while side.tick(now, &mut acts) { send_and_tell(&acts); }
+//!     sleep_until(side.next_deadline());
 //! }
 //! ```
 //!
-//! That a side keeps to the standard is said by the contracts, over the definitions of specs/. They say nothing of the clock.
-//! What two ends promise each other needs that T200 is longer than a frame's way there and its answer's way back.
+//! The contracts say that a side keeps to the standard, over the definitions of specs/. They say nothing of the clock. What two
+//! ends promise each other needs that no T200 expires after its answer has arrived, which step 5 keeps, or while it is on its way:
+//! so T200 is longer than a frame's way there and its answer's way back.
 #![tactic(auto)]
 
 mod either_side;

@@ -182,8 +182,8 @@ impl NetSide {
         }
     }
 
-    /// What is due at the moment `now`, the first alone: its timer has expired. `false` where nothing is due. It takes no
-    /// memory. Call it until it answers `false`.
+    /// Expires the first timer that is due at `now`, in milliseconds. Returns `false` if none is due; call it until then. Before
+    /// you expire timers for a moment, pass in every frame that had arrived by then. Does not allocate.
     pub fn tick(&mut self, now: u64, acts: &mut Acts) -> bool
         ensures due { result ≡ true → Expires self.old self.new acts.new now }
         ensures none { result ≡ false → Rests self.old self.new now }
