@@ -1,6 +1,6 @@
 //! The lines of a side that is served with the real clock.
 
-ghost use Rattle.std.specs.Prelude.{◌≡◌, ◌∷◌, ◌++◌, [], ◌&&◌, drop, option_and_then, option_map, IfNone, IfSome, MatchOption};
+ghost use Rattle.std.specs.Prelude.{◌≡◌, ◌∷◌, ◌++◌, drop, option_and_then, option_map, IfNone, IfSome};
 ghost use Rattle.std.specs.Str.{is_utf8 as utf8_told};
 ghost use Rattle.lapd_cli_script.specs.Line.{HasNoSpace, Reads, words_left, words_of};
 ghost use Rattle.lapd_cli_side_lines.specs.Wishes.{check_wish};
