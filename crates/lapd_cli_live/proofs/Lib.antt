@@ -4,3 +4,4 @@ pub mod Printers
 pub mod Log
 pub mod Steps
 pub mod WaitingLines
+pub mod InTime

@@ -4,7 +4,7 @@ use Rattle.std.specs.Prelude.{Bool, true, false, ◌||◌, flat_map, fold, ⊤}
 use Rattle.std.specs.List.{list_any}
 use Rattle.std.proofs.KnownBytes.{Appends-nil, Appends-trans}
 use Rattle.std.specs.Io.KnownBytes.{Appends}
-use Rattle.std.proofs.lemmas.List.{map-append, take_more}
+use Rattle.std.proofs.lemmas.List.{map-append, take-map, take_more}
 use Rattle.std.proofs.lemmas.List.Sums.{fold-append}
 use Rattle.std.proofs.lemmas.List.Folds.{list_any-append}
 use Rattle.std.proofs.lemmas.Grind.{flat_map-append}
@@ -17,7 +17,7 @@ use Rattle.lapd_cli_live.specs.declared.outside.Sending.{Sending}
 use Rattle.lapd_cli_live.specs.declared.outside.Sending.TheVariants.{Sent as WasSent, Lost as WasLost}
 use Rattle.lapd_cli_live.specs.declared.style.Style.{Style}
 use Rattle.lapd_cli_live.specs.declared.printer.Printer.{Printer}
-use Rattle.lapd_cli_live.specs.Deeds.{Adds, Deed, Sends, all_sent}
+use Rattle.lapd_cli_live.specs.Deeds.{Adds, Deed, Sends, SendsFront, all_sent}
 use Rattle.lapd_cli_live.specs.Entries.{Entry, Outgoing, Prints, Sent, Shown, Told, counted, entries_text, entry_text, is_awaited, moment_after, octets_of, outgoing_entry, sent_entry}
 use Rattle.lapd_cli_live.specs.Printers.{PrintsOn, SendsAll, shown}
 use Rattle.lapd_cli_live.specs.Log.{Around, CarriesOut, CarriesOutAll, Chain, Happen, HappenBeside, IsCarriedOut, LiveEvent, LiveState, Shows, deeds_in, entries_in, moment_of, sending_events, told_event}
@@ -226,3 +226,23 @@ carried contents side own frames primitives acts a b p q r is are same sends fou
 pub chain_more : (R : LiveState → LiveState → Type 0) (states : List LiveState) (a b c : LiveState) → Chain R states a b → R b c → Chain R (states ++ c ∷ []) a c
 chain_more R [] a b c are one = (subst (λ (x : LiveState). R x c) are one, refl)
 chain_more R (mid ∷ states) a b c are one = (are.0, chain_more R states mid b c are.1 one)
+
+-- ---- Where a call fails.
+
+-- so many frames were sent, and then nothing was
+pub front_of : {F : Type 0} (octets : F → List ℕ) (frames : List F) (count : ℕ) (a b c : Option (List Deed)) → Adds a b (all_sent (map octets (take count frames))) → c ≡ b
+    → SendsFront (map octets frames) a c
+front_of octets frames count a b c adds stays =
+    (count, subst (λ (x : List (List ℕ)). Adds a c (all_sent x)) (sym (take-map octets count frames))
+    (subst (λ (x : Option (List Deed)). Adds a x (all_sent (map octets (take count frames)))) (sym stays) adds))
+
+-- or one more was
+pub front_next : {F : Type 0} (octets : F → List ℕ) (frames : List F) (at : ℕ) (frame : F) (item : List ℕ) (a b c : Option (List Deed)) → at < length frames
+    → frame ≡ get_or frames at frame → item ≡ octets frame → Adds a b (all_sent (map octets (take at frames))) → Adds b c (Sends item ∷ [])
+    → SendsFront (map octets frames) a c
+front_next octets frames at frame item a b c within is says before now =
+    let one : take (at + 1) frames ≡ take at frames ++ frame ∷ [] = take_more frames at frame within ∙ ap (λ x. take at frames ++ x ∷ []) (sym is) in
+    let sent : all_sent (map octets (take (at + 1) frames)) ≡ all_sent (map octets (take at frames)) ++ Sends item ∷ [] =
+    ap (λ xs. all_sent (map octets xs)) one ∙ ap all_sent (map-append octets (take at frames) (frame ∷ []))
+    ∙ map-append Sends (map octets (take at frames)) (octets frame ∷ []) ∙ ap (λ x. all_sent (map octets (take at frames)) ++ Sends x ∷ []) (sym says) in
+    front_of octets frames (at + 1) a c c (subst (Adds a c) (sym sent) (adds_both a b c _ _ before now)) refl

@@ -27,3 +27,7 @@ received room (Some count) = Comes (take count room) ∷ []
 -- these frames are sent, in order
 abbrev pub all_sent : List (List ℕ) → List Deed
 all_sent frames = map Sends frames
+
+-- so many of these frames are sent, from the first on, and nothing else is done
+abbrev pub SendsFront : List (List ℕ) → Option (List Deed) → Option (List Deed) → Type 0
+SendsFront frames before after = (count : ℕ) × Adds before after (all_sent (take count frames))

@@ -4,5 +4,7 @@ pub mod Printers
 pub mod Log
 pub mod Steps
 pub mod WaitingLines
+pub mod StateLines
+pub mod PromptLine
 pub mod Passed
 pub mod Typed

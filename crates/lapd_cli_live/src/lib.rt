@@ -10,6 +10,7 @@
 
 mod fault;
 mod input;
+mod laws;
 mod live_lines;
 mod live_side;
 mod outside;
@@ -24,6 +25,7 @@ pub use fault::LiveFault;
 pub use input::{LiveStop, Person, live_script, live_session};
 pub use lapd_cli_live_text::Impairment;
 pub use lapd_cli_side_lines::LineStyle;
+pub use laws::no_timer_expires_early;
 pub use live_side::LiveSide;
 pub use outside::{Lines, Outside, Sending, Woken};
 pub use printer::Printer;

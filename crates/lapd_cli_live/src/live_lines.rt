@@ -14,6 +14,7 @@ use std::io::Write;
 
 impl<O: Outside, W: Write> LiveSide<O, W> {
     ghost use Rattle.lapd_cli_live.specs.Log.{Between};
+    ghost use Rattle.lapd_cli_live.specs.StateLines.{PutsState, StatesCounts, StatesLink};
     ghost use Rattle.lapd_cli_live.specs.WaitingLines.{Expects, Reads, Runs};
 
     /// Does what a line requests, which comes without its line feed. If `lines` are awaited, a further line of input cuts the waits
@@ -130,14 +131,18 @@ impl<O: Outside, W: Write> LiveSide<O, W> {
     }
 
     /// Prints the statistics.
-    fn put_stats(&mut self) -> Result<(), LiveFault> {
+    fn put_stats(&mut self) -> Result<(), LiveFault>
+        ensures { OnOk result (Between O.deeds W.contents self.old self.new StatesCounts) }
+    {
         self.catch_up()?;
         let discarded = self.side.discarded();
         self.printer.put_stats(discarded)
     }
 
     /// Prints the state of a link, or that the side does not have it.
-    fn put_link(&mut self, id: &LinkId) -> Result<(), LiveFault> {
+    fn put_link(&mut self, id: &LinkId) -> Result<(), LiveFault>
+        ensures { OnOk result (Between O.deeds W.contents self.old self.new (StatesLink id.now)) }
+    {
         self.catch_up()?;
         if self.put_state(id)? {
             return Ok(());
@@ -163,13 +168,17 @@ impl<O: Outside, W: Write> LiveSide<O, W> {
     }
 
     /// Prints the state of a link, as it is at the moment of the printer. `false` if the side does not have the link.
-    fn put_state(&mut self, id: &LinkId) -> Result<bool, LiveFault> {
+    fn put_state(&mut self, id: &LinkId) -> Result<bool, LiveFault>
+        ensures { IfOk result (λ found. Between O.deeds W.contents self.old self.new
+            (PutsState id.now found)) }
+    {
         let Some(link) = self.side.table().link(*id) else {
             return Ok(false);
         };
         let timers = self.side.timers(Some(*id));
         let mut words = String::new(self.alloc);
-        push_link(id, link, timers, self.printer.moment(), &mut words)?;
+        let now = self.printer.moment();
+        push_link(id, link, timers, now, &mut words)?;
         self.printer.put_words(words.as_str())?;
         Ok(true)
     }

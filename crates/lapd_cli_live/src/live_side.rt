@@ -1,9 +1,10 @@
 //! A side that is served.
 
-ghost use Rattle.std.specs.Prelude.{◌≡◌, map, true, false, IfOk, OnOk};
+ghost use Rattle.std.specs.Prelude.{◌≡◌, map, true, false, IfOk, OnErr, OnOk};
 ghost use Rattle.std.specs.List.{All};
 ghost use Rattle.lapd_sides_links.specs.Effects.{HasLeastOctets};
 ghost use Rattle.lapd_frame.specs.declared.Side.{Side as SideValue};
+ghost use Rattle.lapd_cli_live.specs.Deeds.{SendsFront};
 ghost use Rattle.lapd_cli_live.specs.Entries.{Told};
 ghost use Rattle.lapd_cli_live.specs.Printers.{PrintsOn, SendsAll};
 ghost use Rattle.lapd_cli_live.specs.Steps.{came_of as came_from, ended_by as ends_by, HasCome, sooner as sooner_of};
@@ -78,10 +79,12 @@ impl<O: Outside, W: Write> LiveSide<O, W> {
         Ok(now)
     }
 
-    /// Sends and prints what the last call gave.
+    /// Sends and prints what the last call gave. On an error, what was sent is the front of what was to be sent.
     fn carry_out(&mut self) -> Result<(), LiveFault>
-        ensures { OnOk result (Between O.deeds W.contents self.old self.new
+        ensures carried { OnOk result (Between O.deeds W.contents self.old self.new
             (IsCarriedOut self.old.acts)) }
+        ensures err { OnErr result (SendsFront self.old.acts.frames (O.deeds self.old.outside)
+            (O.deeds self.new.outside)) }
     {
         let own = self.side.side();
         let (frames, primitives) = (self.acts.frames(), self.acts.primitives());
@@ -266,8 +269,10 @@ fn send_all<O: Outside, W: Write>(
     printer: &mut Printer<W>,
 ) -> Result<(), LiveFault>
     requires { All (λ f. HasLeastOctets f.items) frames.now }
-    ensures { OnOk result (SendsAll own (map (λ f. f.items) frames.now) (O.deeds outside.old)
+    ensures sent { OnOk result (SendsAll own (map (λ f. f.items) frames.now) (O.deeds outside.old)
         (O.deeds outside.new) W.contents printer.old printer.new) }
+    ensures err { OnErr result (SendsFront (map (λ f. f.items) frames.now) (O.deeds outside.old)
+        (O.deeds outside.new)) }
 {
     for frame in frames {
         let octets = frame.as_slice();

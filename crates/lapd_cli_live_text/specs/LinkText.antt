@@ -6,6 +6,7 @@ use Rattle.lapd_timers.specs.Timer.{timer_name}
 use Rattle.lapd_timers.specs.declared.timer.Timer.{Timer}
 use Rattle.lapd_timers.specs.declared.timer.Timer.TheVariants.{T200, T201, T202, T203}
 use Rattle.lapd_supervision.specs.StateVariables.{StateVariables}
+use Rattle.lapd_link.specs.declared.link.Link.{Link}
 use Rattle.lapd_link_rows.specs.End.{End, waiting}
 use Rattle.lapd_link_rows.specs.State.{state_number}
 use Rattle.lapd_table.specs.declared.link_id.LinkId.{LinkId}
@@ -37,6 +38,24 @@ unfoldable pub management_text : Timers → ℕ → List ℕ
 management_text timers now = if any_runs timers then codes "tei" ++ timers_text timers now else []
 
 -- ---- Links.
+
+-- The end that a link shows: what layer 3 gave before the messages in its queue is left out, since
+-- a link keeps nothing of it.
+abbrev pub shown_end : Link → End
+shown_end link = record {
+  parameters = link.machine.params;
+  state = link.machine.state;
+  rc = link.machine.rc;
+  window = link.machine.window;
+  layer3_initiated = link.machine.layer3_initiated;
+  release_pending = link.machine.release_pending;
+  t200 = link.machine.t200;
+  t203 = link.machine.t203;
+  establishments = 0;
+  given = link.machine.queue.messages;
+  first = 0;
+  next = link.machine.queue.sent;
+}
 
 -- a word that is printed if its condition holds
 abbrev pub word_if : Bool → List ℕ → List ℕ

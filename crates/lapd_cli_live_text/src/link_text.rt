@@ -7,7 +7,7 @@ ghost use Rattle.lapd_link.specs.Link.{LinkStandsFor};
 ghost use Rattle.lapd_link_rows.specs.End.{End};
 ghost use Rattle.lapd_sides_links.specs.Texts.{id_text};
 ghost use Rattle.lapd_timers.specs.Due.{deadline_of};
-ghost use Rattle.lapd_cli_live_text.specs.LinkText.{any_runs, busy_text, end_text, link_text, link_timers_text, management_text, number_text, numbers_text, timer_text, timers_text, word_if};
+ghost use Rattle.lapd_cli_live_text.specs.LinkText.{any_runs, busy_text, end_text, link_text, link_timers_text, management_text, number_text, numbers_text, shown_end, timer_text, timers_text, word_if};
 
 use lapd_link::{Link, Window};
 use lapd_sides_links::{LinkId, Timer, TimerSet};
@@ -30,8 +30,11 @@ pub fn push_link(
     now: u64,
     text: &mut String,
 ) -> Result<(), AllocError>
-    ensures { (e : End) → LinkStandsFor link.now e → OnOk result (string_bytes text.new
+    // The line of each end that the link stands for, and so of the end that the link shows.
+    ensures end { (e : End) → LinkStandsFor link.now e → OnOk result (string_bytes text.new
         ≡ string_bytes text.old ++ link_text id.now e (option_copied timers.entry) now) }
+    ensures shown { OnOk result (string_bytes text.new ≡ string_bytes text.old
+        ++ link_text id.now (shown_end link.now) (option_copied timers.entry) now) }
 {
     push_id(id, text)?;
     push_end(link, text)?;

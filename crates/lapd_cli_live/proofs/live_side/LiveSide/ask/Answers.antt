@@ -9,7 +9,7 @@ pub returns-in-Ok : goal.returns-in-Ok
 returns-in-Ok g c =
     let answers = subst (λ (now : ℕ). Answers c.args.request now c.request-answered.result c.catch_up.new.self.side c.request-answered.new.self c.request-answered.new.acts)
     c.in_ok-now.ensures.moment c.request-answered.ensures.answers in
-    asked _ _ _ _ _ _ _ _ _ c.in_ok-now.ensures.does answers c.request-answered.ensures.side c.in_ok-carry_out.ensures
+    asked _ _ _ _ _ _ _ _ _ c.in_ok-now.ensures.does answers c.request-answered.ensures.side c.in_ok-carry_out.ensures.carried
     (ap refusal_events (sym c.in-Ok.is)) (beside_none _)
 
 pub returns-in-Err : goal.returns-in-Err
@@ -17,7 +17,7 @@ returns-in-Err g c =
     let answers = subst (λ (now : ℕ). Answers c.args.request now c.request-answered.result c.catch_up.new.self.side c.request-answered.new.self c.request-answered.new.acts)
     c.in_ok-now.ensures.moment c.request-answered.ensures.answers in
     on_ok c.put_refused.result _ _
-    (λ prints. asked _ _ _ _ _ _ _ _ _ c.in_ok-now.ensures.does answers c.request-answered.ensures.side c.in_ok-carry_out.ensures
+    (λ prints. asked _ _ _ _ _ _ _ _ _ c.in_ok-now.ensures.does answers c.request-answered.ensures.side c.in_ok-carry_out.ensures.carried
     (ap refusal_events (sym c.in-Err.is))
     (beside_printed g.W.Write.contents c.carry_out.new.self.side _ _ _ (refused c.in-Err.fault.kind) prints refl))
     (c.put_refused.ensures (side_of c.carry_out.new.self.side))

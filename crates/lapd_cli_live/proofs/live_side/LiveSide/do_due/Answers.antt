@@ -9,4 +9,4 @@ returns-then-not-tick g c = all_due _ _ _ _ c.moment-now.ensures c.loop-tick.inv
 
 pub loop-tick-preserved : goal.loop-tick-preserved
 loop-tick-preserved g c =
-    more_due _ _ _ _ _ _ c.loop-tick.invariant (c.tick.ensures.due c.if-not-tick.false) c.tick.ensures.side c.in_ok-carry_out.ensures
+    more_due _ _ _ _ _ _ c.loop-tick.invariant (c.tick.ensures.due c.if-not-tick.false) c.tick.ensures.side c.in_ok-carry_out.ensures.carried

@@ -1,0 +1,46 @@
+-- A line that hands over what has arrived, and what a step knows when its timers expire.
+use Rattle.std.specs.Prelude.{◌≡◌, ◌⊎◌, ℕ, nat_le, List, [], ◌∷◌, ◌++◌, filter, map, Option, Some}
+use Rattle.lapd_cli_live.specs.declared.service.Until.{Until}
+use Rattle.lapd_cli_live.specs.Deeds.{Comes, Deed, FindsNone, Reads, Sends, Waits}
+use Rattle.lapd_cli_live.specs.Log.{LiveState, moment_of}
+use Rattle.lapd_cli_live.specs.Steps.{CatchesUp, DoesDue, Receives, TakesMost}
+
+-- a frame that arrives at a moment, in milliseconds since the start
+pub record Arrival : Type 0 where
+  pub moment : ℕ
+  pub frame : List ℕ
+
+-- the frames that have arrived by a moment, in order
+abbrev pub arrived_by : ℕ → List Arrival → List (List ℕ)
+arrived_by now arrivals = map (λ a. a.frame) (filter (λ a. nat_le a.moment now) arrivals)
+
+-- the frames that some deeds received, in order
+abbrev pub frames_received : List Deed → List (List ℕ)
+frames_received [] = []
+frames_received (Comes frame ∷ deeds) = frame ∷ frames_received deeds
+frames_received (Reads now ∷ deeds) = frames_received deeds
+frames_received (FindsNone ∷ deeds) = frames_received deeds
+frames_received (Waits until woken ∷ deeds) = frames_received deeds
+frames_received (Sends frame ∷ deeds) = frames_received deeds
+
+-- A frame that arrived before a look is handed over by it: if a look finds none after the clock was read, then everything that had
+-- arrived by that moment was received.
+abbrev pub IsPrompt : List Arrival → List Deed → Type 0
+IsPrompt arrivals deeds = (before rest : List Deed) (now : ℕ)
+    → deeds ≡ before ++ (Reads now ∷ FindsNone ∷ rest)
+    → frames_received before ≡ arrived_by now arrivals
+
+-- every frame that had arrived by the moment of a side was received
+pub record HasAllThatArrived (arrivals : List Arrival) (s : LiveState) : Type 0 where
+  pub deeds : List Deed
+  pub are : s.deeds ≡ Some deeds
+  pub received : frames_received deeds ≡ arrived_by (moment_of s) arrivals
+
+-- A side that catches up expires timers for a moment only when every frame that had arrived by that moment was received, and so
+-- also the answer that a timer waits for; or when as many frames came at once as a step receives.
+pub record ExpiresInTime (arrivals : List Arrival) (until : Until) (a b : LiveState) : Type 0 where
+  pub received : LiveState
+  pub receives : Receives until a received
+  pub due : DoesDue received b
+  pub moment : moment_of b ≡ moment_of received
+  pub in_time : HasAllThatArrived arrivals received ⊎ TakesMost until a received

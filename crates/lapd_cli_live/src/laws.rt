@@ -1,0 +1,17 @@
+//! Laws of the service.
+
+ghost use Rattle.std.specs.Prelude.{◌≡◌, List, Some};
+ghost use Rattle.lapd_cli_live.specs.declared.service.Until.{Until};
+ghost use Rattle.lapd_cli_live.specs.Deeds.{Deed};
+ghost use Rattle.lapd_cli_live.specs.Log.{LiveState};
+ghost use Rattle.lapd_cli_live.specs.Steps.{CatchesUp};
+ghost use Rattle.lapd_cli_live.specs.PromptLine.{Arrival, ExpiresInTime, IsPrompt};
+
+/// No timer expires early: over a line that hands over what has arrived, a timer expires for a moment only when every frame that
+/// had arrived by then was received, and so also its answer. A flood of 4,096 frames at once is the only exception. So T200
+/// does not expire while an answer to it has arrived.
+pub fn no_timer_expires_early()
+    ensures { (arrivals : List Arrival) (until : Until) (a b : LiveState) (deeds : List Deed)
+        → CatchesUp until a b → b.deeds ≡ Some deeds → IsPrompt arrivals deeds
+        → ExpiresInTime arrivals until a b }
+{}
