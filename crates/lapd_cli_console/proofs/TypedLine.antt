@@ -1,5 +1,5 @@
 -- What is left of a typed line.
-use Rattle.std.proofs.Common.{◌≡◌, ◌≢◌, ℕ, ◌==◌, List, [], ◌∷◌, ◌++◌, append-nil, refl, ap, ◌∙◌, sym, if◌then◌else◌}
+use Rattle.std.proofs.Common.{◌≡◌, ◌≢◌, ℕ, ◌==◌, List, [], ◌∷◌, ◌++◌, append-nil, refl, ap, ◌∙◌, sym}
 use Rattle.std.specs.List.{flat_map, slice_split}
 use Rattle.std.proofs.lemmas.Bool.{ne_eqb}
 use Rattle.lapd_cli_console.specs.Tidied.{HasNoColon, before_kept, digits_of_part, digits_of_word, without_end}

@@ -182,7 +182,8 @@ abbrev pub last_word : List ℕ → List (List ℕ) → List ℕ
 last_word word [] = word
 last_word word (next ∷ words) = last_word next words
 
--- two words: all words up to the last one as one, with the spaces between them, and the last one; or a word that is alone
+-- two words: all words up to the last one as one, with the spaces between them, and the last one;
+-- or a word that is alone
 abbrev pub text_and_last_of : List ℕ → List (List ℕ) → List (List ℕ)
 text_and_last_of word [] = word ∷ []
 text_and_last_of word (next ∷ words) = join_with_byte 32 (words_before word (next ∷ words))

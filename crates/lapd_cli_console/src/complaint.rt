@@ -58,7 +58,8 @@ impl fmt::Display for Complaint<'_> {
     }
 }
 
-/// Says that no line of this command begins with this word: the word needs the other clock, or the command has other lines.
+/// Says that no line of this command begins with this word: the word needs the other clock, or the
+/// command has other lines.
 fn put_no_line<W: fmt::Write>(
     script: Script,
     word: &[u8],

@@ -5,7 +5,8 @@ use std::fmt;
 /// The meaning of a word behind the first word of a line.
 #[derive(Clone, Copy)]
 pub enum Argument {
-    /// By how many milliseconds each frame that is sent is delayed, 0 to 3,600,000. It may be left out.
+    /// By how many milliseconds each frame that is sent is delayed, 0 to 3,600,000. It may be left
+    /// out.
     Delay,
     /// Octets in hexadecimal digits, which end the line. For no octets the word is left out.
     Hex,
@@ -119,8 +120,8 @@ impl fmt::Display for Argument {
     }
 }
 
-/// The form of a line, as `give SIDE HEX` or `state [SAPI TEI]`. Single spaces part its words. Square brackets hold words that may be
-/// left out, all of them.
+/// The form of a line, as `give SIDE HEX` or `state [SAPI TEI]`. Single spaces part its words.
+/// Square brackets hold words that may be left out, all of them.
 #[derive(Clone, Copy)]
 pub struct Form {
     /// The first word.

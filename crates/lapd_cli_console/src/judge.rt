@@ -23,9 +23,10 @@ const MOST_MS: u64 = 3_600_000;
 /// The greatest loss, in per cent.
 const MOST_LOSS: u64 = 100;
 
-/// Returns what is wrong with a line of a command by its form, as one line of text without a line feed. The line has no line feed
-/// either. Returns `None` if the form is right, and for empty lines and comments. A `tick` that takes the clock of `net` or `user` past
-/// its end is right by its form.
+/// Returns what is wrong with a line of a command by its form, as one line of text without a line
+/// feed. The line has no line feed either. Returns `None` if the form is right, and for empty lines
+/// and comments. A `tick` that takes the clock of `net` or `user` past its end is right by its
+/// form.
 ///
 /// # Errors
 ///
@@ -92,7 +93,8 @@ fn of_words<'a>(
     }
 }
 
-/// Finds what is wrong with the words behind the first one, which `behind` holds. Its form begins with that word.
+/// Finds what is wrong with the words behind the first one, which `behind` holds. Its form begins
+/// with that word.
 ///
 /// # Errors
 ///
@@ -103,7 +105,8 @@ fn of_behind<'a>(
     line: &'a [u8],
     behind: Words<'a>,
 ) -> Result<Option<Complaint<'a>>, AllocError>
-    ensures { behind.entry ≡ drop 1 (words_of line.now) → IfOk result (λ complaint. is_none complaint
+    ensures { behind.entry ≡ drop 1 (words_of line.now)
+        → IfOk result (λ complaint. is_none complaint
         ≡ are_said form.arguments.now (by_arguments form.arguments.now behind.entry)) }
 {
     if begin_with_words(form.arguments) {
@@ -142,7 +145,8 @@ fn of_spacing<'a>(line: &'a [u8]) -> Option<Complaint<'a>> {
     }
 }
 
-/// Finds what is wrong with a line whose words up to the last one count as one, as WORDS.. of its form.
+/// Finds what is wrong with a line whose words up to the last one count as one, as WORDS.. of its
+/// form.
 ///
 /// # Errors
 ///

@@ -1,10 +1,12 @@
 //! What the program `lapd` says to people about its script and its standard streams.
 //!
-//! [`reason`] says in one line of text what is wrong with a line of a command's script, and [`forms`] which lines a command
-//! has. [`KeptLines`] reads a script and keeps the lines that were read last, so that the line of a number can be shown.
-//! [`Watched`] is a writer that remembers how a write failed, and [`Refusals`] one that notes the first line that begins
-//! with `refused`. [`Session`] reads lines that are typed, and hands on those that are right by their form; [`tidied`] is a typed
-//! line as it is meant. The lines with the real clock are those of [`Script::LiveNet`] and [`Script::LiveUser`].
+//! [`reason`] says in one line of text what is wrong with a line of a command's script, and
+//! [`forms`] which lines a command has. [`KeptLines`] reads a script and keeps the lines that were
+//! read last, so that the line of a number can be shown. [`Watched`] is a writer that remembers how
+//! a write failed, and [`Refusals`] one that notes the first line that begins with `refused`.
+//! [`Session`] reads lines that are typed, and hands on those that are right by their form;
+//! [`tidied`] is a typed line as it is meant. The lines with the real clock are those of
+//! [`Script::LiveNet`] and [`Script::LiveUser`].
 #![tactic(auto)]
 
 mod complaint;
@@ -13,6 +15,7 @@ mod form;
 mod help;
 mod judge;
 mod kept_lines;
+mod laws;
 mod line_forms;
 mod refusals;
 mod script;
@@ -25,6 +28,7 @@ pub use form::{Argument, Form};
 pub use help::put_help;
 pub use judge::reason;
 pub use kept_lines::KeptLines;
+pub use laws::{worked_lines_by_form, worked_typed_lines};
 pub use line_forms::forms;
 pub use refusals::Refusals;
 pub use script::Script;

@@ -12,8 +12,9 @@ use crate::form::Argument::{
 use crate::form::Form;
 use crate::script::Script;
 
-/// The forms of a command's lines. A line is a line of the command exactly if it has one of these forms, is empty or is a comment.
-/// A `tick` of `net` or `user` may still take the clock past its end.
+/// The forms of a command's lines. A line is a line of the command exactly if it has one of these
+/// forms, is empty or is a comment. A `tick` of `net` or `user` may still take the clock past its
+/// end.
 pub fn forms(script: Script) -> &'static [Form]
     ensures { map shape_of result.now ≡ shapes_of script }
 {

@@ -9,9 +9,10 @@ use crate::typed_line::tidied;
 use std::alloc::Global;
 use std::io::{self, BufRead, ErrorKind, Read, Write};
 
-/// A reader of lines that a person types. Each line is read as it is meant ([`tidied`]). A line with a valid form is passed on whole, one
-/// a read. For any other line the reason is printed on the error writer, and the next line is read. `help` prints the forms of the
-/// command's lines, and `quit` and `exit` end the input. A failed write to the error writer is ignored.
+/// A reader of lines that a person types. Each line is read as it is meant ([`tidied`]). A line
+/// with a valid form is passed on whole, one a read. For any other line the reason is printed on
+/// the error writer, and the next line is read. `help` prints the forms of the command's lines, and
+/// `quit` and `exit` end the input. A failed write to the error writer is ignored.
 #[derive(Drop)]
 pub struct Session<R, E> {
     alloc: Global,

@@ -10,9 +10,10 @@ use lapd_cli_script::Words;
 use memchr::memchr;
 use std::alloc::{AllocError, Global};
 
-/// A line of a command as it is meant that was typed at a terminal, without its line feed: spaces in front and at the end are
-/// dropped; and if the last argument of its form is HEX, so are spaces and colons between its digits, and a `0x` in front of
-/// them and behind a space or colon. Nothing is dropped of HEX if no digit would be left.
+/// A line of a command as it is meant that was typed at a terminal, without its line feed: spaces
+/// in front and at the end are dropped; and if the last argument of its form is HEX, so are spaces
+/// and colons between its digits, and a `0x` in front of them and behind a space or colon. Nothing
+/// is dropped of HEX if no digit would be left.
 ///
 /// # Errors
 ///
@@ -79,7 +80,8 @@ fn without_last_space(octets: &[u8]) -> Option<&[u8]>
     if *last == b' ' { Some(rest) } else { None }
 }
 
-/// Appends the words behind the first one, each with a space before it. If the last argument is HEX, its digits are one word.
+/// Appends the words behind the first one, each with a space before it. If the last argument is
+/// HEX, its digits are one word.
 ///
 /// # Errors
 ///
@@ -133,7 +135,8 @@ fn push_word(text: &mut Vec<u8>, word: &[u8]) -> Result<(), AllocError>
     text.extend_from_slice(word)
 }
 
-/// Appends a space and the digits of the words that are left, or these words as they are if they have no digits.
+/// Appends a space and the digits of the words that are left, or these words as they are if they
+/// have no digits.
 ///
 /// # Errors
 ///

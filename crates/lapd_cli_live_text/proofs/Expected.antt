@@ -1,5 +1,5 @@
 -- The words up to the last one, of octets that are cut at their last space.
-use Rattle.std.proofs.Common.{◌≡◌, ◌≢◌, ℕ, ◌==◌, Bool, true, false, List, [], ◌∷◌, ◌++◌, refl, sym, ap, ◌∙◌, cond, None, Option, Some, option_and_then, drop, if◌then◌else◌, subst}
+use Rattle.std.proofs.Common.{◌≡◌, ℕ, ◌==◌, Bool, true, false, List, [], ◌∷◌, ◌++◌, refl, sym, ap, ◌∙◌, None, Option, Some, option_and_then, drop, if◌then◌else◌, subst}
 use Rattle.std.specs.List.{join_with_byte, slice_split, onto_first}
 use Rattle.std.specs.Str.{IsUtf8, is_utf8}
 use Rattle.std.proofs.lemmas.List.Splits.{join_with_byte-slice_split}
@@ -7,7 +7,7 @@ use Rattle.std.proofs.lemmas.Str.{IsUtf8-from_is_utf8, is_utf8-from_IsUtf8}
 use Rattle.lapd_cli_script.specs.Line.{HasNoSpace, words_of}
 use Rattle.lapd_cli_script.specs.Script.{with_first}
 use Rattle.lapd_cli_script.proofs.WordsOf.{one_word, words_behind}
-use Rattle.lapd_cli_live_text.specs.LiveWishes.{LiveWish, expect_wish, expected, last_word, span_said, words_before}
+use Rattle.lapd_cli_live_text.specs.LiveWishes.{expect_wish, expected, last_word, span_said, words_before}
 
 -- ---- Words are the parts between spaces, so that joined by spaces they are the octets again.
 

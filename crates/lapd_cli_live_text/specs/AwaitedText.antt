@@ -5,7 +5,8 @@ use Rattle.std.specs.Char.{digit_char, is_control}
 use Rattle.std.specs.Str.{chars}
 use Rattle.std.specs.Str.Lossy.{utf8_lossy}
 
--- a control character by its number in two hexadecimal digits, as `\x1b`, and any other character as it is
+-- a control character by its number in two hexadecimal digits, as `\x1b`, and any other character
+-- as it is
 abbrev pub shown_char : ℕ → List ℕ
 shown_char c = if is_control c
     then 92 ∷ 120 ∷ digit_char (c / 16) ∷ digit_char (c % 16) ∷ [] else c ∷ []

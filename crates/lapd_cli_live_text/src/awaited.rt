@@ -7,8 +7,9 @@ ghost use Rattle.lapd_cli_live_text.specs.AwaitedText.{shown_char, shown_chars, 
 
 use std::alloc::{AllocError, Global};
 
-/// Shows the words of `expect` that were awaited in vain: control characters are escaped, as `\x1b`, and all others are
-/// unchanged. Octets that are not UTF-8, which no awaited words have, become U+FFFD.
+/// Shows the words of `expect` that were awaited in vain: control characters are escaped, as
+/// `\x1b`, and all others are unchanged. Octets that are not UTF-8, which no awaited words have,
+/// become U+FFFD.
 ///
 /// # Errors
 ///

@@ -1,7 +1,12 @@
 //! Laws over the definitions. The functions do nothing.
 
-ghost use Rattle.std.specs.Prelude.{◌≡◌, List, [], codes, Some};
+ghost use Rattle.std.specs.Prelude.{◌≡◌, ◌∷◌, List, [], codes, false, None, Some};
 ghost use Rattle.lapd_frame.specs.declared.Side.{Side};
+ghost use Rattle.lapd_frame.specs.declared.Side.TheVariants.{Network, User};
+ghost use Rattle.lapd_frame.specs.declared.Sapi.TheVariants.{Call, Packet};
+ghost use Rattle.lapd_cli_side_lines.specs.Wishes.{Release, named};
+ghost use Rattle.lapd_cli_live_text.specs.AwaitedText.{shown_chars};
+ghost use Rattle.lapd_cli_live_text.specs.LiveWishes.{Ask, Busy, Expect, Impair, Read, Run, State, live_wish_of_line};
 ghost use Rattle.lapd_cli_live_text.specs.Histories.{CountsEvents, SideEvent, stats_after};
 ghost use Rattle.lapd_cli_live_text.specs.Stats.{nothing_counted, received_words, reports_words, sent_words};
 ghost use Rattle.lapd_cli_live_text.specs.LineObjects.{words_object};
@@ -39,4 +44,32 @@ pub fn worked_lines()
         ≡ codes "{\"RC\":0,\"T203\":9998,\"V(S)\":1,\"line\":\"state 7 own-busy\",\"sapi\":0,\"tei\":64}" }
     ensures later { words_object (codes "x=1 x=2 y= 65 a=b")
         ≡ codes "{\"line\":\"y= 65 a=b\",\"x\":2}" }
+{}
+
+/// Requests of lines with the real clock, as documented. The user side has the TEI 70.
+pub fn worked_requests()
+    ensures read { live_wish_of_line Network 127 (codes "read") ≡ Some (Read None) }
+    ensures wait { live_wish_of_line Network 127 (codes "wait 3600000") ≡ Some (Run (Some 3600000)) }
+    ensures too_long { live_wish_of_line Network 127 (codes "wait 3600001") ≡ None }
+    ensures state { live_wish_of_line User 70 (codes "state 0") ≡ Some (State (Some (named Call 70))) }
+    ensures no_tei { live_wish_of_line Network 127 (codes "state 0") ≡ None }
+    ensures release { live_wish_of_line User 70 (codes "release 0")
+        ≡ Some (Ask (Release (named Call 70))) }
+    ensures busy { live_wish_of_line Network 127 (codes "busy 16 5 off")
+        ≡ Some (Busy (named Packet 5) false) }
+    ensures impair { live_wish_of_line Network 127 (codes "impair 20% 100") ≡ Some (Impair 20 100) }
+    ensures no_delay { live_wish_of_line User 70 (codes "impair 0") ≡ Some (Impair 0 0) }
+    ensures too_much { live_wish_of_line User 70 (codes "impair 101%") ≡ None }
+    ensures tick { live_wish_of_line Network 127 (codes "tick 5") ≡ None }
+{}
+
+/// Expected words, and how they are shown, as documented. 27 is ESC, 195 and 169 are the octets of é,
+/// and 194 and 155 those of the control character U+009B.
+pub fn worked_expectations()
+    ensures expect { live_wish_of_line Network 127 (codes "expect 0 64  established 100")
+        ≡ Some (Expect (codes "0 64  established") 100) }
+    ensures no_words { live_wish_of_line Network 127 (codes "expect 100") ≡ None }
+    ensures escaped { shown_chars (27 ∷ codes "[A") ≡ codes "\\x1b[A" }
+    ensures unchanged { shown_chars (195 ∷ 169 ∷ codes " ok") ≡ 195 ∷ 169 ∷ codes " ok" }
+    ensures past_ascii { shown_chars (194 ∷ 155 ∷ codes "A") ≡ codes "\\x9bA" }
 {}

@@ -20,7 +20,10 @@ mod traffic;
 mod words;
 
 pub use awaited::awaited_text;
-pub use laws::{each_event_is_counted, rejected_message_is_sent_again, worked_lines};
+pub use laws::{
+    each_event_is_counted, rejected_message_is_sent_again, worked_expectations, worked_lines,
+    worked_requests,
+};
 pub use line_objects::words_object;
 pub use link_text::{push_link, push_management, push_number, push_timers};
 pub use stats::Stats;

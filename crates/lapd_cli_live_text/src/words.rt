@@ -1,6 +1,6 @@
 //! The lines of a side that is served with the real clock.
 
-ghost use Rattle.std.specs.Prelude.{◌≡◌, ◌∷◌, ◌++◌, [], ◌&&◌, drop, option_and_then, option_map, IfNone, IfSome, MatchOption};
+ghost use Rattle.std.specs.Prelude.{◌≡◌, ◌∷◌, ◌++◌, drop, option_and_then, option_map, IfNone, IfSome};
 ghost use Rattle.std.specs.Str.{is_utf8 as utf8_told};
 ghost use Rattle.lapd_cli_script.specs.Line.{HasNoSpace, Reads, words_left, words_of};
 ghost use Rattle.lapd_cli_side_lines.specs.Wishes.{check_wish};
@@ -22,12 +22,13 @@ const MOST_LOSS: u64 = 100;
 /// What a line requests.
 #[derive(Drop)]
 pub enum LiveLine<'l> {
-    /// Serve the side until the next frame is received, for so many milliseconds at most, 1 to 3,600,000.
+    /// Serve the side until the next frame is received, for so many milliseconds at most, 1 to
+    /// 3,600,000.
     Read(Option<u64>),
     /// Serve the side for so many milliseconds, 1 to 3,600,000, or until the connection is closed.
     Run(Option<u64>),
-    /// Serve the side until a line is printed that begins with these words, for so many milliseconds at most, 1 to 3,600,000.
-    /// The words are UTF-8, at least an octet.
+    /// Serve the side until a line is printed that begins with these words, for so many
+    /// milliseconds at most, 1 to 3,600,000. The words are UTF-8, at least an octet.
     Expect(&'l [u8], u64),
     /// Print the state of a link, or of each.
     State(Option<LinkId>),
@@ -48,7 +49,8 @@ pub struct Impairment {
     pub delay: u64,
 }
 
-/// Reads what a line of this side requests. Links of the user side have the TEI `own`, and its lines name no TEI.
+/// Reads what a line of this side requests. Links of the user side have the TEI `own`, and its
+/// lines name no TEI.
 ///
 /// # Errors
 ///
@@ -186,7 +188,8 @@ fn state<'l>(side: Side, own: Tei, mut behind: Words<'_>) -> Result<LiveLine<'l>
     Ok(LiveLine::State(Some(id)))
 }
 
-/// The link of this SAPI: of the network side, its TEI is the next word; of the user side, the side's own.
+/// The link of this SAPI: of the network side, its TEI is the next word; of the user side, the
+/// side's own.
 fn link_of(side: Side, own: Tei, sapi: &[u8], behind: &mut Words<'_>) -> Result<LinkId, LineFault>
     ensures { Reads (λ id. (id, behind.new)) result (link_named side own sapi.now behind.old) }
 {

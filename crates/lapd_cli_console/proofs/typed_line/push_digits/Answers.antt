@@ -1,4 +1,4 @@
-use Rattle.std.proofs.Common.{◌≡◌, arith, append_assoc}
+use Rattle.std.proofs.Common.{arith, append_assoc}
 use Rattle.std.proofs.lemmas.Grind.{common_steps}
 use Rattle.lapd_cli_console.proofs.TypedLine.{digits_cut}
 use Rattle.lapd_cli_console.proofs.typed_line.push_digits.Goals as goal

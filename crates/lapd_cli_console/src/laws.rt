@@ -1,0 +1,31 @@
+//! Laws over the definitions. The functions do nothing.
+
+ghost use Rattle.std.specs.Prelude.{◌≡◌, codes, false, true};
+ghost use Rattle.lapd_cli_console.specs.declared.script.Script.TheVariants.{Answer, LiveNet, LiveUser, Net};
+ghost use Rattle.lapd_cli_console.specs.Forms.{is_line_of};
+ghost use Rattle.lapd_cli_console.specs.Tidied.{tidied_line};
+
+/// Typed lines, and how they are meant, as documented.
+pub fn worked_typed_lines()
+    ensures spaces { tidied_line Answer (codes "  frame 00 81 7f ") ≡ codes "frame 00817f" }
+    ensures front { tidied_line Net (codes "give 0 64 0x08 01") ≡ codes "give 0 64 0801" }
+    ensures colons { tidied_line LiveUser (codes "give 0 08:0X01") ≡ codes "give 0 0801" }
+    ensures no_digit { tidied_line Answer (codes "frame 0x") ≡ codes "frame 0x" }
+    ensures no_hex { tidied_line Net (codes "check 0x40 ") ≡ codes "check 0x40" }
+    ensures no_form { tidied_line Net (codes " hex 0x 1") ≡ codes "hex 0x 1" }
+    ensures expected { tidied_line LiveNet (codes "expect 0x : 5") ≡ codes "expect 0x : 5" }
+{}
+
+/// Lines of each clock, and lines that are none, as documented.
+pub fn worked_lines_by_form()
+    ensures state { is_line_of LiveNet (codes "state") ≡ true }
+    ensures state_of_link { is_line_of LiveNet (codes "state 0 64") ≡ true }
+    ensures no_tei { is_line_of LiveNet (codes "state 0") ≡ false }
+    ensures own_tei { is_line_of LiveUser (codes "state 0") ≡ true }
+    ensures script { is_line_of Net (codes "state") ≡ false }
+    ensures tick { is_line_of LiveNet (codes "tick 5") ≡ false }
+    ensures impair { is_line_of LiveUser (codes "impair 20% 100") ≡ true }
+    ensures too_much { is_line_of LiveUser (codes "impair 101%") ≡ false }
+    ensures no_words { is_line_of LiveNet (codes "expect 100") ≡ false }
+    ensures words { is_line_of LiveNet (codes "expect 0 64  established 100") ≡ true }
+{}
