@@ -2,61 +2,259 @@
 
 ghost use Rattle.std.specs.Prelude.{◌≤◌, IfOk};
 
-use lapd_cli_live::{Outside, Woken};
+use crate::live::typed::Typed;
+use lapd_cli_live::{Impairment, Lines, Outside, Sending, Woken};
 use lapd_port::{MOST_OCTETS, PortFault};
+use lapd_sides::LinkId;
+use std::alloc::{AllocError, Global};
+use std::collections::VecDeque;
 
-/// A clock that goes on while a side waits, and what comes at its moments.
+/// How long a call stalls, in milliseconds: longer than T200, T201 and T202 (Q.921 5.9).
+const STALL: u64 = 3000;
+
+/// What arrives at a side, and when.
+#[derive(Clone, Copy)]
+pub(crate) struct Arrivals<'s> {
+    /// Events in the order of their moments, one a line: a moment in milliseconds, and what happens then.
+    ///
+    /// - `5 00817f`: a frame has arrived.
+    /// - `5 flood 00817f`: from then on such a frame has always arrived. Each takes 1 ms to receive.
+    /// - `5 line`: another part of the input can be read, or its end.
+    /// - `5 stall 700`: the wait or the send that is under way, or else the next one, takes 700 ms longer.
+    /// - `5 close`: the other side closes the connection. It also does so after the last event.
+    pub(crate) events: &'s str,
+    /// Frames that the other side answers at once, one a line: the frame, a space and the answer.
+    pub(crate) answers: &'s str,
+}
+
+/// The call that goes wrong, by its number from 1.
+#[derive(Clone, Copy)]
+pub(crate) enum Trouble {
+    Never,
+    /// It fails.
+    FailsAt(u64),
+    /// The program is stopped for 3 s before it.
+    StallsAt(u64),
+}
+
+/// Where lines of input come from.
+#[derive(Clone, Copy)]
+pub(crate) enum Input<'s> {
+    /// A file, which can always be read.
+    File,
+    /// A pipe or a terminal.
+    Typed(&'s Typed<'s>),
+}
+
+/// What happens at a moment.
+#[derive(Clone, Copy)]
+enum Event<'s> {
+    Frame(&'s str),
+    Flood(&'s str),
+    Line,
+    Stall(u64),
+    Close,
+}
+
+/// A clock that advances while the side waits, and the other side behind a line.
 #[derive(Drop)]
 pub(crate) struct Made<'s> {
     now: u64,
-    /// What is still to come: lines of a moment and a frame's octets, `line` where one is typed, or `close`.
-    coming: &'s str,
-    is_closed: bool,
+    arrivals: Arrivals<'s>,
+    /// Answers that have arrived and were not received yet.
+    answered: VecDeque<&'s str>,
+    input: Input<'s>,
+    /// How many parts of the input could be read so far.
+    parts: u64,
+    is_all_lost: bool,
+    trouble: Trouble,
     /// How often it was called.
     pub(crate) calls: u64,
-    /// The call of this number fails, from 1.
-    fails_at: Option<u64>,
-    /// How many frames it took.
-    pub(crate) taken: u64,
+    /// What the side reported, one a line: `discarded SAPI TEI` and `impair LOSS DELAY`.
+    pub(crate) told: String,
 }
 
 impl<'s> Made<'s> {
     /// At moment 0.
-    pub(crate) fn new(coming: &'s str, fails_at: Option<u64>) -> Made<'s> {
+    pub(crate) fn new(
+        alloc: Global,
+        arrivals: Arrivals<'s>,
+        input: Input<'s>,
+        trouble: Trouble,
+    ) -> Made<'s> {
         Made {
             now: 0,
-            coming,
-            is_closed: false,
+            arrivals,
+            answered: VecDeque::new(alloc),
+            input,
+            parts: 0,
+            is_all_lost: false,
+            trouble,
             calls: 0,
-            fails_at,
-            taken: 0,
+            told: String::new(alloc),
         }
     }
 
-    /// Counts a call, and tells whether it fails.
+    /// Counts a call, which fails or stalls if its number says so.
     fn meet(&mut self) -> Result<(), PortFault> {
         self.calls = self.calls.saturating_add(1);
-        match self.fails_at {
-            Some(call) if call == self.calls => Err(PortFault::Device),
+        match self.trouble {
+            Trouble::FailsAt(call) if call == self.calls => Err(PortFault::Device),
+            Trouble::StallsAt(call) if call == self.calls => {
+                self.now = self.now.saturating_add(STALL);
+                Ok(())
+            }
             _ => Ok(()),
         }
     }
 
-    /// What comes by this moment, where something does, and the clock goes on till then.
-    fn next_by(&mut self, until: Option<u64>) -> Option<&'s str> {
-        let (line, rest) = self.coming.split_once('\n')?;
+    /// The next event and its moment.
+    fn next_event(&self) -> Option<(u64, Event<'s>)> {
+        let (line, _rest) = self.arrivals.events.split_once('\n')?;
         let (moment, what) = line.split_once(' ')?;
-        let moment: u64 = moment.parse().ok()?;
-        if until.is_some_and(|until| until < moment) {
-            return None;
+        Some((moment.parse().ok()?, event_of(what)?))
+    }
+
+    /// Removes the next event.
+    fn pass(&mut self) {
+        self.arrivals.events = behind_line(self.arrivals.events);
+    }
+
+    /// The next event, if its moment has come. Lines of input that can be read before it are counted.
+    fn present_event(&mut self) -> Option<Event<'s>> {
+        for _line in 0..u64::MAX {
+            match self.next_event() {
+                Some((moment, Event::Line)) if moment <= self.now => {
+                    self.parts = self.parts.saturating_add(1);
+                    self.pass();
+                }
+                Some((moment, event)) if moment <= self.now => return Some(event),
+                _ => return None,
+            }
         }
+        None
+    }
+
+    /// Whether a part of the input can be read.
+    fn is_readable(&self) -> bool {
+        match self.input {
+            Input::File => true,
+            Input::Typed(typed) => typed.count() < self.parts,
+        }
+    }
+
+    /// The next frame that has arrived, as hexadecimal digits.
+    fn next_frame(&mut self) -> Option<&'s str> {
+        if let Some(digits) = self.answered.pop_front() {
+            return Some(digits);
+        }
+        match self.present_event()? {
+            Event::Frame(digits) => {
+                self.pass();
+                Some(digits)
+            }
+            Event::Flood(digits) => {
+                self.now = self.now.saturating_add(1);
+                Some(digits)
+            }
+            Event::Line | Event::Stall(_) | Event::Close => None,
+        }
+    }
+
+    /// What ends a wait at this moment. A wait whose moment has come ends as due, also if a frame has arrived.
+    fn woken(&mut self, until: Option<u64>, lines: Lines) -> Option<Woken> {
+        let event = self.present_event();
+        if matches!(lines, Lines::Awaited) && self.is_readable() {
+            return Some(Woken::Line);
+        }
+        if until.is_some_and(|until| until <= self.now) {
+            return Some(Woken::Due);
+        }
+        if !self.answered.is_empty() {
+            return Some(Woken::Arrival);
+        }
+        match event? {
+            Event::Frame(_) | Event::Flood(_) => Some(Woken::Arrival),
+            Event::Close => Some(Woken::Closed),
+            Event::Line | Event::Stall(_) => None,
+        }
+    }
+
+    /// Advances the clock to the next event or to `until`, whichever comes first. `false` if there is neither.
+    fn advance(&mut self, until: Option<u64>) -> bool {
+        let next = self.next_event().map(|(moment, _event)| moment);
+        let Some(moment) = sooner(next, until) else {
+            return false;
+        };
         self.now = self.now.max(moment);
-        self.coming = rest;
-        Some(what)
+        self.stall();
+        true
+    }
+
+    /// Stalls if the next event says so and its moment has come.
+    fn stall(&mut self) {
+        if let Some(Event::Stall(ms)) = self.present_event() {
+            self.pass();
+            self.now = self.now.saturating_add(ms);
+        }
+    }
+
+    /// The other side answers this frame, if it has an answer.
+    fn answer(&mut self, frame: &[u8]) -> Result<(), PortFault> {
+        for line in self.arrivals.answers.lines() {
+            let (digits, answer) = line.split_once(' ').unwrap_or(("", ""));
+            if is_written(digits, frame) && self.answered.push_back(answer).is_err() {
+                return Err(PortFault::Device);
+            }
+        }
+        Ok(())
+    }
+
+    /// Records that a frame of this link was discarded.
+    fn record_discarded(&mut self, id: LinkId) -> Result<(), AllocError> {
+        let sapi = id.sapi;
+        let tei = id.tei;
+        write!(self.told, "discarded {sapi} {tei}\n")
+    }
+
+    /// Records an impairment.
+    fn record_impairment(&mut self, impairment: Impairment) -> Result<(), AllocError> {
+        let loss = impairment.loss;
+        let delay = impairment.delay;
+        write!(self.told, "impair {loss} {delay}\n")
     }
 }
 
-/// The octets that these digits write are put to the front, and how many they are.
+/// An event behind its moment.
+fn event_of(what: &str) -> Option<Event<'_>> {
+    match what.split_once(' ') {
+        Some(("stall", ms)) => Some(Event::Stall(ms.parse().ok()?)),
+        Some(("flood", digits)) => Some(Event::Flood(digits)),
+        Some(_) => None,
+        None if what == "line" => Some(Event::Line),
+        None if what == "close" => Some(Event::Close),
+        None => Some(Event::Frame(what)),
+    }
+}
+
+/// What follows the first line of a text.
+fn behind_line(text: &str) -> &str {
+    match text.split_once('\n') {
+        Some((_line, behind)) => behind,
+        None => "",
+    }
+}
+
+/// The sooner of two moments that may be set.
+fn sooner(one: Option<u64>, other: Option<u64>) -> Option<u64> {
+    match (one, other) {
+        (Some(one), Some(other)) => Some(one.min(other)),
+        (Some(one), None) => Some(one),
+        (None, other) => other,
+    }
+}
+
+/// Writes the octets of these digits to the front, and returns how many they are.
 fn put(digits: &str, frame: &mut [u8; MOST_OCTETS]) -> Result<usize, PortFault>
     ensures { IfOk result (λ count. count ≤ 264) }
 {
@@ -70,38 +268,58 @@ fn put(digits: &str, frame: &mut [u8; MOST_OCTETS]) -> Result<usize, PortFault>
     }
 }
 
+/// Whether these digits are those of a frame.
+fn is_written(digits: &str, frame: &[u8]) -> bool {
+    let mut room = [0; MOST_OCTETS];
+    match put(digits, &mut room) {
+        Ok(count) => room.get(..count) == Some(frame),
+        Err(_) => false,
+    }
+}
+
 impl Outside for Made<'_> {
     fn moment(&mut self) -> Result<u64, PortFault> {
         self.meet()?;
         Ok(self.now)
     }
 
-    fn wait(
-        &mut self,
-        until: Option<u64>,
-        frame: &mut [u8; MOST_OCTETS],
-    ) -> Result<Woken, PortFault> {
+    fn receive(&mut self, frame: &mut [u8; MOST_OCTETS]) -> Result<Option<usize>, PortFault> {
         self.meet()?;
-        if self.is_closed {
-            return Ok(Woken::Closed);
-        }
-        match (self.next_by(until), until) {
-            (Some("line"), _) => Ok(Woken::Line),
-            (Some("close"), _) | (None, None) => {
-                self.is_closed = true;
-                Ok(Woken::Closed)
-            }
-            (Some(digits), _) => Ok(Woken::Frame(put(digits, frame)?)),
-            (None, Some(until)) => {
-                self.now = self.now.max(until);
-                Ok(Woken::Due)
-            }
+        match self.next_frame() {
+            Some(digits) => Ok(Some(put(digits, frame)?)),
+            None => Ok(None),
         }
     }
 
-    fn send(&mut self, _frame: &[u8]) -> Result<(), PortFault> {
+    fn wait(&mut self, until: Option<u64>, lines: Lines) -> Result<Woken, PortFault> {
         self.meet()?;
-        self.taken = self.taken.saturating_add(1);
-        Ok(())
+        for _event in 0..u64::MAX {
+            if let Some(woken) = self.woken(until, lines) {
+                return Ok(woken);
+            }
+            if !self.advance(until) {
+                return Ok(Woken::Closed);
+            }
+        }
+        Err(PortFault::Device)
+    }
+
+    fn send(&mut self, frame: &[u8]) -> Result<Sending, PortFault> {
+        self.meet()?;
+        self.stall();
+        if self.is_all_lost {
+            return Ok(Sending::Lost);
+        }
+        self.answer(frame)?;
+        Ok(Sending::Sent)
+    }
+
+    fn discarded(&mut self, id: LinkId) {
+        let _ = self.record_discarded(id);
+    }
+
+    fn impair(&mut self, impairment: Impairment) {
+        self.is_all_lost = impairment.loss == 100;
+        let _ = self.record_impairment(impairment);
     }
 }

@@ -1,47 +1,50 @@
-//! A script that a side goes over, with what comes to it, and what it prints.
+//! Rows: a dialogue of a side over time.
+//!
+//! Rows begin with `=== `. A row has a name, a line of words, and four texts, each ended by `---`: what arrives ([`Arrivals`]), the
+//! lines of input, what is printed, and what is reported to the outside and to a person ([`Made::told`], [`Reader::told`]). The
+//! last text may be left out. The words:
+//!
+//! - `net`: the network side, to which TEI 64 is known, or `user`: a user side without a TEI; both at basic access with SAPI 16
+//! - `file`: a script in a file, `pipe`: one over a pipe, or `session`: lines that a person types
+//! - `quiet`, `json`: the style; each line has its moment
+//! - `serve`: the side is served behind the end of the input
+//! - how it ends: `done`, `unmet`, `bad N` or a fault
 
-use crate::live::made::Made;
-use crate::wants::are_same;
-use lapd_cli_live::{LineStyle, LiveSide, LiveStop, Printer, Style, live_script};
+use crate::live::made::{Arrivals, Input, Made, Trouble};
+use crate::live::typed::{Keys, Reader, Typed};
+use lapd_cli_live::{LineStyle, LiveSide, LiveStop, Printer, Style, live_script, live_session};
+use lapd_cli_script::ScriptFault;
 use lapd_sides::{Acts, Config, EitherSide, NetSide, Tei, UserSide};
 use std::alloc::{AllocError, Global};
+use std::test::Fail;
 
-/// Which side goes over a script.
+/// Which side it is.
 #[derive(Clone, Copy)]
 pub(crate) enum Who {
     /// The network side, to which TEI 64 is known.
     Net,
-    /// A user side with no TEI.
+    /// A user side without a TEI.
     User,
 }
 
-/// How lines are printed: each with its moment, and frames too.
-pub(crate) const TIMED: Style = Style {
-    time: true,
-    quiet: false,
-    lines: LineStyle::Text,
-};
-
-/// A dialogue.
+/// A row.
 #[derive(Clone, Copy)]
-pub(crate) struct Row {
-    pub(crate) name: &'static str,
-    pub(crate) who: Who,
-    /// What comes, and when.
-    pub(crate) coming: &'static str,
-    pub(crate) script: &'static str,
-    pub(crate) style: Style,
-    /// How it ends.
-    pub(crate) ended: Result<(), LiveStop>,
-    pub(crate) printed: &'static str,
+struct Row<'s> {
+    name: &'s str,
+    words: &'s str,
+    events: &'s str,
+    input: &'s str,
+    printed: &'s str,
+    told: &'s str,
 }
 
-/// How a script ended, what was around its side, and what was printed.
+/// How lines of input ended, what was around the side, what was printed, and what was reported to a person.
 #[derive(Drop)]
 pub(crate) struct Played<'s> {
     pub(crate) ended: Result<(), LiveStop>,
     pub(crate) made: Made<'s>,
     pub(crate) printed: Vec<u8>,
+    told: String,
 }
 
 /// A side at basic access (Q.921 5.9).
@@ -60,7 +63,7 @@ fn side_of(alloc: Global, who: Who) -> Result<EitherSide, AllocError> {
 }
 
 /// This side with this around it, which prints into memory.
-pub(crate) fn made_live<'s>(
+fn made_live<'s>(
     alloc: Global,
     who: Who,
     style: Style,
@@ -72,32 +75,167 @@ pub(crate) fn made_live<'s>(
     Ok(LiveSide::new(alloc, side, acts, made, printer))
 }
 
-/// Goes over a script as this side.
+/// Executes a script as this side.
 pub(crate) fn play<'s>(
     alloc: Global,
     who: Who,
-    mut script: &[u8],
     style: Style,
     made: Made<'s>,
+    input: &Typed<'_>,
+    serve_on: bool,
 ) -> Result<Played<'s>, AllocError> {
     let live = made_live(alloc, who, style, made)?;
-    let (ended, live) = live_script(alloc, live, &mut script);
+    let (ended, live) = live_script(alloc, live, &mut Keys(input), serve_on);
     let (made, printed) = live.into_parts();
     Ok(Played {
         ended,
         made,
         printed,
+        told: String::new(alloc),
     })
 }
 
-/// Whether a row comes out.
-pub(crate) fn row_holds(alloc: Global, row: &Row) -> bool {
-    let made = Made::new(row.coming, None);
-    match play(alloc, row.who, row.script.as_bytes(), row.style, made) {
-        Ok(played) => {
-            let printed = are_same(played.printed.as_slice(), row.printed.as_bytes());
-            printed && played.ended == row.ended
-        }
-        Err(_) => false,
+/// Holds a session as this side.
+pub(crate) fn hold<'s>(
+    alloc: Global,
+    who: Who,
+    style: Style,
+    made: Made<'s>,
+    input: &Typed<'_>,
+    serve_on: bool,
+) -> Result<Played<'s>, AllocError> {
+    let live = made_live(alloc, who, style, made)?;
+    let mut reader = Reader::new(alloc);
+    let mut keys = Keys(input);
+    let (ended, live) = live_session(alloc, live, &mut keys, &mut reader, serve_on);
+    let (made, printed) = live.into_parts();
+    Ok(Played {
+        ended,
+        made,
+        printed,
+        told: reader.told,
+    })
+}
+
+/// Whether a word is among these.
+fn has(words: &str, word: &str) -> bool {
+    words.split(' ').any(|other| other == word)
+}
+
+/// Plays a row.
+fn play_row<'s>(
+    alloc: Global,
+    row: &Row<'s>,
+    typed: &'s Typed<'s>,
+) -> Result<Played<'s>, AllocError> {
+    let who = if has(row.words, "net") {
+        Who::Net
+    } else {
+        Who::User
+    };
+    let style = Style {
+        time: true,
+        quiet: has(row.words, "quiet"),
+        lines: if has(row.words, "json") {
+            LineStyle::Json
+        } else {
+            LineStyle::Text
+        },
+    };
+    let input = if has(row.words, "file") {
+        Input::File
+    } else {
+        Input::Typed(typed)
+    };
+    let arrivals = Arrivals {
+        events: row.events,
+        answers: "",
+    };
+    let made = Made::new(alloc, arrivals, input, Trouble::Never);
+    let serve_on = has(row.words, "serve");
+    if has(row.words, "session") {
+        hold(alloc, who, style, made, typed, serve_on)
+    } else {
+        play(alloc, who, style, made, typed, serve_on)
     }
+}
+
+/// The words for how lines of input ended.
+fn end_text(alloc: Global, ended: Result<(), LiveStop>) -> Result<String, AllocError> {
+    match ended {
+        Ok(()) => format!(in alloc; "done"),
+        Err(LiveStop::Unmet) => format!(in alloc; "unmet"),
+        Err(LiveStop::Script(ScriptFault::BadLine(number))) => { format!(in alloc; "bad {number}") }
+        Err(LiveStop::Script(fault)) => format!(in alloc; "{fault}"),
+    }
+}
+
+/// A row behind its mark.
+fn row_of(text: &str) -> Option<Row<'_>> {
+    let (name, behind) = text.split_once('\n')?;
+    let (words, behind) = behind.split_once('\n')?;
+    let (events, behind) = behind.split_once("---\n")?;
+    let (input, behind) = behind.split_once("---\n")?;
+    let (printed, told) = behind.split_once("---\n").unwrap_or((behind, ""));
+    Some(Row {
+        name,
+        words,
+        events,
+        input,
+        printed,
+        told,
+    })
+}
+
+/// What was reported to a person and to the outside.
+fn told_text(alloc: Global, played: &Played<'_>) -> Result<String, AllocError> {
+    let mut text = String::new(alloc);
+    text.push_str(played.told.as_str())?;
+    text.push_str(played.made.told.as_str())?;
+    Ok(text)
+}
+
+/// What differs from the row, if anything does.
+fn other_than(
+    alloc: Global,
+    row: &Row<'_>,
+    played: &Played<'_>,
+) -> Result<Option<String>, AllocError> {
+    let printed = String::from_utf8_lossy(alloc, played.printed.as_slice())?;
+    let printed = printed.as_str();
+    if printed != row.printed {
+        return Ok(Some(format!(in alloc; "it prints\n{printed}")?));
+    }
+    let told = told_text(alloc, played)?;
+    let told = told.as_str();
+    if told != row.told {
+        return Ok(Some(format!(in alloc; "it reports\n{told}")?));
+    }
+    let end = end_text(alloc, played.ended)?;
+    let end = end.as_str();
+    if !row.words.ends_with(end) {
+        return Ok(Some(format!(in alloc; "it ends {end}")?));
+    }
+    Ok(None)
+}
+
+/// Plays a row, and returns what differs from it.
+fn difference(alloc: Global, row: &Row<'_>) -> Result<Option<String>, AllocError> {
+    let typed = Typed::new(row.input);
+    let played = play_row(alloc, row, &typed)?;
+    other_than(alloc, row, &played)
+}
+
+/// Fails at the first of these rows that differs.
+pub(crate) fn all_rows(alloc: Global, rows: &str) -> Result<(), Fail> {
+    for text in rows.split("=== ").skip(1) {
+        let Some(row) = row_of(text) else {
+            return Err(Fail::new(format_args!("not a row: {text}")));
+        };
+        if let Some(differs) = difference(alloc, &row)? {
+            let name = row.name;
+            return Err(Fail::new(format_args!("{name}: {differs}")));
+        }
+    }
+    Ok(())
 }

@@ -1,0 +1,87 @@
+//! Lines of input that come part by part, and a person who types them.
+
+use lapd_cli_live::Person;
+use std::alloc::{AllocError, Global};
+use std::cell::Cell;
+use std::io::{self, Read};
+
+/// Input that is read in parts, each up to the next `|`.
+#[derive(Drop)]
+pub(crate) struct Typed<'s> {
+    rest: Cell<&'s str>,
+    reads: Cell<u64>,
+}
+
+impl<'s> Typed<'s> {
+    /// Input of which nothing was read.
+    pub(crate) fn new(text: &'s str) -> Typed<'s> {
+        Typed {
+            rest: Cell::new(text),
+            reads: Cell::new(0),
+        }
+    }
+
+    /// How often it was read.
+    pub(crate) fn count(&self) -> u64 {
+        self.reads.get()
+    }
+}
+
+/// A reader of such input.
+#[derive(Drop)]
+pub(crate) struct Keys<'t, 's>(pub(crate) &'t Typed<'s>);
+
+impl Read for Keys<'_, '_> {
+    fn read(&mut self, octets: &mut [u8]) -> io::Result<usize> {
+        let rest = self.0.rest.get();
+        let (part, rest) = rest.split_once('|').unwrap_or((rest, ""));
+        let part = part.as_bytes();
+        let count = part.len().min(octets.len());
+        octets[..count].copy_from_slice(&part[..count]);
+        self.0.rest.set(rest);
+        self.0.reads.set(self.0.reads.get().saturating_add(1));
+        Ok(count)
+    }
+}
+
+/// A person who records what is reported, one a line: `greet`, `help` and `refuse LINE`.
+#[derive(Drop)]
+pub(crate) struct Reader {
+    alloc: Global,
+    pub(crate) told: String,
+}
+
+impl Reader {
+    /// A person to whom nothing was reported.
+    pub(crate) fn new(alloc: Global) -> Reader {
+        Reader {
+            alloc,
+            told: String::new(alloc),
+        }
+    }
+
+    /// Records a refused line.
+    fn record(&mut self, line: &[u8]) -> Result<(), AllocError> {
+        let line = String::from_utf8_lossy(self.alloc, line)?;
+        let line = line.as_str();
+        write!(self.told, "refuse {line}\n")
+    }
+}
+
+impl Person for Reader {
+    fn greet(&mut self) {
+        let _ = self.told.push_str("greet\n");
+    }
+
+    fn tidied(&self, line: &[u8]) -> Result<Vec<u8>, AllocError> {
+        line.trim_ascii().to_vec(self.alloc)
+    }
+
+    fn refuse_line(&mut self, line: &[u8]) {
+        let _ = self.record(line);
+    }
+
+    fn help(&mut self) {
+        let _ = self.told.push_str("help\n");
+    }
+}
