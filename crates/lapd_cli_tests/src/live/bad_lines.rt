@@ -1,7 +1,8 @@
-//! Lines that are none of a side that is served, and lines that are.
+//! Lines that are invalid while a side is served, and lines that are valid.
 
-use crate::live::made::Made;
+use crate::live::made::{Arrivals, Input, Made, Trouble};
 use crate::live::played::{Who, play};
+use crate::live::typed::Typed;
 use crate::wants::wants;
 use lapd_cli_live::{LineStyle, LiveStop, Style};
 use lapd_cli_script::ScriptFault;
@@ -12,18 +13,21 @@ use std::test::Fail;
 const BAD: &str =
     "tick 5|read 0|read 3600001|read 1 1|read |run 0|run x|wait|wait 0|expect|expect 5|expect  5|expect a 0|\
     expect a|expect a 3600001|state 0|state 0 128|state 1 64|state 0 64 1|stats 1|ask|establish 0|give 0 0801|\
-    check|Read";
+    check|Read|busy|busy 0 64|busy 0 on|busy 0 64 no|busy 0 64 on 1|busy 0 128 on|impair|impair x|impair 101|\
+    impair 101%|impair %|impair 5%%|impair 20% 3600001|impair 20% x|impair 20% 1 1";
 
 const GOOD: &str =
     "read 1|read 3600000|run 1|wait 1|state|state 0 64|state 16 5|stats|establish 0 64|give 0 64 0801|\
-    check 64|unit 0 127 01|# tick||run|read";
+    check 64|unit 0 127 01|# tick||run|read|busy 0 64 on|busy 16 5 off|impair 0|impair 100%|impair 20% 0|\
+    impair 20 3600000";
 
 /// Of the user side.
 const BAD_OF_USER: &str =
-    "tick 5|check 64|establish 0 64|give 0 64 0801|state 0 64|ask 1|release|establish 1";
+    "tick 5|check 64|establish 0 64|give 0 64 0801|state 0 64|ask 1|release|establish 1|\
+    busy 0 64 on|busy 0|busy on|impair -1%";
 
 const GOOD_OF_USER: &str =
-    "ask|establish 0|release 16|give 0 0801|unit 0 01|unit 16|state 0|state|stats|run 5";
+    "ask|establish 0|release 16|give 0 0801|unit 0 01|unit 16|state 0|state|stats|run 5|busy 0 on|busy 16 off|impair 20% 100";
 
 const STYLE: Style = Style {
     time: false,
@@ -31,10 +35,16 @@ const STYLE: Style = Style {
     lines: LineStyle::Text,
 };
 
+const ARRIVALS: Arrivals<'_> = Arrivals {
+    events: "5 close\n",
+    answers: "",
+};
+
 /// Whether a line is bad, or good.
 fn is(alloc: Global, who: Who, line: &str, bad: bool) -> bool {
-    let made = Made::new("5 close\n", None);
-    match play(alloc, who, line.as_bytes(), STYLE, made) {
+    let typed = Typed::new(line);
+    let made = Made::new(alloc, ARRIVALS, Input::File, Trouble::Never);
+    match play(alloc, who, STYLE, made, &typed, false) {
         Ok(played) => {
             let fault = LiveStop::Script(ScriptFault::BadLine(1));
             (played.ended == Err(fault)) == bad
@@ -47,7 +57,7 @@ fn is(alloc: Global, who: Who, line: &str, bad: bool) -> bool {
 fn are(alloc: Global, who: Who, lines: &str, bad: bool) -> Result<(), Fail> {
     for line in lines.split('|') {
         let so = is(alloc, who, line, bad);
-        wants(so, line, "it is, or is none, of its lines")?;
+        wants(so, line, "it is valid, or it is not")?;
     }
     Ok(())
 }

@@ -1,64 +1,79 @@
-//! Each call of what is around a side fails in turn.
+//! Each call of the outside fails in turn.
 
-use crate::live::made::Made;
-use crate::live::played::{TIMED, Who, play};
+use crate::live::made::{Arrivals, Input, Made, Trouble};
+use crate::live::played::{Who, hold, play};
+use crate::live::typed::Typed;
 use crate::wants::wants;
-use lapd_cli_live::LiveStop;
+use lapd_cli_live::{LineStyle, LiveStop, Style};
 use lapd_cli_script::ScriptFault;
 use lapd_port::PortFault;
 use std::alloc::Global;
 use std::test::Fail;
 
-const COMING: &str = "5 00817f\n10 008100000801\n";
+const ARRIVALS: Arrivals<'_> = Arrivals {
+    events: "1 line\n5 00817f\n10 008100000801\n15000 line\n15010 close\n",
+    answers: "",
+};
 
-const SCRIPT: &str = "read\nrun 20\ngive 0 64 0902\nexpect 0 64 report 20000\nstate\n";
+const SCRIPT: &str = "read\nrun 20\ngive 0 64 0902\nexpect 0 64 report 20000\nstate\n|stats\n";
 
-/// How often it is called where this call fails, and how the script ends; `None` where memory runs out.
-fn calls_with(alloc: Global, fails_at: Option<u64>) -> Option<(u64, Result<(), LiveStop>)> {
-    let made = Made::new(COMING, fails_at);
-    match play(alloc, Who::Net, SCRIPT.as_bytes(), TIMED, made) {
+const STYLE: Style = Style {
+    time: true,
+    quiet: false,
+    lines: LineStyle::Text,
+};
+
+/// How often the outside is called by a script or a session with this trouble, and how it ends; `None` if an allocation fails.
+fn calls_with(
+    alloc: Global,
+    is_script: bool,
+    trouble: Trouble,
+) -> Option<(u64, Result<(), LiveStop>)> {
+    let typed = Typed::new(SCRIPT);
+    let made = Made::new(alloc, ARRIVALS, Input::Typed(&typed), trouble);
+    let played = if is_script {
+        play(alloc, Who::Net, STYLE, made, &typed, true)
+    } else {
+        hold(alloc, Who::Net, STYLE, made, &typed, true)
+    };
+    match played {
         Ok(played) => Some((played.made.calls, played.ended)),
         Err(_) => None,
     }
 }
 
-/// How often it is called where no call fails, and the script ends well.
-fn calls_in_all(alloc: Global) -> u64 {
-    match calls_with(alloc, None) {
+/// How often it is called if no call fails, and the input ends well.
+fn calls_in_all(alloc: Global, is_script: bool) -> u64 {
+    match calls_with(alloc, is_script, Trouble::Never) {
         Some((calls, Ok(()))) => calls,
         _ => 0,
     }
 }
 
-/// Whether the script ends by the fault of the call of this number, and none is made behind it.
-fn ends_at(alloc: Global, call: u64) -> bool {
+/// Whether the input ends by the fault of the call of this number, and no call follows.
+fn ends_at(alloc: Global, is_script: bool, call: u64) -> bool {
     let fault = LiveStop::Script(ScriptFault::Port(PortFault::Device));
-    match calls_with(alloc, Some(call)) {
+    match calls_with(alloc, is_script, Trouble::FailsAt(call)) {
         Some((made, ended)) => made == call && ended == Err(fault),
         None => false,
     }
 }
 
-/// Whether it does so at each of so many calls.
-fn ends_at_each(alloc: Global, calls: u64) -> bool {
+/// Fails unless each call that fails ends the script or the session.
+fn end_at_each(alloc: Global, is_script: bool) -> Result<(), Fail> {
+    let name = if is_script { "a script" } else { "a session" };
+    let calls = calls_in_all(alloc, is_script);
+    let some = 20 < calls && calls < 200;
+    wants(some, name, "it fails, or has another number of calls")?;
     for call in 1..=calls {
-        if !ends_at(alloc, call) {
-            return false;
-        }
+        let ends = ends_at(alloc, is_script, call);
+        wants(ends, name, "it does not end by a call that fails")?;
     }
-    true
+    Ok(())
 }
 
 #[test]
 fn each_call_fails_in_turn(rt: HostRuntime) -> Result<(), Fail> {
-    let calls = calls_in_all(rt.alloc());
-    let some = 20 < calls && calls < 200;
-    let what = "it ends otherwise, or has another number of calls";
-    wants(some, "no call fails", what)?;
-    let ends = ends_at_each(rt.alloc(), calls);
-    wants(
-        ends,
-        "a call fails",
-        "it ends otherwise, or is called again",
-    )
+    end_at_each(rt.alloc(), true)?;
+    end_at_each(rt.alloc(), false)
 }

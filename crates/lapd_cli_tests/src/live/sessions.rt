@@ -1,173 +1,397 @@
-//! Sessions: lines that are typed while a side is served.
+//! Scripts over pipes, and sessions: lines of input come while a side is served.
 
-use crate::live::made::Made;
-use crate::live::played::{TIMED, Who, made_live};
-use crate::wants::{are_same, no_row};
-use lapd_cli_live::{LiveStop, live_session};
-use std::alloc::{AllocError, Global};
-use std::io::{self, Read};
+use crate::live::played::all_rows;
 use std::test::Fail;
 
-/// A session.
-#[derive(Clone, Copy)]
-struct Row {
-    name: &'static str,
-    who: Who,
-    /// What comes, and when.
-    coming: &'static str,
-    /// What is typed, with `|` between what two reads give.
-    typed: &'static str,
-    printed: &'static str,
-    /// What is told behind the greeting.
-    told: &'static str,
-}
+const ROWS: &str = r#"
+=== frames and lines are each served when they come
+net session done
+5 line
+7 00817f
+20 line
+25 close
+---
+state 0 64
+|state 0 64
+---
+5 0 64 state 4 V(S)=0 V(A)=0 V(R)=0 RC=0 queue=0
+7 U>N SAPI 0 TEI 64 C SABME P=1
+7 N>U SAPI 0 TEI 64 R UA F=1
+7 0 64 established
+20 0 64 state 7 V(S)=0 V(A)=0 V(R)=0 RC=0 queue=0 T203=9987
+---
+greet
+=== so they are over a pipe
+net pipe done
+5 line
+7 00817f
+20 line
+25 line
+---
+state 0 64
+|state 0 64
+---
+5 0 64 state 4 V(S)=0 V(A)=0 V(R)=0 RC=0 queue=0
+7 U>N SAPI 0 TEI 64 C SABME P=1
+7 N>U SAPI 0 TEI 64 R UA F=1
+7 0 64 established
+20 0 64 state 7 V(S)=0 V(A)=0 V(R)=0 RC=0 queue=0 T203=9987
+=== timers expire while a line is typed (Q.921 5.5.1.3)
+net session done
+5 line
+1500 line
+2010 line
+---
+establish 0 64
+|stat|e 0 64
+quit
+---
+5 N>U SAPI 0 TEI 64 C SABME P=1
+1005 N>U SAPI 0 TEI 64 C SABME P=1
+2005 N>U SAPI 0 TEI 64 C SABME P=1
+2010 0 64 state 5 V(S)=0 V(A)=0 V(R)=0 RC=2 queue=0 T200=995
+---
+greet
+=== timers expire while a script pauses
+net pipe done
+5 line
+1500 line
+2010 line
+2020 line
+---
+establish 0 64
+|stat|e 0 64
+---
+5 N>U SAPI 0 TEI 64 C SABME P=1
+1005 N>U SAPI 0 TEI 64 C SABME P=1
+2005 N>U SAPI 0 TEI 64 C SABME P=1
+2010 0 64 state 5 V(S)=0 V(A)=0 V(R)=0 RC=2 queue=0 T200=995
+=== two lines at once, of which one is passed over, and the last one has no line feed
+net session done
+1 line
+2 line
+---
+# note
 
-const GREETING: &str = "lines are awaited: help lists them, and quit ends the session\n";
+state 0 64
+state 16 64---
+1 0 64 state 4 V(S)=0 V(A)=0 V(R)=0 RC=0 queue=0
+2 16 64 state 4 V(S)=0 V(A)=0 V(R)=0 RC=0 queue=0
+---
+greet
+=== the last line of a script has no line feed
+net pipe done
+1 line
+2 line
+---
+state 0 64
+state 16 64---
+1 0 64 state 4 V(S)=0 V(A)=0 V(R)=0 RC=0 queue=0
+2 16 64 state 4 V(S)=0 V(A)=0 V(R)=0 RC=0 queue=0
+=== neither a line that is expected in vain nor an invalid one ends a session
+net session done
+1 line
+20 line
+30 line
+40 line
+---
+expect 0 64 established 10
+|tick 5
+|state 0 64
+---
+11 expected 0 64 established
+30 0 64 state 4 V(S)=0 V(A)=0 V(R)=0 RC=0 queue=0
+---
+greet
+refuse tick 5
+=== a line is done as it is tidied, help lists the lines, and nothing behind quit is done
+user session done
+1 line
+2 line
+---
+  state 0  
+give 0 64 0801
+ # note
+ help 
+state  0
+  quit
+state 0
+|state 0
+---
+1 refused B1 NoLink
+---
+greet
+refuse give 0 64 0801
+help
+refuse state  0
+=== exit ends a session too
+net session done
+1 line
+2 line
+---
+exit
+state 0 64
+|state 0 64
+---
+---
+greet
+=== in a script help, quit and spaces around a line are invalid
+net pipe bad 2
+1 line
+2 line
+---
+state 0 64
+quit
+---
+1 0 64 state 4 V(S)=0 V(A)=0 V(R)=0 RC=0 queue=0
+=== further input does not cut the waits of a script short
+net pipe done
+5 line
+6 line
+7 line
+---
+run 100
+read 100
+wait 100
+state 0 64
+|state 16 64
+---
+205 nothing
+305 0 64 state 4 V(S)=0 V(A)=0 V(R)=0 RC=0 queue=0
+305 16 64 state 4 V(S)=0 V(A)=0 V(R)=0 RC=0 queue=0
+=== nor what a script expects
+net pipe unmet
+5 line
+6 line
+---
+expect 0 64 established 100
+|state 0 64
+---
+105 expected 0 64 established
+=== further input cuts the waits of a session short
+net session done
+5 line
+6 line
+7 line
+---
+run 100
+read 100
+wait 100
+run
+read
+state 0 64
+|state 16 64
+---
+6 0 64 state 4 V(S)=0 V(A)=0 V(R)=0 RC=0 queue=0
+6 16 64 state 4 V(S)=0 V(A)=0 V(R)=0 RC=0 queue=0
+---
+greet
+=== and what it expects
+net session done
+5 line
+6 line
+7 line
+---
+expect 0 64 established 100
+|state 0 64
+---
+5 expected 0 64 established
+6 0 64 state 4 V(S)=0 V(A)=0 V(R)=0 RC=0 queue=0
+---
+greet
+=== a script expects a line that was printed while it paused
+net pipe done
+5 00817f
+20 line
+30 line
+---
+expect 0 64 established 500
+state 0 64
+---
+5 U>N SAPI 0 TEI 64 C SABME P=1
+5 N>U SAPI 0 TEI 64 R UA F=1
+5 0 64 established
+20 0 64 state 7 V(S)=0 V(A)=0 V(R)=0 RC=0 queue=0 T203=9985
+=== a session expects a line that was printed while its line was typed
+net session done
+1 line
+5 00817f
+20 line
+30 line
+---
+state 0 64
+|expect 0 64 established 500
+state 0 64
+---
+1 0 64 state 4 V(S)=0 V(A)=0 V(R)=0 RC=0 queue=0
+5 U>N SAPI 0 TEI 64 C SABME P=1
+5 N>U SAPI 0 TEI 64 R UA F=1
+5 0 64 established
+20 0 64 state 7 V(S)=0 V(A)=0 V(R)=0 RC=0 queue=0 T203=9985
+---
+greet
+=== lines are found in their order, and each once
+net pipe quiet unmet
+5 00817f
+6 008153
+7 00817f
+20 line
+---
+expect 0 64 established 10
+expect 0 64 released 10
+expect 0 64 established 10
+expect 0 64 established 10
+---
+5 0 64 established
+6 0 64 released
+7 0 64 established
+30 expected 0 64 established
+=== a line before the one that was found is forgotten
+net pipe quiet unmet
+5 00817f
+6 008153
+20 line
+---
+expect 0 64 released 10
+expect 0 64 established 10
+---
+5 0 64 established
+6 0 64 released
+30 expected 0 64 established
+=== a line that looks for none forgets what was printed before it
+net pipe quiet unmet
+5 00817f
+20 line
+30 line
+---
+stats
+|expect 0 64 established 10
+---
+5 0 64 established
+20 sent frames=1 octets=3 UA=1 again=0
+20 received frames=1 octets=3 SABME=1 discarded=0
+20 reports
+40 expected 0 64 established
+=== an object is found by its words
+net pipe json done
+5 00817f
+20 line
+21 line
+---
+expect 0 64 established 10
+---
+{"direction":"U>N","frame":"SABME","p":1,"role":"command","sapi":0,"tei":64,"time":5}
+{"direction":"N>U","f":1,"frame":"UA","role":"response","sapi":0,"tei":64,"time":5}
+{"primitive":"established","sapi":0,"tei":64,"time":5}
+=== frames are found by their lines, unless these are left out
+net pipe quiet unmet
+5 00817f
+20 line
+---
+expect U>N 10
+---
+5 0 64 established
+30 expected U>N
+=== a script reads on without service once the connection is closed
+net pipe done
+5 close
+---
+state 0 64
+|run
+read
+---
+5 0 64 state 4 V(S)=0 V(A)=0 V(R)=0 RC=0 queue=0
+5 refused S1 End
+=== a session ends once the connection is closed
+net session done
+5 line
+50 close
+60 line
+---
+state 0 64
+|state 16 64
+---
+5 0 64 state 4 V(S)=0 V(A)=0 V(R)=0 RC=0 queue=0
+---
+greet
+=== the connection is closed while a line of a session waits
+net session done
+5 line
+50 close
+---
+read
+state 0 64
+|state 16 64
+---
+5 refused S1 End
+50 0 64 state 4 V(S)=0 V(A)=0 V(R)=0 RC=0 queue=0
+---
+greet
+=== frames that arrived before the connection was closed are received
+net session quiet done
+5 00817f
+5 008153
+5 close
+---
+state 0 64
+---
+5 0 64 established
+5 0 64 released
+---
+greet
+=== a session is served behind the end of its lines
+net session serve quiet done
+5 line
+6 line
+20 00817f
+50 close
+---
+state 0 64
+---
+5 0 64 state 4 V(S)=0 V(A)=0 V(R)=0 RC=0 queue=0
+20 0 64 established
+---
+greet
+=== but not behind quit
+net session serve quiet done
+5 line
+20 00817f
+---
+quit
+---
+---
+greet
+=== so is a script over a pipe
+user pipe serve quiet done
+5 line
+10 line
+15 feff030f61990281
+20 008173
+50 close
+---
+establish 0
+---
+15 tei got 64
+20 0 64 confirmed
+=== frames for no link are reported to the outside during a session
+net session done
+3 408353
+5 line
+---
+quit
+---
+3 U>N SAPI 16 TEI 65 C DISC P=1
+---
+greet
+discarded 16 65
+"#;
 
-const ROWS: &[Row] = &[
-    Row {
-        name: "frames and lines are each served when they come",
-        who: Who::Net,
-        coming: "5 line\n7 00817f\n20 line\n25 close\n",
-        typed: "state 0 64\n|state 0 64\n",
-        printed: "5 0 64 state 4 V(S)=0 V(A)=0 V(R)=0 RC=0 queue=0\n\
-            7 U>N SAPI 0 TEI 64 C SABME P=1\n\
-            7 N>U SAPI 0 TEI 64 R UA F=1\n\
-            7 0 64 established\n\
-            20 0 64 state 7 V(S)=0 V(A)=0 V(R)=0 RC=0 queue=0 T203=9987\n",
-        told: "",
-    },
-    Row {
-        name: "deadlines are served while a line is typed (Q.921 5.5.1.3)",
-        who: Who::Net,
-        coming: "5 line\n1500 line\n2010 line\n",
-        typed: "establish 0 64\n|stat|e 0 64\nquit\n",
-        printed: "5 N>U SAPI 0 TEI 64 C SABME P=1\n\
-            1005 N>U SAPI 0 TEI 64 C SABME P=1\n\
-            2005 N>U SAPI 0 TEI 64 C SABME P=1\n\
-            2010 0 64 state 5 V(S)=0 V(A)=0 V(R)=0 RC=2 queue=0 T200=995\n",
-        told: "",
-    },
-    Row {
-        name: "two lines at once, of which one is passed over, and the last one has no line feed",
-        who: Who::Net,
-        coming: "1 line\n2 line\n",
-        typed: "# note\n\nstate 0 64\nstate 16 64",
-        printed: "1 0 64 state 4 V(S)=0 V(A)=0 V(R)=0 RC=0 queue=0\n\
-            2 16 64 state 4 V(S)=0 V(A)=0 V(R)=0 RC=0 queue=0\n",
-        told: "",
-    },
-    Row {
-        name: "a line that is expected in vain, and one that is none, do not end it",
-        who: Who::Net,
-        coming: "1 line\n20 line\n30 line\n",
-        typed: "expect 0 64 established 10\n|tick 5\n|state 0 64\n",
-        printed: "11 expected 0 64 established\n\
-            30 0 64 state 4 V(S)=0 V(A)=0 V(R)=0 RC=0 queue=0\n",
-        told: "not done: no line begins so; the lines with the real clock are: read [MS], run [MS], wait MS, \
-            expect WORDS.. MS, establish SAPI TEI, release SAPI TEI, give SAPI TEI HEX, unit SAPI TEI HEX, \
-            check TEI, state [SAPI TEI], stats\n",
-    },
-    Row {
-        name: "a line of a user side has its own form",
-        who: Who::User,
-        coming: "1 line\n2 line\n",
-        typed: "give 0 64 0801\n|quit\nask\n",
-        printed: "",
-        told: "not done: its form is 'give SAPI HEX': MS is a number from 1 to 3600000, SAPI is 0, 16 or 63, \
-            TEI a number from 0 to 127, and HEX an even number of hexadecimal digits; words are parted by one space\n",
-    },
-    Row {
-        name: "help tells the lines",
-        who: Who::User,
-        coming: "1 line\n2 line\n",
-        typed: "help\n|exit\n",
-        printed: "",
-        told: "the lines with the real clock:\n  read [MS]\n  run [MS]\n  wait MS\n  expect WORDS.. MS\n  \
-            establish SAPI\n  release SAPI\n  give SAPI HEX\n  unit SAPI HEX\n  ask\n  state [SAPI]\n  stats\n\
-            and help, which tells these, and quit, which ends the session\n",
-    },
-];
-
-/// What is typed, of which a read gives what stands before the next `|`.
-#[derive(Drop)]
-struct Keys<'s> {
-    rest: &'s str,
-}
-
-impl Read for Keys<'_> {
-    fn read(&mut self, octets: &mut [u8]) -> io::Result<usize> {
-        let (part, rest) = self.rest.split_once('|').unwrap_or((self.rest, ""));
-        let part = part.as_bytes();
-        let count = part.len().min(octets.len());
-        octets[..count].copy_from_slice(&part[..count]);
-        self.rest = rest;
-        Ok(count)
-    }
-}
-
-/// How a session ended, what was printed, and what was told.
-#[derive(Drop)]
-struct Held {
-    ended: Result<(), LiveStop>,
-    printed: Vec<u8>,
-    told: Vec<u8>,
-}
-
-/// Holds a session.
-fn hold(alloc: Global, row: &Row) -> Result<Held, AllocError> {
-    let live = made_live(alloc, row.who, TIMED, Made::new(row.coming, None))?;
-    let mut keys = Keys { rest: row.typed };
-    let mut told = Vec::new(alloc);
-    let (ended, live) = live_session(alloc, live, &mut keys, &mut told);
-    let (_made, printed) = live.into_parts();
-    Ok(Held {
-        ended,
-        printed,
-        told,
-    })
-}
-
-/// Whether this was told, behind the greeting.
-fn is_told(told: &[u8], wanted: &str) -> bool {
-    match told.strip_prefix(GREETING.as_bytes()) {
-        Some(behind) => are_same(behind, wanted.as_bytes()),
-        None => false,
-    }
-}
-
-/// Whether it ended well, with this printed and told.
-fn is_as_said(held: &Held, row: &Row) -> bool {
-    held.ended == Ok(())
-        && are_same(held.printed.as_slice(), row.printed.as_bytes())
-        && is_told(held.told.as_slice(), row.told)
-}
-
-/// Whether a row comes out.
-fn row_holds(alloc: Global, row: &Row) -> bool {
-    match hold(alloc, row) {
-        Ok(held) => is_as_said(&held, row),
-        Err(_) => false,
-    }
-}
-
-/// The rows. Their texts are long, so they are named here alone.
-fn rows() -> &'static [Row] {
+/// The rows, which are named here alone.
+fn rows() -> &'static str {
     ROWS
 }
 
-/// The first row of these that does not hold.
-fn other_row(alloc: Global) -> Option<&'static str> {
-    for row in rows() {
-        if !row_holds(alloc, row) {
-            return Some(row.name);
-        }
-    }
-    None
-}
-
 #[test]
-fn sessions_go_by_the_clock(rt: HostRuntime) -> Result<(), Fail> {
-    let what = "it ends otherwise, or something else is printed or told";
-    no_row(other_row(rt.alloc()), what)
+fn input_is_read_while_the_side_is_served(rt: HostRuntime) -> Result<(), Fail> {
+    all_rows(rt.alloc(), rows())
 }
