@@ -1,4 +1,4 @@
-//! Sides that are served in real time, over what is around them in memory, with a clock that goes on as they wait.
+//! Sides that are served in real time, over what is around them in memory, with a clock that advances while they wait.
 
 mod bad_lines;
 mod dialogues;
@@ -6,3 +6,5 @@ mod failures;
 mod made;
 mod played;
 mod sessions;
+mod stalls;
+mod typed;
