@@ -2,7 +2,7 @@
 
 ghost use Rattle.std.specs.Prelude.{◌≤◌, IfOk};
 
-use crate::live::typed::Typed;
+use crate::live::typed::Reads;
 use lapd_cli_live::{Impairment, Lines, Outside, Sending, Woken};
 use lapd_port::{MOST_OCTETS, PortFault};
 use lapd_sides::LinkId;
@@ -43,7 +43,7 @@ pub(crate) enum Input<'s> {
     /// A file, which can always be read.
     File,
     /// A pipe or a terminal.
-    Typed(&'s Typed<'s>),
+    Typed(&'s Reads),
 }
 
 /// What happens at a moment.
@@ -139,7 +139,7 @@ impl<'s> Made<'s> {
     fn is_readable(&self) -> bool {
         match self.input {
             Input::File => true,
-            Input::Typed(typed) => typed.count() < self.parts,
+            Input::Typed(reads) => reads.count() < self.parts,
         }
     }
 
