@@ -8,7 +8,7 @@
 //! - `file`: a script in a file, `pipe`: one over a pipe, or `session`: lines that a person types
 //! - `quiet`, `json`: the style; each line has its moment
 //! - `serve`: the side is served behind the end of the input
-//! - how it ends: `done`, `unmet`, `bad N` or a fault
+//! - how it ends: `done`, `unmet`, `bad N`, `device` or another fault
 
 use crate::live::made::{Arrivals, Input, Made, Trouble};
 use crate::live::typed::{Keys, Reader, Reads};
@@ -162,6 +162,7 @@ fn end_text(alloc: Global, ended: Result<(), LiveStop>) -> Result<String, AllocE
         Ok(()) => format!(in alloc; "done"),
         Err(LiveStop::Unmet) => format!(in alloc; "unmet"),
         Err(LiveStop::Script(ScriptFault::BadLine(number))) => { format!(in alloc; "bad {number}") }
+        Err(LiveStop::Script(ScriptFault::Device)) => format!(in alloc; "device"),
         Err(LiveStop::Script(fault)) => format!(in alloc; "{fault}"),
     }
 }

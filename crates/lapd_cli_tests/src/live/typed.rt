@@ -3,7 +3,7 @@
 use lapd_cli_live::Person;
 use std::alloc::{AllocError, Global};
 use std::cell::Cell;
-use std::io::{self, Read};
+use std::io::{self, ErrorKind, Read};
 
 /// How often input was read.
 #[derive(Drop)]
@@ -25,7 +25,7 @@ impl Reads {
     }
 }
 
-/// Input that is read in parts, each up to the next `|`.
+/// Input that is read in parts, each up to the next `|`. The read of a part `%` is interrupted, and that of a part `*` fails.
 #[derive(Drop)]
 pub(crate) struct Keys<'s> {
     rest: &'s str,
@@ -42,12 +42,18 @@ impl<'s> Keys<'s> {
 impl Read for Keys<'_> {
     fn read(&mut self, octets: &mut [u8]) -> io::Result<usize> {
         let (part, rest) = self.rest.split_once('|').unwrap_or((self.rest, ""));
-        let part = part.as_bytes();
-        let count = part.len().min(octets.len());
-        octets[..count].copy_from_slice(&part[..count]);
         self.rest = rest;
         self.reads.count.set(self.reads.count().saturating_add(1));
-        Ok(count)
+        match part {
+            "%" => Err(io::Error::from(ErrorKind::Interrupted)),
+            "*" => Err(io::Error::from(ErrorKind::Other)),
+            _ => {
+                let part = part.as_bytes();
+                let count = part.len().min(octets.len());
+                octets[..count].copy_from_slice(&part[..count]);
+                Ok(count)
+            }
+        }
     }
 }
 
