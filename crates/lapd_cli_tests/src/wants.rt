@@ -20,19 +20,6 @@ pub(crate) fn all_hold(rows: &[(bool, &str, &str)]) -> Result<(), Fail> {
     Ok(())
 }
 
-/// Fails where a table has a row that is not so, which this is.
-pub(crate) fn no_row(row: Option<&str>, what: &str) -> Result<(), Fail> {
-    match row {
-        Some(row) => wants(false, row, what),
-        None => Ok(()),
-    }
-}
-
-/// Whether these octets are the same. What calls it learns nothing of them, which makes it short to prove.
-pub(crate) fn are_same(one: &[u8], other: &[u8]) -> bool {
-    one == other
-}
-
 /// Whether this is said of it.
 pub(crate) fn is_said<T: ToString>(alloc: Global, told: &T, text: &str) -> bool {
     let said = told.to_string(alloc);
