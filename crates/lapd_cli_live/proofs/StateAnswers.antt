@@ -1,16 +1,23 @@
 -- What a side prints when it is asked, put together.
-use Rattle.std.proofs.Common.{◌≡◌, ℕ, List, [], ◌∷◌, Option, refl, sym, subst, ◌∙◌}
-use Rattle.std.specs.Prelude.{Bool, true, false, map}
+use Rattle.std.proofs.Common.{◌≡◌, ℕ, ◌+◌, ◌<◌, List, [], ◌∷◌, ◌++◌, get_or, length, take, Option, refl, sym, ap, subst, ◌∙◌}
+use Rattle.std.proofs.lemmas.List.{take_more}
+use Rattle.std.specs.Prelude.{Bool, true, false, ◌==◌, codes, map, Some}
+use Rattle.lapd_timers.specs.Due.{Timers}
+use Rattle.lapd_cli_live_text.specs.LinkText.{management_text}
 use Rattle.lapd_table.specs.declared.link_id.LinkId.{LinkId}
 use Rattle.lapd_sides_links.specs.declared.side_fault.SideKind.TheVariants.{NoLink}
 use Rattle.lapd_sides.specs.declared.either_side.EitherSide.{EitherSide}
 use Rattle.lapd_sides.specs.Either.{side_of}
+use Rattle.lapd_cli_live_text.specs.AwaitedText.{shown_words}
+use Rattle.lapd_cli_live.specs.declared.outside.Lines.{Lines}
+use Rattle.lapd_cli_live.specs.WaitingLines.{Expects}
+use Rattle.lapd_cli_live.specs.LineDone.{MissesLine}
 use Rattle.lapd_cli_live.specs.declared.printer.Printer.{Printer}
 use Rattle.lapd_cli_live.specs.Deeds.{Deed}
-use Rattle.lapd_cli_live.specs.Entries.{refused, stats_entries}
+use Rattle.lapd_cli_live.specs.Entries.{Named, Worded, refused, stats_entries}
 use Rattle.lapd_cli_live.specs.Printers.{PrintsOn}
 use Rattle.lapd_cli_live.specs.Log.{HappenBeside, LiveState, Shows}
-use Rattle.lapd_cli_live.specs.StateLines.{PutsLink, PutsNoLink, PutsState, RefusesLink, shown_event}
+use Rattle.lapd_cli_live.specs.StateLines.{PutsLink, PutsNoLink, PutsState, RefusesLink, StateEach, line_unless_empty, management_events, shown_event}
 use Rattle.lapd_cli_live.proofs.Deeds.{adds_none}
 use Rattle.lapd_cli_live.proofs.Log.{live}
 
@@ -34,3 +41,34 @@ counts_printed contents side deeds p q discarded prints = record {
   moment = prints.prints.now;
   happen = record { own = refl; style = prints.style; deeds = adds_none deeds; shown = prints.prints };
 }
+
+pub state_more : (ids : List LinkId) (id : LinkId) (found : Bool) (a b c : LiveState) → StateEach ids a b → PutsState id found b c → StateEach (ids ++ id ∷ []) a c
+state_more [] id found a b c same puts = (c, found, subst (λ (x : LiveState). PutsState id found x c) same puts, refl)
+state_more (first ∷ ids) id found a b c each puts = (each.0, each.1, each.2, state_more ids id found each.0 b c each.3 puts)
+
+-- the next of some links
+pub state_next : (ids : List LinkId) (at : ℕ) (id : LinkId) (found : Bool) (a b c : LiveState) → at < length ids → id ≡ get_or ids at id
+    → StateEach (take at ids) a b → PutsState id found b c → StateEach (take (at + 1) ids) a c
+state_next ids at id found a b c within is each puts =
+    subst (λ (xs : List LinkId). StateEach xs a c) (sym (take_more ids at id within ∙ ap (λ (x : LinkId). take at ids ++ x ∷ []) (sym is)))
+    (state_more (take at ids) id found a b c each puts)
+
+-- the line of TEI management is printed, since it is not empty
+pub management_printed : (timers : Option Timers) (t : Timers) (now : ℕ) (words : List ℕ) (a b : LiveState) → timers ≡ Some t → words ≡ management_text t now
+    → (length words == 0) ≡ false → HappenBeside (Shows (Worded words) ∷ []) a b → HappenBeside (management_events timers now) a b
+management_printed timers t now [] a b is are some prints = let never : true ≡ false = some in cc
+management_printed timers t now (first ∷ words) a b is are some prints =
+    subst (λ (x : Option Timers). HappenBeside (management_events x now) a b) (sym is)
+    (subst (λ (x : List ℕ). HappenBeside (line_unless_empty x) a b) are prints)
+
+-- no line was found, and that is printed
+pub misses_line : (words : List ℕ) (ms : ℕ) (lines : Lines) (found : Bool) (a m b : LiveState) → found ≡ false → Expects words ms lines found a m
+    → HappenBeside (Shows (Named (codes "expected") (shown_words words)) ∷ []) m b → MissesLine words ms lines a b
+misses_line words ms lines found a m b none expects prints = record {
+  served_to = m;
+  expects = subst (λ (x : Bool). Expects words ms lines x a m) none expects;
+  prints = prints;
+}
+
+pub misses_from : (words : List ℕ) (ms : ℕ) (lines : Lines) (a m b : LiveState) → m ≡ a → MissesLine words ms lines m b → MissesLine words ms lines a b
+misses_from words ms lines a m b same misses = subst (λ (x : LiveState). MissesLine words ms lines x b) same misses

@@ -5,6 +5,7 @@ pub mod Log
 pub mod Steps
 pub mod WaitingLines
 pub mod StateLines
+pub mod LineDone
 pub mod PromptLine
 pub mod Passed
 pub mod Typed

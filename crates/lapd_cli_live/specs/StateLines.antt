@@ -1,14 +1,16 @@
 -- What a side prints of its links, its timers and its statistics when it is asked.
-use Rattle.std.specs.Prelude.{◌≡◌, ◌⊎◌, ℕ, Bool, true, false, List, [], ◌∷◌, map, Option, None, Some}
+use Rattle.std.specs.Prelude.{◌≡◌, ◌⊎◌, ◌↔◌, ℕ, Bool, true, false, List, [], ◌∷◌, map, Contains, Option, None, Some, IsSome}
 use Rattle.lapd_link.specs.declared.link.Link.{Link}
 use Rattle.lapd_table.specs.declared.link_id.LinkId.{LinkId}
 use Rattle.lapd_table.specs.declared.link_table.LinkTable.{LinkTable}
+use Rattle.std.specs.List.Sorted.{IsStrictlySortedBy}
 use Rattle.lapd_table.specs.LinkTable.{link_at}
+use Rattle.lapd_table.specs.LinkId.{id_cmp}
 use Rattle.lapd_timers.specs.Due.{Timers}
 use Rattle.lapd_sides_links.specs.declared.side_fault.SideKind.TheVariants.{NoLink}
 use Rattle.lapd_sides.specs.Either.{HasDiscarded, HasTable, HasTimers}
 use Rattle.lapd_cli_live.specs.declared.service.Until.TheVariants as until
-use Rattle.lapd_cli_live_text.specs.LinkText.{link_text, shown_end}
+use Rattle.lapd_cli_live_text.specs.LinkText.{link_text, management_text, shown_end}
 use Rattle.lapd_cli_live.specs.Entries.{Entry, Worded, refused, stats_entries}
 use Rattle.lapd_cli_live.specs.Log.{HappenBeside, LiveEvent, LiveState, Shows, moment_of}
 use Rattle.lapd_cli_live.specs.Steps.{CatchesUp}
@@ -65,3 +67,37 @@ pub record StatesCounts (a b : LiveState) : Type 0 where
   pub discarded : ℕ
   pub have : HasDiscarded ready.side discarded
   pub prints : HappenBeside (map shown_event (stats_entries ready.shown.stats discarded)) ready b
+
+-- the lines of these links are printed, one after another
+abbrev pub StateEach : List LinkId → LiveState → LiveState → Type 0
+StateEach [] a b = b ≡ a
+StateEach (id ∷ ids) a b = (mid : LiveState) × (found : Bool) × PutsState id found a mid
+    × StateEach ids mid b
+
+-- a line, unless it is empty
+abbrev pub line_unless_empty : List ℕ → List LiveEvent
+line_unless_empty [] = []
+line_unless_empty (first ∷ words) = Shows (Worded (first ∷ words)) ∷ []
+
+-- the line of TEI management, if one of its timers runs
+abbrev pub management_events : Option Timers → ℕ → List LiveEvent
+management_events None now = []
+management_events (Some timers) now = line_unless_empty (management_text timers now)
+
+pub record PutsManagement (a b : LiveState) : Type 0 where
+  pub timers : Option Timers
+  pub have : HasTimers a.side None timers
+  pub prints : HappenBeside (management_events timers (moment_of a)) a b
+
+-- `state`: the line of each link that the side has, by rising SAPI and then TEI, and that of TEI management
+pub record StatesAll (a b : LiveState) : Type 0 where
+  pub ready : LiveState
+  pub catches_up : CatchesUp until.End a ready
+  pub table : LinkTable
+  pub has : HasTable ready.side table
+  pub ids : List LinkId
+  pub rising : IsStrictlySortedBy id_cmp ids
+  pub all : (id : LinkId) → Contains ids id ↔ IsSome (link_at table id)
+  pub told : LiveState
+  pub each : StateEach ids ready told
+  pub management : PutsManagement told b

@@ -154,12 +154,15 @@ pub record IsOver (service : Service) (a b : LiveState) (outcome : Option Came) 
   pub is : outcome ≡ Some came.End
   pub same : b ≡ a
 
--- one wait: until the next moment at which something is due, or until the end, whichever comes first
+-- one wait: until the next moment at which something is due, or until the end, whichever comes first; then the clock is read
 pub record WaitsFor (service : Service) (outcome : Option Came) (a b : LiveState) : Type 0 where
   pub deadline : Option ℕ
   pub is_next : HasNextDeadline a.side deadline
   pub woken : Woken
-  pub waits : HappenBeside (Around (Waits (sooner deadline service.end) woken) ∷ []) a b
+  pub waited : LiveState
+  pub waits : HappenBeside (Around (Waits (sooner deadline service.end) woken) ∷ []) a waited
+  pub now : ℕ
+  pub reads : ReadsClock now waited b
   pub is : outcome ≡ came_of service.lines woken
 
 -- or neither, and there is one wait

@@ -1,6 +1,6 @@
 //! What the lines of a side do that is served with the real clock.
 
-ghost use Rattle.std.specs.Prelude.{◌≡◌, true, None, Some, IfOk, OnErr, OnOk};
+ghost use Rattle.std.specs.Prelude.{IfOk, OnOk};
 
 use crate::fault::LiveFault;
 use crate::live_side::LiveSide;
@@ -12,7 +12,8 @@ use std::io::Write;
 
 impl<O: Outside, W: Write> LiveSide<O, W> {
     ghost use Rattle.lapd_cli_live.specs.Log.{Between};
-    ghost use Rattle.lapd_cli_live.specs.StateLines.{PutsState, StatesCounts, StatesLink};
+    ghost use Rattle.lapd_cli_live.specs.StateLines.{PutsManagement, PutsState, StateEach, StatesAll, StatesCounts, StatesLink};
+    ghost use Rattle.lapd_cli_live.specs.LineDone.{ExpectDone, LineDone};
     ghost use Rattle.lapd_cli_live.specs.WaitingLines.{Expects, Reads, Runs};
 
     /// Does what a line requests, which comes without its line feed. If `lines` are awaited, a further line of input cuts the waits
@@ -35,11 +36,20 @@ impl<O: Outside, W: Write> LiveSide<O, W> {
     }
 
     /// Does what is requested.
-    fn do_line(&mut self, line: LiveLine<'_>, lines: Lines) -> Result<(), LiveFault> {
+    fn do_line(&mut self, line: LiveLine<'_>, lines: Lines) -> Result<(), LiveFault>
+        ensures { OnOk result (Between O.deeds W.contents self.old self.new
+            (LineDone line.entry lines)) }
+    {
         match line {
             LiveLine::Read(ms) => self.read(ms, lines),
             LiveLine::Run(ms) => self.run(ms, lines),
-            LiveLine::Expect(words, ms) => self.expect(words, ms, lines),
+            LiveLine::Expect(words, ms) => {
+                if self.expect(words, ms, lines)? {
+                    Ok(())
+                } else {
+                    Err(LiveFault::Unmet)
+                }
+            }
             LiveLine::State(Some(id)) => self.put_link(&id),
             LiveLine::State(None) => self.put_links(),
             LiveLine::Stats => self.put_stats(),
@@ -100,17 +110,20 @@ impl<O: Outside, W: Write> LiveSide<O, W> {
     }
 
     /// Serves the side until a line is printed that begins with these words, unless one was printed while this line of input was
-    /// awaited.
-    fn expect(&mut self, words: &[u8], ms: u64, lines: Lines) -> Result<(), LiveFault> {
+    /// awaited. Whether one was; else that is printed.
+    fn expect(&mut self, words: &[u8], ms: u64, lines: Lines) -> Result<bool, LiveFault>
+        ensures { IfOk result (λ found. Between O.deeds W.contents self.old self.new
+            (ExpectDone words.now ms lines found)) }
+    {
         if self.printer.take_unseen(words) {
-            return Ok(());
+            return Ok(true);
         }
         if self.await_words(words, ms, lines)? {
-            return Ok(());
+            return Ok(true);
         }
         let text = awaited_text(self.alloc, words)?;
         self.printer.put_named("expected", text.as_str())?;
-        Err(LiveFault::Unmet)
+        Ok(false)
     }
 
     /// Serves the side until a line is printed that begins with these words. Whether one was.
@@ -149,20 +162,40 @@ impl<O: Outside, W: Write> LiveSide<O, W> {
     }
 
     /// Prints the state of each link, and the timer of TEI management that runs, if one does.
-    fn put_links(&mut self) -> Result<(), LiveFault> {
-        let now = self.catch_up()?;
-        for id in &self.side.table().ids()? {
+    fn put_links(&mut self) -> Result<(), LiveFault>
+        ensures { OnOk result (Between O.deeds W.contents self.old self.new StatesAll) }
+    {
+        self.catch_up()?;
+        let ids = self.side.table().ids()?;
+        self.put_each(ids.as_slice())?;
+        self.put_management()
+    }
+
+    /// Prints the state of each of these links that the side has.
+    fn put_each(&mut self, ids: &[LinkId]) -> Result<(), LiveFault>
+        ensures { OnOk result (Between O.deeds W.contents self.old self.new (StateEach ids.now)) }
+    {
+        for id in ids {
             self.put_state(id)?;
         }
+        Ok(())
+    }
+
+    /// Prints what is left of the timer of TEI management, if one runs.
+    fn put_management(&mut self) -> Result<(), LiveFault>
+        ensures { OnOk result (Between O.deeds W.contents self.old self.new PutsManagement) }
+    {
         let Some(timers) = self.side.timers(None) else {
             return Ok(());
         };
         let mut words = String::new(self.alloc);
+        let now = self.printer.moment();
         push_management(timers, now, &mut words)?;
+        let words = words.as_str();
         if words.is_empty() {
             return Ok(());
         }
-        self.printer.put_words(words.as_str())
+        self.printer.put_words(words)
     }
 
     /// Prints the state of a link, as it is at the moment of the printer. `false` if the side does not have the link.

@@ -196,7 +196,8 @@ impl<O: Outside, W: Write> LiveSide<O, W> {
         }
     }
 
-    /// Waits once, until the next deadline or the end of the service, whichever comes first.
+    /// Waits once, until the next deadline or the end of the service, whichever comes first, and then reads the clock, so that what
+    /// is printed next has the moment at which the wait ended.
     fn wait(&mut self, service: Service) -> Result<Option<Came>, LiveFault>
         ensures { IfOk result (λ came. Between O.deeds W.contents self.old self.new
             (WaitsFor service came)) }
@@ -204,6 +205,7 @@ impl<O: Outside, W: Write> LiveSide<O, W> {
         self.printer.flush()?;
         let until = sooner(self.side.next_deadline(), service.end);
         let woken = self.outside.wait(until, service.lines)?;
+        self.read_clock()?;
         Ok(came_of(service.lines, woken))
     }
 

@@ -12,6 +12,9 @@ returns g c =
       deadline = c.next_deadline.result;
       is_next = c.next_deadline.ensures;
       woken = c.in_ok-woken.woken;
+      waited = _;
       waits = flushed_and_waited g.W.Write.contents c.args.self.now.side _ _ _ _ _ _ (c.in_ok-flush.ensures (side_of c.args.self.now.side)) adds;
+      now = c.in_ok-read_clock.field-0;
+      reads = c.in_ok-read_clock.ensures;
       is = c.came_of.ensures;
     }

@@ -1,0 +1,35 @@
+-- What a line of a side does that is served with the real clock, if it ends well.
+use Rattle.std.specs.Prelude.{◌≡◌, ◌⊎◌, ℕ, Bool, true, false, List, [], ◌∷◌, codes, Option, None, Some}
+use Rattle.lapd_cli_live_text.specs.declared.words.LiveLine.{LiveLine}
+use Rattle.lapd_cli_live_text.specs.declared.words.LiveLine.TheVariants as line
+use Rattle.lapd_cli_live_text.specs.AwaitedText.{shown_words}
+use Rattle.lapd_cli_live.specs.declared.outside.Lines.{Lines}
+use Rattle.lapd_cli_live.specs.Entries.{Named}
+use Rattle.lapd_cli_live.specs.Log.{HappenBeside, LiveState, Shows}
+use Rattle.lapd_cli_live.specs.Steps.{IsAsked}
+use Rattle.lapd_cli_live.specs.StateLines.{StatesAll, StatesCounts, StatesLink}
+use Rattle.lapd_cli_live.specs.WaitingLines.{Expects, Reads, Runs}
+
+-- `expect`: a line was printed that begins with the words, while the line of input was awaited or while the side was served since
+abbrev pub FindsLine : List ℕ → ℕ → Lines → LiveState → LiveState → Type 0
+FindsLine words ms lines a b = HappenBeside [] a b ⊎ Expects words ms lines true a b
+
+-- or none was, and this is printed
+pub record MissesLine (words : List ℕ) (ms : ℕ) (lines : Lines) (a b : LiveState) : Type 0 where
+  pub served_to : LiveState
+  pub expects : Expects words ms lines false a served_to
+  pub prints : HappenBeside (Shows (Named (codes "expected") (shown_words words)) ∷ []) served_to b
+
+abbrev pub ExpectDone : List ℕ → ℕ → Lines → Bool → LiveState → LiveState → Type 0
+ExpectDone words ms lines true a b = FindsLine words ms lines a b
+ExpectDone words ms lines false a b = MissesLine words ms lines a b
+
+abbrev pub LineDone : LiveLine → Lines → LiveState → LiveState → Type 0
+LineDone (line.Read ms) lines a b = Reads ms lines a b
+LineDone (line.Run ms) lines a b = Runs ms lines a b
+LineDone (line.Expect words ms) lines a b = FindsLine words.now ms lines a b
+LineDone (line.State (Some id)) lines a b = StatesLink id a b
+LineDone (line.State None) lines a b = StatesAll a b
+LineDone line.Stats lines a b = StatesCounts a b
+LineDone (line.Ask request) lines a b = IsAsked request a b
+LineDone (line.Impair impairment) lines a b = HappenBeside [] a b
