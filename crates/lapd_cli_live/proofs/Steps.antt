@@ -287,3 +287,12 @@ on_ok (Err fault) P Q f holds = tt
 pub on_err : {A E : Type 0} (r : Result A E) (P : Type 0) → P → OnErr r P
 on_err (Ok done) P holds = tt
 on_err (Err fault) P holds = holds
+
+-- what was printed is given to the writer
+pub flushed : {W : Type 0} (contents : W → Option (List ℕ)) (side : EitherSide) (deeds : Option (List Deed)) (p q : Printer W)
+    → PrintsOn contents (side_of side) [] p q → HappenBeside [] (live side deeds contents p) (live side deeds contents q)
+flushed contents side deeds p q prints = record {
+  side = refl;
+  moment = prints.prints.now;
+  happen = record { own = refl; style = prints.style; deeds = adds_none deeds; shown = prints.prints };
+}

@@ -2,6 +2,8 @@
 use Rattle.std.specs.Prelude.{◌≡◌, ◌⊎◌, ℕ, Bool, true, false, List, [], ◌∷◌, codes, Option, None, Some}
 use Rattle.lapd_cli_live_text.specs.declared.words.LiveLine.{LiveLine}
 use Rattle.lapd_cli_live_text.specs.declared.words.LiveLine.TheVariants as line
+use Rattle.lapd_sides.specs.Either.{side_of}
+use Rattle.lapd_cli_live_text.specs.LiveWishes.{live_wish_of, live_wish_of_line}
 use Rattle.lapd_cli_live_text.specs.AwaitedText.{shown_words}
 use Rattle.lapd_cli_live.specs.declared.outside.Lines.{Lines}
 use Rattle.lapd_cli_live.specs.Entries.{Named}
@@ -33,3 +35,12 @@ LineDone (line.State None) lines a b = StatesAll a b
 LineDone line.Stats lines a b = StatesCounts a b
 LineDone (line.Ask request) lines a b = IsAsked request a b
 LineDone (line.Impair impairment) lines a b = HappenBeside [] a b
+
+-- a line of the side is done as what it requests
+pub record Obeys (octets : List ℕ) (lines : Lines) (a b : LiveState) : Type 0 where
+  pub own : ℕ
+  pub asked : LiveLine
+  pub is : live_wish_of_line (side_of a.side) own octets ≡ Some (live_wish_of asked)
+  pub done_at : LiveState
+  pub does : LineDone asked lines a done_at
+  pub beside : HappenBeside [] done_at b

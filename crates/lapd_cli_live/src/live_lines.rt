@@ -1,6 +1,6 @@
 //! What the lines of a side do that is served with the real clock.
 
-ghost use Rattle.std.specs.Prelude.{IfOk, OnOk};
+ghost use Rattle.std.specs.Prelude.{◌≡◌, IfOk, OnOk};
 
 use crate::fault::LiveFault;
 use crate::live_side::LiveSide;
@@ -13,7 +13,7 @@ use std::io::Write;
 impl<O: Outside, W: Write> LiveSide<O, W> {
     ghost use Rattle.lapd_cli_live.specs.Log.{Between};
     ghost use Rattle.lapd_cli_live.specs.StateLines.{PutsManagement, PutsState, StateEach, StatesAll, StatesCounts, StatesLink};
-    ghost use Rattle.lapd_cli_live.specs.LineDone.{ExpectDone, LineDone};
+    ghost use Rattle.lapd_cli_live.specs.LineDone.{ExpectDone, LineDone, Obeys};
     ghost use Rattle.lapd_cli_live.specs.WaitingLines.{Expects, Reads, Runs};
 
     /// Does what a line requests, which comes without its line feed. If `lines` are awaited, a further line of input cuts the waits
@@ -24,15 +24,30 @@ impl<O: Outside, W: Write> LiveSide<O, W> {
     ///
     /// `Line(Bad)` if the line is no line of the side, `Unmet` if an expected line was not printed in time, `Line(Device)`,
     /// `Line(Memory)` and `Port`.
-    pub fn obey(&mut self, line: &[u8], lines: Lines) -> Result<(), LiveFault> {
+    pub fn obey(&mut self, line: &[u8], lines: Lines) -> Result<(), LiveFault>
+        ensures { OnOk result (Between O.deeds W.contents self.old self.new
+            (Obeys line.now lines)) }
+    {
         let side = self.side.side();
-        let line = read_live_line(self.alloc, side, self.own_tei(), line)?;
-        if !matches!(&line, LiveLine::Expect(..)) {
+        let own = self.own_tei();
+        let line = read_live_line(self.alloc, side, own, line)?;
+        self.begin_line(matches!(&line, LiveLine::Expect(..)));
+        if let Err(fault) = self.do_line(line, lines) {
+            let _ = self.printer.flush();
+            return Err(fault);
+        }
+        self.printer.flush()
+    }
+
+    /// A line of input is done now. Unless it expects a line, those that were printed before are forgotten.
+    fn begin_line(&mut self, is_expect: bool)
+        ensures { self.new ≡ record self.old {
+          printer = record self.old.printer { unseen = self.new.printer.unseen };
+        } }
+    {
+        if !is_expect {
             self.printer.forget_unseen();
         }
-        let done = self.do_line(line, lines);
-        let flushed = self.printer.flush();
-        done.and(flushed)
     }
 
     /// Does what is requested.

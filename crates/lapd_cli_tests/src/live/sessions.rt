@@ -195,7 +195,7 @@ net session done
 expect 0 64 established 100
 |state 0 64
 ---
-5 expected 0 64 established
+6 expected 0 64 established
 6 0 64 state 4 V(S)=0 V(A)=0 V(R)=0 RC=0 queue=0
 ---
 greet
@@ -323,7 +323,7 @@ read
 state 0 64
 |state 16 64
 ---
-5 refused S1 End
+50 refused S1 End
 50 0 64 state 4 V(S)=0 V(A)=0 V(R)=0 RC=0 queue=0
 ---
 greet
