@@ -18,4 +18,3 @@ adds_both (Some before) None c first last p q = absurd p
 adds_both (Some before) (Some mid) None first last p q = absurd q
 adds_both (Some before) (Some mid) (Some after) first last p q =
     q ∙ ap (λ (deeds : List Deed). deeds ++ last) p ∙ append_assoc before first last
-

@@ -76,9 +76,9 @@ prints_both style own xs ys a b c p q =
       stats = q.stats ∙ ap (λ stats. fold (counted own) stats ys) p.stats ∙ sym (fold-append (counted own) a.stats xs ys);
       awaited = q.awaited ∙ p.awaited;
       found = q.found ∙ ap (λ (found : Bool). found || list_any (is_awaited style own b.awaited) ys) p.found
-      ∙ ap (λ (found : Bool). (a.found || list_any (is_awaited style own a.awaited) xs) || found) any
-      ∙ or_both a.found (list_any (is_awaited style own a.awaited) xs) (list_any (is_awaited style own a.awaited) ys)
-      ∙ ap (λ (found : Bool). a.found || found) (sym (list_any-append (is_awaited style own a.awaited) xs ys));
+          ∙ ap (λ (found : Bool). (a.found || list_any (is_awaited style own a.awaited) xs) || found) any
+          ∙ or_both a.found (list_any (is_awaited style own a.awaited) xs) (list_any (is_awaited style own a.awaited) ys)
+          ∙ ap (λ (found : Bool). a.found || found) (sym (list_any-append (is_awaited style own a.awaited) xs ys));
     }
 
 prints_as : (style other : Style) (own same : Side) (xs : List Entry) (a b : Shown) → style ≡ other → own ≡ same → Prints style own xs a b
@@ -233,9 +233,11 @@ chain_more R (mid ∷ states) a b c are one = (are.0, chain_more R states mid b 
 -- so many frames were sent, and then nothing was
 pub front_of : {F : Type 0} (octets : F → List ℕ) (frames : List F) (count : ℕ) (a b c : Option (List Deed)) → Adds a b (all_sent (map octets (take count frames))) → c ≡ b
     → SendsFront (map octets frames) a c
-front_of octets frames count a b c adds stays =
-    (count, subst (λ (x : List (List ℕ)). Adds a c (all_sent x)) (sym (take-map octets count frames))
-    (subst (λ (x : Option (List Deed)). Adds a x (all_sent (map octets (take count frames)))) (sym stays) adds))
+front_of octets frames count a b c adds stays = (
+  count,
+  subst (λ (x : List (List ℕ)). Adds a c (all_sent x)) (sym (take-map octets count frames))
+      (subst (λ (x : Option (List Deed)). Adds a x (all_sent (map octets (take count frames)))) (sym stays) adds),
+)
 
 -- or one more was
 pub front_next : {F : Type 0} (octets : F → List ℕ) (frames : List F) (at : ℕ) (frame : F) (item : List ℕ) (a b c : Option (List Deed)) → at < length frames

@@ -4,8 +4,8 @@ ghost use Rattle.std.specs.Prelude.{◌≡◌, ◌≤◌, List, Option, None, le
 ghost use Rattle.lapd_port.specs.SocketText.{IsFrameLength};
 ghost use Rattle.lapd_cli_live.specs.Deeds.{Adds, Deed, Reads, Sends, Waits, received};
 
-use lapd_port::{MOST_OCTETS, PortFault};
 use lapd_cli_live_text::Impairment;
+use lapd_port::{MOST_OCTETS, PortFault};
 use lapd_sides::LinkId;
 
 /// What ended a wait.

@@ -388,8 +388,8 @@ impl<W: Write> Printer<W> {
     /// Notices whether the line that stands in the room for it is awaited, and keeps it for an `expect` to come.
     fn notice_line(&mut self) -> Result<(), AllocError>
         ensures { OnOk result (self.new ≡ record self.old {
-            is_found = self.old.is_found || begins self.old.awaited.items (string_bytes self.old.line);
-            unseen = self.new.unseen;
+          is_found = self.old.is_found || begins self.old.awaited.items (string_bytes self.old.line);
+          unseen = self.new.unseen;
         }) }
     {
         if begins_so(self.awaited.as_slice(), self.line.as_bytes()) {

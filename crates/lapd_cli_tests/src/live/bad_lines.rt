@@ -2,7 +2,7 @@
 
 use crate::live::made::{Arrivals, Input, Made, Trouble};
 use crate::live::played::{Who, play};
-use crate::live::typed::Typed;
+use crate::live::typed::{Keys, Reads};
 use crate::wants::wants;
 use lapd_cli_live::{LineStyle, LiveStop, Style};
 use lapd_cli_script::ScriptFault;
@@ -42,9 +42,10 @@ const ARRIVALS: Arrivals<'_> = Arrivals {
 
 /// Whether a line is bad, or good.
 fn is(alloc: Global, who: Who, line: &str, bad: bool) -> bool {
-    let typed = Typed::new(line);
+    let reads = Reads::new();
+    let keys = Keys::new(line, &reads);
     let made = Made::new(alloc, ARRIVALS, Input::File, Trouble::Never);
-    match play(alloc, who, STYLE, made, &typed, false) {
+    match play(alloc, who, STYLE, made, keys, false) {
         Ok(played) => {
             let fault = LiveStop::Script(ScriptFault::BadLine(1));
             (played.ended == Err(fault)) == bad

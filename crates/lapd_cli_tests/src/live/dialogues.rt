@@ -105,6 +105,20 @@ read 10
 5 N>U SAPI 0 TEI 64 R UA F=1
 5 0 64 released
 15 nothing
+=== waits that end without a frame end no line
+net file done
+5 wake
+6 wake
+50 00817f
+---
+read 20
+read
+run 10
+---
+20 nothing
+50 U>N SAPI 0 TEI 64 C SABME P=1
+50 N>U SAPI 0 TEI 64 R UA F=1
+50 0 64 established
 === the other side closes the connection, and the script goes on
 net file unmet
 50 close

@@ -1,13 +1,13 @@
 //! Each call of the outside fails in turn.
 
 use crate::live::made::{Arrivals, Input, Made, Trouble};
-use crate::live::played::{Who, hold, play};
-use crate::live::typed::Typed;
+use crate::live::played::{Played, Who, hold, play};
+use crate::live::typed::{Keys, Reads};
 use crate::wants::wants;
 use lapd_cli_live::{LineStyle, LiveStop, Style};
 use lapd_cli_script::ScriptFault;
 use lapd_port::PortFault;
-use std::alloc::Global;
+use std::alloc::{AllocError, Global};
 use std::test::Fail;
 
 const ARRIVALS: Arrivals<'_> = Arrivals {
@@ -29,16 +29,26 @@ fn calls_with(
     is_script: bool,
     trouble: Trouble,
 ) -> Option<(u64, Result<(), LiveStop>)> {
-    let typed = Typed::new(SCRIPT);
-    let made = Made::new(alloc, ARRIVALS, Input::Typed(&typed), trouble);
-    let played = if is_script {
-        play(alloc, Who::Net, STYLE, made, &typed, true)
-    } else {
-        hold(alloc, Who::Net, STYLE, made, &typed, true)
-    };
-    match played {
+    let reads = Reads::new();
+    match played_with(alloc, is_script, trouble, &reads) {
         Ok(played) => Some((played.made.calls, played.ended)),
         Err(_) => None,
+    }
+}
+
+/// A script or a session with this trouble.
+fn played_with<'s>(
+    alloc: Global,
+    is_script: bool,
+    trouble: Trouble,
+    reads: &'s Reads,
+) -> Result<Played<'s>, AllocError> {
+    let keys = Keys::new(SCRIPT, reads);
+    let made = Made::new(alloc, ARRIVALS, Input::Typed(reads), trouble);
+    if is_script {
+        play(alloc, Who::Net, STYLE, made, keys, true)
+    } else {
+        hold(alloc, Who::Net, STYLE, made, keys, true)
     }
 }
 

@@ -2,7 +2,7 @@
 
 ghost use Rattle.std.specs.Prelude.{◌≤◌, IfOk};
 
-use crate::live::typed::Typed;
+use crate::live::typed::Reads;
 use lapd_cli_live::{Impairment, Lines, Outside, Sending, Woken};
 use lapd_port::{MOST_OCTETS, PortFault};
 use lapd_sides::LinkId;
@@ -19,6 +19,7 @@ pub(crate) struct Arrivals<'s> {
     ///
     /// - `5 00817f`: a frame has arrived.
     /// - `5 flood 00817f`: from then on such a frame has always arrived. Each takes 1 ms to receive.
+    /// - `5 wake`: a wait ends as if a frame had arrived, as after a part of a frame.
     /// - `5 line`: another part of the input can be read, or its end.
     /// - `5 stall 700`: the wait or the send that is under way, or else the next one, takes 700 ms longer.
     /// - `5 close`: the other side closes the connection. It also does so after the last event.
@@ -43,7 +44,7 @@ pub(crate) enum Input<'s> {
     /// A file, which can always be read.
     File,
     /// A pipe or a terminal.
-    Typed(&'s Typed<'s>),
+    Typed(&'s Reads),
 }
 
 /// What happens at a moment.
@@ -51,6 +52,7 @@ pub(crate) enum Input<'s> {
 enum Event<'s> {
     Frame(&'s str),
     Flood(&'s str),
+    Wake,
     Line,
     Stall(u64),
     Close,
@@ -139,7 +141,7 @@ impl<'s> Made<'s> {
     fn is_readable(&self) -> bool {
         match self.input {
             Input::File => true,
-            Input::Typed(typed) => typed.count() < self.parts,
+            Input::Typed(reads) => reads.count() < self.parts,
         }
     }
 
@@ -157,7 +159,7 @@ impl<'s> Made<'s> {
                 self.now = self.now.saturating_add(1);
                 Some(digits)
             }
-            Event::Line | Event::Stall(_) | Event::Close => None,
+            Event::Wake | Event::Line | Event::Stall(_) | Event::Close => None,
         }
     }
 
@@ -175,6 +177,10 @@ impl<'s> Made<'s> {
         }
         match event? {
             Event::Frame(_) | Event::Flood(_) => Some(Woken::Arrival),
+            Event::Wake => {
+                self.pass();
+                Some(Woken::Arrival)
+            }
             Event::Close => Some(Woken::Closed),
             Event::Line | Event::Stall(_) => None,
         }
@@ -231,6 +237,7 @@ fn event_of(what: &str) -> Option<Event<'_>> {
         Some(("stall", ms)) => Some(Event::Stall(ms.parse().ok()?)),
         Some(("flood", digits)) => Some(Event::Flood(digits)),
         Some(_) => None,
+        None if what == "wake" => Some(Event::Wake),
         None if what == "line" => Some(Event::Line),
         None if what == "close" => Some(Event::Close),
         None => Some(Event::Frame(what)),

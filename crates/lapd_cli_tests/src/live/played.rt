@@ -8,10 +8,10 @@
 //! - `file`: a script in a file, `pipe`: one over a pipe, or `session`: lines that a person types
 //! - `quiet`, `json`: the style; each line has its moment
 //! - `serve`: the side is served behind the end of the input
-//! - how it ends: `done`, `unmet`, `bad N` or a fault
+//! - how it ends: `done`, `unmet`, `bad N`, `device` or another fault
 
 use crate::live::made::{Arrivals, Input, Made, Trouble};
-use crate::live::typed::{Keys, Reader, Typed};
+use crate::live::typed::{Keys, Reader, Reads};
 use lapd_cli_live::{LineStyle, LiveSide, LiveStop, Printer, Style, live_script, live_session};
 use lapd_cli_script::ScriptFault;
 use lapd_sides::{Acts, Config, EitherSide, NetSide, Tei, UserSide};
@@ -29,13 +29,13 @@ pub(crate) enum Who {
 
 /// A row.
 #[derive(Clone, Copy)]
-struct Row<'s> {
-    name: &'s str,
-    words: &'s str,
-    events: &'s str,
-    input: &'s str,
-    printed: &'s str,
-    told: &'s str,
+struct Row {
+    name: &'static str,
+    words: &'static str,
+    events: &'static str,
+    input: &'static str,
+    printed: &'static str,
+    told: &'static str,
 }
 
 /// How lines of input ended, what was around the side, what was printed, and what was reported to a person.
@@ -81,11 +81,11 @@ pub(crate) fn play<'s>(
     who: Who,
     style: Style,
     made: Made<'s>,
-    input: &Typed<'_>,
+    mut keys: Keys<'_>,
     serve_on: bool,
 ) -> Result<Played<'s>, AllocError> {
     let live = made_live(alloc, who, style, made)?;
-    let (ended, live) = live_script(alloc, live, &mut Keys(input), serve_on);
+    let (ended, live) = live_script(alloc, live, &mut keys, serve_on);
     let (made, printed) = live.into_parts();
     Ok(Played {
         ended,
@@ -101,12 +101,11 @@ pub(crate) fn hold<'s>(
     who: Who,
     style: Style,
     made: Made<'s>,
-    input: &Typed<'_>,
+    mut keys: Keys<'_>,
     serve_on: bool,
 ) -> Result<Played<'s>, AllocError> {
     let live = made_live(alloc, who, style, made)?;
     let mut reader = Reader::new(alloc);
-    let mut keys = Keys(input);
     let (ended, live) = live_session(alloc, live, &mut keys, &mut reader, serve_on);
     let (made, printed) = live.into_parts();
     Ok(Played {
@@ -123,11 +122,7 @@ fn has(words: &str, word: &str) -> bool {
 }
 
 /// Plays a row.
-fn play_row<'s>(
-    alloc: Global,
-    row: &Row<'s>,
-    typed: &'s Typed<'s>,
-) -> Result<Played<'s>, AllocError> {
+fn play_row<'s>(alloc: Global, row: &Row, reads: &'s Reads) -> Result<Played<'s>, AllocError> {
     let who = if has(row.words, "net") {
         Who::Net
     } else {
@@ -145,18 +140,19 @@ fn play_row<'s>(
     let input = if has(row.words, "file") {
         Input::File
     } else {
-        Input::Typed(typed)
+        Input::Typed(reads)
     };
     let arrivals = Arrivals {
         events: row.events,
         answers: "",
     };
     let made = Made::new(alloc, arrivals, input, Trouble::Never);
+    let keys = Keys::new(row.input, reads);
     let serve_on = has(row.words, "serve");
     if has(row.words, "session") {
-        hold(alloc, who, style, made, typed, serve_on)
+        hold(alloc, who, style, made, keys, serve_on)
     } else {
-        play(alloc, who, style, made, typed, serve_on)
+        play(alloc, who, style, made, keys, serve_on)
     }
 }
 
@@ -166,12 +162,13 @@ fn end_text(alloc: Global, ended: Result<(), LiveStop>) -> Result<String, AllocE
         Ok(()) => format!(in alloc; "done"),
         Err(LiveStop::Unmet) => format!(in alloc; "unmet"),
         Err(LiveStop::Script(ScriptFault::BadLine(number))) => { format!(in alloc; "bad {number}") }
+        Err(LiveStop::Script(ScriptFault::Device)) => format!(in alloc; "device"),
         Err(LiveStop::Script(fault)) => format!(in alloc; "{fault}"),
     }
 }
 
 /// A row behind its mark.
-fn row_of(text: &str) -> Option<Row<'_>> {
+fn row_of(text: &'static str) -> Option<Row> {
     let (name, behind) = text.split_once('\n')?;
     let (words, behind) = behind.split_once('\n')?;
     let (events, behind) = behind.split_once("---\n")?;
@@ -196,11 +193,7 @@ fn told_text(alloc: Global, played: &Played<'_>) -> Result<String, AllocError> {
 }
 
 /// What differs from the row, if anything does.
-fn other_than(
-    alloc: Global,
-    row: &Row<'_>,
-    played: &Played<'_>,
-) -> Result<Option<String>, AllocError> {
+fn other_than(alloc: Global, row: &Row, played: &Played<'_>) -> Result<Option<String>, AllocError> {
     let printed = String::from_utf8_lossy(alloc, played.printed.as_slice())?;
     let printed = printed.as_str();
     if printed != row.printed {
@@ -220,22 +213,34 @@ fn other_than(
 }
 
 /// Plays a row, and returns what differs from it.
-fn difference(alloc: Global, row: &Row<'_>) -> Result<Option<String>, AllocError> {
-    let typed = Typed::new(row.input);
-    let played = play_row(alloc, row, &typed)?;
+fn difference<'s>(
+    alloc: Global,
+    row: &Row,
+    reads: &'s Reads,
+) -> Result<Option<String>, AllocError> {
+    let played = play_row(alloc, row, reads)?;
     other_than(alloc, row, &played)
 }
 
+/// Fails if this row differs.
+fn holds(alloc: Global, row: &Row) -> Result<(), Fail> {
+    let reads = Reads::new();
+    match difference(alloc, row, &reads)? {
+        Some(differs) => {
+            let name = row.name;
+            Err(Fail::new(format_args!("{name}: {differs}")))
+        }
+        None => Ok(()),
+    }
+}
+
 /// Fails at the first of these rows that differs.
-pub(crate) fn all_rows(alloc: Global, rows: &str) -> Result<(), Fail> {
+pub(crate) fn all_rows(alloc: Global, rows: &'static str) -> Result<(), Fail> {
     for text in rows.split("=== ").skip(1) {
         let Some(row) = row_of(text) else {
             return Err(Fail::new(format_args!("not a row: {text}")));
         };
-        if let Some(differs) = difference(alloc, &row)? {
-            let name = row.name;
-            return Err(Fail::new(format_args!("{name}: {differs}")));
-        }
+        holds(alloc, &row)?;
     }
     Ok(())
 }

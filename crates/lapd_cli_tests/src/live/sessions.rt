@@ -373,6 +373,40 @@ establish 0
 ---
 15 tei got 64
 20 0 64 confirmed
+=== an interrupted read is made again
+net pipe done
+1 line
+2 line
+3 line
+4 line
+---
+state 0 64
+|%|state 16 64
+---
+1 0 64 state 4 V(S)=0 V(A)=0 V(R)=0 RC=0 queue=0
+3 16 64 state 4 V(S)=0 V(A)=0 V(R)=0 RC=0 queue=0
+=== a read that fails ends a script
+net pipe device
+1 line
+2 line
+3 line
+---
+state 0 64
+|*|state 16 64
+---
+1 0 64 state 4 V(S)=0 V(A)=0 V(R)=0 RC=0 queue=0
+=== and a session
+net session device
+1 line
+2 line
+3 line
+---
+state 0 64
+|*|state 16 64
+---
+1 0 64 state 4 V(S)=0 V(A)=0 V(R)=0 RC=0 queue=0
+---
+greet
 === frames for no link are reported to the outside during a session
 net session done
 3 408353

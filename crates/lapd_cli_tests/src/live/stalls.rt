@@ -3,7 +3,7 @@
 
 use crate::live::made::{Arrivals, Input, Made, Trouble};
 use crate::live::played::{Who, all_rows, play};
-use crate::live::typed::Typed;
+use crate::live::typed::{Keys, Reads};
 use crate::wants::wants;
 use lapd_cli_live::{LineStyle, Style};
 use std::alloc::{AllocError, Global};
@@ -34,6 +34,18 @@ run 2000
 0 N>U SAPI 0 TEI 64 C SABME P=1
 3000 U>N SAPI 0 TEI 64 R UA F=1
 3000 0 64 confirmed
+=== a send stalls, and the next line finds the UA
+net file done
+0 stall 3000
+10 028173
+---
+establish 0 64
+release 0 64
+---
+0 N>U SAPI 0 TEI 64 C SABME P=1
+3000 U>N SAPI 0 TEI 64 R UA F=1
+3000 0 64 confirmed
+3000 N>U SAPI 0 TEI 64 C DISC P=1
 === the UA has not arrived: T200 expires once, however long the stall was
 net file done
 5 stall 3000
@@ -223,11 +235,12 @@ fn printed(
         Who::Net => (OF_NET, BY_USER),
         Who::User => (OF_USER, BY_NET),
     };
-    let typed = Typed::new(input);
+    let reads = Reads::new();
+    let keys = Keys::new(input, &reads);
     let events = "100000 close\n";
     let arrivals = Arrivals { events, answers };
     let made = Made::new(alloc, arrivals, Input::File, trouble);
-    let played = play(alloc, who, STYLE, made, &typed, false)?;
+    let played = play(alloc, who, STYLE, made, keys, false)?;
     match played.ended {
         Ok(()) => Ok(Some((played.printed, played.made.calls))),
         Err(_) => Ok(None),

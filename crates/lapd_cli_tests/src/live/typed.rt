@@ -3,44 +3,57 @@
 use lapd_cli_live::Person;
 use std::alloc::{AllocError, Global};
 use std::cell::Cell;
-use std::io::{self, Read};
+use std::io::{self, ErrorKind, Read};
 
-/// Input that is read in parts, each up to the next `|`.
+/// How often input was read.
 #[derive(Drop)]
-pub(crate) struct Typed<'s> {
-    rest: Cell<&'s str>,
-    reads: Cell<u64>,
+pub(crate) struct Reads {
+    count: Cell<u64>,
 }
 
-impl<'s> Typed<'s> {
-    /// Input of which nothing was read.
-    pub(crate) fn new(text: &'s str) -> Typed<'s> {
-        Typed {
-            rest: Cell::new(text),
-            reads: Cell::new(0),
+impl Reads {
+    /// Not at all.
+    pub(crate) fn new() -> Reads {
+        Reads {
+            count: Cell::new(0),
         }
     }
 
-    /// How often it was read.
+    /// The number.
     pub(crate) fn count(&self) -> u64 {
-        self.reads.get()
+        self.count.get()
     }
 }
 
-/// A reader of such input.
+/// Input that is read in parts, each up to the next `|`. The read of a part `%` is interrupted, and that of a part `*` fails.
 #[derive(Drop)]
-pub(crate) struct Keys<'t, 's>(pub(crate) &'t Typed<'s>);
+pub(crate) struct Keys<'s> {
+    rest: &'s str,
+    reads: &'s Reads,
+}
 
-impl Read for Keys<'_, '_> {
+impl<'s> Keys<'s> {
+    /// Input of which nothing was read, and which counts its reads here.
+    pub(crate) fn new(text: &'s str, reads: &'s Reads) -> Keys<'s> {
+        Keys { rest: text, reads }
+    }
+}
+
+impl Read for Keys<'_> {
     fn read(&mut self, octets: &mut [u8]) -> io::Result<usize> {
-        let rest = self.0.rest.get();
-        let (part, rest) = rest.split_once('|').unwrap_or((rest, ""));
-        let part = part.as_bytes();
-        let count = part.len().min(octets.len());
-        octets[..count].copy_from_slice(&part[..count]);
-        self.0.rest.set(rest);
-        self.0.reads.set(self.0.reads.get().saturating_add(1));
-        Ok(count)
+        let (part, rest) = self.rest.split_once('|').unwrap_or((self.rest, ""));
+        self.rest = rest;
+        self.reads.count.set(self.reads.count().saturating_add(1));
+        match part {
+            "%" => Err(io::Error::from(ErrorKind::Interrupted)),
+            "*" => Err(io::Error::from(ErrorKind::Other)),
+            _ => {
+                let part = part.as_bytes();
+                let count = part.len().min(octets.len());
+                octets[..count].copy_from_slice(&part[..count]);
+                Ok(count)
+            }
+        }
     }
 }
 
