@@ -8,12 +8,11 @@ use crate::dialler::Dialler;
 use crate::discards::Discards;
 use crate::door::Door;
 use crate::frame_stream::FrameStream;
-use crate::further::{COMING, Coming, DIALLED, Further};
+use crate::further::{COMING, Coming, Further};
 use crate::input::Input;
 use crate::lost::words_of;
 use crate::notes::Notes;
 use crate::peers::{LostPeer, Peers};
-use crate::reason::Reason;
 use lapd_cli_live::{Impairment, Lines, Outside, Sending, Woken};
 use lapd_port::{MOST_OCTETS, PortFault};
 use lapd_sides::LinkId;
@@ -70,7 +69,7 @@ impl<'a> Connections<'a> {
             notes,
             clock: RealClock::start(rt)?,
             events: Events::with_capacity(rt.alloc(), EVENTS)?,
-            input: Input::register(&poll, INPUT),
+            input: Input::register(&poll, INPUT)?,
             peers: Peers::new(rt, most),
             further: Further::Nowhere,
             idle_limit: None,
@@ -186,7 +185,10 @@ impl<'a> Connections<'a> {
         } = coming;
         match self.add(stream, peer) {
             Ok(()) => self.notes.say(format_args!("{words} {peer}")),
-            Err(error) => self.notes.say(format_args!("{peer}: {}", Reason(&error))),
+            Err(error) => {
+                let now = self.clock.latest();
+                self.further.miss(peer, &error, now, self.notes);
+            }
         }
     }
 
@@ -213,7 +215,7 @@ impl<'a> Connections<'a> {
             let token = event.token();
             if token == INPUT {
                 self.input.wake();
-            } else if token == COMING || token == DIALLED {
+            } else if token == COMING {
                 self.further.wake();
             } else {
                 self.peers.wake(token.0);

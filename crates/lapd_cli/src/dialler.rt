@@ -11,6 +11,9 @@ const FIRST_PAUSE: u64 = 100;
 /// The most milliseconds between two attempts.
 const MOST_PAUSE: u64 = 5000;
 
+/// The milliseconds after which an attempt is given up that was not answered.
+const ATTEMPT: u64 = 5000;
+
 /// Connects again and again, with pauses that double, until a connection is made.
 #[derive(Drop)]
 pub struct Dialler {
@@ -27,10 +30,8 @@ enum Dialling {
     Idle,
     /// The next attempt is made at this moment, in milliseconds.
     Pausing(u64),
-    /// An attempt was begun, and nothing was reported of it.
-    Begun(TcpStream),
-    /// An attempt was begun, and something was reported of it.
-    Reported(TcpStream),
+    /// An attempt is under way, and is given up at this moment, in milliseconds.
+    Begun(TcpStream, u64),
 }
 
 /// What an attempt came to.
@@ -65,20 +66,11 @@ impl Dialler {
         self.put_off(now)
     }
 
-    /// Something was reported of the attempt.
-    pub fn wake(&mut self) {
-        self.state = match self.take_state() {
-            Dialling::Begun(stream) => Dialling::Reported(stream),
-            state => state,
-        };
-    }
-
-    /// When there is something to be done, in milliseconds. `None` while nothing is.
+    /// When there is something to be done, in milliseconds, unless an attempt ends before. `None` while nothing is.
     pub fn next_moment(&self) -> Option<u64> {
         match &self.state {
-            Dialling::Idle | Dialling::Begun(_) => None,
-            Dialling::Pausing(moment) => Some(*moment),
-            Dialling::Reported(_) => Some(0),
+            Dialling::Idle => None,
+            Dialling::Pausing(moment) | Dialling::Begun(_, moment) => Some(*moment),
         }
     }
 
@@ -86,10 +78,10 @@ impl Dialler {
     pub fn go_on(&mut self, rt: &HostRuntime, poll: &Poll, token: Token, now: u64) -> Attempt {
         match self.take_state() {
             Dialling::Pausing(moment) if moment <= now => match self.connect(rt, poll, token) {
-                Ok(stream) => self.wait_for(stream),
+                Ok(stream) => self.wait_for(stream, now.saturating_add(ATTEMPT)),
                 Err(error) => self.fail(now, error),
             },
-            Dialling::Reported(stream) => self.finish(poll, now, stream),
+            Dialling::Begun(stream, end) => self.finish(poll, now, stream, end),
             state => {
                 self.state = state;
                 Attempt::Open
@@ -110,8 +102,8 @@ impl Dialler {
         pause
     }
 
-    fn wait_for(&mut self, stream: TcpStream) -> Attempt {
-        self.state = Dialling::Begun(stream);
+    fn wait_for(&mut self, stream: TcpStream, end: u64) -> Attempt {
+        self.state = Dialling::Begun(stream, end);
         Attempt::Open
     }
 
@@ -128,14 +120,15 @@ impl Dialler {
         Ok(stream)
     }
 
-    /// Ends an attempt of which something was reported, if it has ended.
-    fn finish(&mut self, poll: &Poll, now: u64, mut stream: TcpStream) -> Attempt {
+    /// Ends an attempt, if it has ended, or has lasted for too long.
+    fn finish(&mut self, poll: &Poll, now: u64, mut stream: TcpStream, end: u64) -> Attempt {
         match is_made(&stream) {
             Ok(true) => match poll.registry().deregister(&mut stream) {
                 Ok(()) => Attempt::Made(stream),
                 Err(error) => self.fail(now, error),
             },
-            Ok(false) => self.wait_for(stream),
+            Ok(false) if end <= now => self.fail(now, io::Error::from(ErrorKind::TimedOut)),
+            Ok(false) => self.wait_for(stream, end),
             Err(error) => self.fail(now, error),
         }
     }

@@ -14,7 +14,7 @@ use std::net::SocketAddr;
 pub const COMING: Token = Token(1001);
 
 /// The token of a connection that is being made.
-pub const DIALLED: Token = Token(1002);
+const DIALLED: Token = Token(1002);
 
 /// Where further connections come from.
 #[derive(Drop)]
@@ -43,12 +43,10 @@ impl Further {
         matches!(self, Further::Nowhere)
     }
 
-    /// Something was reported.
+    /// A connection that comes was reported.
     pub fn wake(&mut self) {
-        match self {
-            Further::Nowhere => {}
-            Further::Door(door) => door.wake(),
-            Further::Dialler(dialler) => dialler.wake(),
+        if let Further::Door(door) = self {
+            door.wake();
         }
     }
 
@@ -101,6 +99,18 @@ impl Further {
             Further::Dialler(dialler) => {
                 let pause = dialler.begin(now);
                 notes.say(format_args!("connection lost: {why}; connecting again in {pause} ms"));
+            }
+        }
+    }
+
+    /// A connection that was there at this moment, in milliseconds, could not be added. Says so, and what follows.
+    pub fn miss(&mut self, peer: SocketAddr, why: &io::Error, now: u64, notes: &Notes<'_>) {
+        let why = Reason(why);
+        match self {
+            Further::Nowhere | Further::Door(_) => notes.say(format_args!("{peer}: {why}")),
+            Further::Dialler(dialler) => {
+                let pause = dialler.begin(now);
+                notes.say(format_args!("cannot connect: {why}; connecting again in {pause} ms"));
             }
         }
     }

@@ -2,7 +2,7 @@
 
 use mio::unix::SourceFd;
 use mio::{Interest, Poll, Token};
-use std::io;
+use std::io::{self, ErrorKind};
 use std::os::fd::RawFd;
 
 /// The descriptor of standard input.
@@ -24,14 +24,21 @@ pub enum Input {
 impl Input {
     /// Has a poll report by this token that standard input can be read. Of a regular file, which can't be polled, nothing is
     /// reported.
-    pub fn register(poll: &Poll, token: Token) -> Input {
+    ///
+    /// # Errors
+    ///
+    /// The system has no room for a further descriptor that is polled.
+    pub fn register(poll: &Poll, token: Token) -> io::Result<Input> {
         let mut input = SourceFd(&STANDARD_INPUT);
         match poll
             .registry()
             .register(&mut input, token, Interest::READABLE)
         {
-            Ok(()) => Input::Watched,
-            Err(_) => Input::Free,
+            Ok(()) => Ok(Input::Watched),
+            Err(error) => match error.kind() {
+                ErrorKind::OutOfMemory | ErrorKind::StorageFull => Err(error),
+                _ => Ok(Input::Free),
+            },
         }
     }
 
