@@ -52,19 +52,20 @@ impl DelayedFrame {
 
 impl Delays {
     ghost use Rattle.std.specs.Prelude.{◌≡◌, [], IfNone, IfSome, OnOk};
+    ghost use Rattle.lapd_sides.specs.User.{seeded};
     ghost use Rattle.lapd_cli_live.specs.Delays.{FirstIsLater, IsDrawn, IsPutOff, IsTakenOff, first_moment, is_direct, moment_of_next as moment_behind};
 
     /// Nothing is lost or delayed so far. Which frames are lost later depends on the seed.
     pub(crate) fn new(alloc: Global, seed: u64) -> Delays
         ensures loss { result.impairment.loss ≡ 0 }
         ensures delay { result.impairment.delay ≡ 0 }
+        ensures random { result.random ≡ seeded seed }
         ensures none { result.delayed.items ≡ [] }
     {
         Delays {
             alloc,
             impairment: Impairment { loss: 0, delay: 0 },
-            // The references of a side are drawn by the seed itself.
-            random: Pcg32::seed_from_u64(seed ^ u64::MAX),
+            random: Pcg32::seed_from_u64(seed),
             delayed: VecDeque::new(alloc),
             latest: 0,
         }

@@ -22,6 +22,7 @@ pub struct Impaired<O> {
 
 impl<O: Outside> Impaired<O> {
     ghost use Rattle.std.specs.Prelude.{[]};
+    ghost use Rattle.lapd_sides.specs.User.{seeded};
     ghost use Rattle.lapd_cli_live.specs.Delays.{Does, IsOver, PutsOff, Round, SendsDue, WaitsOnce};
 
     /// A line that is not impaired so far. Which frames are lost later depends on the seed.
@@ -29,6 +30,7 @@ impl<O: Outside> Impaired<O> {
         ensures inner { result.inner ≡ inner }
         ensures loss { result.delays.impairment.loss ≡ 0 }
         ensures delay { result.delays.impairment.delay ≡ 0 }
+        ensures random { result.delays.random ≡ seeded seed }
         ensures none { result.delays.delayed.items ≡ [] }
     {
         Impaired {
@@ -103,9 +105,15 @@ impl<O: Outside> Impaired<O> {
 }
 
 impl<O: Outside> Outside for Impaired<O> {
+    ghost use Rattle.std.specs.Prelude.{◌∷◌, []};
+    ghost use Rattle.lapd_cli_live.specs.Deeds.{Adds, Reads};
     ghost use Rattle.lapd_cli_live.specs.Delays.{Does, HandsOver, Receives, WaitsOn};
 
-    fn moment(&mut self) -> Result<u64, PortFault> {
+    fn moment(&mut self) -> Result<u64, PortFault>
+        ensures moment { IfOk result (λ now. Adds (O.deeds self.old.inner)
+            (O.deeds self.new.inner) (Reads now ∷ [])) }
+        ensures delays { self.new.delays ≡ self.old.delays }
+    {
         self.inner.moment()
     }
 
