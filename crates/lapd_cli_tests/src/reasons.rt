@@ -251,22 +251,20 @@ fn typed_row_holds(alloc: Global, script: Script, row: &str) -> bool {
     name != name_of(script) || is_meant(alloc, script, typed, meant)
 }
 
-/// The first row of a typed line that the command of `script` takes otherwise.
-fn wrong_typed(alloc: Global, script: Script) -> Option<&'static str> {
+/// Fails the test at the first typed line of a command that is meant otherwise.
+fn typed_lines_hold(alloc: Global, script: Script) -> Result<(), Fail> {
     for row in lines::TYPED.lines() {
         if !typed_row_holds(alloc, script, row) {
-            return Some(row);
+            return Err(Fail::new(format_args!("{row}")));
         }
     }
-    None
+    Ok(())
 }
 
 #[test]
 fn typed_lines_are_tidied(rt: HostRuntime) -> Result<(), Fail> {
     for (script, _words) in COMMANDS {
-        if let Some(row) = wrong_typed(rt.alloc(), *script) {
-            return Err(Fail::new(format_args!("{row}: it is tidied otherwise")));
-        }
+        typed_lines_hold(rt.alloc(), *script)?;
     }
     Ok(())
 }
