@@ -2,7 +2,7 @@
 use Rattle.std.specs.Prelude.{◌≡◌, ◌≤◌, ◌⊎◌, ℕ, ◌++◌, ◌||◌, ◌&&◌, nat_eq, nat_lt, nat_le, Bool, true, false, List, length, drop, slice_get, Option, Some, None, Result, ⊤}
 use Rattle.lapd_link.specs.Link.{LinkStandsFor}
 use Rattle.lapd_link.specs.declared.link.Link.{Link}
-use Rattle.lapd_link_rows.specs.End.{End}
+use Rattle.lapd_link_definition.specs.End.{End}
 use Rattle.lapd_table.specs.declared.link_id.LinkId.{LinkId}
 use Rattle.lapd_table.specs.declared.link_table.LinkTable.{LinkTable}
 use Rattle.lapd_table.specs.LinkTable.{link_at}

@@ -1,7 +1,7 @@
 -- The numbers that C is answered with: one for each thing that a call comes to.
 use Rattle.std.specs.Prelude.{ℕ, Result, Ok, Err, ⊤}
-use Rattle.lapd_link_rows.specs.declared.event.LinkFault.{LinkFault}
-use Rattle.lapd_link_rows.specs.declared.event.LinkFault.TheVariants as link
+use Rattle.lapd_link_definition.specs.declared.event.LinkFault.{LinkFault}
+use Rattle.lapd_link_definition.specs.declared.event.LinkFault.TheVariants as link
 use Rattle.lapd_sides_links.specs.declared.side_fault.SideFault.{SideFault}
 use Rattle.lapd_sides_links.specs.declared.side_fault.SideKind.{SideKind}
 use Rattle.lapd_sides_links.specs.declared.side_fault.SideKind.TheVariants as side

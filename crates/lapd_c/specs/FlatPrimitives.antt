@@ -4,7 +4,7 @@ use Rattle.lapd_frame.specs.Address.{sapi_value, sapi_at, number_at}
 use Rattle.lapd_frame.specs.declared.Sapi.{Sapi}
 use Rattle.lapd_frame.specs.declared.Side.{Side}
 use Rattle.lapd_frame.specs.declared.Side.TheVariants as side
-use Rattle.lapd_link_rows.specs.Out.{letter_code}
+use Rattle.lapd_link_definition.specs.Out.{letter_code}
 use Rattle.lapd_tei.specs.declared.out.TeiOut.{TeiOut}
 use Rattle.lapd_tei.specs.declared.out.TeiOut.TheVariants as tei
 use Rattle.lapd_tei.specs.Message.{group_tei}

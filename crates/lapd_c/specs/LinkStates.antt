@@ -1,7 +1,7 @@
 -- A link as C reads it: its end of the state table in numbers.
 use Rattle.std.specs.Prelude.{ℕ, Bool, true, false}
-use Rattle.lapd_link_rows.specs.End.{End, waiting}
-use Rattle.lapd_link_rows.specs.State.{state_number}
+use Rattle.lapd_link_definition.specs.End.{End, waiting}
+use Rattle.lapd_link_definition.specs.State.{state_number}
 use Rattle.lapd_c.specs.declared.link_state.LinkState.{LinkState}
 
 abbrev pub flag : Bool → ℕ

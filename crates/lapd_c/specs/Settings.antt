@@ -2,7 +2,7 @@
 use Rattle.std.specs.Prelude.{◌≡◌, ℕ, List, Bool, Option, Some, None, not, ◌==◌, ◌||◌, nat_lt, if◌then◌else◌}
 use Rattle.std.specs.List.{list_all}
 use Rattle.lapd_timers.specs.Durations.{Lengths, lengths_of}
-use Rattle.lapd_link_rows.specs.Parameters.{Parameters, parameters_of}
+use Rattle.lapd_link_definition.specs.Parameters.{Parameters, parameters_of}
 use Rattle.lapd_sides_links.specs.declared.config.Config.{Config}
 use Rattle.lapd_sides_links.specs.Effects.{no_effects}
 use Rattle.lapd_sides.specs.Network.{new_network}

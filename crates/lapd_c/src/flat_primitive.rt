@@ -2,7 +2,7 @@
 
 ghost use Rattle.std.specs.Prelude.{◌≡◌};
 ghost use Rattle.lapd_c.specs.FlatPrimitives.{flat, nothing, octets_of, octets_up, kind_of_link, count_of, letter_of, kind_of_outcome, tei_of_outcome, link_of};
-ghost use Rattle.lapd_link_rows.specs.Out.{letter_code};
+ghost use Rattle.lapd_link_definition.specs.Out.{letter_code};
 
 use lapd_sides::{Letter, LinkId, Primitive, Sapi, Tei, TeiOut, What};
 

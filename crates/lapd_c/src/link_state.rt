@@ -2,7 +2,7 @@
 
 ghost use Rattle.std.specs.Prelude.{◌≡◌};
 ghost use Rattle.lapd_link.specs.Link.{LinkStandsFor};
-ghost use Rattle.lapd_link_rows.specs.End.{End};
+ghost use Rattle.lapd_link_definition.specs.End.{End};
 ghost use Rattle.lapd_c.specs.LinkStates.{flag, state_of, no_state};
 
 use lapd_link::Link;

@@ -3,7 +3,7 @@
 //! prints octets as trace lines.
 //!
 //! Scripts come on standard input, a line for each thing that happens, and each line's answer goes
-//! to standard output before more is read. The commands stand in `lapd_cli_commands` and `lapd_cli_side_commands`, the
+//! to standard output before more is read. The commands stand in `lapd_cli_link_commands` and `lapd_cli_side_commands`, the
 //! walk over a script in `lapd_cli_script`, the command line in `lapd_cli_options`, and what is said to people about a script
 //! in `lapd_cli_console`.
 #![tactic(auto)]

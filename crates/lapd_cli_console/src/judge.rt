@@ -4,7 +4,7 @@ ghost use Rattle.std.specs.Prelude.{◌≡◌, ◌∷◌, [], drop, is_none, is_
 ghost use Rattle.std.specs.Str.{is_utf8 as utf8_told};
 ghost use Rattle.lapd_cli_script.specs.Line.{HasNoSpace, words_of};
 ghost use Rattle.lapd_cli_script.specs.Script.{is_passed_over as passed_over, outcome_of};
-ghost use Rattle.lapd_cli_commands.specs.Answer.{Session, answer_step};
+ghost use Rattle.lapd_cli_link_commands.specs.Answer.{Session, answer_step};
 ghost use Rattle.lapd_cli_console.specs.Forms.{are_said, are_words_of, begin_with_words as arguments_begin_with_words, by_arguments, is_line_of, is_said, octet_said, octets_said, text_and_last, without_percent as digits_of_percent};
 
 use crate::complaint::Complaint;

@@ -9,7 +9,7 @@ use Rattle.lapd_cli_script.specs.Line.{text_line}
 use Rattle.lapd_cli_decode.specs.declared.capture_lines.CaptureStop.{CaptureStop}
 use Rattle.lapd_cli_decode.specs.declared.capture_lines.CaptureStop.TheVariants.{Capture, Packet, Device, Memory}
 use Rattle.lapd_cli_decode.specs.declared.capture_lines.CaptureStyle.{CaptureStyle}
-use Rattle.lapd_json.specs.declared.Packet.{Packet as JsonPacket}
+use Rattle.lapd_cli_render.specs.declared.Packet.{Packet as JsonPacket}
 use Rattle.lapd_cli_decode.specs.Style.{styled_packet}
 
 -- the packet that was passed last

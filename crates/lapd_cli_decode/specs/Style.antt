@@ -2,10 +2,10 @@
 use Rattle.std.specs.Prelude.{ℕ, List, ◌++◌}
 use Rattle.lapd_frame.specs.declared.Side.{Side}
 use Rattle.lapd_trace.specs.Trace.{trace_line}
-use Rattle.lapd_names.specs.Names.{names_text}
-use Rattle.lapd_json.specs.Json.{frame_members, named_members, object_text}
-use Rattle.lapd_json.specs.declared.Packet.{Packet}
-use Rattle.lapd_json.specs.Packet.{with_packet}
+use Rattle.lapd_cli_render.specs.Names.{names_text}
+use Rattle.lapd_cli_render.specs.Json.{frame_members, named_members, object_text}
+use Rattle.lapd_cli_render.specs.declared.Packet.{Packet}
+use Rattle.lapd_cli_render.specs.Packet.{with_packet}
 use Rattle.lapd_cli_decode.specs.declared.style.Style.{Style}
 use Rattle.lapd_cli_decode.specs.declared.style.Style.TheVariants.{Plain, Named, Json, NamedJson}
 

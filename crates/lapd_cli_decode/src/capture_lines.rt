@@ -7,9 +7,9 @@ ghost use Rattle.lapd_cli_decode.specs.Captured.{CaptureEnds, found_text, IsOthe
 
 use crate::style::Style;
 use lapd_capture::{Capture, CaptureFault, Found, PacketFault, Span};
+use lapd_cli_render::Packet;
 use lapd_cli_script::{LineFault, put_line};
 use lapd_frame::Side;
-use lapd_json::Packet;
 use std::alloc::Global;
 use std::io::Write;
 use thiserror::Error;

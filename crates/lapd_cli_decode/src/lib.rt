@@ -2,7 +2,7 @@
 //!
 //! [`decode_lines`] goes over a script whose lines are of a [`LineForm`], and prints each frame in a [`Style`];
 //! [`decode_good_lines`] passes over lines that are none, and tells them. [`decode_capture`] prints the frames of a capture
-//! of `lapd_capture`. What `decode` prints without an option is `decode` of `lapd_cli_commands`.
+//! of `lapd_capture`. What `decode` prints without an option is `decode` of `lapd_cli_link_commands`.
 #![tactic(auto)]
 
 mod capture_lines;

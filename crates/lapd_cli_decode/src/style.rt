@@ -2,8 +2,8 @@ ghost use Rattle.std.specs.Prelude.{◌≡◌, ◌++◌, IfOk};
 ghost use Rattle.std.specs.String.{string_bytes};
 ghost use Rattle.lapd_cli_decode.specs.Style.{styled_packet, styled_text};
 
+use lapd_cli_render::Packet;
 use lapd_frame::Side;
-use lapd_json::Packet;
 use std::alloc::{AllocError, Global};
 
 /// How a frame is printed.
@@ -31,8 +31,8 @@ impl Style {
         match self {
             Style::Plain => lapd_trace::line(alloc, from, octets),
             Style::Named => named_line(alloc, from, octets),
-            Style::Json => lapd_json::line(alloc, from, octets),
-            Style::NamedJson => lapd_json::named_line(alloc, from, octets),
+            Style::Json => lapd_cli_render::line(alloc, from, octets),
+            Style::NamedJson => lapd_cli_render::named_line(alloc, from, octets),
         }
     }
 
@@ -53,8 +53,8 @@ impl Style {
     {
         match self {
             Style::Plain | Style::Named => self.text(alloc, from, octets),
-            Style::Json => lapd_json::packet_line(alloc, from, octets, packet),
-            Style::NamedJson => lapd_json::named_packet_line(alloc, from, octets, packet),
+            Style::Json => lapd_cli_render::packet_line(alloc, from, octets, packet),
+            Style::NamedJson => lapd_cli_render::named_packet_line(alloc, from, octets, packet),
         }
     }
 }
@@ -64,6 +64,6 @@ fn named_line(alloc: Global, from: Side, octets: &[u8]) -> Result<String, AllocE
     ensures { IfOk result (λ text. string_bytes text ≡ styled_text Style.Named from octets.now) }
 {
     let mut text = lapd_trace::line(alloc, from, octets)?;
-    lapd_names::push_names(&mut text, from, octets)?;
+    lapd_cli_render::push_names(&mut text, from, octets)?;
     Ok(text)
 }

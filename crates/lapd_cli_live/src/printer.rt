@@ -2,7 +2,7 @@
 
 ghost use Rattle.std.specs.Prelude.{◌≡◌, ◌||◌, ◌++◌, ◌∷◌, [], ℕ, List, codes, OnOk};
 ghost use Rattle.std.specs.String.{string_bytes};
-ghost use Rattle.lapd_json.specs.Json.{frame_members, object_text, primitive_members, text_members};
+ghost use Rattle.lapd_cli_render.specs.Json.{frame_members, object_text, primitive_members, text_members};
 ghost use Rattle.lapd_trace.specs.Trace.{trace_line};
 ghost use Rattle.lapd_cli_live_text.specs.Stats.{received_words, reports_words, sent_words};
 ghost use Rattle.lapd_cli_live.specs.Entries.{Dated, Lost, Named, Received, Sent, Told, Worded, begins_so as begins, moment_text, refused, sent_entry, stats_entries, timed_object, unless_quiet, with_moment};
@@ -189,7 +189,7 @@ impl<W: Write> Printer<W> {
         match self.style.lines {
             LineStyle::Text => self.put_words_line(),
             LineStyle::Json => {
-                let object = lapd_json::line(self.alloc, from, frame)?;
+                let object = lapd_cli_render::line(self.alloc, from, frame)?;
                 self.put_object_line(object.as_str())
             }
         }
@@ -224,7 +224,7 @@ impl<W: Write> Printer<W> {
         match self.style.lines {
             LineStyle::Text => self.put_words_line(),
             LineStyle::Json => {
-                let object = lapd_json::primitive_line(self.alloc, primitive)?;
+                let object = lapd_cli_render::primitive_line(self.alloc, primitive)?;
                 self.put_object_line(object.as_str())
             }
         }
@@ -271,7 +271,7 @@ impl<W: Write> Printer<W> {
         match self.style.lines {
             LineStyle::Text => self.put_words_line(),
             LineStyle::Json => {
-                let object = lapd_json::text_line(self.alloc, name, text)?;
+                let object = lapd_cli_render::text_line(self.alloc, name, text)?;
                 self.put_object_line(object.as_str())
             }
         }

@@ -9,8 +9,8 @@ use Rattle.lapd_frame.specs.declared.FrameFault.{FrameFault}
 use Rattle.lapd_frame.specs.Address.{other_side}
 use Rattle.lapd_frame.specs.Frame.{Fields}
 use Rattle.lapd_frame.specs.Reading.{frame_at}
-use Rattle.lapd_link_rows.specs.declared.out.Letter.{Letter}
-use Rattle.lapd_link_rows.specs.declared.out.Letter.TheVariants as letter
+use Rattle.lapd_link_definition.specs.declared.out.Letter.{Letter}
+use Rattle.lapd_link_definition.specs.declared.out.Letter.TheVariants as letter
 use Rattle.lapd_sides_links.specs.declared.primitive.Primitive.TheVariants.{Of}
 use Rattle.lapd_sides_links.specs.declared.primitive.What.TheVariants as what
 use Rattle.lapd_cli_live_text.specs.declared.frame_kind.FrameKind.{FrameKind}

@@ -3,7 +3,7 @@ use Rattle.std.specs.Prelude.{◌≡◌, ℕ, ◌==◌, Bool, List, [], ◌∷�
 use Rattle.lapd_frame.specs.Address.{other_side}
 use Rattle.lapd_frame.specs.declared.Side.{Side}
 use Rattle.lapd_frame.specs.Reading.{frame_at}
-use Rattle.lapd_link_rows.specs.declared.out.Letter.{Letter}
+use Rattle.lapd_link_definition.specs.declared.out.Letter.{Letter}
 use Rattle.lapd_sides_links.specs.declared.primitive.Primitive.{Primitive}
 use Rattle.lapd_sides_links.specs.declared.primitive.Primitive.TheVariants.{Of}
 use Rattle.lapd_sides_links.specs.declared.primitive.What.TheVariants as what

@@ -7,8 +7,8 @@ use Rattle.lapd_timers.specs.declared.timer.Timer.{Timer}
 use Rattle.lapd_timers.specs.declared.timer.Timer.TheVariants.{T200, T201, T202, T203}
 use Rattle.lapd_supervision.specs.StateVariables.{StateVariables}
 use Rattle.lapd_link.specs.declared.link.Link.{Link}
-use Rattle.lapd_link_rows.specs.End.{End, waiting}
-use Rattle.lapd_link_rows.specs.State.{state_number}
+use Rattle.lapd_link_definition.specs.End.{End, waiting}
+use Rattle.lapd_link_definition.specs.State.{state_number}
 use Rattle.lapd_table.specs.declared.link_id.LinkId.{LinkId}
 use Rattle.lapd_sides_links.specs.Texts.{id_text}
 

@@ -10,8 +10,8 @@ use Rattle.lapd_frame.specs.declared.Control.TheVariants as control
 use Rattle.lapd_frame.specs.declared.FrameFault.{FrameFault}
 use Rattle.lapd_frame.specs.Frame.{Fields}
 use Rattle.lapd_frame.specs.Reading.{frame_at}
-use Rattle.lapd_link_rows.specs.declared.out.Letter.{Letter}
-use Rattle.lapd_link_rows.specs.declared.out.Letter.TheVariants as letter
+use Rattle.lapd_link_definition.specs.declared.out.Letter.{Letter}
+use Rattle.lapd_link_definition.specs.declared.out.Letter.TheVariants as letter
 use Rattle.lapd_link.specs.Out.{letter_code}
 use Rattle.lapd_sides_links.specs.declared.primitive.Primitive.{Primitive}
 use Rattle.lapd_sides_links.specs.declared.primitive.Primitive.TheVariants.{Of}

@@ -4,10 +4,10 @@ use Rattle.lapd_frame.specs.declared.Side.TheVariants.{User}
 use Rattle.lapd_frame.specs.declared.Sapi.TheVariants.{Call}
 use Rattle.lapd_timers.specs.Due.{Timers}
 use Rattle.lapd_timers.specs.Durations.{standard_lengths}
-use Rattle.lapd_link_rows.specs.End.{End, new_end}
-use Rattle.lapd_link_rows.specs.Parameters.{Parameters}
-use Rattle.lapd_link_rows.specs.declared.out.Letter.TheVariants.{J}
-use Rattle.lapd_link_rows.specs.declared.state.State.TheVariants.{MultipleFrameEstablished}
+use Rattle.lapd_link_definition.specs.End.{End, new_end}
+use Rattle.lapd_link_definition.specs.Parameters.{Parameters}
+use Rattle.lapd_link_definition.specs.declared.out.Letter.TheVariants.{J}
+use Rattle.lapd_link_definition.specs.declared.state.State.TheVariants.{MultipleFrameEstablished}
 use Rattle.lapd_table.specs.declared.link_id.LinkId.{LinkId}
 use Rattle.lapd_sides_links.specs.Links.{of_sapi}
 use Rattle.lapd_sides_links.specs.declared.primitive.Primitive.TheVariants.{Of}

@@ -12,7 +12,7 @@ ghost use Rattle.lapd_cli_live_text.specs.Stats.{nothing_counted, received_words
 ghost use Rattle.lapd_cli_live_text.specs.LineObjects.{words_object};
 ghost use Rattle.lapd_cli_live_text.specs.LinkText.{link_text, management_text};
 ghost use Rattle.lapd_cli_live_text.specs.Worked.{busy_end, enquiry_timers, request_timers, worked_link, worked_stats};
-ghost use Rattle.lapd_link_rows.specs.Parameters.{Parameters};
+ghost use Rattle.lapd_link_definition.specs.Parameters.{Parameters};
 ghost use Rattle.lapd_timers.specs.Due.{at_rest};
 ghost use Rattle.lapd_timers.specs.Durations.{standard_lengths};
 

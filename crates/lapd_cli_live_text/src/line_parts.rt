@@ -20,7 +20,7 @@ pub(crate) struct LineParts {
 impl LineParts {
     ghost use Rattle.std.specs.Prelude.{codes, IfOk, OnOk};
     ghost use Rattle.std.specs.String.{string_bytes};
-    ghost use Rattle.lapd_json.specs.Json.{object_text, with_number, with_text};
+    ghost use Rattle.lapd_cli_render.specs.Json.{object_text, with_number, with_text};
     ghost use Rattle.lapd_cli_live_text.specs.LineObjects.{joined, no_parts, parts_members};
     ghost use Rattle.lapd_cli_live_text.specs.LineParts.{parts_of};
 

@@ -4,7 +4,7 @@ ghost use Rattle.std.specs.Prelude.{◌≡◌, ◌++◌, OnOk};
 ghost use Rattle.std.specs.Option.{option_copied};
 ghost use Rattle.std.specs.String.{string_bytes};
 ghost use Rattle.lapd_link.specs.Link.{LinkStandsFor};
-ghost use Rattle.lapd_link_rows.specs.End.{End};
+ghost use Rattle.lapd_link_definition.specs.End.{End};
 ghost use Rattle.lapd_sides_links.specs.Texts.{id_text};
 ghost use Rattle.lapd_timers.specs.Due.{deadline_of};
 ghost use Rattle.lapd_cli_live_text.specs.LinkText.{any_runs, busy_text, end_text, link_text, link_timers_text, management_text, number_text, numbers_text, shown_end, timer_text, timers_text, word_if};

@@ -2,8 +2,8 @@
 use Rattle.std.specs.Prelude.{◌≡◌, false, None}
 use Rattle.lapd_frame.specs.declared.Side.TheVariants.{Network}
 use Rattle.lapd_frame.specs.declared.Sapi.TheVariants.{Call}
-use Rattle.lapd_link_rows.specs.declared.recovery.Recovery.TheVariants.{Enquiry}
-use Rattle.lapd_link_rows.specs.Parameters.{Parameters}
+use Rattle.lapd_link_definition.specs.declared.recovery.Recovery.TheVariants.{Enquiry}
+use Rattle.lapd_link_definition.specs.Parameters.{Parameters}
 use Rattle.lapd_cli_values.specs.declared.link_end.LinkEnd.{LinkEnd}
 use Rattle.lapd_cli_options.specs.declared.invocation.Invocation.{Invocation}
 use Rattle.lapd_cli_options.specs.declared.invocation.Clock.TheVariants.{Script}

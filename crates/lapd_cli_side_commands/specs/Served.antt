@@ -6,7 +6,7 @@ use Rattle.lapd_timers.specs.Durations.{standard_lengths}
 use Rattle.lapd_frame.specs.declared.Side.{Side}
 use Rattle.lapd_frame.specs.declared.Sapi.TheVariants.{Call, Packet}
 use Rattle.lapd_frame.specs.Address.{other_side}
-use Rattle.lapd_link_rows.specs.Parameters.{basic_parameters}
+use Rattle.lapd_link_definition.specs.Parameters.{basic_parameters}
 use Rattle.lapd_port.specs.declared.port_fault.PortFault.TheVariants.{End}
 use Rattle.lapd_port.specs.SocketText.{frame_text, socket_text}
 use Rattle.lapd_port.specs.Port.{Shows}

@@ -3,7 +3,7 @@
 use Rattle.std.specs.Prelude.{ℕ, List, [], ◌++◌, flat_map, codes, Result, Ok, Err, ⊤}
 use Rattle.lapd_frame.specs.declared.Side.{Side}
 use Rattle.lapd_trace.specs.Trace.{trace_line}
-use Rattle.lapd_json.specs.Json.{frame_members, object_text, primitive_members, text_members}
+use Rattle.lapd_cli_render.specs.Json.{frame_members, object_text, primitive_members, text_members}
 use Rattle.lapd_cli_script.specs.Line.{text_line}
 use Rattle.lapd_tei.specs.declared.out.TeiOut.TheVariants as tei
 use Rattle.lapd_sides_links.specs.declared.primitive.Primitive.{Primitive}

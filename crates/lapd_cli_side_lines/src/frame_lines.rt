@@ -26,7 +26,7 @@ pub fn push_frame(
 {
     match style {
         LineStyle::Text => push_trace(alloc, text, side, octets),
-        LineStyle::Json => push_line(text, lapd_json::line(alloc, side, octets)?.as_str()),
+        LineStyle::Json => push_line(text, lapd_cli_render::line(alloc, side, octets)?.as_str()),
     }
 }
 

@@ -78,7 +78,10 @@ fn push_told(
 {
     match style {
         LineStyle::Text => push_words(alloc, primitive, text),
-        LineStyle::Json => push_line(text, lapd_json::primitive_line(alloc, primitive)?.as_str()),
+        LineStyle::Json => push_line(
+            text,
+            lapd_cli_render::primitive_line(alloc, primitive)?.as_str(),
+        ),
     }
 }
 
@@ -150,7 +153,10 @@ fn push_refused(
 {
     match style {
         LineStyle::Text => writeln!(text, "refused {why}"),
-        LineStyle::Json => push_line(text, lapd_json::text_line(alloc, "refused", why)?.as_str()),
+        LineStyle::Json => push_line(
+            text,
+            lapd_cli_render::text_line(alloc, "refused", why)?.as_str(),
+        ),
     }
 }
 

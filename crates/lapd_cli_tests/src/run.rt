@@ -1,6 +1,6 @@
 //! What a command does over any devices.
 
-use lapd_cli_commands::{answer, bus, decode, loop_over, pair};
+use lapd_cli_link_commands::{answer, bus, decode, loop_over, pair};
 use lapd_cli_options::{Interface, Invocation, Job, LinkEnd};
 use lapd_cli_script::ScriptFault;
 use lapd_cli_side_commands::{Config, Port, SideRun, Sink, Source, net, user};

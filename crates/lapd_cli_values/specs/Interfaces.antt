@@ -5,8 +5,8 @@ use Rattle.std.specs.Str.Parse.{digits_value}
 use Rattle.lapd_frame.specs.declared.Sapi.{Sapi}
 use Rattle.lapd_frame.specs.declared.Sapi.TheVariants.{Packet}
 use Rattle.lapd_timers.specs.Durations.{Lengths}
-use Rattle.lapd_link_rows.specs.declared.recovery.Recovery.{Recovery}
-use Rattle.lapd_link_rows.specs.Parameters.{Parameters}
+use Rattle.lapd_link_definition.specs.declared.recovery.Recovery.{Recovery}
+use Rattle.lapd_link_definition.specs.Parameters.{Parameters}
 use Rattle.lapd_cli_values.specs.Numerals.{parameters_written}
 use Rattle.lapd_cli_values.specs.Options.{IsNumberFrom}
 

@@ -1,8 +1,8 @@
 -- The numbers of a link, written as text.
 use Rattle.std.specs.Prelude.{ℕ, List}
 use Rattle.std.specs.Str.Parse.{digits_value, IsNumeral}
-use Rattle.lapd_link_rows.specs.declared.recovery.Recovery.TheVariants.{Enquiry}
-use Rattle.lapd_link_rows.specs.Parameters.{Parameters, AreInRange}
+use Rattle.lapd_link_definition.specs.declared.recovery.Recovery.TheVariants.{Enquiry}
+use Rattle.lapd_link_definition.specs.Parameters.{Parameters, AreInRange}
 
 -- the parameters with the numbers that these texts, which are decimal digits, write
 abbrev pub parameters_written : List ℕ → List ℕ → List ℕ → Parameters

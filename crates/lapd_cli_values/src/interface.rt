@@ -3,7 +3,7 @@
 ghost use Rattle.std.specs.Prelude.{◌<◌};
 ghost use Rattle.std.specs.List.{All};
 
-use lapd_link_rows::{Params, Tei};
+use lapd_link_definition::{Params, Tei};
 use lapd_timers::Durations;
 
 /// What a side of an interface is made with.

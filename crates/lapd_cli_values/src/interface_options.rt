@@ -11,7 +11,7 @@ ghost use Rattle.lapd_cli_values.specs.Options.{IsNumberFrom};
 use crate::interface::Interface;
 use crate::number_option::{KNOWN_TEI, NumberOption, SEED, T200, T201, T202, T203};
 use crate::out_of_range::{OutOfRange, number_written, params_written};
-use lapd_link_rows::{Params, Recovery, Sapi, Tei};
+use lapd_link_definition::{Params, Recovery, Sapi, Tei};
 use lapd_timers::Durations;
 use std::alloc::{AllocError, Global};
 

@@ -17,7 +17,7 @@ pub use interface::Interface;
 pub use interface_options::{
     InterfaceFault, InterfaceOptions, durations_written, interface_written, tei_written,
 };
-pub use lapd_link_rows::{Params, Recovery, Sapi, Side, Tei};
+pub use lapd_link_definition::{Params, Recovery, Sapi, Side, Tei};
 pub use lapd_timers::Durations;
 pub use link_end::LinkEnd;
 pub use number_option::{

@@ -3,7 +3,7 @@
 ghost use Rattle.std.specs.Prelude.{◌<◌, ◌≢◌};
 ghost use Rattle.lapd_frame.specs.declared.Sapi.TheVariants.{Management};
 
-use lapd_link_rows::{Params, Sapi, Side, Tei};
+use lapd_link_definition::{Params, Sapi, Side, Tei};
 
 /// One end of a link, as it is made.
 #[derive(Clone, Copy)]

@@ -4,7 +4,7 @@ ghost use Rattle.std.specs.Prelude.{◌≡◌, ◌<◌, ◌^◌, SomeIff};
 ghost use Rattle.std.specs.Str.Parse.{digits_value, IsNumeral};
 ghost use Rattle.lapd_cli_values.specs.Numerals.{parameters_written, AreWritten};
 
-use lapd_link_rows::Params;
+use lapd_link_definition::Params;
 
 /// The parameters of a link that these texts write in decimal digits alone: its window, 1 to 127 I frames, its N200, 1
 /// to 100 times, and the room of its I queue, 1 to 1,024 messages. `None` where a text is not written so, or its number

@@ -7,7 +7,7 @@ ghost use Rattle.lapd_cli_values.specs.Numerals.{parameters_written, AreWritten}
 
 use crate::number_option::{K, N200, NumberOption, ROOM, TERMINALS};
 use crate::numbers::{number_of, params_of};
-use lapd_link_rows::Params;
+use lapd_link_definition::Params;
 use thiserror::Error;
 
 /// What was written for an option that takes a number is none of its range.

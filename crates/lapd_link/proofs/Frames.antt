@@ -9,20 +9,20 @@ use Rattle.lapd_frame.specs.declared.Control.{Control}
 use Rattle.lapd_frame.specs.declared.Control.TheVariants.{Ui}
 use Rattle.lapd_frame.specs.Frame.{n201, at_most_n201, content_fault}
 use Rattle.lapd_mod128.specs.Counting.{Tagged}
-use Rattle.lapd_link_rows.specs.declared.out.Out.{Out}
-use Rattle.lapd_link_rows.specs.declared.out.Out.TheVariants.{Send, SendMessage, SendUnit}
-use Rattle.lapd_link_rows.specs.declared.event.LinkFault.TheVariants.{TooLong}
-use Rattle.lapd_link_rows.specs.Counts.{IsPlaced, ArePlaced}
-use Rattle.lapd_link_rows.specs.End.{End, StepState, begin, new_end}
-use Rattle.lapd_link_rows.specs.Input.{Input, UnitData}
-use Rattle.lapd_link_rows.specs.Numbers.{HearsNumbers}
-use Rattle.lapd_link_rows.specs.Parameters.{Parameters}
-use Rattle.lapd_link_rows.specs.SentFrames.{IsSpoken, AreSpoken, AreShort}
-use Rattle.lapd_link_rows.specs.Table.{unless, step}
-use Rattle.lapd_link_rows.proofs.KeptByStep.{step_keeps_parameters, step_is_spoken, step_is_short}
-use Rattle.lapd_link_rows.proofs.MessagesThere.{messages_are_there}
-use Rattle.lapd_link_rows.proofs.NumbersOfStep.{numbers_stay}
-use Rattle.lapd_link_rows.proofs.Soundness.{sound_new, sound_step}
+use Rattle.lapd_link_definition.specs.declared.out.Out.{Out}
+use Rattle.lapd_link_definition.specs.declared.out.Out.TheVariants.{Send, SendMessage, SendUnit}
+use Rattle.lapd_link_definition.specs.declared.event.LinkFault.TheVariants.{TooLong}
+use Rattle.lapd_link_definition.specs.Counts.{IsPlaced, ArePlaced}
+use Rattle.lapd_link_definition.specs.End.{End, StepState, begin, new_end}
+use Rattle.lapd_link_definition.specs.Input.{Input, UnitData}
+use Rattle.lapd_link_definition.specs.Numbers.{HearsNumbers}
+use Rattle.lapd_link_definition.specs.Parameters.{Parameters}
+use Rattle.lapd_link_definition.specs.SentFrames.{IsSpoken, AreSpoken, AreShort}
+use Rattle.lapd_link_definition.specs.Table.{unless, step}
+use Rattle.lapd_link_definition.proofs.KeptByStep.{step_keeps_parameters, step_is_spoken, step_is_short}
+use Rattle.lapd_link_definition.proofs.MessagesThere.{messages_are_there}
+use Rattle.lapd_link_definition.proofs.NumbersOfStep.{numbers_stay}
+use Rattle.lapd_link_definition.proofs.Soundness.{sound_new, sound_step}
 use Rattle.lapd_supervision.specs.StateVariables.{initial_variables}
 use Rattle.lapd_link_machine.specs.declared.machine.Machine.{Machine}
 use Rattle.lapd_link_machine.specs.Sent.{IsBetweenSteps}

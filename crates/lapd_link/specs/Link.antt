@@ -7,13 +7,13 @@ use Rattle.lapd_frame.specs.declared.Tei.{Tei}
 use Rattle.lapd_frame.specs.declared.Address.{Address}
 use Rattle.lapd_frame.specs.Address.{sapi_value}
 use Rattle.lapd_frame.specs.Fault.{is_for_link}
-use Rattle.lapd_link_rows.specs.declared.event.Event.{Event}
-use Rattle.lapd_link_rows.specs.declared.event.Event.TheVariants as event
-use Rattle.lapd_link_rows.specs.declared.event.LinkFault.{LinkFault}
-use Rattle.lapd_link_rows.specs.declared.out.Out.{Out}
-use Rattle.lapd_link_rows.specs.End.{End, StepState, begin}
-use Rattle.lapd_link_rows.specs.Input.{Input}
-use Rattle.lapd_link_rows.specs.Table.{step}
+use Rattle.lapd_link_definition.specs.declared.event.Event.{Event}
+use Rattle.lapd_link_definition.specs.declared.event.Event.TheVariants as event
+use Rattle.lapd_link_definition.specs.declared.event.LinkFault.{LinkFault}
+use Rattle.lapd_link_definition.specs.declared.out.Out.{Out}
+use Rattle.lapd_link_definition.specs.End.{End, StepState, begin}
+use Rattle.lapd_link_definition.specs.Input.{Input}
+use Rattle.lapd_link_definition.specs.Table.{step}
 use Rattle.lapd_link.specs.declared.link.Link.{Link}
 use Rattle.lapd_link_machine.specs.StandsFor.{StandsFor}
 

@@ -10,12 +10,12 @@ use Rattle.lapd_frame.specs.declared.Control.{Control}
 use Rattle.lapd_frame.specs.declared.Control.TheVariants.{Ui}
 use Rattle.lapd_frame.specs.Frame.{Fields, n201, content_fault, frame_of}
 use Rattle.lapd_mod128.specs.Counting.{Tagged}
-use Rattle.lapd_link_rows.specs.declared.out.Out.{Out}
-use Rattle.lapd_link_rows.specs.declared.out.Out.TheVariants as out
-use Rattle.lapd_link_rows.specs.End.{End}
-use Rattle.lapd_link_rows.specs.Numbers.{AreNumbers}
-use Rattle.lapd_link_rows.specs.Sound.{IsSound}
-use Rattle.lapd_link_rows.specs.SentFrames.{AreShort}
+use Rattle.lapd_link_definition.specs.declared.out.Out.{Out}
+use Rattle.lapd_link_definition.specs.declared.out.Out.TheVariants as out
+use Rattle.lapd_link_definition.specs.End.{End}
+use Rattle.lapd_link_definition.specs.Numbers.{AreNumbers}
+use Rattle.lapd_link_definition.specs.Sound.{IsSound}
+use Rattle.lapd_link_definition.specs.SentFrames.{AreShort}
 use Rattle.lapd_link.specs.Link.{LinkStandsFor, Setup, setup_of}
 use Rattle.lapd_link.specs.declared.link.Link.{Link}
 

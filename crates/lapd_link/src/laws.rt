@@ -3,12 +3,12 @@
 ghost use Rattle.std.specs.Prelude.{◌≡◌, ◌≤◌, ℕ, List, length, drop, Ok};
 ghost use Rattle.lapd_frame.specs.Frame.{n201};
 ghost use Rattle.lapd_mod128.specs.Counting.{Tagged};
-ghost use Rattle.lapd_link_rows.specs.declared.out.Out.{Out};
-ghost use Rattle.lapd_link_rows.specs.End.{End, StepState, new_end};
-ghost use Rattle.lapd_link_rows.specs.Input.{Input, UnitData};
-ghost use Rattle.lapd_link_rows.specs.Numbers.{HearsNumbers};
-ghost use Rattle.lapd_link_rows.specs.Parameters.{Parameters};
-ghost use Rattle.lapd_link_rows.specs.Table.{step};
+ghost use Rattle.lapd_link_definition.specs.declared.out.Out.{Out};
+ghost use Rattle.lapd_link_definition.specs.End.{End, StepState, new_end};
+ghost use Rattle.lapd_link_definition.specs.Input.{Input, UnitData};
+ghost use Rattle.lapd_link_definition.specs.Numbers.{HearsNumbers};
+ghost use Rattle.lapd_link_definition.specs.Parameters.{Parameters};
+ghost use Rattle.lapd_link_definition.specs.Table.{step};
 ghost use Rattle.lapd_link.specs.declared.link.Link.{Link};
 ghost use Rattle.lapd_link.specs.Link.{Setup, Steps};
 ghost use Rattle.lapd_link.specs.SentFrame.{HaveFrames, HasFramesOf, KeepsFrames};

@@ -38,8 +38,8 @@ mod sent_frame;
 pub use lapd_frame::{
     Address, Control, FaultKind, Frame, FrameFault, Number, Role, Sapi, Side, Tei,
 };
+pub use lapd_link_definition::{Event, Letter, LinkFault, Out, Params, Recovery, Refused, State};
 pub use lapd_link_machine::{MOST_OUTPUTS, Outs};
-pub use lapd_link_rows::{Event, Letter, LinkFault, Out, Params, Recovery, Refused, State};
 pub use lapd_queue::IQueue;
 pub use lapd_supervision::{Seq, Window};
 pub use lapd_timers::Timer;

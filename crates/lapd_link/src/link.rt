@@ -2,8 +2,8 @@ ghost use Rattle.std.specs.Prelude.{◌≡◌, ◌<◌, ◌≢◌, [], IfOk, IfE
 ghost use Rattle.lapd_link_machine.specs.Sent.{IsBetweenSteps};
 
 use lapd_frame::{Address, Sapi, Side, Tei};
+use lapd_link_definition::{Event, LinkFault, Params, Refused};
 use lapd_link_machine::{Machine, Outs};
-use lapd_link_rows::{Event, LinkFault, Params, Refused};
 use lapd_queue::IQueue;
 use lapd_supervision::Window;
 use lapd_timers::Timer;
@@ -33,10 +33,10 @@ pub struct Link {
 
 impl Link {
     ghost use Rattle.std.specs.Prelude.{ℕ, List, length};
-    ghost use Rattle.lapd_link_rows.specs.Begins.{begins};
-    ghost use Rattle.lapd_link_rows.specs.End.{End, new_end};
-    ghost use Rattle.lapd_link_rows.specs.Input.{input_of, Give};
-    ghost use Rattle.lapd_link_rows.specs.Refusal.{refused};
+    ghost use Rattle.lapd_link_definition.specs.Begins.{begins};
+    ghost use Rattle.lapd_link_definition.specs.End.{End, new_end};
+    ghost use Rattle.lapd_link_definition.specs.Input.{input_of, Give};
+    ghost use Rattle.lapd_link_definition.specs.Refusal.{refused};
     ghost use Rattle.lapd_link.specs.Link.{LinkStandsFor, Setup, setup_of, Steps, Refuses, IsForLink, is_address_of};
     ghost use Rattle.lapd_link.specs.SentFrame.{HasFramesOf};
     ghost use Rattle.lapd_link_machine.specs.Bounds.{IsBounded};
@@ -211,11 +211,11 @@ impl Link {
 }
 
 /// What a link shows.
-#[tactic(auto, unfolding(lapd_link_rows::specs::End::begin))]
+#[tactic(auto, unfolding(lapd_link_definition::specs::End::begin))]
 impl Link {
     ghost use Rattle.std.specs.Prelude.{◌-◌, length};
-    ghost use Rattle.lapd_link_rows.specs.End.{End, runs};
-    ghost use Rattle.lapd_link_rows.specs.State.{state_number};
+    ghost use Rattle.lapd_link_definition.specs.End.{End, runs};
+    ghost use Rattle.lapd_link_definition.specs.State.{state_number};
     ghost use Rattle.lapd_link.specs.Link.{LinkStandsFor, setup_of};
     ghost use Rattle.lapd_link_machine.specs.Tail.{IsTail};
 

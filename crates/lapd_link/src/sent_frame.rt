@@ -1,13 +1,13 @@
 //! What an output puts on the line.
 
 ghost use Rattle.std.specs.Prelude.{◌≡◌, drop, slice_get};
-ghost use Rattle.lapd_link_rows.specs.End.{End};
+ghost use Rattle.lapd_link_definition.specs.End.{End};
 ghost use Rattle.lapd_link.specs.Link.{LinkStandsFor, setup_of};
 ghost use Rattle.lapd_link.specs.SentFrame.{link_frame, message_frame, made_frame};
 
 use crate::Link;
 use lapd_frame::{Address, Control, Frame, Role};
-use lapd_link_rows::Out;
+use lapd_link_definition::Out;
 
 impl Link {
     /// The frame that an output of the last step puts on the line, to be written by [`lapd_frame::write`] as this side

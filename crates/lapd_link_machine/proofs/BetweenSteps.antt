@@ -6,25 +6,25 @@ use Rattle.std.specs.List.{All}
 use Rattle.lapd_frame.specs.Frame.{n201}
 use Rattle.lapd_mod128.specs.Counting.{Tagged, reaches, steps}
 use Rattle.lapd_supervision.specs.StateVariables.{StateVariables, AreTags}
-use Rattle.lapd_link_rows.specs.declared.state.State.{State}
-use Rattle.lapd_link_rows.specs.declared.state.State.TheVariants.{TeiAssigned, AwaitingEstablishment, AwaitingRelease, MultipleFrameEstablished, TimerRecovery}
-use Rattle.lapd_link_rows.specs.declared.event.LinkFault.{LinkFault}
-use Rattle.lapd_link_rows.specs.declared.event.LinkFault.TheVariants.{TooLong, QueueFull}
-use Rattle.lapd_link_rows.specs.declared.out.Out.{Out}
-use Rattle.lapd_link_rows.specs.AwaitingEstablishment.{awaiting_establishment}
-use Rattle.lapd_link_rows.specs.EndOfStep.{end_step}
-use Rattle.lapd_link_rows.specs.End.{End, StepState, begin}
-use Rattle.lapd_link_rows.specs.Established.{in_7_and_8, multiple_frame_established}
-use Rattle.lapd_link_rows.specs.Input.{Input, Give}
-use Rattle.lapd_link_rows.specs.Parameters.{Parameters}
-use Rattle.lapd_link_rows.specs.Procedures.{queue_up}
-use Rattle.lapd_link_rows.specs.Refusal.{give_refused, refused_when_full, refused}
-use Rattle.lapd_link_rows.specs.Sound.{AreAwaiting, IsSound, IsSoundIn}
-use Rattle.lapd_link_rows.specs.SentFrames.{AreShort}
-use Rattle.lapd_link_rows.specs.Table.{row, by_state, step}
-use Rattle.lapd_link_rows.specs.TimerRecovery.{timer_recovery}
-use Rattle.lapd_link_rows.proofs.KeptByStep.{step_keeps_parameters, step_is_short}
-use Rattle.lapd_link_rows.proofs.Soundness.{sound_step}
+use Rattle.lapd_link_definition.specs.declared.state.State.{State}
+use Rattle.lapd_link_definition.specs.declared.state.State.TheVariants.{TeiAssigned, AwaitingEstablishment, AwaitingRelease, MultipleFrameEstablished, TimerRecovery}
+use Rattle.lapd_link_definition.specs.declared.event.LinkFault.{LinkFault}
+use Rattle.lapd_link_definition.specs.declared.event.LinkFault.TheVariants.{TooLong, QueueFull}
+use Rattle.lapd_link_definition.specs.declared.out.Out.{Out}
+use Rattle.lapd_link_definition.specs.AwaitingEstablishment.{awaiting_establishment}
+use Rattle.lapd_link_definition.specs.EndOfStep.{end_step}
+use Rattle.lapd_link_definition.specs.End.{End, StepState, begin}
+use Rattle.lapd_link_definition.specs.Established.{in_7_and_8, multiple_frame_established}
+use Rattle.lapd_link_definition.specs.Input.{Input, Give}
+use Rattle.lapd_link_definition.specs.Parameters.{Parameters}
+use Rattle.lapd_link_definition.specs.Procedures.{queue_up}
+use Rattle.lapd_link_definition.specs.Refusal.{give_refused, refused_when_full, refused}
+use Rattle.lapd_link_definition.specs.Sound.{AreAwaiting, IsSound, IsSoundIn}
+use Rattle.lapd_link_definition.specs.SentFrames.{AreShort}
+use Rattle.lapd_link_definition.specs.Table.{row, by_state, step}
+use Rattle.lapd_link_definition.specs.TimerRecovery.{timer_recovery}
+use Rattle.lapd_link_definition.proofs.KeptByStep.{step_keeps_parameters, step_is_short}
+use Rattle.lapd_link_definition.proofs.Soundness.{sound_step}
 use Rattle.lapd_link_machine.specs.declared.machine.Machine.{Machine}
 use Rattle.lapd_link_machine.specs.Sent.{sent_in_state, IsBetweenSteps}
 use Rattle.lapd_link_machine.specs.StandsFor.{StandsFor}

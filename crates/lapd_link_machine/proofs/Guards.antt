@@ -1,8 +1,8 @@
 -- T200 guards what was sent, in both cases of whether it runs.
 use Rattle.std.proofs.Common.{◌≡◌, Bool, true, false, refl, ap, ◌∙◌, append-nil}
 use Rattle.lapd_timers.specs.declared.timer.Timer.TheVariants.{T200, T203}
-use Rattle.lapd_link_rows.specs.End.{StepState}
-use Rattle.lapd_link_rows.specs.Procedures.{ensure_t200, start, stop}
+use Rattle.lapd_link_definition.specs.End.{StepState}
+use Rattle.lapd_link_definition.specs.Procedures.{ensure_t200, start, stop}
 
 pub guard_starts : (s : StepState) → s.end.t200 ≡ false → start T200 (stop T203 s) ≡ ensure_t200 s
 unfolding ensure_t200 start stop

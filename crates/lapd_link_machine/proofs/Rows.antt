@@ -1,13 +1,13 @@
 -- A row that has a test, where the machine shows which way it goes.
 use Rattle.std.proofs.Common.{◌≡◌, ℕ, ◌<◌, ◌≤◌, nat_lt, Bool, true, false, if◌then◌else◌, List, ap, sym, ◌∙◌, arith}
 use Rattle.std.proofs.lemmas.Bool.Decides.{nat_tests}
-use Rattle.lapd_link_rows.specs.declared.out.Out.{Out}
+use Rattle.lapd_link_definition.specs.declared.out.Out.{Out}
 use Rattle.lapd_link_machine.specs.declared.machine.Machine.{Machine}
 use Rattle.lapd_link_machine.specs.StandsFor.{StandsFor}
-use Rattle.lapd_link_rows.specs.End.{StepState}
+use Rattle.lapd_link_definition.specs.End.{StepState}
 use Rattle.lapd_supervision.specs.StateVariables.{StateVariables}
-use Rattle.lapd_link_rows.specs.Established.{sends_last}
-use Rattle.lapd_link_rows.specs.Parameters.{Parameters}
+use Rattle.lapd_link_definition.specs.Established.{sends_last}
+use Rattle.lapd_link_definition.specs.Parameters.{Parameters}
 
 pub then_row : (m : Machine) (outs : List Out) (test : Bool) (x y : StepState) → test ≡ true → StandsFor m outs x → StandsFor m outs (if test then x else y)
 then_row m outs true x y q h = h

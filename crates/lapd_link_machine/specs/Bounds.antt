@@ -1,9 +1,9 @@
 -- How many outputs a step gives at most, so that whoever carries them out has room for them beforehand.
 use Rattle.std.specs.Prelude.{◌≤◌, ℕ, Bool, true, false, List, length}
 use Rattle.std.specs.List.{filter}
-use Rattle.lapd_link_rows.specs.declared.out.Out.{Out}
-use Rattle.lapd_link_rows.specs.declared.out.Out.TheVariants.{Send, SendMessage, SendUnit, Start, Stop}
-use Rattle.lapd_link_rows.specs.Input.{Input, Establish}
+use Rattle.lapd_link_definition.specs.declared.out.Out.{Out}
+use Rattle.lapd_link_definition.specs.declared.out.Out.TheVariants.{Send, SendMessage, SendUnit, Start, Stop}
+use Rattle.lapd_link_definition.specs.Input.{Input, Establish}
 use Rattle.lapd_link_machine.specs.declared.machine.TheConstants.{MOST_OUTPUTS}
 
 -- an output that the layers above are told of: neither a frame nor a timer

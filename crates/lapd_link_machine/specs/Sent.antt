@@ -6,8 +6,8 @@ use Rattle.lapd_frame.specs.Frame.{n201}
 use Rattle.lapd_mod128.specs.Counting.{Tagged}
 use Rattle.lapd_supervision.specs.StateVariables.{StateVariables, AreTags, outstanding, is_valid_nr, with_va, acknowledged_count, acknowledges_all}
 use Rattle.lapd_supervision.specs.declared.advance.Advance.{Advance}
-use Rattle.lapd_link_rows.specs.declared.state.State.{State}
-use Rattle.lapd_link_rows.specs.declared.state.State.TheVariants.{TeiAssigned, AwaitingEstablishment, AwaitingRelease, MultipleFrameEstablished, TimerRecovery}
+use Rattle.lapd_link_definition.specs.declared.state.State.{State}
+use Rattle.lapd_link_definition.specs.declared.state.State.TheVariants.{TeiAssigned, AwaitingEstablishment, AwaitingRelease, MultipleFrameEstablished, TimerRecovery}
 use Rattle.lapd_link_machine.specs.declared.machine.Machine.{Machine}
 
 -- as many messages are sent as I frames are outstanding

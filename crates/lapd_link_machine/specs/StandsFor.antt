@@ -1,8 +1,8 @@
 -- How the machine of a link shows an end, and how its methods are stated.
 use Rattle.std.specs.Prelude.{◌≡◌, ◌≤◌, ◌+◌, ℕ, List}
 use Rattle.arrayvec.specs.ArrayVec.{ArrayVec, array_vec_len}
-use Rattle.lapd_link_rows.specs.declared.out.Out.{Out}
-use Rattle.lapd_link_rows.specs.End.{StepState}
+use Rattle.lapd_link_definition.specs.declared.out.Out.{Out}
+use Rattle.lapd_link_definition.specs.End.{StepState}
 use Rattle.lapd_link_machine.specs.declared.machine.Machine.{Machine}
 use Rattle.lapd_link_machine.specs.declared.machine.TheConstants.{MOST_OUTPUTS}
 use Rattle.lapd_link_machine.specs.Tail.{IsTail}

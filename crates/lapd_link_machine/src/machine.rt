@@ -5,7 +5,7 @@ ghost use Rattle.arrayvec.specs.ArrayVec.{array_vec_len};
 
 use arrayvec::ArrayVec;
 use lapd_frame::Control;
-use lapd_link_rows::{Out, Params, State};
+use lapd_link_definition::{Out, Params, State};
 use lapd_queue::IQueue;
 use lapd_supervision::Window;
 

@@ -18,7 +18,7 @@ use crate::rows::every_state::{
 };
 use crate::text::{Subject, Text, split, with_octets, wrong_row};
 use crate::wants::none_is_wrong;
-use lapd_cli_commands::Answerer;
+use lapd_cli_link_commands::Answerer;
 use lapd_cli_script::Command;
 use lapd_frame::Side;
 use lapd_link::{IQueue, Link, Params, Timer, Window};

@@ -7,19 +7,19 @@ use Rattle.lapd_frame.specs.declared.Side.{Side}
 use Rattle.lapd_frame.specs.Frame.{Fields, n201}
 use Rattle.lapd_link.specs.Link.{LinkStandsFor}
 use Rattle.lapd_mod128.specs.Counting.{Tagged}
-use Rattle.lapd_link_rows.specs.declared.event.LinkFault.{LinkFault}
-use Rattle.lapd_link_rows.specs.declared.event.LinkFault.TheVariants.{TooLong}
-use Rattle.lapd_link_rows.specs.declared.out.Out.{Out}
-use Rattle.lapd_link_rows.specs.EndOfStep.{end_step}
-use Rattle.lapd_link_rows.specs.End.{End, begin}
-use Rattle.lapd_link_rows.specs.Input as input
-use Rattle.lapd_link_rows.specs.Input.{Input}
-use Rattle.lapd_link_rows.specs.Refusal.{refused}
-use Rattle.lapd_link_rows.specs.Table.{unless, row, step}
-use Rattle.lapd_pair_world.specs.Kept.{IsKept}
-use Rattle.lapd_pair_world.specs.Line.{Flight}
-use Rattle.lapd_pair_world.specs.Move as world
-use Rattle.lapd_pair_world.specs.Move.{View, Refused, stepped, hears, takes}
+use Rattle.lapd_link_definition.specs.declared.event.LinkFault.{LinkFault}
+use Rattle.lapd_link_definition.specs.declared.event.LinkFault.TheVariants.{TooLong}
+use Rattle.lapd_link_definition.specs.declared.out.Out.{Out}
+use Rattle.lapd_link_definition.specs.EndOfStep.{end_step}
+use Rattle.lapd_link_definition.specs.End.{End, begin}
+use Rattle.lapd_link_definition.specs.Input as input
+use Rattle.lapd_link_definition.specs.Input.{Input}
+use Rattle.lapd_link_definition.specs.Refusal.{refused}
+use Rattle.lapd_link_definition.specs.Table.{unless, row, step}
+use Rattle.lapd_pair_laws.specs.Kept.{IsKept}
+use Rattle.lapd_pair_laws.specs.Line.{Flight}
+use Rattle.lapd_pair_laws.specs.Move as world
+use Rattle.lapd_pair_laws.specs.Move.{View, Refused, stepped, hears, takes}
 use Rattle.lapd_pair.specs.declared.line.Line.{Line}
 use Rattle.lapd_pair.specs.declared.pair_fault.PairFault.{PairFault}
 use Rattle.lapd_pair.specs.declared.recorded_link.RecordedLink.{RecordedLink}

@@ -6,10 +6,10 @@ use Rattle.std.proofs.lemmas.List.{take_at, drop_at, set_at}
 use Rattle.std.proofs.lemmas.List.FromFn.{length-range_with_len, length-map-range_with_len, map-range_with_len_more, get_or-map-range_with_len}
 use Rattle.std.proofs.Math.ListN.{set}
 use Rattle.std.specs.List.{range_with_len}
-use Rattle.lapd_pair_world.specs.Histories as world
-use Rattle.lapd_pair_world.specs.Histories.{with_sending, with_acked, with_dropped}
-use Rattle.lapd_pair_world.specs.Kept.{is_one_of, AreSettled}
-use Rattle.lapd_pair_world.proofs.Settled.{one_of_both, one_of_range}
+use Rattle.lapd_pair_laws.specs.Histories as world
+use Rattle.lapd_pair_laws.specs.Histories.{with_sending, with_acked, with_dropped}
+use Rattle.lapd_pair_laws.specs.Kept.{is_one_of, AreSettled}
+use Rattle.lapd_pair_laws.proofs.Settled.{one_of_both, one_of_range}
 use Rattle.lapd_pair.specs.declared.fate.Fate.{Fate}
 use Rattle.lapd_pair.specs.declared.fate.Ending.{Ending}
 use Rattle.lapd_pair.specs.declared.fate.Ending.TheVariants.{Waiting, Acked, Dropped}

@@ -7,17 +7,17 @@ use Rattle.lapd_link.specs.Link.{Setup}
 use Rattle.lapd_link.specs.SentFrame.{made_frame, sent_frame, HaveFrames, KeepsFrames}
 use Rattle.lapd_link.proofs.Frames.{frames_of_step}
 use Rattle.lapd_mod128.specs.Counting.{Tagged}
-use Rattle.lapd_link_rows.specs.declared.event.LinkFault.{LinkFault}
-use Rattle.lapd_link_rows.specs.declared.out.Out.{Out}
-use Rattle.lapd_link_rows.specs.End.{StepState}
-use Rattle.lapd_link_rows.specs.Input as input
-use Rattle.lapd_link_rows.specs.Input.{Input}
-use Rattle.lapd_link_rows.specs.Table.{step}
+use Rattle.lapd_link_definition.specs.declared.event.LinkFault.{LinkFault}
+use Rattle.lapd_link_definition.specs.declared.out.Out.{Out}
+use Rattle.lapd_link_definition.specs.End.{StepState}
+use Rattle.lapd_link_definition.specs.Input as input
+use Rattle.lapd_link_definition.specs.Input.{Input}
+use Rattle.lapd_link_definition.specs.Table.{step}
 use Rattle.lapd_timers.specs.declared.timer.Timer.TheVariants.{T200, T203}
-use Rattle.lapd_pair_world.specs.Kept.{IsKept, IsKeptWorld}
-use Rattle.lapd_pair_world.specs.Line.{Flight, first_poll, first_final, without_lost}
-use Rattle.lapd_pair_world.specs.Move.{Deed, Give, Establish, Release, Deliver, Lose, Expire200, Expire203, Busy, UnitData, Restart, Move, Refusal, View, Turn, view_after, stepped, hears, takes, quietly, delivers, loses, unless_under_way, expires_200, expires_203, restarts, busy_input, acts}
-use Rattle.lapd_pair_world.specs.World.{World, Happened, view_of, with_view, in_world, happens}
+use Rattle.lapd_pair_laws.specs.Kept.{IsKept, IsKeptWorld}
+use Rattle.lapd_pair_laws.specs.Line.{Flight, first_poll, first_final, without_lost}
+use Rattle.lapd_pair_laws.specs.Move.{Deed, Give, Establish, Release, Deliver, Lose, Expire200, Expire203, Busy, UnitData, Restart, Move, Refusal, View, Turn, view_after, stepped, hears, takes, quietly, delivers, loses, unless_under_way, expires_200, expires_203, restarts, busy_input, acts}
+use Rattle.lapd_pair_laws.specs.World.{World, Happened, view_of, with_view, in_world, happens}
 use Rattle.lapd_pair.specs.Setup.{setup_for}
 
 -- ---- A step.

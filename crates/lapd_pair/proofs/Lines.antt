@@ -13,7 +13,7 @@ use Rattle.lapd_frame.specs.declared.FrameFault.{FrameFault}
 use Rattle.lapd_frame.specs.Frame.{Fields, IsFrame, spelling}
 use Rattle.lapd_frame.specs.Reading.{frame_at}
 use Rattle.lapd_frame.proofs.FrameAt.{frame_again}
-use Rattle.lapd_pair_world.specs.Line.{Flight, is_poll, is_final, sent_behind, without_lost}
+use Rattle.lapd_pair_laws.specs.Line.{Flight, is_poll, is_final, sent_behind, without_lost}
 use Rattle.lapd_pair.specs.declared.line.Line.{Line}
 use Rattle.lapd_pair.specs.Line.{fields_of, AreFrames, octets_on, polls_passed, finals_passed, IsOn, IsFirst}
 use Rattle.lapd_pair.specs.Marks.{is_marked, is_read_marked, place_of_marked, left_of}

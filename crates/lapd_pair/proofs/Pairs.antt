@@ -5,11 +5,11 @@ use Rattle.arrayvec.specs.ArrayVec.{ArrayVec}
 use Rattle.lapd_frame.specs.declared.Side.{Side}
 use Rattle.lapd_frame.specs.declared.Side.TheVariants.{User, Network}
 use Rattle.lapd_mod128.specs.Counting.{Tagged}
-use Rattle.lapd_link_rows.specs.declared.out.Out.{Out}
-use Rattle.lapd_link_rows.specs.Parameters.{Parameters}
-use Rattle.lapd_pair_world.specs.Move.{Move, Refusal, Turn, acts}
-use Rattle.lapd_pair_world.specs.World.{World, Happened, view_of, with_view, in_world, happens, world_after, new_station, new_world, run}
-use Rattle.lapd_pair_world.proofs.Keeping.{move_kept, new_world_kept}
+use Rattle.lapd_link_definition.specs.declared.out.Out.{Out}
+use Rattle.lapd_link_definition.specs.Parameters.{Parameters}
+use Rattle.lapd_pair_laws.specs.Move.{Move, Refusal, Turn, acts}
+use Rattle.lapd_pair_laws.specs.World.{World, Happened, view_of, with_view, in_world, happens, world_after, new_station, new_world, run}
+use Rattle.lapd_pair_laws.proofs.Keeping.{move_kept, new_world_kept}
 use Rattle.lapd_pair.specs.declared.line.Line.{Line}
 use Rattle.lapd_pair.specs.declared.pair_fault.PairFault.{PairFault}
 use Rattle.lapd_pair.specs.declared.pair_fault.PairFault.TheVariants as fault

@@ -2,16 +2,16 @@
 use Rattle.std.proofs.Common.{◌≡◌, List, [], ◌∷◌, ◌++◌, Result, Ok, Err, IfOk, subst}
 use Rattle.std.proofs.lemmas.Grind.{not_there}
 use Rattle.arrayvec.specs.ArrayVec.{ArrayVec}
-use Rattle.lapd_pair_proof.specs.Reports.{ReportsExpected, AllReportsExpected}
-use Rattle.lapd_pair_proof.proofs.Reached.{every_run_reports}
+use Rattle.lapd_pair_laws.specs.Reports.{ReportsExpected, AllReportsExpected}
+use Rattle.lapd_pair_laws.proofs.Reached.{every_run_reports}
 use Rattle.lapd_mod128.specs.Counting.{Tagged}
-use Rattle.lapd_link_rows.specs.Reports.{IsExpected, IsExpectedOut, AreExpected}
-use Rattle.lapd_link_rows.specs.declared.out.Letter.{Letter}
-use Rattle.lapd_link_rows.specs.declared.out.Letter.TheVariants as letter
-use Rattle.lapd_link_rows.specs.declared.out.Out.{Out}
-use Rattle.lapd_link_rows.specs.declared.out.Out.TheVariants.{Report}
-use Rattle.lapd_pair_world.specs.Move.{Move, Refusal}
-use Rattle.lapd_pair_world.specs.World.{World, Happened, new_world, world_after, happens, run, outcomes}
+use Rattle.lapd_link_definition.specs.Reports.{IsExpected, IsExpectedOut, AreExpected}
+use Rattle.lapd_link_definition.specs.declared.out.Letter.{Letter}
+use Rattle.lapd_link_definition.specs.declared.out.Letter.TheVariants as letter
+use Rattle.lapd_link_definition.specs.declared.out.Out.{Out}
+use Rattle.lapd_link_definition.specs.declared.out.Out.TheVariants.{Report}
+use Rattle.lapd_pair_laws.specs.Move.{Move, Refusal}
+use Rattle.lapd_pair_laws.specs.World.{World, Happened, new_world, world_after, happens, run, outcomes}
 use Rattle.lapd_pair.specs.Pair.{IsReached}
 use Rattle.lapd_pair.specs.Runs.{PairStandsFor, HasHappened}
 use Rattle.lapd_pair.specs.declared.pair.Pair.{Pair}

@@ -7,12 +7,12 @@ use Rattle.lapd_link.specs.Link.{LinkStandsFor, Setup, setup_of}
 use Rattle.lapd_link.specs.Tail.{IsTail}
 use Rattle.lapd_mod128.specs.Counting.{Tagged}
 use Rattle.lapd_queue.specs.Waiting.{Waiting}
-use Rattle.lapd_link_rows.specs.End.{End, begin, new_end}
-use Rattle.lapd_link_rows.specs.Parameters.{Parameters}
-use Rattle.lapd_pair_world.specs.Histories as world
-use Rattle.lapd_pair_world.specs.Histories.{with_rest_dropped}
-use Rattle.lapd_pair_world.specs.Kept.{AreSettled, IsKept}
-use Rattle.lapd_pair_world.specs.Move.{View, quietly, restarted, restarts}
+use Rattle.lapd_link_definition.specs.End.{End, begin, new_end}
+use Rattle.lapd_link_definition.specs.Parameters.{Parameters}
+use Rattle.lapd_pair_laws.specs.Histories as world
+use Rattle.lapd_pair_laws.specs.Histories.{with_rest_dropped}
+use Rattle.lapd_pair_laws.specs.Kept.{AreSettled, IsKept}
+use Rattle.lapd_pair_laws.specs.Move.{View, quietly, restarted, restarts}
 use Rattle.lapd_pair.specs.declared.log.Log.{Log}
 use Rattle.lapd_pair.specs.declared.line.Line.{Line}
 use Rattle.lapd_pair.specs.declared.recorded_link.RecordedLink.{RecordedLink}

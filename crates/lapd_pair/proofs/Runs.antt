@@ -2,12 +2,12 @@
 use Rattle.std.proofs.Common.{◌≡◌, ◌≤◌, ◌<◌, ◌+◌, ℕ, true, false, List, [], ◌∷◌, ◌++◌, length, take, drop, get_or, Some, Result, Ok, is_ok, refl, sym, ap, ◌∙◌, subst, arith}
 use Rattle.std.proofs.lemmas.List.{drop_more, take_more}
 use Rattle.std.proofs.lemmas.Option.{slice_get-get_or}
-use Rattle.lapd_pair_proof.specs.Reports.{ReportsExpected, AllReportsExpected}
+use Rattle.lapd_pair_laws.specs.Reports.{ReportsExpected, AllReportsExpected}
 use Rattle.lapd_mod128.specs.Counting.{Tagged}
-use Rattle.lapd_link_rows.specs.Reports.{AreExpected}
-use Rattle.lapd_link_rows.specs.declared.out.Out.{Out}
-use Rattle.lapd_pair_world.specs.Move.{Move, Refusal}
-use Rattle.lapd_pair_world.specs.World.{World, Happened, happens, world_after, run, outcomes}
+use Rattle.lapd_link_definition.specs.Reports.{AreExpected}
+use Rattle.lapd_link_definition.specs.declared.out.Out.{Out}
+use Rattle.lapd_pair_laws.specs.Move.{Move, Refusal}
+use Rattle.lapd_pair_laws.specs.World.{World, Happened, happens, world_after, run, outcomes}
 use Rattle.lapd_pair.specs.declared.pair.Pair.{Pair}
 use Rattle.lapd_pair.specs.declared.pair_fault.PairFault.{PairFault}
 use Rattle.lapd_pair.specs.declared.pair_fault.PairFault.TheVariants as fault

@@ -1,7 +1,7 @@
 -- Every pair is safe.
 use Rattle.std.proofs.Math.Logic.{∥∥₁_map}
 use Rattle.lapd_mod128.specs.Counting.{Tagged}
-use Rattle.lapd_pair_proof.proofs.Reached.{every_run_safe, every_run_reports, reached_tags, reached_outcomes}
+use Rattle.lapd_pair_laws.proofs.Reached.{every_run_safe, every_run_reports, reached_tags, reached_outcomes}
 use Rattle.lapd_pair.specs.declared.pair.Pair.{Pair}
 use Rattle.lapd_pair.specs.Runs.{IsSafePair}
 

@@ -10,13 +10,13 @@ use Rattle.std.specs.declared.alloc.Global.{Global}
 use Rattle.lapd_frame.specs.Address.{other_side}
 use Rattle.lapd_frame.specs.declared.Side.{Side}
 use Rattle.lapd_frame.specs.declared.Side.TheVariants.{User, Network}
-use Rattle.lapd_pair_proof.proofs.Reached.{every_run_safe}
+use Rattle.lapd_pair_laws.proofs.Reached.{every_run_safe}
 use Rattle.lapd_mod128.specs.Counting.{Tagged}
-use Rattle.lapd_pair_world.specs.Histories as world
-use Rattle.lapd_pair_world.specs.Histories.{Receipt}
-use Rattle.lapd_pair_world.specs.Kept.{is_one_of}
-use Rattle.lapd_pair_world.specs.Safe.{IsAmong, AreNeighboursAfter, AreNeighbours, IsSafe}
-use Rattle.lapd_pair_world.specs.World.{new_world, run}
+use Rattle.lapd_pair_laws.specs.Histories as world
+use Rattle.lapd_pair_laws.specs.Histories.{Receipt}
+use Rattle.lapd_pair_laws.specs.Kept.{is_one_of}
+use Rattle.lapd_pair_laws.specs.Safe.{IsAmong, AreNeighboursAfter, AreNeighbours, IsSafe}
+use Rattle.lapd_pair_laws.specs.World.{new_world, run}
 use Rattle.lapd_pair.specs.Establishments.{establishment_at}
 use Rattle.lapd_pair.specs.Histories.{ending_at, fate_at, fates_of, octets_and_establishment, of_received, IsHistory}
 use Rattle.lapd_pair.specs.Pair.{IsReached}

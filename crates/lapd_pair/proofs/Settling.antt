@@ -8,15 +8,15 @@ use Rattle.lapd_frame.specs.Frame.{spelling}
 use Rattle.lapd_frame.specs.declared.Side.{Side}
 use Rattle.lapd_frame.specs.declared.Side.TheVariants.{User, Network}
 use Rattle.lapd_mod128.specs.Counting.{Tagged}
-use Rattle.lapd_link_rows.specs.declared.out.Out.{Out}
-use Rattle.lapd_link_rows.specs.End.{begin}
-use Rattle.lapd_pair_world.specs.Line.{Flight}
-use Rattle.lapd_pair_world.specs.Move.{Deliver, Expire200, Move, Refusal}
-use Rattle.lapd_pair_world.specs.World.{World, Happened, new_world, happens, run, left}
-use Rattle.lapd_pair_world.proofs.Settled.{left_settled}
-use Rattle.lapd_pair_drain.specs.Settle.{IsQuiet, first_admitted, tried, next_move, settling, bound}
-use Rattle.lapd_pair_drain.proofs.Reached.{every_quiet_line_drains}
-use Rattle.lapd_pair_drain.proofs.Stepping.{one_more, no_more, next_to_network, next_to_user, next_of_user, next_of_network, next_none}
+use Rattle.lapd_link_definition.specs.declared.out.Out.{Out}
+use Rattle.lapd_link_definition.specs.End.{begin}
+use Rattle.lapd_pair_laws.specs.Line.{Flight}
+use Rattle.lapd_pair_laws.specs.Move.{Deliver, Expire200, Move, Refusal}
+use Rattle.lapd_pair_laws.specs.World.{World, Happened, new_world, happens, run, left}
+use Rattle.lapd_pair_laws.proofs.Settled.{left_settled}
+use Rattle.lapd_pair_laws.specs.Settle.{IsQuiet, first_admitted, tried, next_move, settling, bound}
+use Rattle.lapd_pair_laws.proofs.DrainsAfterRuns.{every_quiet_line_drains}
+use Rattle.lapd_pair_laws.proofs.Stepping.{one_more, no_more, next_to_network, next_to_user, next_of_user, next_of_network, next_none}
 use Rattle.lapd_pair.specs.declared.line.Line.{Line}
 use Rattle.lapd_pair.specs.declared.pair.Pair.{Pair}
 use Rattle.lapd_pair.specs.declared.pair_fault.PairFault.{PairFault}

@@ -9,28 +9,28 @@ use Rattle.lapd_frame.specs.declared.Control.TheVariants.{I, Ui}
 use Rattle.lapd_frame.specs.Frame.{n201}
 use Rattle.lapd_link.specs.Link.{LinkStandsFor, setup_of, Steps}
 use Rattle.lapd_mod128.specs.Counting.{Tagged}
-use Rattle.lapd_link_rows.specs.declared.event.LinkFault.{LinkFault}
-use Rattle.lapd_link_rows.specs.declared.event.Event.{Event}
-use Rattle.lapd_link_rows.specs.declared.event.Event.TheVariants as event
-use Rattle.lapd_link_rows.specs.declared.out.Out.{Out}
-use Rattle.lapd_link_rows.specs.declared.state.State.{State}
-use Rattle.lapd_link_rows.specs.declared.state.State.TheVariants.{TeiAssigned, AwaitingEstablishment, AwaitingRelease, MultipleFrameEstablished, TimerRecovery}
-use Rattle.lapd_link_rows.specs.Begins.{begins}
-use Rattle.lapd_link_rows.specs.Counts.{ups, unit_ups, messages_of, accepts, hears_unit}
-use Rattle.lapd_link_rows.specs.End.{End, StepState}
-use Rattle.lapd_link_rows.specs.Input as input
-use Rattle.lapd_link_rows.specs.Input.{Input, input_of}
-use Rattle.lapd_link_rows.specs.Table.{step}
-use Rattle.lapd_link_rows.proofs.InputsThatCount.{begun_by_step, begun_by_no_step, given_after, ups_after}
-use Rattle.lapd_link_rows.proofs.KeptByStep.{step_is_short}
-use Rattle.lapd_link_rows.proofs.Soundness.{sound_step}
-use Rattle.lapd_link_rows.proofs.UnitsOfStep.{units_after}
-use Rattle.lapd_pair_world.specs.Histories as world
-use Rattle.lapd_pair_world.specs.Histories.{Occasion, Story, told, with_beginning}
-use Rattle.lapd_pair_world.specs.Kept.{AreSettled, IsKept}
-use Rattle.lapd_pair_world.specs.Move.{View, story_after, view_after, stepped}
-use Rattle.lapd_pair_world.proofs.Keeping.{outputs_in_order, first_within, begun_counted, counted_by}
-use Rattle.lapd_pair_world.proofs.Telling.{settled_alike}
+use Rattle.lapd_link_definition.specs.declared.event.LinkFault.{LinkFault}
+use Rattle.lapd_link_definition.specs.declared.event.Event.{Event}
+use Rattle.lapd_link_definition.specs.declared.event.Event.TheVariants as event
+use Rattle.lapd_link_definition.specs.declared.out.Out.{Out}
+use Rattle.lapd_link_definition.specs.declared.state.State.{State}
+use Rattle.lapd_link_definition.specs.declared.state.State.TheVariants.{TeiAssigned, AwaitingEstablishment, AwaitingRelease, MultipleFrameEstablished, TimerRecovery}
+use Rattle.lapd_link_definition.specs.Begins.{begins}
+use Rattle.lapd_link_definition.specs.Counts.{ups, unit_ups, messages_of, accepts, hears_unit}
+use Rattle.lapd_link_definition.specs.End.{End, StepState}
+use Rattle.lapd_link_definition.specs.Input as input
+use Rattle.lapd_link_definition.specs.Input.{Input, input_of}
+use Rattle.lapd_link_definition.specs.Table.{step}
+use Rattle.lapd_link_definition.proofs.InputsThatCount.{begun_by_step, begun_by_no_step, given_after, ups_after}
+use Rattle.lapd_link_definition.proofs.KeptByStep.{step_is_short}
+use Rattle.lapd_link_definition.proofs.Soundness.{sound_step}
+use Rattle.lapd_link_definition.proofs.UnitsOfStep.{units_after}
+use Rattle.lapd_pair_laws.specs.Histories as world
+use Rattle.lapd_pair_laws.specs.Histories.{Occasion, Story, told, with_beginning}
+use Rattle.lapd_pair_laws.specs.Kept.{AreSettled, IsKept}
+use Rattle.lapd_pair_laws.specs.Move.{View, story_after, view_after, stepped}
+use Rattle.lapd_pair_laws.proofs.Keeping.{outputs_in_order, first_within, begun_counted, counted_by}
+use Rattle.lapd_pair_laws.proofs.Telling.{settled_alike}
 use Rattle.lapd_pair.specs.declared.log.Log.{Log}
 use Rattle.lapd_pair.specs.declared.line.Line.{Line}
 use Rattle.lapd_pair.specs.declared.recorded_link.RecordedLink.{RecordedLink}

@@ -11,16 +11,16 @@ use Rattle.lapd_frame.specs.declared.Control.TheVariants.{Ui}
 use Rattle.lapd_frame.specs.Frame.{Fields, n201, content_fault}
 use Rattle.lapd_link.specs.Link.{Setup, setup_of}
 use Rattle.lapd_link.specs.SentFrame.{link_frame, message_frame, made_frame}
-use Rattle.lapd_link_rows.specs.declared.out.Out.{Out}
-use Rattle.lapd_link_rows.specs.declared.out.Out.TheVariants.{Send, SendMessage, SendUnit, Up, UnitUp, Acknowledged, Dropped}
-use Rattle.lapd_link_rows.specs.Counts.{leaving, ups, unit_ups}
-use Rattle.lapd_link_rows.specs.End.{End}
-use Rattle.lapd_link_rows.specs.SentFrames.{AreShort}
-use Rattle.lapd_pair_world.specs.Histories as world
-use Rattle.lapd_pair_world.specs.Histories.{Occasion, Story, tell, told, with_sending, with_receipt, with_acked, with_dropped}
-use Rattle.lapd_pair_world.specs.Kept.{AreSettled, AreInOrder}
-use Rattle.lapd_pair_world.specs.Line.{Flight}
-use Rattle.lapd_pair_world.proofs.Telling.{message_is_short, unit_is_proper, in_order_then, settled_then, begun_then}
+use Rattle.lapd_link_definition.specs.declared.out.Out.{Out}
+use Rattle.lapd_link_definition.specs.declared.out.Out.TheVariants.{Send, SendMessage, SendUnit, Up, UnitUp, Acknowledged, Dropped}
+use Rattle.lapd_link_definition.specs.Counts.{leaving, ups, unit_ups}
+use Rattle.lapd_link_definition.specs.End.{End}
+use Rattle.lapd_link_definition.specs.SentFrames.{AreShort}
+use Rattle.lapd_pair_laws.specs.Histories as world
+use Rattle.lapd_pair_laws.specs.Histories.{Occasion, Story, tell, told, with_sending, with_receipt, with_acked, with_dropped}
+use Rattle.lapd_pair_laws.specs.Kept.{AreSettled, AreInOrder}
+use Rattle.lapd_pair_laws.specs.Line.{Flight}
+use Rattle.lapd_pair_laws.proofs.Telling.{message_is_short, unit_is_proper, in_order_then, settled_then, begun_then}
 use Rattle.lapd_pair.specs.declared.log.Log.{Log}
 use Rattle.lapd_pair.specs.declared.line.Line.{Line}
 use Rattle.lapd_pair.specs.declared.recorded_link.RecordedLink.{RecordedLink}

@@ -9,16 +9,16 @@ use Rattle.lapd_frame.specs.Address.{other_side}
 use Rattle.lapd_frame.specs.Frame.{Fields, IsFrame, n201, spelling}
 use Rattle.lapd_link.specs.Link.{Setup}
 use Rattle.lapd_mod128.specs.Counting.{Tagged}
-use Rattle.lapd_link_rows.specs.declared.event.LinkFault.{LinkFault}
-use Rattle.lapd_link_rows.specs.declared.out.Out.{Out}
-use Rattle.lapd_link_rows.specs.End.{StepState}
-use Rattle.lapd_link_rows.specs.Input as input
-use Rattle.lapd_link_rows.specs.Input.{Input, Expiry}
-use Rattle.lapd_link_rows.specs.Table.{step}
-use Rattle.lapd_pair_world.specs.Kept.{IsKept}
-use Rattle.lapd_pair_world.specs.Line.{Flight, without_lost, first_poll, first_final}
-use Rattle.lapd_pair_world.specs.Move as world
-use Rattle.lapd_pair_world.specs.Move.{View, Turn, Refusal, Refused, NothingThere, NotRunning, NotYet, view_after, stepped, hears, takes, delivers, busy_input, quietly, loses, restarts, acts, expires_200, expires_203}
+use Rattle.lapd_link_definition.specs.declared.event.LinkFault.{LinkFault}
+use Rattle.lapd_link_definition.specs.declared.out.Out.{Out}
+use Rattle.lapd_link_definition.specs.End.{StepState}
+use Rattle.lapd_link_definition.specs.Input as input
+use Rattle.lapd_link_definition.specs.Input.{Input, Expiry}
+use Rattle.lapd_link_definition.specs.Table.{step}
+use Rattle.lapd_pair_laws.specs.Kept.{IsKept}
+use Rattle.lapd_pair_laws.specs.Line.{Flight, without_lost, first_poll, first_final}
+use Rattle.lapd_pair_laws.specs.Move as world
+use Rattle.lapd_pair_laws.specs.Move.{View, Turn, Refusal, Refused, NothingThere, NotRunning, NotYet, view_after, stepped, hears, takes, delivers, busy_input, quietly, loses, restarts, acts, expires_200, expires_203}
 use Rattle.lapd_frame.proofs.Lengths.{content_is_short}
 use Rattle.lapd_pair.specs.declared.line.Line.{Line}
 use Rattle.lapd_pair.specs.declared.moves.Move.{Move}

@@ -2,9 +2,9 @@
 use Rattle.std.specs.Prelude.{◌≡◌, ◌+◌, ◌≤◌, ℕ, if◌then◌else◌, List, map, length}
 use Rattle.std.specs.List.{range_with_len}
 use Rattle.std.specs.Vec.{vec_len, vec_capacity}
-use Rattle.lapd_pair_world.specs.Histories as world
-use Rattle.lapd_pair_world.specs.Histories.{Receipt}
-use Rattle.lapd_pair_world.specs.Kept.{is_one_of}
+use Rattle.lapd_pair_laws.specs.Histories as world
+use Rattle.lapd_pair_laws.specs.Histories.{Receipt}
+use Rattle.lapd_pair_laws.specs.Kept.{is_one_of}
 use Rattle.lapd_pair.specs.declared.log.Log.{Log}
 use Rattle.lapd_pair.specs.declared.received.Received.{Received}
 use Rattle.lapd_pair.specs.declared.fate.Fate.{Fate}

@@ -7,7 +7,7 @@ use Rattle.lapd_frame.specs.declared.Role.{Role}
 use Rattle.lapd_frame.specs.declared.Sapi.TheVariants.{Call}
 use Rattle.lapd_frame.specs.declared.Address.{Address}
 use Rattle.lapd_frame.specs.Frame.{Fields, IsFrame, spelling}
-use Rattle.lapd_pair_world.specs.Line.{Flight, is_poll, is_final}
+use Rattle.lapd_pair_laws.specs.Line.{Flight, is_poll, is_final}
 use Rattle.lapd_pair.specs.declared.line.Line.{Line}
 
 -- the address of the one data link: SAPI 0, TEI 64

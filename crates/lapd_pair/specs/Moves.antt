@@ -1,7 +1,7 @@
 -- How the moves that are handed in show those of the world, and the refusals those that are answered.
 use Rattle.std.specs.Prelude.{◌≡◌, true, is_ok, Result, Err}
-use Rattle.lapd_pair_world.specs.Move.{Deed, Refusal, Turn, Give, Establish, Release, Deliver, Lose, Expire200, Expire203, Busy, UnitData, Restart, NothingThere, NotRunning, NotYet, Refused}
-use Rattle.lapd_pair_world.specs.Move as world
+use Rattle.lapd_pair_laws.specs.Move.{Deed, Refusal, Turn, Give, Establish, Release, Deliver, Lose, Expire200, Expire203, Busy, UnitData, Restart, NothingThere, NotRunning, NotYet, Refused}
+use Rattle.lapd_pair_laws.specs.Move as world
 use Rattle.lapd_pair.specs.declared.moves.Move.{Move}
 use Rattle.lapd_pair.specs.declared.moves.Move.TheVariants as moves
 use Rattle.lapd_pair.specs.declared.pair_fault.PairFault.{PairFault}

@@ -2,10 +2,10 @@
 use Rattle.std.specs.Prelude.{◌≤◌, List}
 use Rattle.lapd_frame.specs.declared.Side.TheVariants.{User, Network}
 use Rattle.lapd_mod128.specs.Counting.{Tagged}
-use Rattle.lapd_link_rows.specs.Parameters.{Parameters}
-use Rattle.lapd_pair_world.specs.Kept.{IsKeptWorld}
-use Rattle.lapd_pair_world.specs.Move.{Move}
-use Rattle.lapd_pair_world.specs.World.{World, new_world, run}
+use Rattle.lapd_link_definition.specs.Parameters.{Parameters}
+use Rattle.lapd_pair_laws.specs.Kept.{IsKeptWorld}
+use Rattle.lapd_pair_laws.specs.Move.{Move}
+use Rattle.lapd_pair_laws.specs.World.{World, new_world, run}
 use Rattle.lapd_pair.specs.Line.{IsOn}
 use Rattle.lapd_pair.specs.Station.{IsStation}
 use Rattle.lapd_pair.specs.declared.line.Line.{Line}

@@ -4,7 +4,7 @@ use Rattle.std.specs.declared.alloc.Global.{Global}
 use Rattle.lapd_frame.specs.Address.{other_side}
 use Rattle.lapd_frame.specs.declared.Side.{Side}
 use Rattle.lapd_frame.specs.declared.Side.TheVariants.{User, Network}
-use Rattle.lapd_pair_world.specs.Safe.{RiseFrom, IsAmong}
+use Rattle.lapd_pair_laws.specs.Safe.{RiseFrom, IsAmong}
 use Rattle.lapd_pair.specs.Establishments.{establishment_at, begun_at}
 use Rattle.lapd_pair.specs.declared.fate.Ending.{Ending}
 use Rattle.lapd_pair.specs.declared.fate.Ending.TheVariants.{Acked}

@@ -1,14 +1,14 @@
 -- What the calls of a pair come to, by the moves of the world.
 use Rattle.std.specs.Prelude.{◌≡◌, ◌+◌, ℕ, true, List, [], ◌∷◌, take, map, slice_get, Some, Result, Ok, Err, is_ok}
-use Rattle.lapd_pair_proof.specs.Reports.{AllReportsExpected}
+use Rattle.lapd_pair_laws.specs.Reports.{AllReportsExpected}
 use Rattle.lapd_mod128.specs.Counting.{Whole, Tagged}
-use Rattle.lapd_link_rows.specs.declared.out.Out.{Out}
-use Rattle.lapd_link_rows.specs.Parameters.{Parameters}
-use Rattle.lapd_pair_world.specs.Move as world
-use Rattle.lapd_pair_world.specs.Move.{Refusal}
-use Rattle.lapd_pair_world.specs.Safe.{AreSafe}
-use Rattle.lapd_pair_world.specs.Tagged.{tag_world, tag_outcome}
-use Rattle.lapd_pair_world.specs.World.{World, Happened, new_world, happens, world_after, run, outcomes}
+use Rattle.lapd_link_definition.specs.declared.out.Out.{Out}
+use Rattle.lapd_link_definition.specs.Parameters.{Parameters}
+use Rattle.lapd_pair_laws.specs.Move as world
+use Rattle.lapd_pair_laws.specs.Move.{Refusal}
+use Rattle.lapd_pair_laws.specs.Safe.{AreSafe}
+use Rattle.lapd_pair_laws.specs.Tagged.{tag_world, tag_outcome}
+use Rattle.lapd_pair_laws.specs.World.{World, Happened, new_world, happens, world_after, run, outcomes}
 use Rattle.lapd_pair.specs.Pair.{StandForWorld}
 use Rattle.lapd_pair.specs.declared.pair.Pair.{Pair}
 use Rattle.lapd_pair.specs.declared.pair_fault.RunFault.{RunFault}

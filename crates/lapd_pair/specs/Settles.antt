@@ -1,11 +1,11 @@
 -- What it comes to that a pair settles.
 use Rattle.std.specs.Prelude.{◌≡◌, ◌<◌, ◌≤◌, ℕ, true, List, length, is_none}
-use Rattle.lapd_pair_drain.specs.Drained.{IsDrained}
-use Rattle.lapd_pair_drain.specs.Settle.{IsQuiet, next_move, settling, bound, most_moves}
+use Rattle.lapd_pair_laws.specs.Drained.{IsDrained}
+use Rattle.lapd_pair_laws.specs.Settle.{IsQuiet, next_move, settling, bound, most_moves}
 use Rattle.lapd_mod128.specs.Counting.{Tagged}
-use Rattle.lapd_link_rows.specs.Parameters.{Parameters}
-use Rattle.lapd_pair_world.specs.Move as world
-use Rattle.lapd_pair_world.specs.World.{World, new_world, run, left}
+use Rattle.lapd_link_definition.specs.Parameters.{Parameters}
+use Rattle.lapd_pair_laws.specs.Move as world
+use Rattle.lapd_pair_laws.specs.World.{World, new_world, run, left}
 use Rattle.lapd_pair.specs.Runs.{PairStandsFor}
 use Rattle.lapd_pair.specs.declared.pair.Pair.{Pair}
 use Rattle.lapd_pair.specs.declared.pair_fault.PairFault.{PairFault}

@@ -4,14 +4,14 @@ use Rattle.std.specs.declared.alloc.Global.{Global}
 use Rattle.lapd_frame.specs.declared.Side.{Side}
 use Rattle.lapd_frame.specs.Address.{other_side}
 use Rattle.lapd_link.specs.Link.{LinkStandsFor, setup_of}
-use Rattle.lapd_pair_world.specs.Kept.{IsKept}
-use Rattle.lapd_pair_world.specs.Line.{Flight}
-use Rattle.lapd_pair_world.specs.Move as world
+use Rattle.lapd_pair_laws.specs.Kept.{IsKept}
+use Rattle.lapd_pair_laws.specs.Line.{Flight}
+use Rattle.lapd_pair_laws.specs.Move as world
 use Rattle.arrayvec.specs.ArrayVec.{ArrayVec}
 use Rattle.lapd_mod128.specs.Counting.{Tagged}
-use Rattle.lapd_link_rows.specs.declared.out.Out.{Out}
-use Rattle.lapd_link_rows.specs.Input.{Input, Heard, Faulty, Give, UnitData}
-use Rattle.lapd_pair_world.specs.Move.{View, Turn, Refusal}
+use Rattle.lapd_link_definition.specs.declared.out.Out.{Out}
+use Rattle.lapd_link_definition.specs.Input.{Input, Heard, Faulty, Give, UnitData}
+use Rattle.lapd_pair_laws.specs.Move.{View, Turn, Refusal}
 use Rattle.lapd_pair.specs.Histories.{IsHistory}
 use Rattle.lapd_pair.specs.Line.{IsOn}
 use Rattle.lapd_pair.specs.Setup.{setup_for}

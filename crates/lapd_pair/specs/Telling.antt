@@ -5,14 +5,14 @@ use Rattle.std.specs.declared.alloc.Global.{Global}
 use Rattle.lapd_frame.specs.declared.Side.{Side}
 use Rattle.lapd_frame.specs.Frame.{n201}
 use Rattle.lapd_link.specs.Link.{LinkStandsFor, setup_of}
-use Rattle.lapd_link_rows.specs.declared.out.Out.{Out}
-use Rattle.lapd_link_rows.specs.declared.out.Out.TheVariants.{Send, SendMessage, SendUnit, Up, UnitUp, Acknowledged, Dropped}
-use Rattle.lapd_link_rows.specs.Counts.{ups, unit_ups}
-use Rattle.lapd_link_rows.specs.End.{End}
-use Rattle.lapd_link_rows.specs.SentFrames.{AreShort}
-use Rattle.lapd_pair_world.specs.Histories.{History, Occasion, Story, message_frame, unit_frame, with_sending, with_receipt, with_unit, with_acked, with_dropped}
-use Rattle.lapd_pair_world.specs.Kept.{AreSettled, AreInOrder}
-use Rattle.lapd_pair_world.specs.Line.{Flight, without_info, sent_behind}
+use Rattle.lapd_link_definition.specs.declared.out.Out.{Out}
+use Rattle.lapd_link_definition.specs.declared.out.Out.TheVariants.{Send, SendMessage, SendUnit, Up, UnitUp, Acknowledged, Dropped}
+use Rattle.lapd_link_definition.specs.Counts.{ups, unit_ups}
+use Rattle.lapd_link_definition.specs.End.{End}
+use Rattle.lapd_link_definition.specs.SentFrames.{AreShort}
+use Rattle.lapd_pair_laws.specs.Histories.{History, Occasion, Story, message_frame, unit_frame, with_sending, with_receipt, with_unit, with_acked, with_dropped}
+use Rattle.lapd_pair_laws.specs.Kept.{AreSettled, AreInOrder}
+use Rattle.lapd_pair_laws.specs.Line.{Flight, without_info, sent_behind}
 use Rattle.lapd_pair.specs.Histories.{IsHistory}
 use Rattle.lapd_pair.specs.Line.{IsOn}
 use Rattle.lapd_pair.specs.Setup.{setup_for}

@@ -4,9 +4,9 @@ ghost use Rattle.std.specs.Prelude.{◌≡◌, ◌≤◌, [], true, length, IfOk
 ghost use Rattle.lapd_frame.specs.Frame.{n201};
 ghost use Rattle.lapd_link.specs.Link.{setup_of, is_address_of};
 ghost use Rattle.lapd_mod128.specs.Counting.{Tagged};
-ghost use Rattle.lapd_link_rows.specs.Input.{Give, UnitData, input_of};
-ghost use Rattle.lapd_pair_world.specs.Line.{Flight};
-ghost use Rattle.lapd_pair_world.specs.Move.{takes, hears, delivers, loses, expires_200, expires_203, acts, busy_input, quietly, restarts};
+ghost use Rattle.lapd_link_definition.specs.Input.{Give, UnitData, input_of};
+ghost use Rattle.lapd_pair_laws.specs.Line.{Flight};
+ghost use Rattle.lapd_pair_laws.specs.Move.{takes, hears, delivers, loses, expires_200, expires_203, acts, busy_input, quietly, restarts};
 ghost use Rattle.lapd_pair.specs.Line.{fields_of};
 ghost use Rattle.lapd_pair.specs.Moves.{move_of};
 ghost use Rattle.lapd_pair.specs.Station.{Acts, with_outs, RefusesAs, ShowsAsBefore, ActsInView, RefusesInView, ShowsViewAsBefore, IsAsked};

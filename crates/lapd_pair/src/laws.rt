@@ -4,10 +4,10 @@ ghost use Rattle.std.specs.Prelude.{◌≡◌, drop, Ok};
 ghost use Rattle.lapd_link.specs.SentFrame.{HaveFrames};
 ghost use Rattle.lapd_mod128.specs.Counting.{Tagged};
 ghost use Rattle.lapd_pair.specs.Setup.{setup_for};
-ghost use Rattle.lapd_link_rows.specs.End.{End};
-ghost use Rattle.lapd_pair_world.specs.Kept.{IsKeptWorld};
-ghost use Rattle.lapd_pair_world.specs.Move.{Move};
-ghost use Rattle.lapd_pair_world.specs.World.{World, Happened, happens, view_of};
+ghost use Rattle.lapd_link_definition.specs.End.{End};
+ghost use Rattle.lapd_pair_laws.specs.Kept.{IsKeptWorld};
+ghost use Rattle.lapd_pair_laws.specs.Move.{Move};
+ghost use Rattle.lapd_pair_laws.specs.World.{World, Happened, happens, view_of};
 
 /// Each output of a move that is sent has its frame, of the side that makes it, as it stands afterwards: the message that it
 /// carries is there, and its parts are a frame of the control table (Q.921 Table 5, 5.6.1, 5.9.3).

@@ -39,7 +39,7 @@ impl Line {
     ghost use Rattle.std.specs.Prelude.{◌≡◌, ◌<◌, ◌≤◌, ◌+◌, ℕ, nat_lt, if◌then◌else◌, true, false, List, [], ◌∷◌, ◌++◌, length, map, drop, IfNone, IfSome, OnOk};
     ghost use Rattle.std.specs.List.{remove};
     ghost use Rattle.lapd_frame.specs.Frame.{spelling};
-    ghost use Rattle.lapd_pair_world.specs.Line.{Flight, sent_behind, without_lost, first_poll, first_final};
+    ghost use Rattle.lapd_pair_laws.specs.Line.{Flight, sent_behind, without_lost, first_poll, first_final};
     ghost use Rattle.lapd_pair.specs.Line.{octets_on, polls_passed, finals_passed, fields_of, IsOn, IsFirst, HasRoomFor};
     ghost use Rattle.lapd_pair.specs.Marks.{place_of_marked, left_of};
 

@@ -1,8 +1,8 @@
 ghost use Rattle.std.specs.Prelude.{◌≡◌, ◌+◌, ◌-◌, ◌≤◌, ℕ, List, [], ◌∷◌, ◌++◌, map, length, Option, None, OnOk};
 ghost use Rattle.std.specs.Vec.{vec_len};
-ghost use Rattle.lapd_pair_world.specs.Histories as world;
-ghost use Rattle.lapd_pair_world.specs.Histories.{new_history, with_sending, with_acked, with_dropped, with_rest_dropped, with_receipt, with_unit};
-ghost use Rattle.lapd_pair_world.specs.Kept.{AreSettled};
+ghost use Rattle.lapd_pair_laws.specs.Histories as world;
+ghost use Rattle.lapd_pair_laws.specs.Histories.{new_history, with_sending, with_acked, with_dropped, with_rest_dropped, with_receipt, with_unit};
+ghost use Rattle.lapd_pair_laws.specs.Kept.{AreSettled};
 ghost use Rattle.lapd_pair.specs.Establishments.{AreNumbered};
 ghost use Rattle.lapd_pair.specs.Fates.{ended, with_endings};
 

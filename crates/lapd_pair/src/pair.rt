@@ -29,9 +29,9 @@ pub struct Pair {
 }
 
 impl Pair {
-    ghost use Rattle.lapd_pair_proof.specs.Reports.{AllReportsExpected};
-    ghost use Rattle.lapd_link_rows.specs.Reports.{AreExpected};
-    ghost use Rattle.lapd_pair_world.specs.World.{World, new_world, happens, run, outcomes};
+    ghost use Rattle.lapd_pair_laws.specs.Reports.{AllReportsExpected};
+    ghost use Rattle.lapd_link_definition.specs.Reports.{AreExpected};
+    ghost use Rattle.lapd_pair_laws.specs.World.{World, new_world, happens, run, outcomes};
     ghost use Rattle.lapd_pair.specs.Moves.{move_of, IsRefusedAs};
     ghost use Rattle.lapd_pair.specs.Readers.{AreSafeReadings};
     ghost use Rattle.lapd_pair.specs.Runs.{PairStandsFor, HasHappened, HasStoppedAt, IsSafePair, moves_made, refusals};
@@ -161,7 +161,7 @@ impl Pair {
     ghost use Rattle.lapd_link.specs.Link.{LinkStandsFor, setup_of};
     ghost use Rattle.lapd_frame.specs.Address.{other_side};
     ghost use Rattle.lapd_frame.specs.Frame.{spelling};
-    ghost use Rattle.lapd_pair_world.specs.World.{World, left, view_of};
+    ghost use Rattle.lapd_pair_laws.specs.World.{World, left, view_of};
     ghost use Rattle.lapd_pair.specs.Histories.{of_received, octets_and_establishment, fates_of};
     ghost use Rattle.lapd_pair.specs.Line.{fields_of};
     ghost use Rattle.lapd_pair.specs.Readers.{history_of, given_by, fates_by, received_by, begun_by};
@@ -276,8 +276,8 @@ impl Pair {
 /// A pair settles.
 impl Pair {
     ghost use Rattle.std.specs.Prelude.{option_map};
-    ghost use Rattle.lapd_pair_world.specs.World.{World};
-    ghost use Rattle.lapd_pair_drain.specs.Settle.{next_move, bound};
+    ghost use Rattle.lapd_pair_laws.specs.World.{World};
+    ghost use Rattle.lapd_pair_laws.specs.Settle.{next_move, bound};
     ghost use Rattle.lapd_pair.specs.Moves.{move_of};
     ghost use Rattle.lapd_pair.specs.Readers.{AreSafeReadings};
     ghost use Rattle.lapd_pair.specs.Runs.{PairStandsFor, IsSafePair};

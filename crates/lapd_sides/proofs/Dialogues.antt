@@ -2,15 +2,15 @@
 use Rattle.std.proofs.Common.{◌≡◌, [], ◌∷◌, ◌++◌, None, Some, Ok, refl}
 use Rattle.lapd_mod128.specs.Counting.{after, steps, lies_within}
 use Rattle.lapd_supervision.specs.StateVariables.{initial_variables, without_exceptions, with_zero_counters, status_frame, acknowledgement, without_ack_pending, poll_response, is_accepted, is_rejected, after_i_frame, i_frame_response, is_valid_nr, with_va, acknowledged_count, acknowledges_all, with_vs, may_send, next_i_frame, after_sending, with_own_busy, with_peer_busy}
-use Rattle.lapd_link_rows.specs.AwaitingEstablishment.{end_establishment, confirm_or_indicate, ua_final, awaiting_establishment_t200, awaiting_establishment}
-use Rattle.lapd_link_rows.specs.AwaitingRelease.{confirm_release, awaiting_release_t200, awaiting_release}
-use Rattle.lapd_link_rows.specs.EndOfStep.{send_all, acknowledge_pending, end_step}
-use Rattle.lapd_link_rows.specs.End.{begin}
-use Rattle.lapd_link_rows.specs.Established.{established_t200, acknowledge_with_timers, i_frame_nr, poll_or_final, rr_nr, rej_nr, rnr_nr, busy_on, busy_off, in_7_and_8, multiple_frame_established}
-use Rattle.lapd_link_rows.specs.Procedures.{put, state_to, rc_to, increment_rc, layer3_initiated_to, release_pending_to, start, stop, expired, clear_exception_conditions, zero_state_variables, set_peer_busy, set_own_busy, enquiry_response, transmit_enquiry, queue_up, discard_i_queue, acknowledge, invoke_retransmission, i_frame_ns, discard_unacknowledged, transmit_i_frame, ensure_t200, transmit_rr, establish_data_link, reestablish_data_link, nr_error_recovery}
-use Rattle.lapd_link_rows.specs.Table.{by_state, report_fault, row, step}
-use Rattle.lapd_link_rows.specs.TeiAssigned.{tei_assigned}
-use Rattle.lapd_link_rows.specs.TimerRecovery.{i_frame_nr_in_recovery, poll, rr_nr_in_recovery, rnr_nr_in_recovery, timer_recovery_t200, timer_recovery}
+use Rattle.lapd_link_definition.specs.AwaitingEstablishment.{end_establishment, confirm_or_indicate, ua_final, awaiting_establishment_t200, awaiting_establishment}
+use Rattle.lapd_link_definition.specs.AwaitingRelease.{confirm_release, awaiting_release_t200, awaiting_release}
+use Rattle.lapd_link_definition.specs.EndOfStep.{send_all, acknowledge_pending, end_step}
+use Rattle.lapd_link_definition.specs.End.{begin}
+use Rattle.lapd_link_definition.specs.Established.{established_t200, acknowledge_with_timers, i_frame_nr, poll_or_final, rr_nr, rej_nr, rnr_nr, busy_on, busy_off, in_7_and_8, multiple_frame_established}
+use Rattle.lapd_link_definition.specs.Procedures.{put, state_to, rc_to, increment_rc, layer3_initiated_to, release_pending_to, start, stop, expired, clear_exception_conditions, zero_state_variables, set_peer_busy, set_own_busy, enquiry_response, transmit_enquiry, queue_up, discard_i_queue, acknowledge, invoke_retransmission, i_frame_ns, discard_unacknowledged, transmit_i_frame, ensure_t200, transmit_rr, establish_data_link, reestablish_data_link, nr_error_recovery}
+use Rattle.lapd_link_definition.specs.Table.{by_state, report_fault, row, step}
+use Rattle.lapd_link_definition.specs.TeiAssigned.{tei_assigned}
+use Rattle.lapd_link_definition.specs.TimerRecovery.{i_frame_nr_in_recovery, poll, rr_nr_in_recovery, rnr_nr_in_recovery, timer_recovery_t200, timer_recovery}
 use Rattle.lapd_tei.specs.declared.out.TeiOut.TheVariants as tei
 use Rattle.lapd_sides_links.specs.declared.primitive.Primitive.TheVariants.{Of, Management}
 use Rattle.lapd_sides_links.specs.Effects.{no_effects}
@@ -18,7 +18,7 @@ use Rattle.lapd_sides_links.specs.Links.{links_below, link_acts, link_expires, i
 use Rattle.lapd_sides.specs.Management.{manages}
 use Rattle.lapd_sides.specs.Network.{new_network, assigner_acts, link_of_network, network_takes, network_expires, network_requested}
 use Rattle.lapd_frame.specs.declared.Sapi.TheVariants.{Call, Packet}
-use Rattle.lapd_link_rows.specs.declared.state.State.TheVariants.{TeiAssigned, MultipleFrameEstablished}
+use Rattle.lapd_link_definition.specs.declared.state.State.TheVariants.{TeiAssigned, MultipleFrameEstablished}
 use Rattle.lapd_timers.specs.declared.timer.Timer.TheVariants.{T200, T202, T203}
 use Rattle.lapd_timers.specs.Due.{deadline_of}
 use Rattle.lapd_sides_links.specs.declared.primitive.What.TheVariants as what

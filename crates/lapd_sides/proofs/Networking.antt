@@ -2,7 +2,7 @@
 use Rattle.std.proofs.Common.{◌≡◌, ℕ, List, [], length, Bool, false, Option, Some, None, Result, Ok, Err, refl, sym, ap, subst, ◌∙◌}
 use Rattle.std.specs.declared.alloc.Global.{Global}
 use Rattle.std.specs.Prelude.{Vec, true, OnOk, OnErr, IfErr, ◌&&◌, ◌==◌, if◌then◌else◌}
-use Rattle.lapd_link_rows.specs.Input.{Faulty, Heard, UnitData}
+use Rattle.lapd_link_definition.specs.Input.{Faulty, Heard, UnitData}
 use Rattle.lapd_frame.specs.declared.Side.{Side}
 use Rattle.lapd_frame.specs.declared.Side.TheVariants as side
 use Rattle.lapd_frame.specs.declared.Address.{Address}

@@ -12,7 +12,7 @@ use Rattle.lapd_frame.specs.declared.Side.TheVariants as side
 use Rattle.lapd_frame.specs.declared.Address.{Address}
 use Rattle.lapd_frame.specs.declared.fault_kind.FaultKind.{FaultKind}
 use Rattle.lapd_frame.specs.Frame.{Fields}
-use Rattle.lapd_link_rows.specs.Input.{Input, Faulty, Heard}
+use Rattle.lapd_link_definition.specs.Input.{Input, Faulty, Heard}
 use Rattle.lapd_timers.specs.Due.{Timers, at_rest}
 use Rattle.lapd_tei.specs.declared.out.TeiOut.{TeiOut}
 use Rattle.lapd_tei.specs.declared.phase.Phase.{Phase}

@@ -7,7 +7,7 @@ use Rattle.lapd_frame.specs.declared.Side.{Side}
 use Rattle.lapd_frame.specs.declared.Control.{Control}
 use Rattle.lapd_frame.specs.declared.Control.TheVariants.{Ui}
 use Rattle.lapd_frame.specs.Frame.{Fields}
-use Rattle.lapd_link_rows.specs.Input.{Input, BusyOn, BusyOff}
+use Rattle.lapd_link_definition.specs.Input.{Input, BusyOn, BusyOff}
 use Rattle.lapd_tei.specs.declared.out.TeiOut.{TeiOut}
 use Rattle.lapd_tei.specs.Out.{tei_given, tei_freed}
 use Rattle.lapd_tei.specs.Message.{group_tei}

@@ -12,8 +12,8 @@ use Rattle.lapd_frame.specs.declared.frame_fault.FrameFault.{FrameFault}
 use Rattle.lapd_frame.specs.declared.fault_kind.FaultKind.{FaultKind}
 use Rattle.lapd_frame.specs.Frame.{Fields, n201, spelling}
 use Rattle.lapd_frame.specs.Reading.{frame_at}
-use Rattle.lapd_link_rows.specs.declared.event.LinkFault.TheVariants.{TooLong}
-use Rattle.lapd_link_rows.specs.Input.{Input, Heard, Faulty, Establish, Release, UnitData, Give}
+use Rattle.lapd_link_definition.specs.declared.event.LinkFault.TheVariants.{TooLong}
+use Rattle.lapd_link_definition.specs.Input.{Input, Heard, Faulty, Establish, Release, UnitData, Give}
 use Rattle.lapd_tei.specs.declared.message.TeiMessage.{TeiMessage}
 use Rattle.lapd_tei.specs.declared.fault.TeiFault.{TeiFault}
 use Rattle.lapd_tei.specs.declared.assigner.AssignerEvent.{AssignerEvent}

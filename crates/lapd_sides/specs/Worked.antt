@@ -11,8 +11,8 @@ use Rattle.lapd_timers.specs.declared.timer.Timer.TheVariants.{T201, T202}
 use Rattle.lapd_timers.specs.Due.{deadline_of}
 use Rattle.lapd_timers.specs.Durations.{standard_lengths}
 use Rattle.lapd_frame.specs.declared.Sapi.TheVariants.{Call, Packet}
-use Rattle.lapd_link_rows.specs.declared.state.State.{State}
-use Rattle.lapd_link_rows.specs.Parameters.{basic_parameters}
+use Rattle.lapd_link_definition.specs.declared.state.State.{State}
+use Rattle.lapd_link_definition.specs.Parameters.{basic_parameters}
 use Rattle.lapd_table.specs.declared.link_id.LinkId.{LinkId}
 use Rattle.lapd_sides_links.specs.declared.config.Config.{Config}
 use Rattle.lapd_sides.specs.declared.request.Request.{Request}

@@ -2,7 +2,7 @@
 
 ghost use Rattle.std.specs.Prelude.{◌≡◌, ◌∷◌, ◌++◌, [], None, Some, Ok, Err};
 ghost use Rattle.lapd_frame.specs.declared.Sapi.TheVariants.{Call, Packet};
-ghost use Rattle.lapd_link_rows.specs.declared.state.State.TheVariants.{TeiAssigned, MultipleFrameEstablished};
+ghost use Rattle.lapd_link_definition.specs.declared.state.State.TheVariants.{TeiAssigned, MultipleFrameEstablished};
 ghost use Rattle.lapd_tei.specs.declared.out.TeiOut.TheVariants as tei;
 ghost use Rattle.lapd_timers.specs.declared.timer.Timer.TheVariants.{T200, T202, T203};
 ghost use Rattle.lapd_timers.specs.Due.{deadline_of};

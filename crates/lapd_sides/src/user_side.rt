@@ -2,8 +2,8 @@
 
 ghost use Rattle.std.specs.Prelude.{◌≡◌, ◌≤◌, ◌<◌, ◌+◌, ◌++◌, true, false, length, [], Some, None, Ok, Err, IfOk, IfErr, IfSome, option_copied};
 ghost use Rattle.std.specs.List.{All};
-ghost use Rattle.lapd_link_rows.specs.Input.{input_of, Establish, Release, UnitData, Give};
-ghost use Rattle.lapd_link_rows.specs.declared.event.LinkFault.TheVariants.{NotEstablished};
+ghost use Rattle.lapd_link_definition.specs.Input.{input_of, Establish, Release, UnitData, Give};
+ghost use Rattle.lapd_link_definition.specs.declared.event.LinkFault.TheVariants.{NotEstablished};
 ghost use Rattle.lapd_tei.specs.Out.{IsInRange, tei_given};
 ghost use Rattle.lapd_tei.specs.Terminal.{terminal_step};
 ghost use Rattle.lapd_tei.specs.declared.phase.Phase.{Phase};

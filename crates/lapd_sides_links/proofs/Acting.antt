@@ -13,11 +13,11 @@ use Rattle.lapd_link.specs.Link.{LinkStandsFor, Setup, setup_of, Refuses}
 use Rattle.lapd_link.specs.SentFrame.{made_frame, sent_frame, HasFramesOf}
 use Rattle.lapd_link.proofs.Frames.{frames_of_link}
 use Rattle.lapd_link.specs.declared.link.Link.{Link}
-use Rattle.lapd_link_rows.specs.declared.event.LinkFault.{LinkFault}
-use Rattle.lapd_link_rows.specs.declared.out.Out.{Out}
-use Rattle.lapd_link_rows.specs.End.{End, StepState}
-use Rattle.lapd_link_rows.specs.Input.{Input, Expiry}
-use Rattle.lapd_link_rows.specs.Table.{step}
+use Rattle.lapd_link_definition.specs.declared.event.LinkFault.{LinkFault}
+use Rattle.lapd_link_definition.specs.declared.out.Out.{Out}
+use Rattle.lapd_link_definition.specs.End.{End, StepState}
+use Rattle.lapd_link_definition.specs.Input.{Input, Expiry}
+use Rattle.lapd_link_definition.specs.Table.{step}
 use Rattle.lapd_table.specs.declared.link_id.LinkId.{LinkId}
 use Rattle.lapd_table.specs.LinkId.{id_eq, setup_for}
 use Rattle.lapd_table.specs.LinkTable.{link_at, side_of, StepsAt, RefusesAt}

@@ -5,9 +5,9 @@ use Rattle.std.specs.Prelude.{IsSomeAnd}
 use Rattle.lapd_frame.specs.declared.Side.{Side}
 use Rattle.lapd_link.specs.Link.{Refuses}
 use Rattle.lapd_link.specs.declared.link.Link.{Link}
-use Rattle.lapd_link_rows.specs.declared.event.LinkFault.TheVariants.{TooLong}
-use Rattle.lapd_link_rows.specs.Input.{UnitData}
-use Rattle.lapd_link_rows.specs.Table.{step}
+use Rattle.lapd_link_definition.specs.declared.event.LinkFault.TheVariants.{TooLong}
+use Rattle.lapd_link_definition.specs.Input.{UnitData}
+use Rattle.lapd_link_definition.specs.Table.{step}
 use Rattle.lapd_table.specs.declared.link_id.LinkId.{LinkId}
 use Rattle.lapd_table.specs.declared.link_key.LinkKey.{LinkKey}
 use Rattle.lapd_table.specs.LinkTable.{link_at, IsKey}

@@ -7,9 +7,9 @@ use Rattle.lapd_timers.specs.Due.{Timers, with_deadline, deadline_from}
 use Rattle.lapd_timers.specs.Durations.{length_of}
 use Rattle.lapd_frame.specs.declared.Side.{Side}
 use Rattle.lapd_frame.specs.Frame.{spelling}
-use Rattle.lapd_link_rows.specs.declared.out.Out.{Out}
-use Rattle.lapd_link_rows.specs.declared.out.Out.TheVariants as out
-use Rattle.lapd_link_rows.specs.End.{End}
+use Rattle.lapd_link_definition.specs.declared.out.Out.{Out}
+use Rattle.lapd_link_definition.specs.declared.out.Out.TheVariants as out
+use Rattle.lapd_link_definition.specs.End.{End}
 use Rattle.lapd_link.specs.Link.{Setup}
 use Rattle.lapd_link.specs.SentFrame.{sent_frame}
 use Rattle.lapd_tei.specs.declared.out.TeiOut.{TeiOut}

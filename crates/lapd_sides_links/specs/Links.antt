@@ -8,13 +8,13 @@ use Rattle.lapd_frame.specs.declared.Sapi.{Sapi}
 use Rattle.lapd_frame.specs.declared.Sapi.TheVariants.{Call, Packet, Management}
 use Rattle.lapd_frame.specs.declared.Side.{Side}
 use Rattle.lapd_mod128.specs.Counting.{Tagged}
-use Rattle.lapd_link_rows.specs.declared.event.LinkFault.{LinkFault}
-use Rattle.lapd_link_rows.specs.declared.state.State.{State}
-use Rattle.lapd_link_rows.specs.declared.state.State.TheVariants as state
-use Rattle.lapd_link_rows.specs.End.{End, StepState, new_end}
-use Rattle.lapd_link_rows.specs.Input.{Input, Expiry}
-use Rattle.lapd_link_rows.specs.Parameters.{Parameters}
-use Rattle.lapd_link_rows.specs.Table.{step}
+use Rattle.lapd_link_definition.specs.declared.event.LinkFault.{LinkFault}
+use Rattle.lapd_link_definition.specs.declared.state.State.{State}
+use Rattle.lapd_link_definition.specs.declared.state.State.TheVariants as state
+use Rattle.lapd_link_definition.specs.End.{End, StepState, new_end}
+use Rattle.lapd_link_definition.specs.Input.{Input, Expiry}
+use Rattle.lapd_link_definition.specs.Parameters.{Parameters}
+use Rattle.lapd_link_definition.specs.Table.{step}
 use Rattle.lapd_tei.specs.Assigner.{is_held}
 use Rattle.lapd_tei.specs.Message.{group_tei}
 use Rattle.lapd_table.specs.declared.link_id.LinkId.{LinkId}

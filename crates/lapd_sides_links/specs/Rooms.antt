@@ -1,6 +1,6 @@
 -- How much a step of a link gives at most, and that there is room for it beforehand.
 use Rattle.std.specs.Prelude.{◌≤◌, ◌+◌, length}
-use Rattle.lapd_link_rows.specs.Input.{Input}
+use Rattle.lapd_link_definition.specs.Input.{Input}
 use Rattle.lapd_link_machine.specs.Bounds.{most_outputs}
 use Rattle.lapd_sides_links.specs.declared.acts.TheConstants.{MOST_TOLD, MOST_FRAMES, MOST_PRIMITIVES}
 use Rattle.lapd_sides_links.specs.Effects.{Effects}

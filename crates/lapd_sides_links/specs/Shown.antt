@@ -6,8 +6,8 @@ use Rattle.lapd_frame.specs.Frame.{spelling}
 use Rattle.lapd_link.specs.Link.{LinkStandsFor, Setup}
 use Rattle.lapd_link.specs.SentFrame.{made_frame}
 use Rattle.lapd_link.specs.declared.link.Link.{Link}
-use Rattle.lapd_link_rows.specs.declared.out.Out.{Out}
-use Rattle.lapd_link_rows.specs.End.{End}
+use Rattle.lapd_link_definition.specs.declared.out.Out.{Out}
+use Rattle.lapd_link_definition.specs.End.{End}
 use Rattle.lapd_table.specs.declared.link_id.LinkId.{LinkId}
 use Rattle.lapd_table.specs.LinkTable.{side_of, link_at}
 use Rattle.lapd_sides_links.specs.declared.link_set.LinkSet.{LinkSet}

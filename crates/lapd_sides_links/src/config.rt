@@ -1,5 +1,5 @@
 ghost use Rattle.std.specs.Prelude.{◌≡◌, ◌&&◌, ◌==◌, false};
-ghost use Rattle.lapd_link_rows.specs.Parameters.{basic_parameters, primary_parameters};
+ghost use Rattle.lapd_link_definition.specs.Parameters.{basic_parameters, primary_parameters};
 ghost use Rattle.lapd_timers.specs.Durations.{standard_lengths};
 ghost use Rattle.lapd_tei.specs.Message.{group_tei};
 ghost use Rattle.lapd_sides_links.specs.Links.{is_served};

@@ -4,7 +4,7 @@ ghost use Rattle.std.specs.Prelude.{◌≡◌, ◌≤◌, ◌<◌, ◌+◌, ◌+
 ghost use Rattle.std.specs.List.{filter_map};
 ghost use Rattle.lapd_link.specs.Link.{LinkStandsFor, setup_of};
 ghost use Rattle.lapd_link_machine.specs.Bounds.{is_told, told_count};
-ghost use Rattle.lapd_link_rows.specs.End.{End};
+ghost use Rattle.lapd_link_definition.specs.End.{End};
 ghost use Rattle.lapd_sides_links.specs.declared.acts.TheConstants.{MOST_FRAMES, MOST_PRIMITIVES};
 ghost use Rattle.lapd_sides_links.specs.declared.primitive.Primitive.TheVariants.{Of};
 ghost use Rattle.lapd_sides_links.specs.Effects.{what_of, timed};

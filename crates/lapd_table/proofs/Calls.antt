@@ -4,11 +4,11 @@ use Rattle.std.specs.Prelude.{if◌then◌else◌, option_map, IsSomeAnd}
 use Rattle.lapd_mod128.specs.Counting.{Tagged}
 use Rattle.lapd_link.specs.Link.{LinkStandsFor, Refuses}
 use Rattle.lapd_link.specs.declared.link.Link.{Link}
-use Rattle.lapd_link_rows.specs.declared.event.LinkFault.{LinkFault}
-use Rattle.lapd_link_rows.specs.declared.out.Out.{Out}
-use Rattle.lapd_link_rows.specs.End.{End, StepState}
-use Rattle.lapd_link_rows.specs.Input.{Input}
-use Rattle.lapd_link_rows.specs.Table.{step}
+use Rattle.lapd_link_definition.specs.declared.event.LinkFault.{LinkFault}
+use Rattle.lapd_link_definition.specs.declared.out.Out.{Out}
+use Rattle.lapd_link_definition.specs.End.{End, StepState}
+use Rattle.lapd_link_definition.specs.Input.{Input}
+use Rattle.lapd_link_definition.specs.Table.{step}
 use Rattle.lapd_table.specs.declared.link_id.LinkId.{LinkId}
 use Rattle.lapd_table.specs.declared.link_table.LinkTable.{LinkTable}
 use Rattle.lapd_table.specs.declared.table_fault.TableFault.{TableFault}

@@ -16,13 +16,13 @@ use Rattle.lapd_frame.specs.Address.{sapi_value, other_side}
 use Rattle.lapd_frame.specs.declared.frame_fault.FrameFault.{FrameFault}
 use Rattle.lapd_frame.specs.Frame.{Fields}
 use Rattle.lapd_frame.specs.Reading.{frame_at}
-use Rattle.lapd_link_rows.specs.declared.event.Event.{Event}
-use Rattle.lapd_link_rows.specs.declared.event.Event.TheVariants as event
-use Rattle.lapd_link_rows.specs.declared.event.LinkFault.{LinkFault}
-use Rattle.lapd_link_rows.specs.declared.out.Out.{Out}
-use Rattle.lapd_link_rows.specs.End.{End}
-use Rattle.lapd_link_rows.specs.Input.{Input}
-use Rattle.lapd_link_rows.specs.Refusal.{refused}
+use Rattle.lapd_link_definition.specs.declared.event.Event.{Event}
+use Rattle.lapd_link_definition.specs.declared.event.Event.TheVariants as event
+use Rattle.lapd_link_definition.specs.declared.event.LinkFault.{LinkFault}
+use Rattle.lapd_link_definition.specs.declared.out.Out.{Out}
+use Rattle.lapd_link_definition.specs.End.{End}
+use Rattle.lapd_link_definition.specs.Input.{Input}
+use Rattle.lapd_link_definition.specs.Refusal.{refused}
 use Rattle.lapd_link.specs.Link.{setup_of, is_address_of, IsForLink, Steps, Refuses}
 use Rattle.lapd_link.specs.declared.link.Link.{Link}
 use Rattle.lapd_link.proofs.BetweenSteps.{end_of, shows_end, step_done}

@@ -3,9 +3,9 @@ pub use Rattle.lapd_frame.specs.Fault
 pub use Rattle.lapd_frame.specs.Frame
 pub use Rattle.lapd_frame.specs.Reading
 pub use Rattle.lapd_link.specs.Link
-pub use Rattle.lapd_link_rows.specs.End
-pub use Rattle.lapd_link_rows.specs.Input
-pub use Rattle.lapd_link_rows.specs.Table
+pub use Rattle.lapd_link_definition.specs.End
+pub use Rattle.lapd_link_definition.specs.Input
+pub use Rattle.lapd_link_definition.specs.Table
 pub mod LinkId
 pub mod Octets
 pub mod Index

@@ -7,11 +7,11 @@ use Rattle.lapd_frame.specs.declared.fault_kind.FaultKind.{FaultKind}
 use Rattle.lapd_link.specs.Link.{Steps, Refuses}
 use Rattle.lapd_link.specs.declared.link.Link.{Link}
 use Rattle.lapd_frame.specs.Fault.{is_for_link}
-use Rattle.lapd_link_rows.specs.declared.event.Event.{Event}
-use Rattle.lapd_link_rows.specs.declared.event.Event.TheVariants as event
-use Rattle.lapd_link_rows.specs.declared.event.LinkFault.{LinkFault}
-use Rattle.lapd_link_rows.specs.declared.out.Out.{Out}
-use Rattle.lapd_link_rows.specs.Input.{Input}
+use Rattle.lapd_link_definition.specs.declared.event.Event.{Event}
+use Rattle.lapd_link_definition.specs.declared.event.Event.TheVariants as event
+use Rattle.lapd_link_definition.specs.declared.event.LinkFault.{LinkFault}
+use Rattle.lapd_link_definition.specs.declared.out.Out.{Out}
+use Rattle.lapd_link_definition.specs.Input.{Input}
 use Rattle.lapd_table.specs.declared.link_id.LinkId.{LinkId}
 use Rattle.lapd_table.specs.declared.link_key.LinkKey.{LinkKey}
 use Rattle.lapd_table.specs.declared.link_table.LinkTable.{LinkTable}

@@ -6,7 +6,7 @@ use Rattle.lapd_frame.specs.declared.fault_kind.FaultKind.{FaultKind}
 use Rattle.lapd_frame.specs.declared.frame_fault.FrameFault.{FrameFault}
 use Rattle.lapd_frame.specs.Frame.{Fields}
 use Rattle.lapd_frame.specs.Reading.{frame_at}
-use Rattle.lapd_link_rows.specs.Input.{Input, Heard, Faulty}
+use Rattle.lapd_link_definition.specs.Input.{Input, Heard, Faulty}
 use Rattle.lapd_table.specs.declared.link_id.LinkId.{LinkId}
 use Rattle.lapd_table.specs.LinkId.{id_of_address}
 

@@ -2,11 +2,11 @@
 
 ghost use Rattle.std.specs.Prelude.{◌≡◌, ℕ, List, [], Some};
 ghost use Rattle.lapd_frame.specs.declared.Side.{Side};
-ghost use Rattle.lapd_link_rows.specs.End.{End};
+ghost use Rattle.lapd_link_definition.specs.End.{End};
 ghost use Rattle.lapd_table.specs.declared.link_id.LinkId.{LinkId};
-ghost use Rattle.lapd_link_rows.specs.declared.event.LinkFault.{LinkFault};
-ghost use Rattle.lapd_link_rows.specs.declared.out.Out.{Out};
-ghost use Rattle.lapd_link_rows.specs.Input.{Input};
+ghost use Rattle.lapd_link_definition.specs.declared.event.LinkFault.{LinkFault};
+ghost use Rattle.lapd_link_definition.specs.declared.out.Out.{Out};
+ghost use Rattle.lapd_link_definition.specs.Input.{Input};
 ghost use Rattle.lapd_table.specs.declared.link_table.LinkTable.{LinkTable};
 ghost use Rattle.lapd_table.specs.declared.table_fault.TableFault.{TableFault};
 ghost use Rattle.lapd_table.specs.LinkTable.{IsUnchanged, StepsAt, RefusesAt, HasDispatched, IsForNoLink};

@@ -1,9 +1,9 @@
 ghost use Rattle.std.specs.Prelude.{◌≡◌, None, Some, Ok, Err, [], IsSome, IfSome, IfOk, IfErr, OnOk, OnErr, option_copied, ◌↔◌, Contains};
 ghost use Rattle.std.specs.List.Sorted.{IsStrictlySortedBy};
 ghost use Rattle.std.proofs.Props.{props};
-ghost use Rattle.lapd_link_rows.specs.End.{End};
-ghost use Rattle.lapd_link_rows.specs.Input.{input_of, Give};
-ghost use Rattle.lapd_link_rows.specs.Refusal.{refused};
+ghost use Rattle.lapd_link_definition.specs.End.{End};
+ghost use Rattle.lapd_link_definition.specs.Input.{input_of, Give};
+ghost use Rattle.lapd_link_definition.specs.Refusal.{refused};
 ghost use Rattle.lapd_link.specs.Link.{setup_of};
 ghost use Rattle.lapd_link_machine.specs.Bounds.{IsBounded};
 ghost use Rattle.lapd_table.specs.LinkId.{id_cmp, id_of_setup, setup_for};

@@ -1,13 +1,13 @@
 //! The rows of state 5, awaiting establishment (Q.921 Figure B.5).
 
 ghost use Rattle.std.specs.Prelude.{◌≡◌};
-ghost use Rattle.lapd_link_rows.specs.AwaitingEstablishment.{release_primitive, end_establishment, confirm_or_indicate, ua_final, awaiting_establishment_t200, awaiting_establishment};
-ghost use Rattle.lapd_link_rows.specs.Input.{Heard, Establish, Release};
+ghost use Rattle.lapd_link_definition.specs.AwaitingEstablishment.{release_primitive, end_establishment, confirm_or_indicate, ua_final, awaiting_establishment_t200, awaiting_establishment};
+ghost use Rattle.lapd_link_definition.specs.Input.{Heard, Establish, Release};
 
 use crate::Outs;
 use crate::machine::Machine;
 use lapd_frame::{Control, Role};
-use lapd_link_rows::{Letter, Out, State};
+use lapd_link_definition::{Letter, Out, State};
 
 /// What layer 3 is told of the end of a link: a release that was asked for is confirmed, any other is indicated.
 fn release_primitive(asked: bool) -> Out
@@ -20,7 +20,7 @@ fn release_primitive(asked: bool) -> Out
     }
 }
 
-#[tactic(auto, using(crate::proofs::Rows::then_row, crate::proofs::Rows::else_row), unfolding(lapd_link_rows::specs::AwaitingEstablishment::end_establishment, lapd_link_rows::specs::AwaitingEstablishment::confirm_or_indicate, lapd_link_rows::specs::AwaitingEstablishment::ua_final, lapd_link_rows::specs::AwaitingEstablishment::awaiting_establishment_t200, lapd_link_rows::specs::AwaitingEstablishment::awaiting_establishment))]
+#[tactic(auto, using(crate::proofs::Rows::then_row, crate::proofs::Rows::else_row), unfolding(lapd_link_definition::specs::AwaitingEstablishment::end_establishment, lapd_link_definition::specs::AwaitingEstablishment::confirm_or_indicate, lapd_link_definition::specs::AwaitingEstablishment::ua_final, lapd_link_definition::specs::AwaitingEstablishment::awaiting_establishment_t200, lapd_link_definition::specs::AwaitingEstablishment::awaiting_establishment))]
 impl Machine {
     ghost use Rattle.lapd_link_machine.specs.StandsFor.{Does, HasRoom, Grows};
 

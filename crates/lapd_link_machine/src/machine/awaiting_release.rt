@@ -1,14 +1,14 @@
 //! The rows of state 6, awaiting release (Q.921 Figure B.6).
 
-ghost use Rattle.lapd_link_rows.specs.AwaitingRelease.{confirm_release, awaiting_release_t200, awaiting_release};
-ghost use Rattle.lapd_link_rows.specs.Input.{Heard};
+ghost use Rattle.lapd_link_definition.specs.AwaitingRelease.{confirm_release, awaiting_release_t200, awaiting_release};
+ghost use Rattle.lapd_link_definition.specs.Input.{Heard};
 
 use crate::Outs;
 use crate::machine::Machine;
 use lapd_frame::{Control, Role};
-use lapd_link_rows::{Letter, Out, State};
+use lapd_link_definition::{Letter, Out, State};
 
-#[tactic(auto, using(crate::proofs::Rows::then_row, crate::proofs::Rows::else_row), unfolding(lapd_link_rows::specs::AwaitingRelease::confirm_release, lapd_link_rows::specs::AwaitingRelease::awaiting_release_t200, lapd_link_rows::specs::AwaitingRelease::awaiting_release))]
+#[tactic(auto, using(crate::proofs::Rows::then_row, crate::proofs::Rows::else_row), unfolding(lapd_link_definition::specs::AwaitingRelease::confirm_release, lapd_link_definition::specs::AwaitingRelease::awaiting_release_t200, lapd_link_definition::specs::AwaitingRelease::awaiting_release))]
 impl Machine {
     ghost use Rattle.lapd_link_machine.specs.StandsFor.{Does, HasRoom, Grows};
 

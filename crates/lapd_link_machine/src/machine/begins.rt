@@ -1,14 +1,14 @@
 //! Where an establishment begins (Q.921 5.5.1.2).
 
 ghost use Rattle.std.specs.Prelude.{◌≡◌, []};
-ghost use Rattle.lapd_link_rows.specs.Begins.{is_sabme, is_final_ua, begins};
-ghost use Rattle.lapd_link_rows.specs.End.{End, begin};
-ghost use Rattle.lapd_link_rows.specs.Input.{Heard, input_of};
+ghost use Rattle.lapd_link_definition.specs.Begins.{is_sabme, is_final_ua, begins};
+ghost use Rattle.lapd_link_definition.specs.End.{End, begin};
+ghost use Rattle.lapd_link_definition.specs.Input.{Heard, input_of};
 ghost use Rattle.lapd_link_machine.specs.StandsFor.{StandsFor};
 
 use crate::machine::Machine;
 use lapd_frame::{Control, Role};
-use lapd_link_rows::{Event, State};
+use lapd_link_definition::{Event, State};
 
 /// A SABME.
 fn is_sabme(control: &Control, role: Role) -> bool
@@ -30,7 +30,7 @@ fn is_final_ua(control: &Control, role: Role) -> bool
     }
 }
 
-#[tactic(auto, unfolding(lapd_link_rows::specs::End::begin))]
+#[tactic(auto, unfolding(lapd_link_definition::specs::End::begin))]
 impl Machine {
     /// Whether an establishment begins with this event.
     pub fn begins(&self, event: &Event) -> bool

@@ -2,14 +2,14 @@
 
 ghost use Rattle.std.specs.Prelude.{◌≡◌, false};
 ghost use Rattle.lapd_mod128.specs.Counting.{Tagged};
-ghost use Rattle.lapd_link_rows.specs.EndOfStep.{is_established};
-ghost use Rattle.lapd_link_rows.specs.Input.{Heard, Faulty, Expiry, Establish, Release, BusyOn, BusyOff, input_of};
-ghost use Rattle.lapd_link_rows.specs.Table.{fault_letter, is_unit_data, by_state, row};
+ghost use Rattle.lapd_link_definition.specs.EndOfStep.{is_established};
+ghost use Rattle.lapd_link_definition.specs.Input.{Heard, Faulty, Expiry, Establish, Release, BusyOn, BusyOff, input_of};
+ghost use Rattle.lapd_link_definition.specs.Table.{fault_letter, is_unit_data, by_state, row};
 
 use crate::Outs;
 use crate::machine::Machine;
 use lapd_frame::{Control, FaultKind, Role};
-use lapd_link_rows::{Event, Letter, Out, State};
+use lapd_link_definition::{Event, Letter, Out, State};
 use lapd_timers::Timer;
 
 /// The report of a fault in a frame (Q.921 Appendix II).
@@ -34,7 +34,7 @@ fn is_unit_data(control: &Control, role: Role) -> bool
     }
 }
 
-#[tactic(auto, using(crate::proofs::Rows::then_row, crate::proofs::Rows::else_row), unfolding(lapd_link_rows::specs::TeiAssigned::tei_assigned, lapd_link_rows::specs::AwaitingEstablishment::awaiting_establishment, lapd_link_rows::specs::AwaitingRelease::awaiting_release, lapd_link_rows::specs::Established::multiple_frame_established, lapd_link_rows::specs::TimerRecovery::timer_recovery, lapd_link_rows::specs::Established::in_7_and_8, lapd_link_rows::specs::Table::report_fault, lapd_link_rows::specs::Table::by_state, lapd_link_rows::specs::Table::row))]
+#[tactic(auto, using(crate::proofs::Rows::then_row, crate::proofs::Rows::else_row), unfolding(lapd_link_definition::specs::TeiAssigned::tei_assigned, lapd_link_definition::specs::AwaitingEstablishment::awaiting_establishment, lapd_link_definition::specs::AwaitingRelease::awaiting_release, lapd_link_definition::specs::Established::multiple_frame_established, lapd_link_definition::specs::TimerRecovery::timer_recovery, lapd_link_definition::specs::Established::in_7_and_8, lapd_link_definition::specs::Table::report_fault, lapd_link_definition::specs::Table::by_state, lapd_link_definition::specs::Table::row))]
 impl Machine {
     ghost use Rattle.lapd_link_machine.specs.Sent.{IsBetweenSteps};
     ghost use Rattle.lapd_link_machine.specs.StandsFor.{Does, HasRoom, Grows};

@@ -4,17 +4,17 @@ ghost use Rattle.std.specs.Prelude.{◌≡◌, ◌≤◌, ◌<◌, ◌+◌, List
 ghost use Rattle.arrayvec.specs.ArrayVec.{array_vec_len};
 ghost use Rattle.lapd_mod128.specs.Counting.{Tagged};
 ghost use Rattle.lapd_supervision.specs.StateVariables.{outstanding, AreTags};
-ghost use Rattle.lapd_link_rows.specs.declared.out.Out.{Out};
-ghost use Rattle.lapd_link_rows.specs.EndOfStep.{may_send_next, is_established, is_7_or_8, acknowledge_pending, end_step};
-ghost use Rattle.lapd_link_rows.specs.End.{StepState, unsent};
+ghost use Rattle.lapd_link_definition.specs.declared.out.Out.{Out};
+ghost use Rattle.lapd_link_definition.specs.EndOfStep.{may_send_next, is_established, is_7_or_8, acknowledge_pending, end_step};
+ghost use Rattle.lapd_link_definition.specs.End.{StepState, unsent};
 
 use crate::machine::Machine;
 use crate::{MOST_OUTPUTS, Outs};
-use lapd_link_rows::State;
+use lapd_link_definition::State;
 
-#[tactic(auto, using(crate::proofs::Rows::then_row, crate::proofs::Rows::else_row), unfolding(lapd_link_rows::specs::EndOfStep::acknowledge_pending, lapd_link_rows::specs::EndOfStep::end_step))]
+#[tactic(auto, using(crate::proofs::Rows::then_row, crate::proofs::Rows::else_row), unfolding(lapd_link_definition::specs::EndOfStep::acknowledge_pending, lapd_link_definition::specs::EndOfStep::end_step))]
 impl Machine {
-    ghost use Rattle.lapd_link_rows.specs.EndOfStep.{send_all};
+    ghost use Rattle.lapd_link_definition.specs.EndOfStep.{send_all};
     ghost use Rattle.lapd_link_machine.specs.Bounds.{told_count};
     ghost use Rattle.lapd_link_machine.specs.StandsFor.{StandsFor, Does, Grows};
 

@@ -3,19 +3,19 @@
 ghost use Rattle.std.specs.Prelude.{◌≡◌, ◌<◌, ◌==◌, true, false, IfSome, IfNone};
 ghost use Rattle.lapd_mod128.specs.Counting.{Tagged};
 ghost use Rattle.lapd_supervision.specs.StateVariables.{is_valid_nr};
-ghost use Rattle.lapd_link_rows.specs.Established.{busy_on, busy_off, in_7_and_8, poll_or_final, acknowledge_with_timers, i_frame_nr, rr_nr, rej_nr, rnr_nr, sends_last, established_t200, multiple_frame_established};
-ghost use Rattle.lapd_link_rows.specs.Input.{Heard, Expiry, Establish, Release};
+ghost use Rattle.lapd_link_definition.specs.Established.{busy_on, busy_off, in_7_and_8, poll_or_final, acknowledge_with_timers, i_frame_nr, rr_nr, rej_nr, rnr_nr, sends_last, established_t200, multiple_frame_established};
+ghost use Rattle.lapd_link_definition.specs.Input.{Heard, Expiry, Establish, Release};
 
 use crate::Outs;
 use crate::machine::Machine;
 use crate::machine::tei_assigned::unsolicited_ua;
 use lapd_frame::{Control, Number, Role};
-use lapd_link_rows::{Letter, Out, Recovery, State};
+use lapd_link_definition::{Letter, Out, Recovery, State};
 use lapd_supervision::{Advance, Window};
 use lapd_timers::Timer;
 
 /// The rows that states 7 and 8 have in common.
-#[tactic(auto, using(crate::proofs::Rows::then_row, crate::proofs::Rows::else_row), unfolding(lapd_link_rows::specs::Established::in_7_and_8, lapd_link_rows::specs::Established::busy_on, lapd_link_rows::specs::Established::busy_off))]
+#[tactic(auto, using(crate::proofs::Rows::then_row, crate::proofs::Rows::else_row), unfolding(lapd_link_definition::specs::Established::in_7_and_8, lapd_link_definition::specs::Established::busy_on, lapd_link_definition::specs::Established::busy_off))]
 impl Machine {
     ghost use Rattle.lapd_link_machine.specs.StandsFor.{Does, HasRoom, Grows};
 
@@ -123,7 +123,7 @@ impl Machine {
 }
 
 /// State 7, a frame or an expired timer.
-#[tactic(auto, using(crate::proofs::Rows::then_row, crate::proofs::Rows::else_row), unfolding(lapd_link_rows::specs::Established::poll_or_final, lapd_link_rows::specs::Established::established_t200, lapd_link_rows::specs::Established::multiple_frame_established, lapd_link_rows::specs::Established::in_7_and_8))]
+#[tactic(auto, using(crate::proofs::Rows::then_row, crate::proofs::Rows::else_row), unfolding(lapd_link_definition::specs::Established::poll_or_final, lapd_link_definition::specs::Established::established_t200, lapd_link_definition::specs::Established::multiple_frame_established, lapd_link_definition::specs::Established::in_7_and_8))]
 impl Machine {
     ghost use Rattle.lapd_link_machine.specs.Sent.{SentAreOutstanding};
     ghost use Rattle.lapd_link_machine.specs.StandsFor.{Does, HasRoom, Grows};
@@ -265,7 +265,7 @@ impl Machine {
 }
 
 /// State 7, what an N(R) does.
-#[tactic(auto, using(crate::proofs::Rows::then_row, crate::proofs::Rows::else_row), unfolding(lapd_link_rows::specs::Established::acknowledge_with_timers, lapd_link_rows::specs::Established::i_frame_nr, lapd_link_rows::specs::Established::rr_nr, lapd_link_rows::specs::Established::rej_nr, lapd_link_rows::specs::Established::rnr_nr))]
+#[tactic(auto, using(crate::proofs::Rows::then_row, crate::proofs::Rows::else_row), unfolding(lapd_link_definition::specs::Established::acknowledge_with_timers, lapd_link_definition::specs::Established::i_frame_nr, lapd_link_definition::specs::Established::rr_nr, lapd_link_definition::specs::Established::rej_nr, lapd_link_definition::specs::Established::rnr_nr))]
 impl Machine {
     ghost use Rattle.lapd_link_machine.specs.Sent.{SentAreOutstanding, IsTaken};
     ghost use Rattle.lapd_link_machine.specs.StandsFor.{Does, HasRoom, Grows};

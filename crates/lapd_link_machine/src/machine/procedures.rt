@@ -6,17 +6,17 @@ ghost use Rattle.arrayvec.specs.ArrayVec.{array_vec_len};
 ghost use Rattle.lapd_mod128.specs.Counting.{Tagged};
 ghost use Rattle.lapd_supervision.specs.StateVariables.{without_exceptions, with_zero_counters, status_frame, acknowledgement, without_ack_pending, is_accepted, after_i_frame, i_frame_response, with_va, acknowledged_count, is_valid_nr, with_vs, next_i_frame, last_i_frame, after_sending, with_own_busy, with_peer_busy};
 ghost use Rattle.lapd_queue.specs.Waiting.{with_message, one_more_sent, without_first, all_unsent, emptied};
-ghost use Rattle.lapd_link_rows.specs.Procedures.{put, state_to, rc_to, increment_rc, layer3_initiated_to, release_pending_to, start, stop, expired, clear_exception_conditions, zero_state_variables, set_peer_busy, set_own_busy, enquiry_response, transmit_enquiry, queue_up, discard_i_queue, acknowledge, invoke_retransmission, i_frame_ns, discard_unacknowledged, transmit_i_frame, retransmit_last_i_frame, ensure_t200, transmit_rr, establish_data_link, reestablish_data_link, nr_error_recovery};
+ghost use Rattle.lapd_link_definition.specs.Procedures.{put, state_to, rc_to, increment_rc, layer3_initiated_to, release_pending_to, start, stop, expired, clear_exception_conditions, zero_state_variables, set_peer_busy, set_own_busy, enquiry_response, transmit_enquiry, queue_up, discard_i_queue, acknowledge, invoke_retransmission, i_frame_ns, discard_unacknowledged, transmit_i_frame, retransmit_last_i_frame, ensure_t200, transmit_rr, establish_data_link, reestablish_data_link, nr_error_recovery};
 
 use crate::machine::{Machine, push};
 use crate::{MOST_OUTPUTS, Outs};
 use lapd_frame::{Control, Number, Role};
-use lapd_link_rows::{Letter, Out, State};
+use lapd_link_definition::{Letter, Out, State};
 use lapd_supervision::{Advance, Window};
 use lapd_timers::Timer;
 
 /// Actions that set one thing.
-#[tactic(auto, unfolding(lapd_link_rows::specs::Procedures::put, lapd_link_rows::specs::Procedures::state_to, lapd_link_rows::specs::Procedures::rc_to, lapd_link_rows::specs::Procedures::increment_rc, lapd_link_rows::specs::Procedures::layer3_initiated_to, lapd_link_rows::specs::Procedures::release_pending_to, lapd_link_rows::specs::Procedures::start, lapd_link_rows::specs::Procedures::stop, lapd_link_rows::specs::Procedures::expired))]
+#[tactic(auto, unfolding(lapd_link_definition::specs::Procedures::put, lapd_link_definition::specs::Procedures::state_to, lapd_link_definition::specs::Procedures::rc_to, lapd_link_definition::specs::Procedures::increment_rc, lapd_link_definition::specs::Procedures::layer3_initiated_to, lapd_link_definition::specs::Procedures::release_pending_to, lapd_link_definition::specs::Procedures::start, lapd_link_definition::specs::Procedures::stop, lapd_link_definition::specs::Procedures::expired))]
 impl Machine {
     ghost use Rattle.lapd_link_machine.specs.Sent.{SentAreOutstanding, IsTaken};
     ghost use Rattle.lapd_link_machine.specs.Bounds.{told_count};
@@ -136,7 +136,7 @@ impl Machine {
 }
 
 /// Actions of the state variables and conditions.
-#[tactic(auto, unfolding(lapd_link_rows::specs::Procedures::clear_exception_conditions, lapd_link_rows::specs::Procedures::zero_state_variables, lapd_link_rows::specs::Procedures::set_peer_busy, lapd_link_rows::specs::Procedures::set_own_busy, lapd_link_rows::specs::Procedures::enquiry_response, lapd_link_rows::specs::Procedures::transmit_enquiry, lapd_link_rows::specs::Procedures::transmit_rr, lapd_link_rows::specs::Procedures::i_frame_ns))]
+#[tactic(auto, unfolding(lapd_link_definition::specs::Procedures::clear_exception_conditions, lapd_link_definition::specs::Procedures::zero_state_variables, lapd_link_definition::specs::Procedures::set_peer_busy, lapd_link_definition::specs::Procedures::set_own_busy, lapd_link_definition::specs::Procedures::enquiry_response, lapd_link_definition::specs::Procedures::transmit_enquiry, lapd_link_definition::specs::Procedures::transmit_rr, lapd_link_definition::specs::Procedures::i_frame_ns))]
 impl Machine {
     ghost use Rattle.lapd_link_machine.specs.Sent.{SentAreOutstanding, IsTaken};
     ghost use Rattle.lapd_link_machine.specs.Bounds.{told_count};
@@ -232,7 +232,7 @@ impl Machine {
 }
 
 /// Actions of the I queue.
-#[tactic(auto, using(crate::proofs::Tails::tail_waiting, crate::proofs::Tails::tail_place, crate::proofs::Tails::tail_emptied, crate::proofs::Tails::tail_acknowledged, crate::proofs::Tails::tail_gone_back, crate::proofs::Tails::tail_sent, crate::proofs::Tails::tail_given, crate::proofs::Tails::room_sent, crate::proofs::Tails::room_gone_back), unfolding(lapd_link_rows::specs::Procedures::queue_up, lapd_link_rows::specs::Procedures::discard_i_queue, lapd_link_rows::specs::Procedures::acknowledge, lapd_link_rows::specs::Procedures::invoke_retransmission, lapd_link_rows::specs::Procedures::discard_unacknowledged, lapd_link_rows::specs::Procedures::transmit_i_frame))]
+#[tactic(auto, using(crate::proofs::Tails::tail_waiting, crate::proofs::Tails::tail_place, crate::proofs::Tails::tail_emptied, crate::proofs::Tails::tail_acknowledged, crate::proofs::Tails::tail_gone_back, crate::proofs::Tails::tail_sent, crate::proofs::Tails::tail_given, crate::proofs::Tails::room_sent, crate::proofs::Tails::room_gone_back), unfolding(lapd_link_definition::specs::Procedures::queue_up, lapd_link_definition::specs::Procedures::discard_i_queue, lapd_link_definition::specs::Procedures::acknowledge, lapd_link_definition::specs::Procedures::invoke_retransmission, lapd_link_definition::specs::Procedures::discard_unacknowledged, lapd_link_definition::specs::Procedures::transmit_i_frame))]
 impl Machine {
     ghost use Rattle.lapd_link_machine.specs.Sent.{SentAreOutstanding, IsTaken};
     ghost use Rattle.lapd_link_machine.specs.Bounds.{told_count};
@@ -318,7 +318,7 @@ impl Machine {
 }
 
 /// The last sent message goes out again.
-#[tactic(auto, using(crate::proofs::Tails::tail_last_place), unfolding(lapd_link_rows::specs::Procedures::retransmit_last_i_frame))]
+#[tactic(auto, using(crate::proofs::Tails::tail_last_place), unfolding(lapd_link_definition::specs::Procedures::retransmit_last_i_frame))]
 impl Machine {
     ghost use Rattle.lapd_link_machine.specs.StandsFor.{Does, HasRoom, Grows};
 
@@ -363,7 +363,7 @@ impl Machine {
 }
 
 /// Procedures made of these.
-#[tactic(auto, unfolding(lapd_link_rows::specs::Procedures::establish_data_link, lapd_link_rows::specs::Procedures::reestablish_data_link, lapd_link_rows::specs::Procedures::nr_error_recovery))]
+#[tactic(auto, unfolding(lapd_link_definition::specs::Procedures::establish_data_link, lapd_link_definition::specs::Procedures::reestablish_data_link, lapd_link_definition::specs::Procedures::nr_error_recovery))]
 impl Machine {
     ghost use Rattle.lapd_link_machine.specs.StandsFor.{Does, HasRoom, Grows};
 

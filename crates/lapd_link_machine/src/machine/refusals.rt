@@ -1,13 +1,13 @@
 //! What is refused, in the order in which it is looked for.
 
 ghost use Rattle.std.specs.Prelude.{◌≡◌, [], ℕ, List, Bool, Some, None, length, MatchOption, ◌==◌};
-ghost use Rattle.lapd_link_rows.specs.End.{End, begin};
-ghost use Rattle.lapd_link_rows.specs.Input.{Give, input_of};
-ghost use Rattle.lapd_link_rows.specs.Refusal.{give_refused, refused_when_full, refused_when_long, establish_refused, refused};
+ghost use Rattle.lapd_link_definition.specs.End.{End, begin};
+ghost use Rattle.lapd_link_definition.specs.Input.{Give, input_of};
+ghost use Rattle.lapd_link_definition.specs.Refusal.{give_refused, refused_when_full, refused_when_long, establish_refused, refused};
 
 use crate::machine::Machine;
 use lapd_frame::N201;
-use lapd_link_rows::{Event, LinkFault, State};
+use lapd_link_definition::{Event, LinkFault, State};
 
 /// Why a message is refused whether or not the queue is full, by the state, whether a release waits, and whether layer 3
 /// initiated the establishment.
@@ -58,7 +58,7 @@ fn refused_when_long(len: usize) -> Option<LinkFault>
     }
 }
 
-#[tactic(auto, unfolding(lapd_link_rows::specs::End::begin))]
+#[tactic(auto, unfolding(lapd_link_definition::specs::End::begin))]
 impl Machine {
     ghost use Rattle.lapd_link_machine.specs.StandsFor.{StandsFor};
 

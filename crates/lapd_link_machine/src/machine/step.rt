@@ -3,19 +3,19 @@
 ghost use Rattle.std.specs.Prelude.{◌≡◌, [], IfOk};
 ghost use Rattle.lapd_mod128.specs.Counting.{Tagged};
 ghost use Rattle.lapd_supervision.specs.StateVariables.{AreTags};
-ghost use Rattle.lapd_link_rows.specs.EndOfStep.{end_step};
-ghost use Rattle.lapd_link_rows.specs.End.{End, begin, new_end};
-ghost use Rattle.lapd_link_rows.specs.Input.{input_of};
-ghost use Rattle.lapd_link_rows.specs.Table.{row};
+ghost use Rattle.lapd_link_definition.specs.EndOfStep.{end_step};
+ghost use Rattle.lapd_link_definition.specs.End.{End, begin, new_end};
+ghost use Rattle.lapd_link_definition.specs.Input.{input_of};
+ghost use Rattle.lapd_link_definition.specs.Table.{row};
 
 use crate::Outs;
 use crate::machine::Machine;
-use lapd_link_rows::{Event, Params, State};
+use lapd_link_definition::{Event, Params, State};
 use lapd_queue::IQueue;
 use lapd_supervision::Window;
 use std::alloc::{AllocError, Global};
 
-#[tactic(auto, unfolding(lapd_link_rows::specs::End::begin, lapd_queue::specs::Waiting::with_room))]
+#[tactic(auto, unfolding(lapd_link_definition::specs::End::begin, lapd_queue::specs::Waiting::with_room))]
 impl Machine {
     ghost use Rattle.lapd_link_machine.specs.Bounds.{IsBounded};
     ghost use Rattle.lapd_link_machine.specs.Sent.{IsBetweenSteps};

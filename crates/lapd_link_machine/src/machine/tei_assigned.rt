@@ -1,13 +1,13 @@
 //! The rows of state 4, TEI assigned (Q.921 Figure B.4).
 
 ghost use Rattle.std.specs.Prelude.{◌≡◌};
-ghost use Rattle.lapd_link_rows.specs.Input.{Heard, Establish};
-ghost use Rattle.lapd_link_rows.specs.TeiAssigned.{unsolicited_ua, tei_assigned};
+ghost use Rattle.lapd_link_definition.specs.Input.{Heard, Establish};
+ghost use Rattle.lapd_link_definition.specs.TeiAssigned.{unsolicited_ua, tei_assigned};
 
 use crate::Outs;
 use crate::machine::Machine;
 use lapd_frame::{Control, Role};
-use lapd_link_rows::{Letter, Out, State};
+use lapd_link_definition::{Letter, Out, State};
 
 /// The report of an unsolicited UA (Q.921 Appendix II).
 pub fn unsolicited_ua(f: bool) -> Letter
@@ -16,7 +16,7 @@ pub fn unsolicited_ua(f: bool) -> Letter
     if f { Letter::C } else { Letter::D }
 }
 
-#[tactic(auto, unfolding(lapd_link_rows::specs::TeiAssigned::tei_assigned))]
+#[tactic(auto, unfolding(lapd_link_definition::specs::TeiAssigned::tei_assigned))]
 impl Machine {
     ghost use Rattle.lapd_link_machine.specs.StandsFor.{Does, HasRoom, Grows};
 

@@ -2,13 +2,13 @@
 
 ghost use Rattle.std.specs.Prelude.{◌≡◌};
 ghost use Rattle.lapd_mod128.specs.Counting.{Tagged};
-ghost use Rattle.lapd_link_rows.specs.Input.{Heard};
-ghost use Rattle.lapd_link_rows.specs.TimerRecovery.{poll, is_final, i_frame_nr_in_recovery, rr_nr_in_recovery, rnr_nr_in_recovery, timer_recovery_t200, timer_recovery};
+ghost use Rattle.lapd_link_definition.specs.Input.{Heard};
+ghost use Rattle.lapd_link_definition.specs.TimerRecovery.{poll, is_final, i_frame_nr_in_recovery, rr_nr_in_recovery, rnr_nr_in_recovery, timer_recovery_t200, timer_recovery};
 
 use crate::Outs;
 use crate::machine::Machine;
 use lapd_frame::{Control, Number, Role};
-use lapd_link_rows::{Letter, Out, State};
+use lapd_link_definition::{Letter, Out, State};
 
 /// A response with F=1 answers the enquiry.
 fn is_final(role: Role, pf: bool) -> bool
@@ -20,7 +20,7 @@ fn is_final(role: Role, pf: bool) -> bool
     }
 }
 
-#[tactic(auto, using(crate::proofs::Rows::then_row, crate::proofs::Rows::else_row), unfolding(lapd_link_rows::specs::TimerRecovery::i_frame_nr_in_recovery, lapd_link_rows::specs::TimerRecovery::poll, lapd_link_rows::specs::TimerRecovery::rr_nr_in_recovery, lapd_link_rows::specs::TimerRecovery::rnr_nr_in_recovery, lapd_link_rows::specs::TimerRecovery::timer_recovery_t200, lapd_link_rows::specs::TimerRecovery::timer_recovery, lapd_link_rows::specs::Established::in_7_and_8))]
+#[tactic(auto, using(crate::proofs::Rows::then_row, crate::proofs::Rows::else_row), unfolding(lapd_link_definition::specs::TimerRecovery::i_frame_nr_in_recovery, lapd_link_definition::specs::TimerRecovery::poll, lapd_link_definition::specs::TimerRecovery::rr_nr_in_recovery, lapd_link_definition::specs::TimerRecovery::rnr_nr_in_recovery, lapd_link_definition::specs::TimerRecovery::timer_recovery_t200, lapd_link_definition::specs::TimerRecovery::timer_recovery, lapd_link_definition::specs::Established::in_7_and_8))]
 impl Machine {
     ghost use Rattle.lapd_link_machine.specs.Sent.{SentAreOutstanding};
     ghost use Rattle.lapd_link_machine.specs.StandsFor.{Does, HasRoom, Grows};

@@ -2,7 +2,7 @@
 use Rattle.std.proofs.Common.{◌≡◌, ◌≤◌, ◌+◌, ◌++◌, drop, length}
 use Rattle.std.specs.List.{filter_map}
 use Rattle.lapd_link.specs.Link.{LinkStandsFor, setup_of}
-use Rattle.lapd_link_rows.specs.End.{End}
+use Rattle.lapd_link_definition.specs.End.{End}
 use Rattle.lapd_sides_links.specs.Shown.{made_by}
 use Rattle.lapd_sides_links.proofs.telling.put_frames.Given as goal
 

@@ -1,5 +1,5 @@
 use Rattle.std.proofs.Common.{rules}
-use Rattle.lapd_json.specs.Json.{frame_members, object_text}
+use Rattle.lapd_cli_render.specs.Json.{frame_members, object_text}
 use Rattle.lapd_cli_live.proofs.printer.Printer.put_frame.Goals as goal
 
 pub returns-in-Text : goal.returns-in-Text

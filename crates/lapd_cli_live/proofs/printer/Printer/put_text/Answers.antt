@@ -1,6 +1,6 @@
 use Rattle.std.proofs.Common.{arith, refl}
 use Rattle.std.proofs.lemmas.Grind.{common_steps}
-use Rattle.lapd_json.specs.Json.{object_text, text_members}
+use Rattle.lapd_cli_render.specs.Json.{object_text, text_members}
 use Rattle.lapd_cli_live.proofs.Printers.{puts_same}
 use Rattle.lapd_cli_live.proofs.Steps.{on_ok}
 use Rattle.lapd_cli_live.proofs.printer.Printer.put_text.Goals as goal

@@ -1,6 +1,6 @@
 use Rattle.std.proofs.Common.{ap}
 use Rattle.serde_json.specs.Written.{has_float}
-use Rattle.lapd_json.proofs.NoFloats.{put_keeps}
+use Rattle.lapd_cli_render.proofs.NoFloats.{put_keeps}
 use Rattle.lapd_cli_live_text.proofs.line_parts.LineParts.put_number.Goals as goal
 
 pub invariant_of-self : goal.invariant_of-self

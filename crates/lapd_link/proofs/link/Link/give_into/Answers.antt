@@ -1,6 +1,6 @@
 use Rattle.std.proofs.Common.{refl, sym, ◌∙◌}
-use Rattle.lapd_link_rows.specs.End.{begin}
-use Rattle.lapd_link_rows.specs.Input.{Give}
+use Rattle.lapd_link_definition.specs.End.{begin}
+use Rattle.lapd_link_definition.specs.Input.{Give}
 use Rattle.lapd_link_machine.proofs.BetweenSteps.{end_of, shows_end, settles, stays_between, step_done, step_refused, not_full, is_full, queued_and_closed}
 use Rattle.lapd_link.specs.Link.{setup_of}
 use Rattle.lapd_link.proofs.Frames.{frames_of_machine}

@@ -1,5 +1,5 @@
 use Rattle.std.proofs.Common.{rules}
-use Rattle.lapd_link_rows.specs.End.{begin}
+use Rattle.lapd_link_definition.specs.End.{begin}
 use Rattle.lapd_link.proofs.link.Link.give_refusal.Goals as goal
 
 pub returns-in-None : goal.returns-in-None

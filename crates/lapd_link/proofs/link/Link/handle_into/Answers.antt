@@ -1,5 +1,5 @@
 use Rattle.std.proofs.Common.{rules}
-use Rattle.lapd_link_rows.specs.Input.{input_of}
+use Rattle.lapd_link_definition.specs.Input.{input_of}
 use Rattle.lapd_link_machine.proofs.BetweenSteps.{end_of, shows_end, settles, stays_between, step_done, step_refused}
 use Rattle.lapd_link.specs.Link.{setup_of}
 use Rattle.lapd_link.proofs.Frames.{frames_of_machine}

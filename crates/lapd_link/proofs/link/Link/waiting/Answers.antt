@@ -1,5 +1,5 @@
 use Rattle.std.proofs.Common.{sym, ◌∙◌}
-use Rattle.lapd_link_rows.specs.End.{begin}
+use Rattle.lapd_link_definition.specs.End.{begin}
 use Rattle.lapd_link_machine.proofs.Tails.{tail_waiting}
 use Rattle.lapd_link.proofs.link.Link.waiting.Goals as goal
 

@@ -2,8 +2,8 @@ use Rattle.std.proofs.Common.{◌≡◌, ◌≤◌, sym, ap, ◌∙◌, append-n
 use Rattle.lapd_mod128.specs.Counting.{Tagged}
 use Rattle.lapd_supervision.proofs.Outstanding.{acknowledged_count_at_most}
 use Rattle.lapd_supervision.specs.StateVariables.{with_va, acknowledged_count}
-use Rattle.lapd_link_rows.specs.declared.out.Out.TheVariants.{Acknowledged}
-use Rattle.lapd_link_rows.specs.Procedures.{acknowledge}
+use Rattle.lapd_link_definition.specs.declared.out.Out.TheVariants.{Acknowledged}
+use Rattle.lapd_link_definition.specs.Procedures.{acknowledge}
 use Rattle.lapd_link_machine.proofs.Tails.{tail_acknowledged, counted_above, counted_none}
 use Rattle.lapd_link_machine.proofs.machine.Machine.acknowledge.Goals as goal
 use Rattle.lapd_queue.specs.Waiting.{without_first}

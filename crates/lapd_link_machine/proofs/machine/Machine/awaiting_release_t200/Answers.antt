@@ -1,5 +1,5 @@
 use Rattle.lapd_link_machine.proofs.Rows.{then_row, else_row, is_below, is_not_below, n200_of}
-use Rattle.lapd_link_rows.specs.AwaitingRelease.{awaiting_release_t200}
+use Rattle.lapd_link_definition.specs.AwaitingRelease.{awaiting_release_t200}
 use Rattle.lapd_link_machine.proofs.machine.Machine.awaiting_release_t200.Goals as goal
 
 pub returns-then-self-n200-clause-step : goal.returns-then-self-n200-clause-step

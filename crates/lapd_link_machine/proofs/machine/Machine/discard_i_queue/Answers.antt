@@ -1,7 +1,7 @@
 use Rattle.std.proofs.Common.{◌≡◌, sym, ◌∙◌, append-nil}
-use Rattle.lapd_link_rows.specs.declared.out.Out.TheVariants.{Dropped}
-use Rattle.lapd_link_rows.specs.End.{waiting}
-use Rattle.lapd_link_rows.specs.Procedures.{discard_i_queue}
+use Rattle.lapd_link_definition.specs.declared.out.Out.TheVariants.{Dropped}
+use Rattle.lapd_link_definition.specs.End.{waiting}
+use Rattle.lapd_link_definition.specs.Procedures.{discard_i_queue}
 use Rattle.lapd_link_machine.proofs.Tails.{tail_waiting, tail_emptied, counted_above, counted_none}
 use Rattle.lapd_link_machine.proofs.machine.Machine.discard_i_queue.Goals as goal
 use Rattle.lapd_queue.specs.Waiting.{emptied}

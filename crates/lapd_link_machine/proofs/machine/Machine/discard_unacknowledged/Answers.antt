@@ -1,5 +1,5 @@
 use Rattle.std.proofs.Common.{rules}
-use Rattle.lapd_link_rows.specs.Procedures.{discard_unacknowledged}
+use Rattle.lapd_link_definition.specs.Procedures.{discard_unacknowledged}
 use Rattle.lapd_link_machine.proofs.machine.Machine.discard_unacknowledged.Goals as goal
 
 pub returns-else-value-clause-step : goal.returns-else-value-clause-step

@@ -1,8 +1,8 @@
 use Rattle.std.proofs.Common.{◌≡◌, false, sym, ap, subst, ◌∙◌}
-use Rattle.lapd_link_rows.specs.declared.out.Out.{Out}
-use Rattle.lapd_link_rows.specs.declared.state.State.TheVariants.{TeiAssigned}
-use Rattle.lapd_link_rows.specs.AwaitingEstablishment.{end_establishment, release_primitive}
-use Rattle.lapd_link_rows.specs.Procedures.{put, release_pending_to, state_to}
+use Rattle.lapd_link_definition.specs.declared.out.Out.{Out}
+use Rattle.lapd_link_definition.specs.declared.state.State.TheVariants.{TeiAssigned}
+use Rattle.lapd_link_definition.specs.AwaitingEstablishment.{end_establishment, release_primitive}
+use Rattle.lapd_link_definition.specs.Procedures.{put, release_pending_to, state_to}
 use Rattle.lapd_link_machine.specs.StandsFor.{StandsFor}
 use Rattle.lapd_link_machine.proofs.machine.Machine.end_establishment.Goals as goal
 

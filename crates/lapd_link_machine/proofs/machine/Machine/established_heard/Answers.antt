@@ -1,4 +1,4 @@
-use Rattle.lapd_link_rows.specs.Established.{multiple_frame_established}
+use Rattle.lapd_link_definition.specs.Established.{multiple_frame_established}
 use Rattle.lapd_link_machine.proofs.machine.Machine.established_heard.Goals as goal
 
 pub returns-in-Rr-clause-step : goal.returns-in-Rr-clause-step

@@ -1,4 +1,4 @@
-use Rattle.lapd_link_rows.specs.Established.{in_7_and_8}
+use Rattle.lapd_link_definition.specs.Established.{in_7_and_8}
 use Rattle.lapd_link_machine.proofs.machine.Machine.established_sabme.Goals as goal
 
 pub returns-clause-step : goal.returns-clause-step

@@ -1,5 +1,5 @@
 use Rattle.std.proofs.Common.{sym, ◌∙◌}
-use Rattle.lapd_link_rows.specs.Established.{established_t200}
+use Rattle.lapd_link_definition.specs.Established.{established_t200}
 use Rattle.lapd_link_machine.proofs.Rows.{then_row, else_row, sends_last_of}
 use Rattle.lapd_link_machine.proofs.machine.Machine.established_t200.Goals as goal
 

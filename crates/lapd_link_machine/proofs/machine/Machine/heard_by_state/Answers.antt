@@ -1,4 +1,4 @@
-use Rattle.lapd_link_rows.specs.Table.{by_state}
+use Rattle.lapd_link_definition.specs.Table.{by_state}
 use Rattle.lapd_link_machine.proofs.machine.Machine.heard_by_state.Goals as goal
 
 pub returns-in-AwaitingEstablishment-clause-step : goal.returns-in-AwaitingEstablishment-clause-step

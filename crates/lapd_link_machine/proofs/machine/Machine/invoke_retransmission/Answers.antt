@@ -1,5 +1,5 @@
 use Rattle.std.proofs.Common.{arith}
-use Rattle.lapd_link_rows.specs.Procedures.{invoke_retransmission}
+use Rattle.lapd_link_definition.specs.Procedures.{invoke_retransmission}
 use Rattle.lapd_link_machine.proofs.Tails.{tail_gone_back, room_gone_back}
 use Rattle.lapd_link_machine.proofs.machine.Machine.invoke_retransmission.Goals as goal
 

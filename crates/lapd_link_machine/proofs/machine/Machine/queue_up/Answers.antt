@@ -1,4 +1,4 @@
-use Rattle.lapd_link_rows.specs.Procedures.{queue_up}
+use Rattle.lapd_link_definition.specs.Procedures.{queue_up}
 use Rattle.lapd_link_machine.proofs.Tails.{on_ok, tail_given}
 use Rattle.lapd_link_machine.proofs.machine.Machine.queue_up.Goals as goal
 use Rattle.lapd_queue.specs.Waiting.{with_message}

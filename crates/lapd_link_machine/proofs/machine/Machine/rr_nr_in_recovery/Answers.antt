@@ -1,5 +1,5 @@
 use Rattle.std.proofs.Common.{rules}
-use Rattle.lapd_link_rows.specs.TimerRecovery.{rr_nr_in_recovery}
+use Rattle.lapd_link_definition.specs.TimerRecovery.{rr_nr_in_recovery}
 use Rattle.lapd_link_machine.proofs.Rows.{then_row, else_row}
 use Rattle.lapd_link_machine.proofs.machine.Machine.rr_nr_in_recovery.Goals as goal
 

@@ -2,8 +2,8 @@ use Rattle.std.proofs.Common.{refl, sym, ◌∙◌, ap, arith, ◌≡◌, ◌+�
 use Rattle.lapd_mod128.specs.Counting.{Tagged}
 use Rattle.lapd_supervision.specs.StateVariables.{outstanding}
 use Rattle.lapd_supervision.proofs.Outstanding.{outstanding_after_sending}
-use Rattle.lapd_link_rows.specs.EndOfStep.{is_established}
-use Rattle.lapd_link_rows.proofs.Sending.{sends_one, sends_none, tags_reach}
+use Rattle.lapd_link_definition.specs.EndOfStep.{is_established}
+use Rattle.lapd_link_definition.proofs.Sending.{sends_one, sends_none, tags_reach}
 use Rattle.lapd_link_machine.proofs.machine.Machine.send_all.Goals as goal
 
 pub loop-self-smaller : goal.loop-self-smaller

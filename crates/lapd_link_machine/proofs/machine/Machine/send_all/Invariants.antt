@@ -2,8 +2,8 @@ use Rattle.std.proofs.Common.{◌≡◌, ◌≤◌, ◌+◌, ◌-◌, if◌then�
 use Rattle.arrayvec.specs.ArrayVec.{array_vec_len}
 use Rattle.lapd_mod128.specs.Counting.{Tagged}
 use Rattle.lapd_supervision.specs.StateVariables.{outstanding}
-use Rattle.lapd_link_rows.specs.EndOfStep.{send_all, is_established}
-use Rattle.lapd_link_rows.specs.End.{StepState, unsent}
+use Rattle.lapd_link_definition.specs.EndOfStep.{send_all, is_established}
+use Rattle.lapd_link_definition.specs.End.{StepState, unsent}
 use Rattle.lapd_link_machine.specs.Bounds.{told_count}
 use Rattle.lapd_link_machine.specs.StandsFor.{StandsFor}
 use Rattle.lapd_link_machine.proofs.machine.Machine.send_all.Given as goal

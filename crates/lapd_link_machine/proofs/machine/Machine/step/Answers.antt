@@ -1,6 +1,6 @@
 use Rattle.std.proofs.Common.{◌≡◌, ◌≤◌, length, ap, arith}
-use Rattle.lapd_link_rows.specs.EndOfStep.{is_established}
-use Rattle.lapd_link_rows.specs.Input.{input_of}
+use Rattle.lapd_link_definition.specs.EndOfStep.{is_established}
+use Rattle.lapd_link_definition.specs.Input.{input_of}
 use Rattle.lapd_link_machine.proofs.Bounds.{bounded}
 use Rattle.lapd_link_machine.proofs.machine.Machine.step.Goals as goal
 

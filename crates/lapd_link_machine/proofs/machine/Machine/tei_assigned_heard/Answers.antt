@@ -1,4 +1,4 @@
-use Rattle.lapd_link_rows.specs.TeiAssigned.{tei_assigned}
+use Rattle.lapd_link_definition.specs.TeiAssigned.{tei_assigned}
 use Rattle.lapd_link_machine.proofs.machine.Machine.tei_assigned_heard.Goals as goal
 
 pub returns-in-Sabme-Command-clause-step : goal.returns-in-Sabme-Command-clause-step

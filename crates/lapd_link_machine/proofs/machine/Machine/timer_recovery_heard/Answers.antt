@@ -1,4 +1,4 @@
-use Rattle.lapd_link_rows.specs.TimerRecovery.{timer_recovery}
+use Rattle.lapd_link_definition.specs.TimerRecovery.{timer_recovery}
 use Rattle.std.proofs.Common.{rules, sym}
 use Rattle.lapd_link_machine.proofs.machine.Machine.timer_recovery_heard.Goals as goal
 

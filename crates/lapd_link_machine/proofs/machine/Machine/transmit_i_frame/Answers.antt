@@ -1,5 +1,5 @@
 use Rattle.std.proofs.Common.{rules, arith}
-use Rattle.lapd_link_rows.specs.Procedures.{transmit_i_frame}
+use Rattle.lapd_link_definition.specs.Procedures.{transmit_i_frame}
 use Rattle.lapd_link_machine.proofs.Tails.{tail_waiting, tail_place, tail_sent, room_sent}
 use Rattle.lapd_link_machine.proofs.machine.Machine.transmit_i_frame.Goals as goal
 

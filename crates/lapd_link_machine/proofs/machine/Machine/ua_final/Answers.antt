@@ -1,5 +1,5 @@
 use Rattle.lapd_link_machine.proofs.Rows.{then_row, else_row}
-use Rattle.lapd_link_rows.specs.AwaitingEstablishment.{ua_final}
+use Rattle.lapd_link_definition.specs.AwaitingEstablishment.{ua_final}
 use Rattle.std.proofs.Common.{◌∙◌}
 use Rattle.lapd_link_machine.proofs.machine.Machine.ua_final.Goals as goal
 

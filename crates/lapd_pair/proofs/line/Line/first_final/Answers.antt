@@ -1,7 +1,7 @@
 use Rattle.std.proofs.Common.{◌≤◌, refl, ◌∙◌, arith}
 use Rattle.std.specs.List.{position_or_len}
 use Rattle.lapd_frame.specs.declared.Role.TheVariants.{Answer}
-use Rattle.lapd_pair_world.specs.Line.{is_final}
+use Rattle.lapd_pair_laws.specs.Line.{is_final}
 use Rattle.lapd_pair.proofs.Lines.{first_marked_is, place_found, shown_on, found_passed}
 use Rattle.lapd_pair.proofs.line.Line.first_final.Goals as goal
 

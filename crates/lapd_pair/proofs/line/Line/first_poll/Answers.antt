@@ -1,7 +1,7 @@
 use Rattle.std.proofs.Common.{◌≤◌, refl, ◌∙◌, arith}
 use Rattle.std.specs.List.{position_or_len}
 use Rattle.lapd_frame.specs.declared.Role.TheVariants.{Command}
-use Rattle.lapd_pair_world.specs.Line.{is_poll}
+use Rattle.lapd_pair_laws.specs.Line.{is_poll}
 use Rattle.lapd_pair.proofs.Lines.{first_marked_is, place_found, shown_on, found_passed}
 use Rattle.lapd_pair.proofs.line.Line.first_poll.Goals as goal
 

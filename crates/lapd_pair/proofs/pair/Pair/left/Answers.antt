@@ -1,5 +1,5 @@
 use Rattle.std.proofs.Common.{arith}
-use Rattle.lapd_pair_world.proofs.Settled.{left_settled}
+use Rattle.lapd_pair_laws.proofs.Settled.{left_settled}
 use Rattle.lapd_pair.proofs.pair.Pair.left.Goals as goal
 
 pub returns : goal.returns

@@ -1,8 +1,8 @@
 use Rattle.lapd_pair.specs.Station.{with_outs}
 use Rattle.std.proofs.Common.{[], length}
 use Rattle.lapd_mod128.specs.Counting.{Tagged}
-use Rattle.lapd_link_rows.specs.Input.{Establish, Release, UnitData, Give}
-use Rattle.lapd_pair_world.specs.Move.{takes, delivers, loses, busy_input, quietly, restarts, acts, expires_200, expires_203}
+use Rattle.lapd_link_definition.specs.Input.{Establish, Release, UnitData, Give}
+use Rattle.lapd_pair_laws.specs.Move.{takes, delivers, loses, busy_input, quietly, restarts, acts, expires_200, expires_203}
 use Rattle.lapd_pair.specs.Moves.{move_of}
 use Rattle.lapd_pair.proofs.Views.{request_takes_none, expiry_takes_none, acts_in_view, refuses_in_view, shows_view, acts_as_in_view, refuses_as_in_view, given_as, establish_is, release_is, deliver_is, lose_is, expire_200_is, expire_203_is, busy_is, unit_as, restart_is}
 use Rattle.lapd_pair.proofs.recorded_link.RecordedLink.act.Goals as goal

@@ -1,6 +1,6 @@
 use Rattle.std.proofs.Common.{◌≡◌, ◌+◌, List, ◌∷◌, drop, length, sym, ap, ◌∙◌, subst, arith}
 use Rattle.std.proofs.lemmas.List.{drop_more}
-use Rattle.lapd_link_rows.specs.declared.out.Out.{Out}
+use Rattle.lapd_link_definition.specs.declared.out.Out.{Out}
 use Rattle.lapd_pair.proofs.Telling.{AreToldUpTo, one_told}
 use Rattle.lapd_pair.proofs.recorded_link.RecordedLink.carry_out.Goals as goal
 

@@ -3,8 +3,8 @@ use Rattle.std.proofs.Common.{[], sym, ap, ◌∙◌, subst}
 use Rattle.lapd_timers.specs.declared.timer.Timer.TheVariants.{T200}
 use Rattle.lapd_frame.specs.declared.Side.{Side}
 use Rattle.lapd_mod128.specs.Counting.{Tagged}
-use Rattle.lapd_link_rows.specs.Input.{Expiry}
-use Rattle.lapd_pair_world.specs.Move.{NotYet, takes, expires_200}
+use Rattle.lapd_link_definition.specs.Input.{Expiry}
+use Rattle.lapd_pair_laws.specs.Move.{NotYet, takes, expires_200}
 use Rattle.lapd_pair.specs.Line.{IsOn}
 use Rattle.lapd_pair.proofs.Views.{Refuses, stands_200, polls_200, finals_200, runs_200, side_shown, sender_shown, request_takes_none, acts_in_view, refuses_in_view, shows_view, seen_alike, acts_as_seen, shows_as_seen, acts_as_in_view, refuses_as_in_view}
 use Rattle.lapd_pair.proofs.recorded_link.RecordedLink.expire_200.Goals as goal

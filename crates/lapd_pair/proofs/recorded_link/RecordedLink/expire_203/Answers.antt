@@ -2,8 +2,8 @@ use Rattle.lapd_pair.specs.Station.{with_outs}
 use Rattle.std.proofs.Common.{[], sym, ◌∙◌}
 use Rattle.lapd_timers.specs.declared.timer.Timer.TheVariants.{T203}
 use Rattle.lapd_mod128.specs.Counting.{Tagged}
-use Rattle.lapd_link_rows.specs.Input.{Expiry}
-use Rattle.lapd_pair_world.specs.Move.{takes, expires_203}
+use Rattle.lapd_link_definition.specs.Input.{Expiry}
+use Rattle.lapd_pair_laws.specs.Move.{takes, expires_203}
 use Rattle.lapd_pair.proofs.Views.{stands_203, runs_203, acts_as, refuses_as}
 use Rattle.lapd_pair.proofs.recorded_link.RecordedLink.expire_203.Goals as goal
 

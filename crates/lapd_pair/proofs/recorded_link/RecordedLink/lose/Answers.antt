@@ -1,7 +1,7 @@
 use Rattle.std.proofs.Common.{List, sym, ◌∙◌, subst}
 use Rattle.lapd_frame.specs.Address.{other_side}
-use Rattle.lapd_link_rows.specs.declared.out.Out.{Out}
-use Rattle.lapd_pair_world.specs.Move.{loses}
+use Rattle.lapd_link_definition.specs.declared.out.Out.{Out}
+use Rattle.lapd_pair_laws.specs.Move.{loses}
 use Rattle.lapd_pair.specs.Station.{IsDone}
 use Rattle.lapd_pair.proofs.Views.{lost_shown, lost_nowhere}
 use Rattle.lapd_pair.proofs.recorded_link.RecordedLink.lose.Goals as goal

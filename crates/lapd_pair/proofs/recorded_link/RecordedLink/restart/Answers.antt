@@ -1,7 +1,7 @@
 use Rattle.lapd_pair.specs.Station.{IsDone}
 use Rattle.std.proofs.Common.{List, sym, subst}
-use Rattle.lapd_link_rows.specs.declared.out.Out.{Out}
-use Rattle.lapd_pair_world.specs.Move.{quietly, restarts}
+use Rattle.lapd_link_definition.specs.declared.out.Out.{Out}
+use Rattle.lapd_pair_laws.specs.Move.{quietly, restarts}
 use Rattle.lapd_pair.specs.declared.recorded_link.RecordedLink.{RecordedLink}
 use Rattle.lapd_pair.proofs.Restarted.{started_anew}
 use Rattle.lapd_pair.proofs.recorded_link.RecordedLink.restart.Goals as goal

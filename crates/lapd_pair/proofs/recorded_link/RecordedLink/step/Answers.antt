@@ -1,7 +1,7 @@
 use Rattle.std.proofs.Common.{◌≡◌, sym, subst}
 use Rattle.lapd_link.specs.declared.link.Link.{Link}
 use Rattle.lapd_link.specs.Link.{setup_of, Steps}
-use Rattle.lapd_link_rows.specs.Input.{input_of}
+use Rattle.lapd_link_definition.specs.Input.{input_of}
 use Rattle.lapd_pair.proofs.Steps.{step_acted, tells_of, no_message}
 use Rattle.lapd_pair.proofs.recorded_link.RecordedLink.step.Goals as goal
 

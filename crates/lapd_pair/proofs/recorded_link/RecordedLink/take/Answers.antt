@@ -1,6 +1,6 @@
 use Rattle.lapd_pair.specs.Station.{with_outs}
 use Rattle.std.proofs.Common.{sym, ◌∙◌}
-use Rattle.lapd_link_rows.specs.Input.{input_of}
+use Rattle.lapd_link_definition.specs.Input.{input_of}
 use Rattle.lapd_pair.proofs.Acts.{takes_refused, takes_goes, request_acts, request_refused, shows_still}
 use Rattle.lapd_pair.proofs.recorded_link.RecordedLink.take.Goals as goal
 

@@ -1,6 +1,6 @@
 use Rattle.lapd_pair.specs.Station.{with_outs}
 use Rattle.std.proofs.Common.{[], refl, sym, ◌∙◌}
-use Rattle.lapd_link_rows.specs.Input.{Give}
+use Rattle.lapd_link_definition.specs.Input.{Give}
 use Rattle.lapd_pair.proofs.Acts.{takes_refused, takes_goes, message_acts, message_refused, shows_still}
 use Rattle.lapd_pair.proofs.recorded_link.RecordedLink.take_message.Goals as goal
 

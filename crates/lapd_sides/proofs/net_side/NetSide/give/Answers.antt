@@ -1,5 +1,5 @@
 use Rattle.std.proofs.Common.{[], Some}
-use Rattle.lapd_link_rows.specs.Input.{Give}
+use Rattle.lapd_link_definition.specs.Input.{Give}
 use Rattle.lapd_sides_links.specs.Links.{in_links, link_acts}
 use Rattle.lapd_sides.specs.Network.{link_of_network}
 use Rattle.lapd_sides.proofs.Networking.{link_answers}

@@ -1,6 +1,6 @@
 use Rattle.std.proofs.Common.{[], Err, sym, ap, ◌∙◌}
 use Rattle.lapd_frame.specs.declared.Side.TheVariants as side
-use Rattle.lapd_link_rows.specs.Input.{input_of}
+use Rattle.lapd_link_definition.specs.Input.{input_of}
 use Rattle.lapd_sides_links.specs.declared.side_fault.SideFault.{SideFault}
 use Rattle.lapd_sides.proofs.Using.{link_granted, link_refused, links_kept}
 use Rattle.lapd_sides.proofs.user_side.UserSide.act.Goals as goal

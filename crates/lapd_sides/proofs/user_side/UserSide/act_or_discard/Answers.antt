@@ -1,5 +1,5 @@
 use Rattle.lapd_frame.specs.declared.Side.TheVariants as side
-use Rattle.lapd_link_rows.specs.Input.{input_of}
+use Rattle.lapd_link_definition.specs.Input.{input_of}
 use Rattle.lapd_sides_links.specs.Links.{in_links, link_acts}
 use Rattle.lapd_sides.specs.User.{link_of_user}
 use Rattle.lapd_sides.proofs.Using.{link_granted, heard_so, discarded_so}

@@ -1,5 +1,5 @@
 use Rattle.std.proofs.Common.{[], Err, sym, ap, ◌∙◌}
-use Rattle.lapd_link_rows.specs.Input.{input_of}
+use Rattle.lapd_link_definition.specs.Input.{input_of}
 use Rattle.lapd_sides_links.specs.declared.side_fault.SideFault.{SideFault}
 use Rattle.lapd_sides_links.specs.declared.side_fault.SideKind.TheVariants.{NoLink}
 use Rattle.lapd_sides.proofs.Using.{answers_as, is_own, is_none}

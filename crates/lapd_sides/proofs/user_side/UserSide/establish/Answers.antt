@@ -1,5 +1,5 @@
 use Rattle.std.proofs.Common.{[]}
-use Rattle.lapd_link_rows.specs.Input.{Establish}
+use Rattle.lapd_link_definition.specs.Input.{Establish}
 use Rattle.lapd_sides.specs.User.{wants}
 use Rattle.lapd_sides.proofs.Using.{answers_as, is_own, is_none}
 use Rattle.lapd_sides.proofs.user_side.UserSide.establish.Goals as goal

@@ -1,6 +1,6 @@
 use Rattle.std.proofs.Common.{[], Bool, sym, subst}
 use Rattle.lapd_frame.specs.declared.Side.{Side}
-use Rattle.lapd_link_rows.specs.Input.{Establish}
+use Rattle.lapd_link_definition.specs.Input.{Establish}
 use Rattle.lapd_sides_links.specs.Links.{Links, in_links, link_acts}
 use Rattle.lapd_sides.specs.ShowsUser.{HasFollowed}
 use Rattle.lapd_sides.specs.User.{link_of_user, establishes}

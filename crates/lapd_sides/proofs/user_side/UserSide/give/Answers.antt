@@ -1,6 +1,6 @@
 use Rattle.std.proofs.Common.{[], Some, Err, sym, ap, ◌∙◌}
-use Rattle.lapd_link_rows.specs.Input.{Give}
-use Rattle.lapd_link_rows.specs.declared.event.LinkFault.TheVariants.{NotEstablished}
+use Rattle.lapd_link_definition.specs.Input.{Give}
+use Rattle.lapd_link_definition.specs.declared.event.LinkFault.TheVariants.{NotEstablished}
 use Rattle.lapd_sides_links.specs.declared.side_fault.SideKind.TheVariants.{Link}
 use Rattle.lapd_sides_links.specs.Links.{in_links, link_acts}
 use Rattle.lapd_sides.specs.User.{link_of_user}

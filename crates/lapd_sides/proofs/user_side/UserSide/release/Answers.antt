@@ -1,5 +1,5 @@
 use Rattle.std.proofs.Common.{[]}
-use Rattle.lapd_link_rows.specs.Input.{Release}
+use Rattle.lapd_link_definition.specs.Input.{Release}
 use Rattle.lapd_sides.specs.User.{forgets}
 use Rattle.lapd_sides.proofs.Using.{answers_as, is_own, is_none}
 use Rattle.lapd_sides.proofs.user_side.UserSide.release.Goals as goal

@@ -1,6 +1,6 @@
 use Rattle.std.proofs.Common.{Err, List, length, sym, ap, subst, ◌≡◌, ◌∙◌}
 use Rattle.lapd_frame.specs.declared.Side.TheVariants as side
-use Rattle.lapd_link_rows.specs.Input.{UnitData}
+use Rattle.lapd_link_definition.specs.Input.{UnitData}
 use Rattle.lapd_sides_links.specs.declared.side_fault.SideKind.TheVariants.{NoLink}
 use Rattle.lapd_sides.specs.ShowsUser.{HasGranted}
 use Rattle.lapd_sides.specs.User.{with_tei_or}

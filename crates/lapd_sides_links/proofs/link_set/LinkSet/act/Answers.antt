@@ -1,6 +1,6 @@
 -- act
 use Rattle.std.proofs.Common.{OnOk, IfErr, sym, subst}
-use Rattle.lapd_link_rows.specs.Input.{input_of}
+use Rattle.lapd_link_definition.specs.Input.{input_of}
 use Rattle.lapd_table.specs.declared.link_id.LinkId.{LinkId}
 use Rattle.lapd_table.specs.LinkTable.{IsFor}
 use Rattle.lapd_sides_links.specs.Links.{in_links, link_acts}

@@ -1,5 +1,5 @@
 -- act_at
-use Rattle.lapd_link_rows.specs.Input.{input_of}
+use Rattle.lapd_link_definition.specs.Input.{input_of}
 use Rattle.lapd_sides_links.proofs.Acting.{refuses, have_acted}
 use Rattle.lapd_sides_links.proofs.link_set.LinkSet.act_at.Goals as goal
 

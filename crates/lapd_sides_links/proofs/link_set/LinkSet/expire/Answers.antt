@@ -1,7 +1,7 @@
 -- expire
 use Rattle.std.proofs.Common.{◌≡◌, ◌∙◌, option_map, subst}
-use Rattle.lapd_link_rows.specs.Input.{Input}
-use Rattle.lapd_link_rows.specs.Input as input
+use Rattle.lapd_link_definition.specs.Input.{Input}
+use Rattle.lapd_link_definition.specs.Input as input
 use Rattle.lapd_table.specs.declared.link_id.LinkId.{LinkId}
 use Rattle.lapd_table.specs.LinkTable.{StepsAt, RefusesAt}
 use Rattle.lapd_sides_links.specs.Effects.{stopped}

@@ -1,6 +1,6 @@
 -- give
 use Rattle.std.proofs.Common.{[], Err, sym, ap, ◌∙◌, subst, arith}
-use Rattle.lapd_link_rows.specs.Input.{Give}
+use Rattle.lapd_link_definition.specs.Input.{Give}
 use Rattle.lapd_table.specs.declared.link_id.LinkId.{LinkId}
 use Rattle.lapd_sides_links.specs.Links.{in_links, link_acts}
 use Rattle.lapd_sides_links.specs.Shown.{HaveActed}

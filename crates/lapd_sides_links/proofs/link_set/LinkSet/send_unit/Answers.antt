@@ -1,6 +1,6 @@
 -- send_unit
 use Rattle.std.proofs.Common.{OnOk, IfErr, length, subst}
-use Rattle.lapd_link_rows.specs.Input.{UnitData}
+use Rattle.lapd_link_definition.specs.Input.{UnitData}
 use Rattle.lapd_table.specs.declared.link_id.LinkId.{LinkId}
 use Rattle.lapd_sides_links.specs.Links.{in_links, link_acts}
 use Rattle.lapd_sides_links.specs.Shown.{Does, RefusesAs}

@@ -1,5 +1,5 @@
 use Rattle.std.proofs.Common.{Ok, sym, ap, ◌∙◌}
-use Rattle.lapd_link_rows.specs.Input.{Heard, Faulty}
+use Rattle.lapd_link_definition.specs.Input.{Heard, Faulty}
 use Rattle.lapd_table.specs.LinkId.{id_of_address}
 use Rattle.lapd_table.proofs.Tables.{arrived, arrived_fault, dispatched, not_dispatched}
 use Rattle.lapd_table.proofs.link_table.LinkTable.dispatch_into.Goals as goal

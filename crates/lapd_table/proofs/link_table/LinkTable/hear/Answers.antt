@@ -1,5 +1,5 @@
 use Rattle.std.proofs.Common.{refl, sym, ◌∙◌, rules}
-use Rattle.lapd_link_rows.specs.Input.{input_of}
+use Rattle.lapd_link_definition.specs.Input.{input_of}
 use Rattle.lapd_table.proofs.Tables.{none_at, never_refused_at}
 use Rattle.lapd_table.proofs.link_table.LinkTable.hear.Goals as goal
 

@@ -1,8 +1,0 @@
-use Rattle.std.proofs.Common.{◌≡◌, take}
-use Rattle.lapd_cli_commands.specs.StandsForWorld.{made_side_lines}
-use Rattle.lapd_pair.specs.Runs.{PairStandsFor}
-use Rattle.lapd_pair_world.specs.World.{World, view_of}
-use Rattle.lapd_cli_commands.proofs.move_lines.write_lines.Given as goal
-
-abbrev pub invariant-loop-given : goal.invariant-loop-given
-invariant-loop-given l = (w : World) → PairStandsFor l.pair w → l.text.items ≡ made_side_lines l.side (view_of l.side w).station l.unit (take l.given-index l.outs)

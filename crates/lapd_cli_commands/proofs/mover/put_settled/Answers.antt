@@ -1,5 +1,0 @@
-use Rattle.std.proofs.Common.{rules}
-use Rattle.lapd_cli_commands.proofs.mover.put_settled.Goals as goal
-
-pub returns-in_ok-writeln-2-clause-ok : goal.returns-in_ok-writeln-2-clause-ok
-returns-in_ok-writeln-2-clause-ok g c = search rules

@@ -1,0 +1,152 @@
+-- What is made of the outputs of a step is what is printed of it: each that is sent has its frame.
+use Rattle.std.specs.Prelude.{⊤}
+use Rattle.std.proofs.Common.{◌≡◌, ◌≤◌, ℕ, List, [], ◌∷◌, ◌++◌, length, flat_map, slice_get, false, Option, Some, None, Result, Ok, Err, refl, sym, ap, subst, ◌∙◌, arith}
+use Rattle.std.proofs.lemmas.List.Elements.{All-head, All-tail}
+use Rattle.std.specs.Io.KnownBytes.{Appends}
+use Rattle.std.specs.List.{All}
+use Rattle.std.specs.Result.{result_ok}
+use Rattle.lapd_frame.specs.declared.Address.{Address}
+use Rattle.lapd_frame.specs.declared.Control.{Control}
+use Rattle.lapd_frame.specs.declared.Control.TheVariants.{Ui}
+use Rattle.lapd_frame.specs.declared.fault_kind.FaultKind.{FaultKind}
+use Rattle.lapd_frame.specs.declared.Role.TheVariants.{Command}
+use Rattle.lapd_frame.specs.declared.Side.{Side}
+use Rattle.lapd_frame.specs.Frame.{Fields, content_fault, frame_of, n201}
+use Rattle.lapd_link.specs.Link.{Setup}
+use Rattle.lapd_link.specs.SentFrame.{link_address, made_frame, message_frame, sent_frame, HaveFrames, HasFramesOf}
+use Rattle.lapd_link.specs.declared.link.Link.{Link}
+use Rattle.lapd_link.proofs.Frames.{short_unit}
+use Rattle.lapd_mod128.specs.Counting.{Tagged}
+use Rattle.lapd_pair.specs.Runs.{PairStandsFor}
+use Rattle.lapd_pair.specs.Setup.{setup_for}
+use Rattle.lapd_pair.specs.declared.pair.Pair.{Pair}
+use Rattle.lapd_pair.proofs.Framed.{frames_of_move}
+use Rattle.lapd_link_definition.specs.declared.event.LinkFault.{LinkFault}
+use Rattle.lapd_link_definition.specs.declared.out.Out.{Out}
+use Rattle.lapd_link_definition.specs.declared.out.Out.TheVariants as out
+use Rattle.lapd_link_definition.specs.End.{End, StepState}
+use Rattle.lapd_link_definition.specs.Input as input
+use Rattle.lapd_link_definition.specs.Input.{Input}
+use Rattle.lapd_link_definition.specs.Table.{step}
+use Rattle.lapd_cli_script.specs.Line.{text_line}
+use Rattle.lapd_sides_links.specs.declared.primitive.What.{What}
+use Rattle.lapd_trace.specs.Trace.{frame_line}
+use Rattle.lapd_trace.proofs.FrameLines.{line_of_spelling}
+use Rattle.lapd_pair_laws.specs.Kept.{IsKeptWorld}
+use Rattle.lapd_pair_laws.specs.Move.{Deed, UnitData, Move, Refusal, Station, View, stepped, takes, acts}
+use Rattle.lapd_pair_laws.specs.World.{World, Happened, view_of, in_world, happens}
+use Rattle.lapd_cli_link_commands.specs.Answer.{Session, IsSession, messages_of}
+use Rattle.lapd_cli_link_commands.specs.Outputs.{handed_in, out_line, outs_text}
+use Rattle.lapd_cli_link_commands.specs.Pair.{move_made, move_told, side_line, spoken_of, told_line, told_lines, unit_of}
+use Rattle.lapd_cli_link_commands.specs.StandsForWorld.{made_side_line, made_side_lines}
+use Rattle.lapd_cli_link_commands.specs.Session.{IsHandedWith, made_line, made_text}
+use Rattle.lapd_cli_link_commands.specs.Told.{Spoken, told, told_as, told_with, what_told}
+
+-- the frame that is made of an output is the one that is sent
+abbrev IsSent : Setup → List (List ℕ) → List ℕ → Out → Type 0
+IsSent setup messages handed output = made_frame setup messages handed output ≡ sent_frame setup messages handed output
+
+-- two ways to print outputs that say the same of each
+same_lines : {P : Out → Type 0} (f g : Out → List ℕ) (outs : List Out) → ((output : Out) → P output → f output ≡ g output) → All P outs → flat_map f outs ≡ flat_map g outs
+same_lines f g [] same h = refl
+same_lines {P} f g (output ∷ outs) same h =
+    ap (λ (text : List ℕ). text ++ flat_map f outs) (same output (All-head P output outs h))
+    ∙ ap (λ (text : List ℕ). g output ++ text) (same_lines f g outs same (All-tail P output outs h))
+
+-- ---- One link.
+
+same_text : (setup : Setup) (messages : List (List ℕ)) (handed : List ℕ) (outs : List Out) → All (IsSent setup messages handed) outs → made_text setup messages handed outs ≡ outs_text setup messages handed outs
+same_text setup messages handed outs h =
+    let line : Option Fields → Out → List ℕ = λ made output. out_line setup.side (told_with made (handed_in handed) output) in
+    same_lines (made_line setup messages (handed_in handed)) (λ output. line (sent_frame setup messages handed output) output) outs (λ output same. ap (λ made. line made output) same) h
+
+pub text_of_step : (link : Link) (s : Session) (handed : List ℕ) (outs : List Out) → HasFramesOf link outs → IsSession link s → length handed ≤ n201
+    → made_text s.setup (messages_of s.end) handed outs ≡ outs_text s.setup (messages_of s.end) handed outs
+text_of_step link s handed outs has session fits =
+    same_text s.setup (messages_of s.end) handed outs (subst (λ (setup : Setup). HaveFrames setup (messages_of s.end) outs) session.setup (has s.end session.end) handed fits)
+
+-- what was handed in with an input that is not refused
+pub fits_with : (input : Input) (handed : List ℕ) (e : End) (s : StepState) → IsHandedWith input handed → step Tagged input e ≡ Ok s → length handed ≤ n201
+fits_with (input.UnitData len) handed e s same done = subst (λ (n : ℕ). n ≤ n201) same (short_unit len e s done)
+fits_with input handed e s fits done = fits
+
+-- ---- A frame that is made.
+
+-- the control table has it, where there is one
+abbrev HasContent : Option Fields → Type 0
+HasContent None = ⊤
+HasContent (Some f) = content_fault f.address.role f.control (length f.info) ≡ None
+
+frame_has_content : (a : Address) (c : Control) (info : List ℕ) (fault : Option FaultKind) → content_fault a.role c (length info) ≡ fault → HasContent (result_ok (frame_of a c info fault))
+frame_has_content a c info None h = h
+frame_has_content a c info (Some fault) h = tt
+
+message_has_content : (setup : Setup) (control : Control) (message : Option (List ℕ)) → HasContent (message_frame setup control message)
+message_has_content setup control None = tt
+message_has_content setup control (Some message) = frame_has_content (link_address setup Command) control message _ refl
+
+made_has_content : (setup : Setup) (messages : List (List ℕ)) (handed : List ℕ) (output : Out) → HasContent (made_frame setup messages handed output)
+made_has_content setup messages handed (out.Send role control) = frame_has_content (link_address setup role) control [] _ refl
+made_has_content setup messages handed (out.SendMessage place control) = message_has_content setup control (slice_get messages place)
+made_has_content setup messages handed out.SendUnit = frame_has_content (link_address setup Command) (Ui false) handed _ refl
+made_has_content setup messages handed output = tt
+
+-- its line is that of its octets
+line_of_unsent : (side : Side) (what : Option What) (output : Out) → side_line (frame_line side) side (told_as what output) ≡ told_line side (told_as what output)
+line_of_unsent side (Some what) output = refl
+line_of_unsent side None (out.Start timer) = refl
+line_of_unsent side None (out.Stop timer) = refl
+line_of_unsent side None output = refl
+
+line_of_made : (side : Side) (made : Option Fields) (s : Spoken) (output : Out) → HasContent made → side_line (frame_line side) side (told_with made s output) ≡ told_line side (told_with made s output)
+line_of_made side None s output h = line_of_unsent side (what_told s output) output
+line_of_made side (Some f) s output h = ap (λ (t : List ℕ). text_line t) (sym (line_of_spelling side f h))
+
+-- ---- A pair.
+
+same_side_line : (side : Side) (messages : List (List ℕ)) (s : Spoken) (output : Out) → IsSent (setup_for side) messages s.sent output
+    → made_side_line side messages s output ≡ told_line side (told (setup_for side) messages s output)
+same_side_line side messages s output h =
+    line_of_made side _ s output (made_has_content (setup_for side) messages s.sent output)
+    ∙ ap (λ (made : Option Fields). told_line side (told_with made s output)) h
+
+same_side_lines : (side : Side) (s : Station) (unit : List ℕ) (outs : List Out) → All (IsSent (setup_for side) (messages_of s.end) unit) outs → made_side_lines side s unit outs ≡ told_lines side s unit outs
+same_side_lines side s unit outs h =
+    let messages = messages_of s.end in
+    let spoken = spoken_of s.history unit in
+    same_lines (made_side_line side messages spoken) (λ output. told_line side (told (setup_for side) messages spoken output)) outs (same_side_line side messages spoken) h
+
+-- unit data of a move that is admitted
+unit_stepped : (who : Side) (w : World) (octets : List ℕ) (v : View) (happened : Happened) (result : Result StepState LinkFault) → step Tagged (input.UnitData (length octets)) v.station.end ≡ result
+    → in_world who w (stepped octets 0 v result) ≡ Ok happened → length octets ≤ n201
+unit_stepped who w octets v happened (Ok s) done is = short_unit (length octets) v.station.end s done
+unit_stepped who w octets v happened (Err fault) done is = absurd (cc)
+
+short_deed : (who : Side) (deed : Deed) (w : World) (happened : Happened) → in_world who w (acts Tagged who deed (view_of who w)) ≡ Ok happened → length (unit_of deed) ≤ n201
+unfolding acts takes
+short_deed who (UnitData octets) w happened is = unit_stepped who w octets (view_of who w) happened (step Tagged (input.UnitData (length octets)) (view_of who w).station.end) refl is
+short_deed who deed w happened is = omega arith
+
+short_move : (move : Move) (w : World) (happened : Happened) → happens Tagged move w ≡ Ok happened → length (unit_of move.deed) ≤ n201
+unfolding happens
+short_move move w happened is = short_deed move.side move.deed w happened is
+
+-- what is printed of a move
+pub lines_of_move : (move : Move) (w : World) (happened : Happened) → IsKeptWorld Tagged w → happens Tagged move w ≡ Ok happened
+    → made_side_lines move.side (view_of move.side happened.world).station (unit_of move.deed) happened.outs ≡ told_lines move.side (view_of move.side happened.world).station (unit_of move.deed) happened.outs
+lines_of_move move w happened kept is =
+    same_side_lines move.side (view_of move.side happened.world).station (unit_of move.deed) happened.outs (frames_of_move move w happened kept is (unit_of move.deed) (short_move move w happened is))
+
+-- what is written of it
+pub move_written : (w : World) (move : Move) (happened : Happened) (p : Pair) (side : Side) (unit : List ℕ) (outs : List Out) (text written : List ℕ) (old new : Option (List ℕ))
+    → IsKeptWorld Tagged w → happens Tagged move w ≡ Ok happened → happened.outs ≡ outs → PairStandsFor p happened.world → side ≡ move.side → unit ≡ unit_of move.deed
+    → text ≡ made_side_lines side (view_of side happened.world).station unit outs → written ≡ text → Appends old new written
+    → PairStandsFor p (move_made w move).1 × Appends old new (move_made w move).0
+move_written w move happened p side unit outs text written old new kept is given stands its_side its_unit made whole appends =
+    let Made : Result Happened Refusal → Type 0 = λ outcome. PairStandsFor p (move_told w move outcome).1 × Appends old new (move_told w move outcome).0 in
+    let lines = whole ∙ made
+    ∙ ap (λ (s : Side). made_side_lines s (view_of s happened.world).station unit outs) its_side
+    ∙ ap (λ (u : List ℕ). made_side_lines move.side (view_of move.side happened.world).station u outs) its_unit
+    ∙ ap (λ (o : List Out). made_side_lines move.side (view_of move.side happened.world).station (unit_of move.deed) o) (sym given)
+    ∙ lines_of_move move w happened kept is in
+    subst Made (sym is) (stands, subst (λ (t : List ℕ). Appends old new t) lines appends)

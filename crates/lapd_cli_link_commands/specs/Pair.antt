@@ -1,0 +1,153 @@
+-- The command `pair`: two ends and the line between them, by the moves of a script.
+use Rattle.std.specs.Prelude.{◌≡◌, ℕ, ◌-◌, Bool, true, false, if◌then◌else◌, List, [], ◌∷◌, ◌++◌, codes, flat_map, get_or, is_none, length, map, None, Some, Option, option_map, Result, Ok, Err, ⊤}
+use Rattle.std.specs.Str.{bytes_eq}
+use Rattle.std.specs.Io.KnownBytes.{Appends}
+use Rattle.std.specs.Fmt.{decimal}
+use Rattle.lapd_pair_laws.specs.Settle.{bound, next_move, settling}
+use Rattle.lapd_frame.specs.declared.Side.{Side}
+use Rattle.lapd_frame.specs.declared.Side.TheVariants.{Network, User}
+use Rattle.lapd_frame.specs.Frame.{Fields, spelling}
+use Rattle.lapd_mod128.specs.Counting.{Tagged}
+use Rattle.lapd_link_definition.specs.declared.out.Out.{Out}
+use Rattle.lapd_link_definition.specs.State.{state_number}
+use Rattle.lapd_pair.specs.Histories.{octets_and_establishment}
+use Rattle.lapd_pair.specs.Settles.{settled}
+use Rattle.lapd_pair.specs.Setup.{setup_for}
+use Rattle.lapd_trace.specs.Trace.{trace_line}
+use Rattle.lapd_cli_script.specs.Line.{text_line}
+use Rattle.lapd_cli_script.specs.Script.{EndsAs, Step, bad_line, output_of, state_after}
+use Rattle.lapd_cli_script.specs.declared.script.ScriptFault.{ScriptFault}
+use Rattle.lapd_pair_laws.specs.Histories.{History}
+use Rattle.lapd_pair_laws.specs.Move.{Deed, Move, Refusal, Station, UnitData, NothingThere, NotRunning, NotYet, Refused}
+use Rattle.lapd_pair_laws.specs.World.{Happened, World, happens, view_of}
+use Rattle.lapd_cli_link_commands.specs.declared.mover.Figures.{Figures}
+use Rattle.lapd_cli_link_commands.specs.Answer.{messages_of}
+use Rattle.lapd_cli_link_commands.specs.Moves.{move_of_line}
+use Rattle.lapd_cli_link_commands.specs.Outputs.{refusal_line}
+use Rattle.lapd_cli_link_commands.specs.Told.{Spoken, Told, Sent, Primitive, told}
+
+-- ---- What one side puts out in a move.
+
+abbrev pub side_name : Side → List ℕ
+side_name User = codes "user"
+side_name Network = codes "net"
+
+-- the last of a list of octets, none where it is empty
+abbrev pub last_octets : List (List ℕ) → List ℕ
+last_octets all = get_or all (length all - 1) []
+
+-- the last message received, with its establishment
+abbrev pub last_message : List (List ℕ × ℕ) → List ℕ
+last_message all = (get_or all (length all - 1) ([], 0)).0
+
+-- the octets that the outputs of a side speak of that has this history after the move: the message and the unit data last
+-- received, and the unit data that are sent
+abbrev pub spoken_of : History → List ℕ → Spoken
+spoken_of h unit = record {
+  message = last_message (map octets_and_establishment h.received);
+  unit = last_octets h.units;
+  sent = unit;
+}
+
+-- a frame that goes on the line, by this way to write it as text, or a primitive or a report behind the name of its side;
+-- timers are not printed
+abbrev pub side_line : (Fields → List ℕ) → Side → Told → List ℕ
+side_line written side (Sent frame) = text_line (written frame)
+side_line written side (Primitive line) = side_name side ++ (32 ∷ line)
+side_line written side other = []
+
+-- a frame is written as the trace line of its octets
+abbrev pub told_line : Side → Told → List ℕ
+told_line side told = side_line (λ frame. trace_line side (spelling side frame)) side told
+
+-- the outputs of a side that stands so after the move, where `unit` is the unit data to be sent
+abbrev pub told_lines : Side → Station → List ℕ → List Out → List ℕ
+told_lines side s unit outs = flat_map (λ output. told_line side
+    (told (setup_for side) (messages_of s.end) (spoken_of s.history unit) output)) outs
+
+-- ---- What a move comes to.
+
+-- why a move is not admitted
+abbrev pub not_admitted : Refusal → List ℕ
+not_admitted NothingThere = text_line (codes "refused P1 NothingThere")
+not_admitted NotRunning = text_line (codes "refused P2 NotRunning")
+not_admitted (NotYet to at) =
+    text_line (codes "refused P3 NotYet " ++ (side_name to ++ (32 ∷ decimal at)))
+not_admitted (Refused fault) = refusal_line fault
+
+-- the unit data that a deed sends
+abbrev pub unit_of : Deed → List ℕ
+unit_of (UnitData octets) = octets
+unit_of deed = []
+
+-- its text, and the world after it
+abbrev pub move_told : World → Move → Result Happened Refusal → List ℕ × World
+move_told w move (Ok happened) = (
+  told_lines move.side (view_of move.side happened.world).station (unit_of move.deed) happened.outs,
+  happened.world,
+)
+move_told w move (Err refusal) = (not_admitted refusal, w)
+
+abbrev pub move_made : World → Move → List ℕ × World
+move_made w move = move_told w move (happens Tagged move w)
+
+-- what a line calls for that names a move
+abbrev pub move_step : Step World
+move_step w line = option_map (move_made w) (move_of_line line)
+
+-- ---- What it comes to that the line settles.
+
+-- how many moves were made, and whether none is possible any more
+abbrev pub settled_line : ℕ → Bool → List ℕ
+settled_line moves true = text_line (codes "settled " ++ (decimal moves ++ codes " rest"))
+settled_line moves false = text_line (codes "settled " ++ decimal moves)
+
+-- its text, and the world after it; of the moves themselves nothing is printed
+abbrev pub settle_made : World → List ℕ × World
+settle_made w = (
+  settled_line (length (settling Tagged (bound w) w)) (is_none (next_move Tagged (settled w))),
+  settled w,
+)
+
+-- what each line calls for: a line of the single word `settle`, or a move
+abbrev pub pair_step : Step World
+pair_step w line =
+    if bytes_eq line (codes "settle") then Some (settle_made w) else move_step w line
+
+-- ---- What is printed at the end.
+
+-- where a side is, how many messages it was given and received, and how many of its own are acknowledged or dropped
+abbrev pub figures_of : Station → Figures
+figures_of s = record {
+  state = state_number s.end.state;
+  given = length s.end.given;
+  received = length s.history.received;
+  acknowledged = length s.history.acked;
+  dropped = length s.history.dropped;
+}
+
+abbrev pub figures_line : Side → Figures → List ℕ
+figures_line side f =
+    side_name side ++ (codes ": state " ++ (decimal f.state
+    ++ (codes ", given " ++ (decimal f.given ++ (codes ", received " ++ (decimal f.received
+    ++ (codes ", acknowledged " ++ (decimal f.acknowledged
+    ++ (codes ", dropped " ++ text_line (decimal f.dropped))))))))))
+
+abbrev pub closing_line : Side → Station → List ℕ
+closing_line side s = figures_line side (figures_of s)
+
+abbrev pub closing_lines : World → List ℕ
+closing_lines w = closing_line User w.user ++ closing_line Network w.network
+
+-- how a command ends whose lines call for this: a script that is done to its end has these two lines behind it
+abbrev pub ClosesAs : Step World → World → Result ⊤ ScriptFault → List (List ℕ) → Option (List ℕ)
+    → Option (List ℕ) → Type 0
+ClosesAs step w (Ok done) lines old new =
+    (bad_line step w lines ≡ None)
+    × Appends old new (output_of step w lines ++ closing_lines (state_after step w lines))
+ClosesAs step w (Err fault) lines old new = EndsAs step w (Err fault) lines old new
+
+-- how the command `pair` ends
+abbrev pub PairEndsAs : World → Result ⊤ ScriptFault → List (List ℕ) → Option (List ℕ)
+    → Option (List ℕ) → Type 0
+PairEndsAs w result lines old new = ClosesAs pair_step w result lines old new

@@ -1,0 +1,26 @@
+-- How the command's value stands for a session, and what its calls are handed and print.
+use Rattle.std.specs.Prelude.{◌≡◌, ◌≤◌, ℕ, List, flat_map, length}
+use Rattle.lapd_frame.specs.Frame.{n201}
+use Rattle.lapd_link.specs.declared.Out.{Out}
+use Rattle.lapd_link.specs.Input.{Input, UnitData}
+use Rattle.lapd_link.specs.Link.{Setup}
+use Rattle.lapd_cli_link_commands.specs.declared.answerer.Answerer.{Answerer}
+use Rattle.lapd_cli_link_commands.specs.Answer.{Session, IsSession}
+use Rattle.lapd_cli_link_commands.specs.Outputs.{handed_in, out_line}
+use Rattle.lapd_cli_link_commands.specs.Told.{Spoken}
+use Rattle.lapd_cli_link_commands.specs.ToldValues.{made_told}
+
+abbrev pub IsAnswerer : Answerer → Session → Type 0
+IsAnswerer answerer s = IsSession answerer.link s
+
+-- what is handed in with an input: unit data of this length, or no more than a frame carries
+abbrev pub IsHandedWith : Input → List ℕ → Type 0
+IsHandedWith (UnitData len) octets = len ≡ length octets
+IsHandedWith input octets = length octets ≤ n201
+
+-- the line of an output, by the frame that is made of it
+abbrev pub made_line : Setup → List (List ℕ) → Spoken → Out → List ℕ
+made_line setup messages s output = out_line setup.side (made_told setup messages s output)
+
+abbrev pub made_text : Setup → List (List ℕ) → List ℕ → List Out → List ℕ
+made_text setup messages handed outs = flat_map (made_line setup messages (handed_in handed)) outs

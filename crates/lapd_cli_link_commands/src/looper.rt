@@ -1,0 +1,144 @@
+//! The command `loop`: two ends whose frames go through a port.
+
+ghost use Rattle.std.specs.Prelude.{◌≡◌, IfSome, OnOk, drop};
+ghost use Rattle.lapd_cli_script.specs.Script.{lines_of};
+ghost use Rattle.lapd_cli_link_commands.specs.Crossing.{HaveCrossed};
+ghost use Rattle.lapd_cli_link_commands.specs.Loop.{LoopEndsAs, frames_put};
+ghost use Rattle.lapd_pair_laws.specs.World.{new_world};
+
+use crate::Mover;
+use crate::crossing::{FrameOctets, cross_all};
+use lapd_cli_script::{Command, LineFault, ScriptFault, walk};
+use lapd_frame::Side;
+use lapd_link::Params;
+use lapd_port::{Port, Sink, Source};
+use std::alloc::Global;
+use std::io::{Read, Write};
+
+/// Two ends with the line between them, and the port that its frames cross.
+struct Looper<S, K> {
+    mover: Mover,
+    port: Port<S, K>,
+}
+
+/// Goes over a script of moves as [`crate::pair`] does, and prints the same; `settle` is no line of it. Each frame
+/// that a line of the script puts on the line goes out through the port before the next line is done, and has to come back
+/// by it. The port is handed back.
+///
+/// # Errors
+///
+/// As [`crate::pair`], and `Device` where a call of the port answers a fault, or another frame comes back. What the
+/// line calls for is printed then.
+pub fn loop_over<R: Read, W: Write, S: Source, K: Sink>(
+    alloc: Global,
+    script: &mut R,
+    out: &mut W,
+    user: Params,
+    network: Params,
+    port: Port<S, K>,
+) -> (Result<(), ScriptFault>, Port<S, K>)
+    ensures text { IfSome (R.remaining script.old)
+        (λ octets. LoopEndsAs (new_world user network) result.0
+        (lines_of octets) (W.contents out.old) (W.contents out.new)) }
+    ensures crossed { IfSome (R.remaining script.old)
+        (λ octets. OnOk result.0 (HaveCrossed (S.rest port.source) (S.rest result.1.source)
+        (K.written port.sink) (K.written result.1.sink)
+        (frames_put (new_world user network) (lines_of octets)))) }
+{
+    let mover = match Mover::new(alloc, user, network) {
+        Ok(mover) => mover,
+        Err(_) => return (Err(ScriptFault::Memory), port),
+    };
+    let mut looper = Looper { mover, port };
+    let ended = walk(alloc, &mut looper, script, out);
+    let Looper { mover, port } = looper;
+    match ended {
+        Ok(()) => (mover.close(out), port),
+        Err(fault) => (Err(fault), port),
+    }
+}
+
+/// How many frames stand on the line in each direction.
+#[derive(Clone, Copy)]
+struct OnLine {
+    to_user: usize,
+    to_network: usize,
+}
+
+impl<S: Source, K: Sink> Command for Looper<S, K> {
+    ghost use Rattle.lapd_cli_link_commands.specs.LoopState.{IsLooped, LoopState, loop_step};
+
+    ghost State = { LoopState };
+
+    ghost step = { loop_step };
+
+    ghost stands_for = { λ looper s. IsLooped looper.mover (S.rest looper.port.source)
+        (K.written looper.port.sink) s };
+
+    fn run<W: Write>(&mut self, line: &[u8], out: &mut W) -> Result<(), LineFault> {
+        let before = self.on_line();
+        self.mover.run(line, out)?;
+        let Ok(()) = self.cross(before) else {
+            // No walk does it after a device fault.
+            out.flush()?;
+            return Err(LineFault::Device);
+        };
+        Ok(())
+    }
+}
+
+impl<S: Source, K: Sink> Looper<S, K> {
+    ghost use Rattle.std.specs.Prelude.{◌++◌, length, IsOkUnless};
+    ghost use Rattle.lapd_cli_link_commands.specs.StandsForWorld.{IsMover};
+    ghost use Rattle.lapd_frame.specs.declared.Side.TheVariants.{Network, User};
+    ghost use Rattle.lapd_cli_link_commands.specs.Loop.{line_to};
+    ghost use Rattle.lapd_pair_laws.specs.World.{World};
+
+    /// How many frames stand on the line.
+    fn on_line(&self) -> OnLine
+        ensures to_user { (w : World) → IsMover self.now.mover w
+            → result.to_user ≡ length (line_to User w) }
+        ensures to_network { (w : World) → IsMover self.now.mover w
+            → result.to_network ≡ length (line_to Network w) }
+    {
+        let pair = self.mover.pair();
+        OnLine {
+            to_user: pair.line(Side::User).len(),
+            to_network: pair.line(Side::Network).len(),
+        }
+    }
+
+    /// The frames behind as many as these cross.
+    ///
+    /// # Errors
+    ///
+    /// `Device`, where one does not cross.
+    fn cross(&mut self, before: OnLine) -> Result<(), LineFault>
+        ensures ok { (w : World) → IsMover self.old.mover w
+            → OnOk result (HaveCrossed (S.rest self.old.port.source) (S.rest self.new.port.source)
+            (K.written self.old.port.sink) (K.written self.new.port.sink)
+            (drop before.to_user (line_to User w) ++ drop before.to_network (line_to Network w))) }
+        ensures err { IsOkUnless result LineFault.Device }
+        ensures mover { self.new.mover ≡ self.old.mover }
+    {
+        let pair = self.mover.pair();
+        cross_all(
+            &mut self.port,
+            behind(pair.line(Side::User), before.to_user),
+        )?;
+        cross_all(
+            &mut self.port,
+            behind(pair.line(Side::Network), before.to_network),
+        )
+    }
+}
+
+/// The frames behind so many.
+fn behind(frames: &[FrameOctets], count: usize) -> &[FrameOctets]
+    ensures { result.now ≡ drop count frames.now }
+{
+    match frames.get(count..) {
+        Some(behind) => behind,
+        None => &[],
+    }
+}

@@ -1,0 +1,122 @@
+//! The lines of what the moves of two ends give.
+
+ghost use Rattle.std.specs.Prelude.{◌≡◌, ◌∷◌, ◌++◌, IsOkUnless, OnOk};
+ghost use Rattle.lapd_cli_link_commands.specs.Answer.{messages_of};
+ghost use Rattle.lapd_cli_link_commands.specs.Pair.{side_name as name_of, spoken_of};
+ghost use Rattle.lapd_cli_link_commands.specs.StandsForWorld.{made_side_line, made_side_lines};
+ghost use Rattle.lapd_cli_link_commands.specs.ToldValues.{phrase_line};
+ghost use Rattle.lapd_pair.specs.Runs.{PairStandsFor};
+ghost use Rattle.lapd_cli_script.specs.Line.{text_line};
+ghost use Rattle.lapd_trace.specs.Trace.{frame_line};
+ghost use Rattle.lapd_pair_laws.specs.World.{World, view_of};
+
+use crate::told::{Phrase, Spoken, Told, put_phrase};
+use lapd_cli_script::{LineFault, put_line};
+use lapd_frame::{Frame, Side};
+use lapd_link::Out;
+use lapd_pair::Pair;
+use std::alloc::Global;
+
+/// Makes the text of the outputs of a move of this side, which is done and sent this unit data, in place of what the text
+/// was.
+///
+/// # Errors
+///
+/// `Memory`.
+pub(crate) fn write_lines(
+    alloc: Global,
+    pair: &Pair,
+    side: Side,
+    unit: &[u8],
+    outs: &[Out],
+    text: &mut Vec<u8>,
+) -> Result<(), LineFault>
+    ensures ok { (w : World) → PairStandsFor pair.now w → OnOk result
+        (text.new.items ≡ made_side_lines side (view_of side w).station unit.now outs.now) }
+    ensures err { IsOkUnless result LineFault.Memory }
+{
+    text.clear();
+    let spoken = spoken_of(pair, side, unit);
+    for given in outs {
+        push_line(alloc, pair, side, &spoken, given, text)?;
+    }
+    Ok(())
+}
+
+/// The octets that the outputs of this side speak of, which sent this unit data.
+fn spoken_of<'a>(pair: &'a Pair, side: Side, unit: &'a [u8]) -> Spoken<'a>
+    ensures { (w : World) → PairStandsFor pair.now w
+        → result ≡ spoken_of (view_of side w).station.history unit.now }
+{
+    Spoken {
+        message: match pair.received(side).last() {
+            Some(message) => message.octets.as_slice(),
+            None => &[],
+        },
+        unit: match pair.units(side).last() {
+            Some(octets) => octets.as_slice(),
+            None => &[],
+        },
+        sent: unit,
+    }
+}
+
+/// Adds the line of an output of this side, where it has one. Timers are not told.
+fn push_line(
+    alloc: Global,
+    pair: &Pair,
+    side: Side,
+    spoken: &Spoken<'_>,
+    given: &Out,
+    text: &mut Vec<u8>,
+) -> Result<(), LineFault>
+    ensures ok { (w : World) → PairStandsFor pair.now w → OnOk result (text.new.items
+        ≡ text.old.items ++ made_side_line side (messages_of (view_of side w).station.end)
+        spoken.now given.now) }
+    ensures err { IsOkUnless result LineFault.Memory }
+{
+    match Told::of(pair.link(side), spoken, given) {
+        Told::Sent(frame) => push_frame(alloc, side, &frame, text),
+        Told::Primitive(phrase) => push_phrase(side, &phrase, text),
+        Told::Timer(_) | Told::Nothing => Ok(()),
+    }
+}
+
+/// Adds a frame that this side sends, as a trace line.
+fn push_frame(
+    alloc: Global,
+    side: Side,
+    frame: &Frame<'_>,
+    text: &mut Vec<u8>,
+) -> Result<(), LineFault>
+    ensures ok { OnOk result
+        (text.new.items ≡ text.old.items ++ text_line (frame_line side frame.now)) }
+    ensures err { IsOkUnless result LineFault.Memory }
+{
+    let Ok(line) = lapd_trace::line_of(alloc, side, frame) else {
+        return Err(LineFault::Memory);
+    };
+    let Ok(()) = put_line(line.as_bytes(), &[], text) else {
+        return Err(LineFault::Memory);
+    };
+    Ok(())
+}
+
+/// Adds the name of the side, a space and what it is told.
+fn push_phrase(side: Side, phrase: &Phrase<'_>, text: &mut Vec<u8>) -> Result<(), LineFault>
+    ensures ok { OnOk result
+        (text.new.items ≡ text.old.items ++ name_of side ++ (32 ∷ phrase_line phrase.now)) }
+    ensures err { IsOkUnless result LineFault.Memory }
+{
+    let front = match side {
+        Side::User => b"user ".as_slice(),
+        Side::Network => b"net ".as_slice(),
+    };
+    let Ok(()) = text.extend_from_slice(front) else {
+        return Err(LineFault::Memory);
+    };
+    let Ok(()) = put_phrase(phrase, text) else {
+        return Err(LineFault::Memory);
+    };
+    Ok(())
+}

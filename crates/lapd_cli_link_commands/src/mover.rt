@@ -1,0 +1,246 @@
+//! Two ends and the line between them, on which a script makes the moves.
+
+ghost use Rattle.std.specs.Prelude.{◌≡◌, IsOkUnless, OnOk};
+ghost use Rattle.std.specs.Io.KnownBytes.{Appends};
+ghost use Rattle.lapd_cli_link_commands.specs.StandsForWorld.{IsMover};
+ghost use Rattle.lapd_cli_link_commands.specs.Pair.{figures_line, not_admitted, settled_line, side_name as name_of, unit_of as unit_data_of};
+ghost use Rattle.lapd_pair.specs.Moves.{move_of};
+ghost use Rattle.lapd_pair_laws.specs.Move.{NotYet};
+ghost use Rattle.lapd_pair_laws.specs.World.{World, new_world};
+
+use crate::move_lines::write_lines;
+use crate::moves::read_move;
+use crate::outputs::put_refusal;
+use lapd_cli_script::{Command, LineFault, ScriptFault, put_line, put_number};
+use lapd_frame::Side;
+use lapd_link::{Outs, Params};
+use lapd_pair::{Move, Pair, PairFault, Settled};
+use std::alloc::{AllocError, Global};
+use std::io::Write;
+
+/// Two ends of a link and the line between them, which make the moves of a script, a line each, by [`Command::run`]. It has
+/// room for the outputs and the text of one move, which is used again for the next.
+#[derive(Drop)]
+pub struct Mover {
+    alloc: Global,
+    pair: Pair,
+    outs: Outs,
+    text: Vec<u8>,
+}
+
+impl Mover {
+    ghost use Rattle.std.specs.Prelude.{IfOk};
+    ghost use Rattle.lapd_pair.specs.Runs.{PairStandsFor};
+
+    /// Two ends in state 4, with nothing on the line.
+    ///
+    /// # Errors
+    ///
+    /// `AllocError` where the memory of an I queue was refused.
+    pub fn new(alloc: Global, user: Params, network: Params) -> Result<Mover, AllocError>
+        ensures { IfOk result (λ mover. IsMover mover (new_world user network)) }
+    {
+        let pair = Pair::new(alloc, user, network)?;
+        let outs = Outs::new();
+        let text = Vec::new(alloc);
+        Ok(Mover {
+            alloc,
+            pair,
+            outs,
+            text,
+        })
+    }
+
+    /// The two ends and their line.
+    pub fn pair(&self) -> &Pair
+        ensures { (w : World) → IsMover self.now w → PairStandsFor result.now w }
+    {
+        &self.pair
+    }
+}
+
+impl Command for Mover {
+    ghost use Rattle.lapd_cli_link_commands.specs.Pair.{move_step};
+
+    ghost State = { World };
+
+    ghost step = { move_step };
+
+    ghost stands_for = { IsMover };
+
+    fn run<W: Write>(&mut self, line: &[u8], out: &mut W) -> Result<(), LineFault> {
+        let deed = read_move(self.alloc, line)?;
+        self.make(&deed, out)
+    }
+}
+
+impl Mover {
+    ghost use Rattle.std.specs.Prelude.{Some};
+    ghost use Rattle.lapd_cli_link_commands.specs.Pair.{closing_line, closing_lines, figures_of, move_made, settle_made};
+    ghost use Rattle.lapd_cli_script.specs.Script.{LineEndsAs};
+    ghost use Rattle.lapd_pair_laws.specs.World.{view_of};
+
+    /// Makes a move, and prints what it comes to.
+    fn make<W: Write>(&mut self, deed: &Move, out: &mut W) -> Result<(), LineFault>
+        ensures { (w : World) → IsMover self.old w
+            → LineEndsAs IsMover (Some (move_made w (move_of deed.now))) result self.new
+            (W.contents out.old) (W.contents out.new) }
+    {
+        match self.pair.apply_into(deed, &mut self.outs) {
+            Ok(()) => {
+                write_lines(
+                    self.alloc,
+                    &self.pair,
+                    deed.side(),
+                    unit_of(deed),
+                    self.outs.as_slice(),
+                    &mut self.text,
+                )?;
+                out.write_all(self.text.as_slice())?;
+                Ok(())
+            }
+            Err(PairFault::NothingThere) => put_line(b"refused P1 NothingThere", &[], out),
+            Err(PairFault::NotRunning) => put_line(b"refused P2 NotRunning", &[], out),
+            Err(PairFault::NotYet(to, place)) => put_not_yet(to, place, out),
+            Err(PairFault::Refused(fault)) => put_refusal(fault, out),
+            Err(PairFault::Memory) => Err(LineFault::Memory),
+        }
+    }
+
+    /// Makes the moves by which the line settles, and prints how many they are.
+    pub(crate) fn settle<W: Write>(&mut self, out: &mut W) -> Result<(), LineFault>
+        ensures { (w : World) → IsMover self.old w
+            → LineEndsAs IsMover (Some (settle_made w)) result self.new
+            (W.contents out.old) (W.contents out.new) }
+    {
+        match self.pair.settle() {
+            Ok(settled) => put_settled(settled, out),
+            Err(_) => Err(LineFault::Memory),
+        }
+    }
+
+    /// Prints where both sides are in the end, and hands it to the device.
+    ///
+    /// # Errors
+    ///
+    /// `Device`, where a write or the flush fails.
+    pub fn close<W: Write>(&self, out: &mut W) -> Result<(), ScriptFault>
+        ensures ok { (w : World) → IsMover self.now w
+            → OnOk result (Appends (W.contents out.old) (W.contents out.new) (closing_lines w)) }
+        ensures err { IsOkUnless result ScriptFault.Device }
+    {
+        let Ok(()) = self.put_closing(Side::User, out) else {
+            return Err(ScriptFault::Device);
+        };
+        let Ok(()) = self.put_closing(Side::Network, out) else {
+            return Err(ScriptFault::Device);
+        };
+        let Ok(()) = out.flush() else {
+            return Err(ScriptFault::Device);
+        };
+        Ok(())
+    }
+
+    /// Prints where a side is in the end, and how many messages it was given, received, and saw acknowledged or dropped.
+    fn put_closing<W: Write>(&self, side: Side, out: &mut W) -> Result<(), LineFault>
+        ensures ok { (w : World) → IsMover self.now w
+            → OnOk result
+            (Appends (W.contents out.old) (W.contents out.new)
+            (closing_line side (view_of side w).station)) }
+        ensures err { IsOkUnless result LineFault.Device }
+    {
+        put_figures(side, self.figures(side), out)
+    }
+
+    /// Where a side is, and how many messages it was given, received, and saw acknowledged or dropped.
+    fn figures(&self, side: Side) -> Figures
+        ensures { (w : World) → IsMover self.now w → result ≡ figures_of (view_of side w).station }
+    {
+        Figures {
+            state: self.pair.link(side).state(),
+            given: self.pair.given(side).len(),
+            received: self.pair.received(side).len(),
+            acknowledged: self.pair.acknowledged(side),
+            dropped: self.pair.dropped(side),
+        }
+    }
+}
+
+/// What is printed of a side at the end: its state, and numbers of messages.
+#[derive(Clone, Copy)]
+struct Figures {
+    state: u8,
+    given: usize,
+    received: usize,
+    acknowledged: u64,
+    dropped: u64,
+}
+
+/// Prints the figures of a side.
+fn put_figures<W: Write>(side: Side, figures: Figures, out: &mut W) -> Result<(), LineFault>
+    ensures ok { OnOk result
+        (Appends (W.contents out.old) (W.contents out.new) (figures_line side figures)) }
+    ensures err { IsOkUnless result LineFault.Device }
+{
+    let Figures {
+        state,
+        given,
+        received,
+        acknowledged,
+        dropped,
+    } = figures;
+    out.write_all(side_name(side).as_bytes())?;
+    writeln!(
+        out,
+        ": state {state}, given {given}, received {received}, acknowledged {acknowledged}, dropped {dropped}"
+    )?;
+    Ok(())
+}
+
+/// Prints how many moves were made, and whether none is possible any more.
+fn put_settled<W: Write>(settled: Settled, out: &mut W) -> Result<(), LineFault>
+    ensures ok { OnOk result
+        (Appends (W.contents out.old) (W.contents out.new)
+        (settled_line settled.moves settled.rest)) }
+    ensures err { IsOkUnless result LineFault.Device }
+{
+    let Settled { moves, rest } = settled;
+    if rest {
+        writeln!(out, "settled {moves} rest")?;
+    } else {
+        writeln!(out, "settled {moves}")?;
+    }
+    Ok(())
+}
+
+/// The unit data that a move sends.
+fn unit_of(deed: &Move) -> &[u8]
+    ensures { result.now ≡ unit_data_of (move_of deed.now).deed }
+{
+    match deed {
+        Move::Unit(_, octets) => octets.as_slice(),
+        _ => &[],
+    }
+}
+
+/// The name of a side, as scripts have it.
+fn side_name(side: Side) -> &'static str
+    ensures { result.now ≡ name_of side }
+{
+    match side {
+        Side::User => "user",
+        Side::Network => "net",
+    }
+}
+
+/// Prints that T200 may not expire yet, for the frame at this place on its way to this side.
+fn put_not_yet<W: Write>(to: Side, place: usize, out: &mut W) -> Result<(), LineFault>
+    ensures ok { OnOk result
+        (Appends (W.contents out.old) (W.contents out.new) (not_admitted (NotYet to place))) }
+    ensures err { IsOkUnless result LineFault.Device }
+{
+    match to {
+        Side::User => put_number(b"refused P3 NotYet user", place as u64, out),
+        Side::Network => put_number(b"refused P3 NotYet net", place as u64, out),
+    }
+}

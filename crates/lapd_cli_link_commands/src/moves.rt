@@ -1,0 +1,93 @@
+//! The moves that the lines of a script name.
+
+ghost use Rattle.std.specs.Prelude.{◌≡◌, None, Some};
+ghost use Rattle.lapd_cli_link_commands.specs.Moves.{bare_move, busy_move, move_named, move_of_line, side_named};
+ghost use Rattle.lapd_pair.specs.Moves.{move_of};
+ghost use Rattle.lapd_cli_script.specs.Line.{Reads};
+
+use crate::words::is;
+use lapd_cli_script::{LineFault, Words};
+use lapd_frame::Side;
+use lapd_pair::Move;
+use std::alloc::Global;
+
+/// Reads the move that a line names: a word, a side, and what the word wants behind it.
+///
+/// # Errors
+///
+/// `Bad` where the line names no move, and `Memory`.
+pub fn read_move(alloc: Global, line: &[u8]) -> Result<Move, LineFault>
+    ensures { Reads move_of result (move_of_line line.now) }
+{
+    let mut words = Words::of(line);
+    let Some(word) = words.next_word() else {
+        return Err(LineFault::Bad);
+    };
+    let Some(name) = words.next_word() else {
+        return Err(LineFault::Bad);
+    };
+    match side_of(name) {
+        Some(side) => move_by(alloc, word, side, words),
+        None => Err(LineFault::Bad),
+    }
+}
+
+/// The side of this name.
+fn side_of(name: &[u8]) -> Option<Side>
+    ensures { result ≡ side_named name.now }
+{
+    match name {
+        b"user" => Some(Side::User),
+        b"net" => Some(Side::Network),
+        _ => None,
+    }
+}
+
+/// The move that a word names, with the words behind its side.
+fn move_by(alloc: Global, word: &[u8], side: Side, behind: Words<'_>) -> Result<Move, LineFault>
+    ensures { Reads move_of result (move_named word.now side behind.entry) }
+{
+    if is(word, b"give") {
+        Ok(Move::Give(side, behind.octets(alloc)?))
+    } else if is(word, b"establish") {
+        alone(behind, Move::Establish(side))
+    } else if is(word, b"release") {
+        alone(behind, Move::Release(side))
+    } else if is(word, b"deliver") {
+        alone(behind, Move::Deliver(side))
+    } else if is(word, b"lose") {
+        Ok(Move::Lose(side, behind.number()? as usize))
+    } else if is(word, b"expire200") {
+        alone(behind, Move::Expire200(side))
+    } else if is(word, b"expire203") {
+        alone(behind, Move::Expire203(side))
+    } else if is(word, b"busy") {
+        busy(behind, side)
+    } else if is(word, b"unit") {
+        Ok(Move::Unit(side, behind.octets(alloc)?))
+    } else if is(word, b"restart") {
+        alone(behind, Move::Restart(side))
+    } else {
+        Err(LineFault::Bad)
+    }
+}
+
+/// This move, where nothing stands behind.
+fn alone(behind: Words<'_>, deed: Move) -> Result<Move, LineFault>
+    ensures { Reads move_of result
+        (bare_move (move_of deed).side (move_of deed).deed behind.entry) }
+{
+    behind.nothing()?;
+    Ok(deed)
+}
+
+/// The receiver of this side becomes busy, or is no longer.
+fn busy(mut behind: Words<'_>, side: Side) -> Result<Move, LineFault>
+    ensures { Reads move_of result (busy_move side behind.entry) }
+{
+    match behind.next_word() {
+        Some(b"on") => alone(behind, Move::Busy(side, true)),
+        Some(b"off") => alone(behind, Move::Busy(side, false)),
+        _ => Err(LineFault::Bad),
+    }
+}

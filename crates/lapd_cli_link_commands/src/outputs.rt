@@ -1,0 +1,87 @@
+//! The lines that `answer` prints of what a link's steps give.
+
+ghost use Rattle.std.specs.Prelude.{◌≡◌, IsOkUnless, OnOk};
+ghost use Rattle.std.specs.Io.KnownBytes.{Appends};
+ghost use Rattle.lapd_link.specs.End.{End};
+ghost use Rattle.lapd_link.specs.Link.{LinkStandsFor, setup_of};
+ghost use Rattle.lapd_cli_link_commands.specs.Answer.{messages_of};
+ghost use Rattle.lapd_cli_link_commands.specs.Outputs.{refusal_line, send_line};
+ghost use Rattle.lapd_cli_link_commands.specs.Session.{made_line, made_text};
+
+use crate::told::{Spoken, Told, put_phrase};
+use lapd_cli_script::{LineFault, put_line, put_octets};
+use lapd_frame::{Frame, MOST_OCTETS, Side, write};
+use lapd_link::{Link, LinkFault, Out};
+use std::io::Write;
+
+/// Prints the outputs of a link's last step, to which these octets were handed.
+///
+/// # Errors
+///
+/// `Device`, where the writer fails.
+pub fn put_outs<W: Write>(
+    link: &Link,
+    handed: &[u8],
+    outs: &[Out],
+    out: &mut W,
+) -> Result<(), LineFault>
+    ensures ok { (e : End) → LinkStandsFor link.now e
+        → OnOk result
+        (Appends (W.contents out.old) (W.contents out.new)
+        (made_text (setup_of link.now) (messages_of e) handed.now outs.now)) }
+    ensures err { IsOkUnless result LineFault.Device }
+{
+    let spoken = Spoken {
+        message: handed,
+        unit: handed,
+        sent: handed,
+    };
+    for given in outs {
+        put_out(link, &spoken, given, out)?;
+    }
+    Ok(())
+}
+
+/// Prints one output: a frame, or a primitive, a timer or a report.
+fn put_out<W: Write>(
+    link: &Link,
+    spoken: &Spoken<'_>,
+    given: &Out,
+    out: &mut W,
+) -> Result<(), LineFault>
+    ensures ok { (e : End) → LinkStandsFor link.now e
+        → OnOk result
+        (Appends (W.contents out.old) (W.contents out.new)
+        (made_line (setup_of link.now) (messages_of e) spoken.now given.now)) }
+    ensures err { IsOkUnless result LineFault.Device }
+{
+    match Told::of(link, spoken, given) {
+        Told::Sent(frame) => put_send(&frame, link.side(), out),
+        Told::Primitive(phrase) | Told::Timer(phrase) => put_phrase(&phrase, out),
+        Told::Nothing => Ok(()),
+    }
+}
+
+/// Prints a frame that goes out.
+fn put_send<W: Write>(frame: &Frame<'_>, side: Side, out: &mut W) -> Result<(), LineFault>
+    ensures ok { OnOk result
+        (Appends (W.contents out.old) (W.contents out.new) (send_line side frame.now)) }
+    ensures err { IsOkUnless result LineFault.Device }
+{
+    let mut octets = [0; MOST_OCTETS];
+    let len = write(frame, side, &mut octets);
+    put_octets(b"send", &octets[..len], out)
+}
+
+/// Prints why a link refused a request.
+///
+/// # Errors
+///
+/// `Device`, where the writer fails.
+pub fn put_refusal<W: Write>(fault: LinkFault, out: &mut W) -> Result<(), LineFault>
+    ensures ok { OnOk result
+        (Appends (W.contents out.old) (W.contents out.new) (refusal_line fault)) }
+    ensures err { IsOkUnless result LineFault.Device }
+{
+    put_line(b"refused ", fault.name().as_bytes(), out)
+}

@@ -1,0 +1,172 @@
+-- Octets that a side sent as a JSON object: a frame by the names of its fields, or a fault. And what a side tells the layers above
+-- it.
+use Rattle.std.specs.Prelude.{ℕ, ◌==◌, if◌then◌else◌, Bool, true, false, List, [], ◌∷◌, codes, Result, Ok, Err}
+use Rattle.hex.specs.Hex.{encode_lower}
+use Rattle.serde_json.specs.Data.{Members, number, no_members, object, put, string, unsigned}
+use Rattle.serde_json.specs.Written.{compact_text}
+use Rattle.lapd_frame.specs.declared.Side.{Side}
+use Rattle.lapd_frame.specs.declared.Side.TheVariants.{Network, User}
+use Rattle.lapd_frame.specs.declared.Role.{Role}
+use Rattle.lapd_frame.specs.declared.Role.TheVariants.{Command, Answer}
+use Rattle.lapd_frame.specs.declared.Address.{Address}
+use Rattle.lapd_frame.specs.declared.Control.{Control}
+use Rattle.lapd_frame.specs.declared.Control.TheVariants.{I, Rr, Rnr, Rej, Sabme, Dm, Ui, Disc, Ua, Frmr, Xid}
+use Rattle.lapd_frame.specs.Address.{sapi_value}
+use Rattle.lapd_frame.specs.declared.FrameFault.{FrameFault}
+use Rattle.lapd_frame.specs.Fault.{fault_name}
+use Rattle.lapd_frame.specs.Frame.{Fields}
+use Rattle.lapd_frame.specs.Reading.{frame_at}
+use Rattle.lapd_link.specs.Out.{letter_code}
+use Rattle.lapd_cli_render.specs.Names.{names_text}
+use Rattle.lapd_table.specs.declared.link_id.LinkId.{LinkId}
+use Rattle.lapd_tei.specs.declared.out.TeiOut.{TeiOut}
+use Rattle.lapd_tei.specs.declared.out.TeiOut.TheVariants as tei
+use Rattle.lapd_sides_links.specs.declared.primitive.Primitive.{Primitive}
+use Rattle.lapd_sides_links.specs.declared.primitive.Primitive.TheVariants.{Of, Management}
+use Rattle.lapd_sides_links.specs.declared.primitive.What.{What}
+use Rattle.lapd_sides_links.specs.declared.primitive.What.TheVariants as what
+use Rattle.lapd_sides_links.specs.Texts.{what_word}
+
+-- ---- Members.
+
+abbrev pub with_text : List ℕ → List ℕ → Members → Members
+with_text key text members = put key (string text) members
+
+abbrev pub with_number : List ℕ → ℕ → Members → Members
+with_number key value members = put key (number (unsigned value)) members
+
+-- who sent it, the user or the network
+abbrev pub direction_text : Side → List ℕ
+direction_text User = codes "U>N"
+direction_text Network = codes "N>U"
+
+-- a command or a response (Q.921 3.3.2)
+abbrev pub role_text : Role → List ℕ
+role_text Command = codes "command"
+role_text Answer = codes "response"
+
+-- the poll bit of a command, the final bit of a response (Q.921 3.5.1)
+abbrev pub poll_key : Role → List ℕ
+poll_key Command = codes "p"
+poll_key Answer = codes "f"
+
+abbrev pub bit : Bool → ℕ
+bit false = 0
+bit true = 1
+
+abbrev pub with_poll : Role → Bool → Members → Members
+with_poll role pf members = with_number (poll_key role) (bit pf) members
+
+abbrev pub with_address : Address → Members → Members
+with_address a members = with_text (codes "role") (role_text a.role)
+    (with_number (codes "tei") a.tei (with_number (codes "sapi") (sapi_value a.sapi) members))
+
+-- a frame of this name with a number (Q.921 3.6)
+abbrev pub with_numbered : List ℕ → ℕ → Role → Bool → Members → Members
+with_numbered name nr role pf members =
+    with_poll role pf (with_number (codes "nr") nr (with_text (codes "frame") name members))
+
+abbrev pub with_unnumbered : List ℕ → Role → Bool → Members → Members
+with_unnumbered name role pf members = with_poll role pf (with_text (codes "frame") name members)
+
+-- each control field (Q.921 Table 5), in a frame of this role
+abbrev pub with_control : Role → Control → Members → Members
+with_control role (I ns nr p) members =
+    with_numbered (codes "I") nr role p (with_number (codes "ns") ns members)
+with_control role (Rr nr pf) members = with_numbered (codes "RR") nr role pf members
+with_control role (Rnr nr pf) members = with_numbered (codes "RNR") nr role pf members
+with_control role (Rej nr pf) members = with_numbered (codes "REJ") nr role pf members
+with_control role (Sabme p) members = with_unnumbered (codes "SABME") role p members
+with_control role (Dm f) members = with_unnumbered (codes "DM") role f members
+with_control role (Ui p) members = with_unnumbered (codes "UI") role p members
+with_control role (Disc p) members = with_unnumbered (codes "DISC") role p members
+with_control role (Ua f) members = with_unnumbered (codes "UA") role f members
+with_control role (Frmr f) members = with_unnumbered (codes "FRMR") role f members
+with_control role (Xid pf) members = with_unnumbered (codes "XID") role pf members
+
+-- octets in hexadecimal, where there are any
+abbrev pub with_octets : List ℕ → List ℕ → Members → Members
+with_octets key [] members = members
+with_octets key (octet ∷ octets) members = with_text key (encode_lower (octet ∷ octets)) members
+
+abbrev pub with_frame : Fields → Members → Members
+with_frame f members = with_octets (codes "info") f.info
+    (with_control f.address.role f.control (with_address f.address members))
+
+-- a frame, or the first fault of these octets
+abbrev pub with_reading : List ℕ → Result Fields FrameFault → Members → Members
+with_reading octets (Ok frame) members = with_frame frame members
+with_reading octets (Err fault) members = with_octets (codes "octets") octets
+    (with_text (codes "fault") (fault_name fault.kind) members)
+
+-- what the message is, by the text that stands behind a trace line: a space, and the words
+abbrev pub with_message : List ℕ → Members → Members
+with_message [] members = members
+with_message (first ∷ words) members =
+    if first == 32 then with_text (codes "message") words members else members
+
+-- ---- What a side tells the layers above it.
+
+-- what is told, in a word
+abbrev pub with_primitive : List ℕ → Members → Members
+with_primitive word members = with_text (codes "primitive") word members
+
+-- beside it: the octets, of how many messages, or the report
+abbrev pub with_rest : What → Members → Members
+with_rest (what.Up octets) members = with_octets (codes "info") octets members
+with_rest (what.UnitUp octets) members = with_octets (codes "info") octets members
+with_rest (what.Acknowledged count) members = with_number (codes "count") count members
+with_rest (what.Dropped count) members = with_number (codes "count") count members
+with_rest (what.Report letter) members =
+    with_text (codes "report") (letter_code letter ∷ []) members
+with_rest other members = members
+
+-- of a link
+abbrev pub with_what : What → Members → Members
+with_what w members = with_rest w (with_primitive (what_word w) members)
+
+abbrev pub with_link : LinkId → Members → Members
+with_link id members =
+    with_number (codes "tei") id.tei (with_number (codes "sapi") (sapi_value id.sapi) members)
+
+-- of a TEI
+abbrev pub with_tei : List ℕ → ℕ → Members → Members
+with_tei word value members = with_number (codes "tei") value (with_primitive word members)
+
+-- what became of one; messages and timers of TEI management are not told
+abbrev pub with_outcome : TeiOut → Members → Members
+with_outcome (tei.Given value) members = with_tei (codes "tei given") value members
+with_outcome (tei.Got value) members = with_tei (codes "tei got") value members
+with_outcome (tei.Gone value) members = with_tei (codes "tei gone") value members
+with_outcome tei.Failed members = with_primitive (codes "tei failed") members
+with_outcome (tei.Free value) members = with_tei (codes "tei free") value members
+with_outcome (tei.InUse value) members = with_tei (codes "tei in-use") value members
+with_outcome (tei.Doubled value) members = with_tei (codes "tei doubled") value members
+with_outcome other members = members
+
+abbrev pub with_told : Primitive → Members → Members
+with_told (Of id w) members = with_what w (with_link id members)
+with_told (Management outcome) members = with_outcome outcome members
+
+-- ---- Objects.
+
+-- the members for octets that this side sent
+abbrev pub frame_members : Side → List ℕ → Members
+frame_members from octets = with_reading octets (frame_at from octets)
+    (with_text (codes "direction") (direction_text from) no_members)
+
+-- and what their message is
+abbrev pub named_members : Side → List ℕ → Members
+named_members from octets = with_message (names_text from octets) (frame_members from octets)
+
+-- the text of an object
+abbrev pub object_text : Members → List ℕ
+object_text members = compact_text (object members)
+
+-- the members for what is told
+abbrev pub primitive_members : Primitive → Members
+primitive_members primitive = with_told primitive no_members
+
+-- one text
+abbrev pub text_members : List ℕ → List ℕ → Members
+text_members key text = with_text key text no_members

@@ -1,0 +1,4 @@
+pub mod Json
+pub mod Packet
+pub mod CallMessage
+pub mod Names

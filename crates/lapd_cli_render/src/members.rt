@@ -1,0 +1,56 @@
+//! The members of an object of texts and numbers.
+
+ghost use Rattle.std.specs.Prelude.{◌≡◌, false, IfOk, OnOk};
+ghost use Rattle.std.specs.String.{string_bytes};
+ghost use Rattle.serde_json.specs.Data.{no_members};
+ghost use Rattle.serde_json.specs.View.{members_view};
+ghost use Rattle.serde_json.specs.Written.{members_have_float};
+ghost use Rattle.lapd_cli_render.specs.Json.{object_text, with_number, with_text};
+
+use serde_json::{Map, Value, put};
+use std::alloc::{AllocError, Global};
+
+/// The members of an object, in the order of their names. Each is a text or a number.
+#[derive(Drop)]
+pub(crate) struct Members {
+    alloc: Global,
+    pub(crate) map: Map<String, Value>,
+    ghost no_float: { members_have_float (members_view map.entries) ≡ false },
+}
+
+impl Members {
+    /// None.
+    pub(crate) fn new(alloc: Global) -> Members
+        ensures { members_view result.map.entries ≡ no_members }
+    {
+        Members {
+            alloc,
+            map: Map::new(alloc),
+        }
+    }
+
+    /// Sets a member to a text.
+    pub(crate) fn put_text(&mut self, key: &str, text: &str) -> Result<(), AllocError>
+        ensures { OnOk result (members_view self.new.map.entries
+            ≡ with_text key.now text.now (members_view self.old.map.entries)) }
+    {
+        let value = Value::try_from_str(self.alloc, text)?;
+        put(&mut self.map, self.alloc, key, value)
+    }
+
+    /// Sets a member to a number.
+    pub(crate) fn put_number(&mut self, key: &str, number: u64) -> Result<(), AllocError>
+        ensures { OnOk result (members_view self.new.map.entries
+            ≡ with_number key.now number (members_view self.old.map.entries)) }
+    {
+        put(&mut self.map, self.alloc, key, Value::from(number))
+    }
+
+    /// The object's text, in one line with no space.
+    pub(crate) fn into_text(self) -> Result<String, AllocError>
+        ensures { IfOk result (λ text.
+            string_bytes text ≡ object_text (members_view self.map.entries)) }
+    {
+        Value::Object(self.map).to_string(self.alloc)
+    }
+}

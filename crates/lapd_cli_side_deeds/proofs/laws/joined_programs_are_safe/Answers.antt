@@ -1,5 +1,0 @@
-use Rattle.lapd_cli_side_deeds.proofs.Joins.{both_played, lines_of_network, lines_of_user, played_safely}
-use Rattle.lapd_cli_side_deeds.proofs.laws.joined_programs_are_safe.Goals as goal
-
-pub returns : goal.returns
-returns c = record { played = both_played; safe = played_safely; network_lines = lines_of_network; user_lines = lines_of_user }

@@ -1,0 +1,212 @@
+-- What two programs do over a line is moves of an interface.
+use Rattle.std.proofs.Common.{◌≡◌, ℕ, ◌+◌, ◌*◌, ◌/◌, ◌%◌, List, [], ◌∷◌, ◌++◌, length, take, drop, Option, Some, None, refl, sym, ap, subst, ◌∙◌, append_assoc}
+use Rattle.std.specs.Prelude.{IsSome}
+use Rattle.std.specs.Io.KnownBytes.{Appends, Consumes}
+use Rattle.std.proofs.lemmas.Nat.{div-add-mod'}
+use Rattle.std.proofs.lemmas.List.{append_cancel_left, append_cancel_right}
+use Rattle.std.proofs.Math.Seq.{take-append_seam, drop-append_seam}
+use Rattle.rand_pcg.specs.Lcg.{Lcg}
+use Rattle.lapd_frame.specs.declared.Side.{Side}
+use Rattle.lapd_frame.specs.declared.Side.TheVariants as side
+use Rattle.lapd_port.specs.SocketText.{frame_text, socket_text}
+use Rattle.lapd_sides.specs.Network.{Network, new_network}
+use Rattle.lapd_sides.specs.User.{User, new_user}
+use Rattle.lapd_sides_laws.specs.Interface.{Configs, Interface, Move, network_behaviour, user_behaviour, by_network, by_user, with_network, with_user, new_interface, happens, run}
+use Rattle.lapd_sides_laws.specs.SideView.{SideView, Deed}
+use Rattle.lapd_sides_laws.proofs.AsMade.{made_link_safe}
+use Rattle.lapd_cli_side_commands.specs.Served.{AtWork, LinesDo}
+use Rattle.lapd_cli_side_lines.specs.Wishes.{Wish}
+use Rattle.lapd_cli_side_laws.specs.Deeds.{AreFor, ShowsNetwork, ShowsUser, does_all, moves_of}
+use Rattle.lapd_cli_side_laws.specs.Joined.{Programs, ProgramLine, WritesTo, ProgramDoes, ProgramsDo, AreAt, AreMovesFor, ArePlayed, ArePlayedSafely, clock_of, network_clock, user_clock, wishes_behind, wishes_of_side}
+use Rattle.lapd_cli_side_laws.proofs.Lines.{moment_is, network_line, network_moves, text_of_both, user_line, user_moves}
+
+-- ---- The text of frames says which frames they are.
+
+same_length : (n m : ℕ) → n / 256 ≡ m / 256 → n % 256 ≡ m % 256 → n ≡ m
+same_length n m high low =
+    sym (div-add-mod' n 256) ∙ ap (λ (q : ℕ). q * 256 + n % 256) high ∙ ap (λ (r : ℕ). m / 256 * 256 + r) low ∙ div-add-mod' m 256
+
+same_head : (x y : ℕ) (xs ys : List ℕ) → x ∷ xs ≡ y ∷ ys → x ≡ y
+same_head x y xs ys h = cc
+
+same_tail : (x y : ℕ) (xs ys : List ℕ) → x ∷ xs ≡ y ∷ ys → xs ≡ ys
+same_tail x y xs ys h = cc
+
+no_head : {A : Type 0} (x : ℕ) (xs : List ℕ) → [] ≡ x ∷ xs → A
+no_head x xs h = let no : ⊥ = cc in absurd no
+
+same_first : (f g r s : List ℕ) → frame_text f ++ r ≡ frame_text g ++ s → (f ≡ g) × (r ≡ s)
+same_first f g r s h =
+    let behind : (length f % 256) ∷ (f ++ r) ≡ (length g % 256) ∷ (g ++ s) = same_tail (length f / 256) (length g / 256) ((length f % 256) ∷ (f ++ r)) ((length g % 256) ∷ (g ++ s)) h in
+    let octets : f ++ r ≡ g ++ s = same_tail (length f % 256) (length g % 256) (f ++ r) (g ++ s) behind in
+    let high : length f / 256 ≡ length g / 256 = same_head (length f / 256) (length g / 256) ((length f % 256) ∷ (f ++ r)) ((length g % 256) ∷ (g ++ s)) h in
+    let low : length f % 256 ≡ length g % 256 = same_head (length f % 256) (length g % 256) (f ++ r) (g ++ s) behind in
+    let same : length f ≡ length g = same_length (length f) (length g) high low in (
+      sym (take-append_seam f r) ∙ ap (λ (n : ℕ). take n (f ++ r)) same ∙ ap (take (length g)) octets ∙ take-append_seam g s,
+      sym (drop-append_seam f r) ∙ ap (λ (n : ℕ). drop n (f ++ r)) same ∙ ap (drop (length g)) octets ∙ drop-append_seam g s,
+    )
+
+parted : (xs heard : List (List ℕ)) (ys : List ℕ) → socket_text xs ≡ socket_text heard ++ ys → (left : List (List ℕ)) × (xs ≡ heard ++ left) × (ys ≡ socket_text left)
+parted xs [] ys h = (xs, refl, sym h)
+parted [] (frame ∷ heard) ys h = no_head (length frame / 256) ((length frame % 256) ∷ ((frame ++ socket_text heard) ++ ys)) h
+parted (first ∷ xs) (frame ∷ heard) ys h =
+    let both = same_first first frame (socket_text xs) (socket_text heard ++ ys) (h ∙ append_assoc (frame_text frame) (socket_text heard) ys) in
+    let more = parted xs heard ys both.1 in
+    (more.0, ap (λ (f : List ℕ). f ∷ xs) both.0 ∙ ap (λ (fs : List (List ℕ)). frame ∷ fs) more.1, more.2)
+
+same_octets : (x y : List ℕ) → Some x ≡ Some y → x ≡ y
+same_octets x y h = cc
+
+-- What a source loses is of the frames that were on their way, where it has what is yet to come; and the text of the others is left.
+rest_left : (old new : Option (List ℕ)) (xs heard : List (List ℕ)) (left later : List ℕ) → old ≡ Some (socket_text xs ++ later) → new ≡ Some (left ++ later) → Consumes old new (socket_text heard)
+    → (others : List (List ℕ)) × (xs ≡ heard ++ others) × (new ≡ Some (socket_text others ++ later))
+rest_left old None xs heard left later is ends taken = let no : ⊥ = cc in absurd no
+rest_left old (Some ys) xs heard left later is ends taken =
+    let lost : socket_text xs ++ later ≡ socket_text heard ++ ys = subst (λ (o : Option (List ℕ)). Consumes o (Some ys) (socket_text heard)) is taken in
+    let end : ys ≡ left ++ later = same_octets ys (left ++ later) ends in
+    let all : socket_text xs ++ later ≡ (socket_text heard ++ left) ++ later =
+    lost ∙ ap (λ (zs : List ℕ). socket_text heard ++ zs) end ∙ sym (append_assoc (socket_text heard) left later) in
+    let p = parted xs heard left (append_cancel_right (socket_text xs) (socket_text heard ++ left) later all) in
+    (p.0, p.1, ends ∙ ap (λ (zs : List ℕ). Some (zs ++ later)) p.2)
+
+-- ---- What is written.
+
+same_text : (old new : Option (List ℕ)) (one two : List ℕ) → IsSome old → Appends old new one → Appends old new two → one ≡ two
+same_text None new one two known p q = let no : ⊥ = cc in absurd no
+same_text (Some x) None one two known p q = absurd p
+same_text (Some x) (Some y) one two known p q = append_cancel_left x one two (sym p ∙ q)
+
+still_known : (old new : Option (List ℕ)) (text : List ℕ) → IsSome old → Appends old new text → IsSome new
+still_known None new text known p = let no : ⊥ = cc in absurd no
+still_known (Some x) None text known p = absurd p
+still_known (Some x) (Some y) text known p = refl
+
+-- what is written is the next of what is on its way
+grows : (rest after : Option (List ℕ)) (line sent : List (List ℕ)) (octets before later : List ℕ) → after ≡ rest → rest ≡ Some (socket_text line ++ before) → before ≡ octets ++ later
+    → octets ≡ socket_text sent → after ≡ Some (socket_text (line ++ sent) ++ later)
+grows rest after line sent octets before later stays is comes same =
+    let text : before ≡ socket_text sent ++ later = comes ∙ ap (λ (t : List ℕ). t ++ later) same in
+    stays ∙ is ∙ ap (λ (t : List ℕ). Some (socket_text line ++ t)) text
+    ∙ ap Some (sym (append_assoc (socket_text line) (socket_text sent) later) ∙ ap (λ (t : List ℕ). t ++ later) (sym (text_of_both line sent)))
+
+-- ---- A line of one of them.
+
+record IsTurned (c : Configs) (s : Side) (wish : Wish) (a b : Programs) (i : Interface) : Type 0 where
+  deeds : List Deed
+  asked : AreFor wish (clock_of s a.network.at.now a.user.at.now) deeds
+  are : AreAt c b (run c (moves_of s deeds) i)
+  network_now : network_clock s wish a.network.at.now ≡ b.network.at.now
+  user_now : user_clock s wish a.user.at.now ≡ b.user.at.now
+
+network_turns : (c : Configs) (wish : Wish) (a b : Programs) (i : Interface) → AreAt c a i → WritesTo wish a.network b.network a.user b.user → IsTurned c side.Network wish a b i
+network_turns c wish a b i at w =
+    let before : AtWork = a.network.at in
+    let after : AtWork = b.network.at in
+    let x = network_line c.network wish before after w.does in
+    let r = rest_left before.around.rest after.around.rest i.to_network x.heard w.left a.network.later at.to_network w.reads x.read in
+    let d = x.are (by_network i) r.0 at.network r.1 in
+    let u : SideView Network = does_all (network_behaviour c.network) d.0 (by_network i) in
+    let same : w.octets ≡ socket_text x.sent = same_text before.around.written after.around.written w.octets (socket_text x.sent) at.by_network w.wrote x.written in
+    let now : AreAt c b (with_network u i) = record {
+      network = d.2.is_so;
+      user = subst (λ (p : AtWork). ShowsUser c.user p.side i.user) (sym w.stays) at.user;
+      to_network = r.2 ∙ ap (λ (line : List (List ℕ)). Some (socket_text line ++ a.network.later)) (sym d.2.incoming)
+          ∙ ap (λ (later : List ℕ). Some (socket_text u.incoming ++ later)) (sym w.later);
+      to_user = grows a.user.at.around.rest b.user.at.around.rest i.to_user x.sent w.octets a.user.later b.user.later (ap (λ (p : AtWork). p.around.rest) w.stays) at.to_user w.comes same
+          ∙ ap (λ (line : List (List ℕ)). Some (socket_text line ++ b.user.later)) (sym d.2.outgoing);
+      by_network = still_known before.around.written after.around.written w.octets at.by_network w.wrote;
+      by_user = subst (λ (p : AtWork). IsSome p.around.written) (sym w.stays) at.by_user;
+    } in
+    record {
+      deeds = d.0;
+      asked = d.1;
+      are = subst (AreAt c b) (sym (network_moves c d.0 i)) now;
+      network_now = sym (moment_is wish before after w.does);
+      user_now = sym (ap (λ (p : AtWork). p.now) w.stays);
+    }
+
+user_turns : (c : Configs) (wish : Wish) (a b : Programs) (i : Interface) → AreAt c a i → WritesTo wish a.user b.user a.network b.network → IsTurned c side.User wish a b i
+user_turns c wish a b i at w =
+    let before : AtWork = a.user.at in
+    let after : AtWork = b.user.at in
+    let x = user_line c.user wish before after w.does in
+    let r = rest_left before.around.rest after.around.rest i.to_user x.heard w.left a.user.later at.to_user w.reads x.read in
+    let d = x.are (by_user i) r.0 at.user r.1 in
+    let u : SideView User = does_all (user_behaviour c.user) d.0 (by_user i) in
+    let same : w.octets ≡ socket_text x.sent = same_text before.around.written after.around.written w.octets (socket_text x.sent) at.by_user w.wrote x.written in
+    let now : AreAt c b (with_user u i) = record {
+      network = subst (λ (p : AtWork). ShowsNetwork c.network p.side i.network) (sym w.stays) at.network;
+      user = d.2.is_so;
+      to_network = grows a.network.at.around.rest b.network.at.around.rest i.to_network x.sent w.octets a.network.later b.network.later (ap (λ (p : AtWork). p.around.rest) w.stays) at.to_network w.comes same
+          ∙ ap (λ (line : List (List ℕ)). Some (socket_text line ++ b.network.later)) (sym d.2.outgoing);
+      to_user = r.2 ∙ ap (λ (line : List (List ℕ)). Some (socket_text line ++ a.user.later)) (sym d.2.incoming)
+          ∙ ap (λ (later : List ℕ). Some (socket_text u.incoming ++ later)) (sym w.later);
+      by_network = subst (λ (p : AtWork). IsSome p.around.written) (sym w.stays) at.by_network;
+      by_user = still_known before.around.written after.around.written w.octets at.by_user w.wrote;
+    } in
+    record {
+      deeds = d.0;
+      asked = d.1;
+      are = subst (AreAt c b) (sym (user_moves c d.0 i)) now;
+      network_now = sym (ap (λ (p : AtWork). p.now) w.stays);
+      user_now = sym (moment_is wish before after w.does);
+    }
+
+turns : (c : Configs) (s : Side) (wish : Wish) (a b : Programs) (i : Interface) → AreAt c a i → ProgramDoes s wish a b → IsTurned c s wish a b i
+turns c side.Network wish a b i at w = network_turns c wish a b i at w
+turns c side.User wish a b i at w = user_turns c wish a b i at w
+
+-- ---- All lines.
+
+run_of_both : (c : Configs) (xs ys : List Move) (i : Interface) → run c (xs ++ ys) i ≡ run c ys (run c xs i)
+run_of_both c [] ys i = refl
+run_of_both c (move ∷ xs) ys i = run_of_both c xs ys (happens c move i)
+
+pub both_played : (c : Configs) (lines : List ProgramLine) (a b : Programs) (i : Interface) → AreAt c a i → ProgramsDo lines a b → ArePlayed c lines a b i
+both_played c [] a b i at same = record { moves = []; asked = refl; are = subst (λ (p : Programs). AreAt c p i) (sym same) at }
+both_played c (line ∷ lines) a b i at h =
+    let t = turns c line.side line.wish a h.0 i at h.1 in
+    let more = both_played c lines h.0 b (run c (moves_of line.side t.deeds) i) t.are h.2 in
+    let Asked : ℕ → ℕ → Type 0 = λ network user. AreMovesFor lines network user more.moves in
+    record {
+      moves = moves_of line.side t.deeds ++ more.moves;
+      asked = record {
+        first = t.deeds;
+        others = more.moves;
+        both = refl;
+        for_first = t.asked;
+        for_others = subst (λ (network : ℕ). Asked network (user_clock line.side line.wish a.user.at.now)) (sym t.network_now)
+            (subst (Asked h.0.network.at.now) (sym t.user_now) more.asked);
+      };
+      are = subst (AreAt c b) (sym (run_of_both c (moves_of line.side t.deeds) more.moves i)) more.are;
+    }
+
+-- the lines of each are done by its program alone
+network_first : (s : Side) (wish : Wish) (wishes : List Wish) (a mid : Programs) (b : AtWork) → ProgramDoes s wish a mid → LinesDo wishes mid.network.at b
+    → LinesDo (wishes_behind side.Network s wish wishes) a.network.at b
+network_first side.Network wish wishes a mid b w more = (mid.network.at, w.does, more)
+network_first side.User wish wishes a mid b w more = subst (λ (p : AtWork). LinesDo wishes p b) w.stays more
+
+pub lines_of_network : (lines : List ProgramLine) (a b : Programs) → ProgramsDo lines a b → LinesDo (wishes_of_side side.Network lines) a.network.at b.network.at
+lines_of_network [] a b same = ap (λ (p : Programs). p.network.at) same
+lines_of_network (line ∷ lines) a b h =
+    network_first line.side line.wish (wishes_of_side side.Network lines) a h.0 b.network.at h.1 (lines_of_network lines h.0 b h.2)
+
+user_first : (s : Side) (wish : Wish) (wishes : List Wish) (a mid : Programs) (b : AtWork) → ProgramDoes s wish a mid → LinesDo wishes mid.user.at b
+    → LinesDo (wishes_behind side.User s wish wishes) a.user.at b
+user_first side.User wish wishes a mid b w more = (mid.user.at, w.does, more)
+user_first side.Network wish wishes a mid b w more = subst (λ (p : AtWork). LinesDo wishes p b) w.stays more
+
+pub lines_of_user : (lines : List ProgramLine) (a b : Programs) → ProgramsDo lines a b → LinesDo (wishes_of_side side.User lines) a.user.at b.user.at
+lines_of_user [] a b same = ap (λ (p : Programs). p.user.at) same
+lines_of_user (line ∷ lines) a b h =
+    user_first line.side line.wish (wishes_of_side side.User lines) a h.0 b.user.at h.1 (lines_of_user lines h.0 b h.2)
+
+pub played_safely : (c : Configs) (fixed : Option ℕ) (known : List ℕ) (random : Lcg) (lines : List ProgramLine) (a b : Programs)
+    → AreAt c a (new_interface (new_user c.user fixed random) (new_network c.network known)) → ProgramsDo lines a b
+    → ArePlayedSafely c lines a b (new_interface (new_user c.user fixed random) (new_network c.network known))
+played_safely c fixed known random lines a b at did =
+    let p = both_played c lines a b (new_interface (new_user c.user fixed random) (new_network c.network known)) at did in record {
+      played = p;
+      safe = λ id low few_u few_n. made_link_safe c id fixed known random low few_u few_n p.moves;
+    }

@@ -1,0 +1,327 @@
+-- A line of `net` or `user` is deeds of its side.
+use Rattle.std.proofs.Common.{◌≡◌, ℕ, ◌+◌, List, [], ◌∷◌, ◌++◌, drop, Option, Result, Ok, Err, inl, inr, refl, sym, ap, subst, ◌∙◌, append_assoc}
+use Rattle.std.specs.Prelude.{⊤}
+use Rattle.std.specs.List.{AllByRecursion}
+use Rattle.std.specs.Io.KnownBytes.{Appends, Consumes}
+use Rattle.std.proofs.KnownBytes.{Appends-nil, Appends-trans, Consumes-nil, Consumes-trans}
+use Rattle.std.proofs.lemmas.List.{append-nil}
+use Rattle.lapd_timers.specs.declared.timer.Timer.{Timer}
+use Rattle.lapd_frame.specs.declared.Side.TheVariants as side
+use Rattle.lapd_port.specs.SocketText.{frame_text, socket_text}
+use Rattle.lapd_table.specs.declared.link_id.LinkId.{LinkId}
+use Rattle.lapd_sides_links.specs.declared.config.Config.{Config}
+use Rattle.lapd_sides_links.specs.declared.running_timer.RunningTimer.{RunningTimer}
+use Rattle.lapd_sides_links.specs.declared.side_fault.SideFault.{SideFault}
+use Rattle.lapd_sides_links.specs.Effects.{Effects}
+use Rattle.lapd_sides.specs.declared.request.Request.{Request}
+use Rattle.lapd_sides.specs.declared.either_side.EitherSide.{EitherSide}
+use Rattle.lapd_sides.specs.declared.either_side.EitherSide.TheVariants as either
+use Rattle.lapd_sides.specs.Either.{Takes, Answers, Expires, Rests}
+use Rattle.lapd_sides.specs.Network.{Network}
+use Rattle.lapd_sides.specs.Requests.{message_of}
+use Rattle.lapd_sides.specs.User.{User}
+use Rattle.lapd_sides_laws.specs.Calls.{Puts}
+use Rattle.lapd_sides_laws.specs.Interface.{Configs, Interface, network_behaviour, user_behaviour, by_network, by_user, with_network, with_user, run}
+use Rattle.lapd_sides_laws.specs.SideView.{Behaviour, SideView, Deed, Take, Expire, Ask, does}
+use Rattle.lapd_sides_laws.proofs.Called.{net_takes, net_ticks, net_requests, usr_takes, usr_ticks, usr_requests}
+use Rattle.lapd_cli_side_lines.specs.Calls.{ExpireInTurn, frames_given}
+use Rattle.lapd_cli_side_commands.specs.Served.{AtWork, Asks, FindsNone, GoesOn, LineDoes, LinesDo, TakesNext}
+use Rattle.lapd_cli_side_lines.specs.Wishes.{Wish, Read, Tick, Establish, Release, Give, Unit, Busy, AskTei, Check, wish_of_request}
+use Rattle.lapd_cli_side_laws.specs.Deeds.{AreFor, AreForAll, ArePartedFor, IsByDeeds, IsExpiryAt, LeadTo, ShowsNetwork, ShowsUser, does_all, moment_behind, moves_of}
+
+-- ---- A call of a side of either kind is a deed.
+
+-- the side that is shown after the deed is so, and what the call put is what the deed sent and told
+record Did {S : Type 0} (w : Behaviour S) (IsSo : S → Type 0) (acts : Effects) (deed : Deed) (v : SideView S) : Type 0 where
+  is_so : IsSo (does w deed v).now
+  puts : Puts w acts deed v
+
+-- the calls of a side are deeds of this behaviour
+pub record HasDeeds {S : Type 0} (w : Behaviour S) (Shows : EitherSide → S → Type 0) : Type 0 where
+  takes : (octets : List ℕ) (now : ℕ) (old new : EitherSide) (acts : Effects) → Takes octets now (Ok tt) old new acts
+      → (v : SideView S) (rest : List (List ℕ)) → Shows old v.now → v.incoming ≡ octets ∷ rest → Did w (Shows new) acts (Take now) v
+  expires : (now : ℕ) (old new : EitherSide) (acts : Effects) → Expires now old new acts
+      → (v : SideView S) → Shows old v.now → (e : RunningTimer) × Did w (Shows new) acts (Expire e.timer e.of now) v
+  rests : (now : ℕ) (old new : EitherSide) → Rests now old new → (v : SideView S) → Shows old v.now → Shows new v.now
+  asks : (request : Request) (now : ℕ) (result : Result ⊤ SideFault) (old new : EitherSide) (acts : Effects) → Answers request now result old new acts
+      → (v : SideView S) → Shows old v.now → Did w (Shows new) acts (Ask request now) v
+
+network_takes : (config : Config) (octets : List ℕ) (now : ℕ) (old new : EitherSide) (acts : Effects) → Takes octets now (Ok tt) old new acts
+    → (v : SideView Network) (rest : List (List ℕ)) → ShowsNetwork config old v.now → v.incoming ≡ octets ∷ rest
+    → Did (network_behaviour config) (ShowsNetwork config new) acts (Take now) v
+network_takes config octets now (either.Network old) (either.Network new) acts h v rest shown are =
+    let d = net_takes old new acts (Ok tt) octets rest now h config v shown are in record { is_so = d.shown; puts = d.puts }
+network_takes config octets now (either.User old) new acts h v rest shown are = absurd shown
+network_takes config octets now (either.Network old) (either.User new) acts h v rest shown are = absurd h
+
+network_expires : (config : Config) (now : ℕ) (old new : EitherSide) (acts : Effects) → Expires now old new acts
+    → (v : SideView Network) → ShowsNetwork config old v.now
+    → (e : RunningTimer) × Did (network_behaviour config) (ShowsNetwork config new) acts (Expire e.timer e.of now) v
+network_expires config now (either.Network old) (either.Network new) acts h v shown =
+    let d = net_ticks old new acts now h config v shown in (d.0, record { is_so = d.2.shown; puts = d.2.puts })
+network_expires config now (either.User old) new acts h v shown = absurd shown
+network_expires config now (either.Network old) (either.User new) acts h v shown = absurd h
+
+network_rests : (config : Config) (now : ℕ) (old new : EitherSide) → Rests now old new → (v : SideView Network) → ShowsNetwork config old v.now → ShowsNetwork config new v.now
+network_rests config now (either.Network old) (either.Network new) h v shown = (h config v.now shown).1
+network_rests config now (either.User old) new h v shown = absurd shown
+network_rests config now (either.Network old) (either.User new) h v shown = absurd h
+
+network_asks : (config : Config) (request : Request) (now : ℕ) (result : Result ⊤ SideFault) (old new : EitherSide) (acts : Effects) → Answers request now result old new acts
+    → (v : SideView Network) → ShowsNetwork config old v.now → Did (network_behaviour config) (ShowsNetwork config new) acts (Ask request now) v
+network_asks config request now (Ok done) (either.Network old) (either.Network new) acts h v shown =
+    let d = net_requests old new acts (Ok done) (message_of request) request now h config v shown in record { is_so = d.shown; puts = d.puts }
+network_asks config request now (Err fault) (either.Network old) (either.Network new) acts h v shown =
+    let d = net_requests old new acts (Err fault) (message_of request) request now h config v shown in record { is_so = d.shown; puts = d.puts }
+network_asks config request now (Ok done) (either.User old) new acts h v shown = absurd shown
+network_asks config request now (Err fault) (either.User old) new acts h v shown = absurd shown
+network_asks config request now (Ok done) (either.Network old) (either.User new) acts h v shown = absurd h
+network_asks config request now (Err fault) (either.Network old) (either.User new) acts h v shown = absurd h
+
+network_has : (config : Config) → HasDeeds (network_behaviour config) (ShowsNetwork config)
+network_has config = record {
+  takes = network_takes config;
+  expires = network_expires config;
+  rests = network_rests config;
+  asks = network_asks config;
+}
+
+user_takes : (config : Config) (octets : List ℕ) (now : ℕ) (old new : EitherSide) (acts : Effects) → Takes octets now (Ok tt) old new acts
+    → (v : SideView User) (rest : List (List ℕ)) → ShowsUser config old v.now → v.incoming ≡ octets ∷ rest
+    → Did (user_behaviour config) (ShowsUser config new) acts (Take now) v
+user_takes config octets now (either.User old) (either.User new) acts h v rest shown are =
+    let d = usr_takes old new acts (Ok tt) octets rest now h config v shown are in record { is_so = d.shown; puts = d.puts }
+user_takes config octets now (either.Network old) new acts h v rest shown are = absurd shown
+user_takes config octets now (either.User old) (either.Network new) acts h v rest shown are = absurd h
+
+user_expires : (config : Config) (now : ℕ) (old new : EitherSide) (acts : Effects) → Expires now old new acts
+    → (v : SideView User) → ShowsUser config old v.now
+    → (e : RunningTimer) × Did (user_behaviour config) (ShowsUser config new) acts (Expire e.timer e.of now) v
+user_expires config now (either.User old) (either.User new) acts h v shown =
+    let d = usr_ticks old new acts now h config v shown in (d.0, record { is_so = d.2.shown; puts = d.2.puts })
+user_expires config now (either.Network old) new acts h v shown = absurd shown
+user_expires config now (either.User old) (either.Network new) acts h v shown = absurd h
+
+user_rests : (config : Config) (now : ℕ) (old new : EitherSide) → Rests now old new → (v : SideView User) → ShowsUser config old v.now → ShowsUser config new v.now
+user_rests config now (either.User old) (either.User new) h v shown = (h config v.now shown).1
+user_rests config now (either.Network old) new h v shown = absurd shown
+user_rests config now (either.User old) (either.Network new) h v shown = absurd h
+
+user_asks : (config : Config) (request : Request) (now : ℕ) (result : Result ⊤ SideFault) (old new : EitherSide) (acts : Effects) → Answers request now result old new acts
+    → (v : SideView User) → ShowsUser config old v.now → Did (user_behaviour config) (ShowsUser config new) acts (Ask request now) v
+user_asks config request now (Ok done) (either.User old) (either.User new) acts h v shown =
+    let d = usr_requests old new acts (Ok done) (message_of request) request now h config v shown in record { is_so = d.shown; puts = d.puts }
+user_asks config request now (Err fault) (either.User old) (either.User new) acts h v shown =
+    let d = usr_requests old new acts (Err fault) (message_of request) request now h config v shown in record { is_so = d.shown; puts = d.puts }
+user_asks config request now (Ok done) (either.Network old) new acts h v shown = absurd shown
+user_asks config request now (Err fault) (either.Network old) new acts h v shown = absurd shown
+user_asks config request now (Ok done) (either.User old) (either.Network new) acts h v shown = absurd h
+user_asks config request now (Err fault) (either.User old) (either.Network new) acts h v shown = absurd h
+
+user_has : (config : Config) → HasDeeds (user_behaviour config) (ShowsUser config)
+user_has config = record {
+  takes = user_takes config;
+  expires = user_expires config;
+  rests = user_rests config;
+  asks = user_asks config;
+}
+
+-- ---- One line.
+
+-- nothing, or one deed
+none_lead : {S : Type 0} (w : Behaviour S) (IsSo : S → Type 0) (left : List (List ℕ)) (v : SideView S) → IsSo v.now → v.incoming ≡ left → LeadTo w IsSo left [] [] v
+none_lead w IsSo left v is are = record { is_so = is; incoming = are; outgoing = sym (append-nil v.outgoing) }
+
+take_leads : {S : Type 0} (w : Behaviour S) (IsSo : S → Type 0) (acts : Effects) (now : ℕ) (v : SideView S) (octets : List ℕ) (left : List (List ℕ)) → v.incoming ≡ octets ∷ left
+    → Did w IsSo acts (Take now) v → LeadTo w IsSo left acts.frames (Take now ∷ []) v
+unfolding does
+take_leads w IsSo acts now v octets left are d = record { is_so = d.is_so; incoming = ap (drop 1) are; outgoing = d.puts.sent }
+
+ask_leads : {S : Type 0} (w : Behaviour S) (IsSo : S → Type 0) (acts : Effects) (request : Request) (now : ℕ) (v : SideView S) (left : List (List ℕ)) → v.incoming ≡ left
+    → Did w IsSo acts (Ask request now) v → LeadTo w IsSo left acts.frames (Ask request now ∷ []) v
+unfolding does
+ask_leads w IsSo acts request now v left are d = record { is_so = d.is_so; incoming = are; outgoing = d.puts.sent }
+
+-- an expiry, and then others
+expiry_leads : {S : Type 0} (w : Behaviour S) (IsSo Mid : S → Type 0) (acts : Effects) (timer : Timer) (of : Option LinkId) (now : ℕ) (v : SideView S) (left sent : List (List ℕ))
+    (deeds : List Deed) → Did w Mid acts (Expire timer of now) v → LeadTo w IsSo left sent deeds (does w (Expire timer of now) v)
+    → LeadTo w IsSo left (acts.frames ++ sent) (Expire timer of now ∷ deeds) v
+expiry_leads w IsSo Mid acts timer of now v left sent deeds d more = record {
+  is_so = more.is_so;
+  incoming = more.incoming;
+  outgoing = more.outgoing ∙ ap (λ (line : List (List ℕ)). line ++ sent) d.puts.sent ∙ append_assoc v.outgoing acts.frames sent;
+}
+
+expiry_leaves : {S : Type 0} (w : Behaviour S) (timer : Timer) (of : Option LinkId) (now : ℕ) (v : SideView S) → (does w (Expire timer of now) v).incoming ≡ v.incoming
+unfolding does
+expiry_leaves w timer of now v = refl
+
+all_expire : {S : Type 0} (w : Behaviour S) (Shows : EitherSide → S → Type 0) → HasDeeds w Shows → (now : ℕ) (calls : List Effects) (old new : EitherSide) → ExpireInTurn now calls old new
+    → (v : SideView S) (left : List (List ℕ)) → Shows old v.now → v.incoming ≡ left
+    → (deeds : List Deed) × AllByRecursion (IsExpiryAt now) deeds × LeadTo w (Shows new) left (frames_given calls) deeds v
+all_expire {S} w Shows has now [] old new h v left shown are = ([], tt, none_lead w (Shows new) left v (has.rests now old new h v shown) are)
+all_expire {S} w Shows has now (acts ∷ calls) old new h v left shown are =
+    let x = has.expires now old h.0 acts h.1 v shown in
+    let e : RunningTimer = x.0 in
+    let u : SideView S = does w (Expire e.timer e.of now) v in
+    let more = all_expire w Shows has now calls h.0 new h.2 u left x.1.is_so (expiry_leaves w e.timer e.of now v ∙ are) in (
+      Expire e.timer e.of now ∷ more.0,
+      ((e.timer, e.of, refl), more.1),
+      expiry_leads w (Shows new) (Shows h.0) acts e.timer e.of now v left (frames_given calls) more.0 x.1 more.2,
+    )
+
+takes_next : {S : Type 0} (w : Behaviour S) (Shows : EitherSide → S → Type 0) → HasDeeds w Shows → (a b : AtWork) → TakesNext a b → IsByDeeds w Shows (AreFor Read a.now) a b
+takes_next w Shows has a b h = record {
+  heard = h.frame ∷ [];
+  sent = h.takes.acts.frames;
+  read = subst (Consumes a.around.rest b.around.rest) (sym (append-nil (frame_text h.frame))) h.read;
+  written = h.takes.puts.sent;
+  are = λ v left shown are. (
+    Take a.now ∷ [],
+    inr refl,
+    take_leads w (Shows b.side) h.takes.acts a.now v h.frame left are (has.takes h.frame a.now a.side b.side h.takes.acts h.takes.takes v left shown are),
+  );
+}
+
+finds_none : {S : Type 0} (w : Behaviour S) (Shows : EitherSide → S → Type 0) → HasDeeds w Shows → (a b : AtWork) → FindsNone a b → IsByDeeds w Shows (AreFor Read a.now) a b
+finds_none {S} w Shows has a b h = record {
+  heard = [];
+  sent = [];
+  read = h.read;
+  written = h.puts.sent;
+  are = λ v left shown are. ([], inl refl, none_lead w (Shows b.side) left v (subst (λ (side : EitherSide). Shows side v.now) (sym h.side) shown) are);
+}
+
+goes_on : {S : Type 0} (w : Behaviour S) (Shows : EitherSide → S → Type 0) → HasDeeds w Shows → (ms : ℕ) (a b : AtWork) → GoesOn ms a b → IsByDeeds w Shows (AreFor (Tick ms) a.now) a b
+goes_on w Shows has ms a b h = record {
+  heard = [];
+  sent = frames_given h.due.calls;
+  read = h.read;
+  written = h.due.puts.sent;
+  are = λ v left shown are. all_expire w Shows has (a.now + ms) h.due.calls a.side b.side h.due.in_turn v left shown are;
+}
+
+-- one request, and the one that the line names
+abbrev IsOneRequest : Wish → ℕ → List Deed → Type 0
+IsOneRequest wish now deeds = (request : Request) × (wish_of_request request ≡ wish) × (deeds ≡ Ask request now ∷ [])
+
+asks_one : {S : Type 0} (w : Behaviour S) (Shows : EitherSide → S → Type 0) → HasDeeds w Shows → (wish : Wish) (a b : AtWork) → Asks wish a b → IsByDeeds w Shows (IsOneRequest wish a.now) a b
+asks_one w Shows has wish a b h = record {
+  heard = [];
+  sent = h.acts.frames;
+  read = h.read;
+  written = h.puts.sent;
+  are = λ v left shown are. (
+    Ask h.request a.now ∷ [],
+    (h.request, h.is, refl),
+    ask_leads w (Shows b.side) h.acts h.request a.now v left are (has.asks h.request a.now h.result a.side b.side h.acts h.answers v shown),
+  );
+}
+
+line : {S : Type 0} (w : Behaviour S) (Shows : EitherSide → S → Type 0) → HasDeeds w Shows → (wish : Wish) (a b : AtWork) → LineDoes wish a b → IsByDeeds w Shows (AreFor wish a.now) a b
+line w Shows has Read a b (inl h) = takes_next w Shows has a b h
+line w Shows has Read a b (inr h) = finds_none w Shows has a b h
+line w Shows has (Tick ms) a b h = goes_on w Shows has ms a b h
+line w Shows has (Establish id) a b h = asks_one w Shows has (Establish id) a b h
+line w Shows has (Release id) a b h = asks_one w Shows has (Release id) a b h
+line w Shows has (Give id message) a b h = asks_one w Shows has (Give id message) a b h
+line w Shows has (Unit id octets) a b h = asks_one w Shows has (Unit id octets) a b h
+line w Shows has Busy a b h = asks_one w Shows has Busy a b h
+line w Shows has AskTei a b h = asks_one w Shows has AskTei a b h
+line w Shows has (Check tei) a b h = asks_one w Shows has (Check tei) a b h
+
+-- ---- All lines.
+
+pub moment_is : (wish : Wish) (a b : AtWork) → LineDoes wish a b → b.now ≡ moment_behind wish a.now
+moment_is Read a b (inl h) = h.clock
+moment_is Read a b (inr h) = h.clock
+moment_is (Tick ms) a b h = h.clock
+moment_is (Establish id) a b h = h.clock
+moment_is (Release id) a b h = h.clock
+moment_is (Give id message) a b h = h.clock
+moment_is (Unit id octets) a b h = h.clock
+moment_is Busy a b h = h.clock
+moment_is AskTei a b h = h.clock
+moment_is (Check tei) a b h = h.clock
+
+pub text_of_both : (xs ys : List (List ℕ)) → socket_text (xs ++ ys) ≡ socket_text xs ++ socket_text ys
+text_of_both [] ys = refl
+text_of_both (frame ∷ xs) ys = ap (λ (text : List ℕ). frame_text frame ++ text) (text_of_both xs ys) ∙ sym (append_assoc (frame_text frame) (socket_text xs) (socket_text ys))
+
+all_of_both : {S : Type 0} (w : Behaviour S) (xs ys : List Deed) (v : SideView S) → does_all w (xs ++ ys) v ≡ does_all w ys (does_all w xs v)
+all_of_both w [] ys v = refl
+all_of_both w (deed ∷ xs) ys v = all_of_both w xs ys (does w deed v)
+
+both_lead : {S : Type 0} (w : Behaviour S) (Mid IsSo : S → Type 0) (mid left sent more : List (List ℕ)) (xs ys : List Deed) (v : SideView S) → LeadTo w Mid mid sent xs v
+    → LeadTo w IsSo left more ys (does_all w xs v) → LeadTo w IsSo left (sent ++ more) (xs ++ ys) v
+both_lead {S} w Mid IsSo mid left sent more xs ys v p q =
+    let same : does_all w ys (does_all w xs v) ≡ does_all w (xs ++ ys) v = sym (all_of_both w xs ys v) in record {
+      is_so = subst (λ (u : SideView S). IsSo u.now) same q.is_so;
+      incoming = subst (λ (u : SideView S). u.incoming ≡ left) same q.incoming;
+      outgoing = subst (λ (u : SideView S). u.outgoing ≡ v.outgoing ++ (sent ++ more)) same
+          (q.outgoing ∙ ap (λ (line : List (List ℕ)). line ++ more) p.outgoing ∙ append_assoc v.outgoing sent more);
+    }
+
+two_parts : {S : Type 0} (w : Behaviour S) (Shows : EitherSide → S → Type 0) (wish : Wish) (Others : List Deed → Type 0) (a mid b : AtWork) → IsByDeeds w Shows (AreFor wish a.now) a mid
+    → IsByDeeds w Shows Others mid b → IsByDeeds w Shows (ArePartedFor wish a.now Others) a b
+two_parts {S} w Shows wish Others a mid b x y = record {
+  heard = x.heard ++ y.heard;
+  sent = x.sent ++ y.sent;
+  read = subst (Consumes a.around.rest b.around.rest) (sym (text_of_both x.heard y.heard))
+      (Consumes-trans a.around.rest mid.around.rest b.around.rest (socket_text x.heard) (socket_text y.heard) x.read y.read);
+  written = subst (Appends a.around.written b.around.written) (sym (text_of_both x.sent y.sent))
+      (Appends-trans a.around.written mid.around.written b.around.written (socket_text x.sent) (socket_text y.sent) x.written y.written);
+  are = λ v left shown are.
+      let first = x.are v (y.heard ++ left) shown (are ∙ append_assoc x.heard y.heard left) in
+      let u : SideView S = does_all w first.0 v in
+      let others = y.are u left first.2.is_so first.2.incoming in (
+        first.0 ++ others.0,
+        record { first = first.0; others = others.0; both = refl; for_first = first.1; for_others = others.1 },
+        both_lead w (Shows mid.side) (Shows b.side) (y.heard ++ left) left x.sent y.sent first.0 others.0 v first.2 others.2,
+      );
+}
+
+consumes_none : (a b : AtWork) → b ≡ a → Consumes a.around.rest b.around.rest []
+consumes_none a b same = subst (λ (at : AtWork). Consumes a.around.rest at.around.rest []) (sym same) (Consumes-nil a.around.rest)
+
+appends_none : (a b : AtWork) → b ≡ a → Appends a.around.written b.around.written []
+appends_none a b same = subst (λ (at : AtWork). Appends a.around.written at.around.written []) (sym same) (Appends-nil a.around.written)
+
+lines : {S : Type 0} (w : Behaviour S) (Shows : EitherSide → S → Type 0) → HasDeeds w Shows → (wishes : List Wish) (a b : AtWork) → LinesDo wishes a b
+    → IsByDeeds w Shows (AreForAll wishes a.now) a b
+lines w Shows has [] a b same = record {
+  heard = [];
+  sent = [];
+  read = consumes_none a b same;
+  written = appends_none a b same;
+  are = λ v left shown are. ([], refl, none_lead w (Shows b.side) left v (subst (λ (at : AtWork). Shows at.side v.now) (sym same) shown) are);
+}
+lines w Shows has (wish ∷ wishes) a b h =
+    let mid : AtWork = h.0 in
+    let others : IsByDeeds w Shows (AreForAll wishes (moment_behind wish a.now)) mid b =
+    subst (λ (now : ℕ). IsByDeeds w Shows (AreForAll wishes now) mid b) (moment_is wish a mid h.1) (lines w Shows has wishes mid b h.2) in
+    two_parts w Shows wish (AreForAll wishes (moment_behind wish a.now)) a mid b (line w Shows has wish a mid h.1) others
+
+-- ---- Of either side.
+
+pub network_line : (config : Config) (wish : Wish) (a b : AtWork) → LineDoes wish a b → IsByDeeds (network_behaviour config) (ShowsNetwork config) (AreFor wish a.now) a b
+network_line config = line (network_behaviour config) (ShowsNetwork config) (network_has config)
+
+pub network_lines : (config : Config) (wishes : List Wish) (a b : AtWork) → LinesDo wishes a b → IsByDeeds (network_behaviour config) (ShowsNetwork config) (AreForAll wishes a.now) a b
+network_lines config = lines (network_behaviour config) (ShowsNetwork config) (network_has config)
+
+pub user_line : (config : Config) (wish : Wish) (a b : AtWork) → LineDoes wish a b → IsByDeeds (user_behaviour config) (ShowsUser config) (AreFor wish a.now) a b
+user_line config = line (user_behaviour config) (ShowsUser config) (user_has config)
+
+pub user_lines : (config : Config) (wishes : List Wish) (a b : AtWork) → LinesDo wishes a b → IsByDeeds (user_behaviour config) (ShowsUser config) (AreForAll wishes a.now) a b
+user_lines config = lines (user_behaviour config) (ShowsUser config) (user_has config)
+
+-- ---- Deeds of one side are moves.
+
+pub network_moves : (c : Configs) (deeds : List Deed) (i : Interface) → run c (moves_of side.Network deeds) i ≡ with_network (does_all (network_behaviour c.network) deeds (by_network i)) i
+network_moves c [] i = refl
+network_moves c (deed ∷ deeds) i = network_moves c deeds (with_network (does (network_behaviour c.network) deed (by_network i)) i)
+
+pub user_moves : (c : Configs) (deeds : List Deed) (i : Interface) → run c (moves_of side.User deeds) i ≡ with_user (does_all (user_behaviour c.user) deeds (by_user i)) i
+user_moves c [] i = refl
+user_moves c (deed ∷ deeds) i = user_moves c deeds (with_user (does (user_behaviour c.user) deed (by_user i)) i)

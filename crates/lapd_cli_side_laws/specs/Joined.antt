@@ -1,0 +1,122 @@
+-- `net` and `user` over a line that loses nothing: the octets that the one's source gives are those that the other writes, and each
+-- reads only what was written. What they do are moves of an interface.
+use Rattle.std.specs.Prelude.{◌≡◌, ℕ, ◌<◌, ◌≤◌, List, [], ◌∷◌, ◌++◌, Some, IsSome}
+use Rattle.std.specs.Io.KnownBytes.{Appends}
+use Rattle.lapd_frame.specs.declared.Side.{Side}
+use Rattle.lapd_frame.specs.declared.Side.TheVariants as side
+use Rattle.lapd_port.specs.SocketText.{socket_text}
+use Rattle.lapd_table.specs.declared.link_id.LinkId.{LinkId}
+use Rattle.lapd_sides_links.specs.Links.{parameters_for}
+use Rattle.lapd_sides_laws.specs.Interface.{Configs, Interface, Move, run}
+use Rattle.lapd_sides_laws.specs.Premises.{KeepPremisesAsMade}
+use Rattle.lapd_sides_laws.specs.Projects.{IsSafeAt}
+use Rattle.lapd_sides_laws.specs.SideView.{Deed}
+use Rattle.lapd_cli_side_commands.specs.Served.{AtWork, LineDoes}
+use Rattle.lapd_cli_side_lines.specs.Wishes.{Wish}
+use Rattle.lapd_cli_side_laws.specs.Deeds.{AreFor, ShowsNetwork, ShowsUser, moment_behind, moves_of}
+
+-- ---- Two programs.
+
+-- A program, and what the other is yet to write: octets that its source has behind those which are on their way.
+pub record Program : Type 0 where
+  pub at : AtWork
+  pub later : List ℕ
+
+pub record Programs : Type 0 where
+  pub network : Program
+  pub user : Program
+
+-- A program does a line, and reads no more than was written; what it writes is the next of what the other's source gives.
+pub record WritesTo (wish : Wish) (a b other after : Program) : Type 0 where
+  pub does : LineDoes wish a.at b.at
+  pub later : b.later ≡ a.later
+  pub left : List ℕ
+  pub reads : b.at.around.rest ≡ Some (left ++ a.later)
+  pub octets : List ℕ
+  pub wrote : Appends a.at.around.written b.at.around.written octets
+  pub stays : after.at ≡ other.at
+  pub comes : other.later ≡ octets ++ after.later
+
+abbrev pub ProgramDoes : Side → Wish → Programs → Programs → Type 0
+ProgramDoes side.Network wish a b = WritesTo wish a.network b.network a.user b.user
+ProgramDoes side.User wish a b = WritesTo wish a.user b.user a.network b.network
+
+-- lines of the one or of the other, in any order
+pub record ProgramLine : Type 0 where
+  pub side : Side
+  pub wish : Wish
+
+abbrev pub ProgramsDo : List ProgramLine → Programs → Programs → Type 0
+ProgramsDo [] a b = b ≡ a
+ProgramsDo (line ∷ lines) a b =
+    (mid : Programs) × ProgramDoes line.side line.wish a mid × ProgramsDo lines mid b
+
+-- those of one side
+abbrev pub wishes_behind : Side → Side → Wish → List Wish → List Wish
+wishes_behind side.Network side.Network wish wishes = wish ∷ wishes
+wishes_behind side.User side.User wish wishes = wish ∷ wishes
+wishes_behind of other wish wishes = wishes
+
+abbrev pub wishes_of_side : Side → List ProgramLine → List Wish
+wishes_of_side of [] = []
+wishes_of_side of (line ∷ lines) = wishes_behind of line.side line.wish (wishes_of_side of lines)
+
+-- ---- The interface that they are at.
+
+-- The sides of the programs show those of the interface. The source of each has the text of the frames on their way to its side,
+-- and then what is yet to be written; and what each sink has taken is known.
+pub record AreAt (c : Configs) (p : Programs) (i : Interface) : Type 0 where
+  pub network : ShowsNetwork c.network p.network.at.side i.network
+  pub user : ShowsUser c.user p.user.at.side i.user
+  pub to_network : p.network.at.around.rest
+      ≡ Some (socket_text i.to_network ++ p.network.later)
+  pub to_user : p.user.at.around.rest ≡ Some (socket_text i.to_user ++ p.user.later)
+  pub by_network : IsSome p.network.at.around.written
+  pub by_user : IsSome p.user.at.around.written
+
+-- ---- Which moves the lines ask for.
+
+-- the clock of this side, of two: the network's and the user's
+abbrev pub clock_of : Side → ℕ → ℕ → ℕ
+clock_of side.Network network user = network
+clock_of side.User network user = user
+
+-- the clock of the one side after a line of this side
+abbrev pub network_clock : Side → Wish → ℕ → ℕ
+network_clock side.Network wish now = moment_behind wish now
+network_clock side.User wish now = now
+
+abbrev pub user_clock : Side → Wish → ℕ → ℕ
+user_clock side.Network wish now = now
+user_clock side.User wish now = moment_behind wish now
+
+-- what the first line asks for, then what the others do
+pub record ArePartedAs (side : Side) (wish : Wish) (now : ℕ) (AreForOthers : List Move → Type 0)
+    (moves : List Move) : Type 0 where
+  pub first : List Deed
+  pub others : List Move
+  pub both : moves ≡ moves_of side first ++ others
+  pub for_first : AreFor wish now first
+  pub for_others : AreForOthers others
+
+abbrev pub AreMovesFor : List ProgramLine → ℕ → ℕ → List Move → Type 0
+AreMovesFor [] network user moves = moves ≡ []
+AreMovesFor (line ∷ lines) network user moves =
+    ArePartedAs line.side line.wish (clock_of line.side network user)
+    (AreMovesFor lines (network_clock line.side line.wish network)
+    (user_clock line.side line.wish user)) moves
+
+-- What both did is moves of the interface, those that their lines asked for; and where these keep the premises of a link, that
+-- link is safe.
+pub record ArePlayed (c : Configs) (lines : List ProgramLine) (a b : Programs) (i : Interface)
+    : Type 0 where
+  pub moves : List Move
+  pub asked : AreMovesFor lines a.network.at.now a.user.at.now moves
+  pub are : AreAt c b (run c moves i)
+
+pub record ArePlayedSafely (c : Configs) (lines : List ProgramLine) (a b : Programs)
+    (i : Interface) : Type 0 where
+  pub played : ArePlayed c lines a b i
+  pub safe : (id : LinkId) → id.tei < 127 → (parameters_for c.user id.sapi).k ≤ 127
+      → (parameters_for c.network id.sapi).k ≤ 127 → KeepPremisesAsMade c id played.moves i
+      → IsSafeAt c id (run c played.moves i)

@@ -1,5 +1,0 @@
-use Rattle.std.proofs.Common.{rules}
-use Rattle.lapd_json.proofs.lines.poll_name.Goals as goal
-
-pub returns-in-Answer : goal.returns-in-Answer
-returns-in-Answer c = search rules

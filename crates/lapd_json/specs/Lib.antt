@@ -1,2 +1,0 @@
-pub mod Json
-pub mod Packet

@@ -1,0 +1,73 @@
+ghost use Rattle.std.specs.Prelude.{◌≡◌};
+ghost use Rattle.lapd_link_definition.specs.Refusal.{refusal_name};
+
+use lapd_frame::{FaultKind, Frame};
+use thiserror::Error;
+
+/// What happens to an end.
+#[derive(Debug, Drop)]
+pub enum Event<'a> {
+    /// A frame of the peer came, with the link's service access point and terminal endpoint.
+    Heard(&'a Frame<'a>),
+    /// Octets with the link's address came that are no frame, by one of F4 to F7.
+    Fault(FaultKind),
+    /// T200 expires. Where it does not run, this is passed over.
+    T200,
+    /// T203 expires. Where it does not run, this is passed over.
+    T203,
+    /// Layer 3 asks for the link to be established (DL-ESTABLISH request).
+    Establish,
+    /// Layer 3 asks for the link to be released (DL-RELEASE request).
+    Release,
+    /// This end can take no more messages (own receiver busy, Q.921 5.6.6).
+    BusyOn,
+    /// This end can take messages again.
+    BusyOff,
+    /// Unit data of so many octets is to be sent (DL-UNIT DATA request).
+    Unit(usize),
+}
+
+/// Why a request is refused. The link is unchanged.
+#[derive(Clone, Copy, Debug, PartialEq, Eq, Error)]
+pub enum LinkFault {
+    /// L1: a message for a link that is not established.
+    #[error("L1 NotEstablished")]
+    NotEstablished,
+    /// L2: the I queue is full.
+    #[error("L2 QueueFull")]
+    QueueFull,
+    /// L3: a message of more than 260 octets.
+    #[error("L3 TooLong")]
+    TooLong,
+    /// L4: the link is being released.
+    #[error("L4 Releasing")]
+    Releasing,
+    /// L5: layer 3 is establishing the link.
+    #[error("L5 LayerThreeEstablishing")]
+    LayerThreeEstablishing,
+}
+
+/// A message that was refused, handed back as it came.
+#[derive(Debug, Drop, Error)]
+#[error("{fault}")]
+pub struct Refused {
+    /// Why.
+    pub fault: LinkFault,
+    /// The message.
+    pub message: Vec<u8>,
+}
+
+impl LinkFault {
+    /// Its number and name, as in `L1 NotEstablished`.
+    pub fn name(self) -> &'static str
+        ensures { result.now ≡ refusal_name self }
+    {
+        match self {
+            LinkFault::NotEstablished => "L1 NotEstablished",
+            LinkFault::QueueFull => "L2 QueueFull",
+            LinkFault::TooLong => "L3 TooLong",
+            LinkFault::Releasing => "L4 Releasing",
+            LinkFault::LayerThreeEstablishing => "L5 LayerThreeEstablishing",
+        }
+    }
+}

@@ -1,0 +1,124 @@
+ghost use Rattle.std.specs.Prelude.{◌≡◌, ◌≤◌};
+ghost use Rattle.lapd_link_definition.specs.Parameters.{parameters_of, basic_parameters, primary_parameters};
+
+use crate::Recovery;
+use lapd_frame::Sapi;
+use std::marker::Model;
+
+/// What a data link is made with (Q.921 5.9).
+#[derive(Clone, Copy, Debug, PartialEq, Eq)]
+pub struct Params {
+    k: u8,
+    n200: u8,
+    room: u16,
+    recovery: Recovery,
+}
+
+impl Model for Params {
+    ghost use Rattle.std.specs.Prelude.{◌≤◌};
+    ghost use Rattle.lapd_link_definition.specs.Parameters.{Parameters, AreInRange};
+
+    ghost Value = { Parameters };
+
+    ghost view = { λ p. record { k = p.k; n200 = p.n200; room = p.room; recovery = p.recovery } };
+
+    ghost invariant = { λ p. AreInRange (record {
+      k = p.k;
+      n200 = p.n200;
+      room = p.room;
+      recovery = p.recovery;
+    }) };
+
+    ghost inverse = { λ n. record { k = n.k; n200 = n.n200; room = n.room; recovery = n.recovery } };
+}
+
+impl Params {
+    /// A window of `k` frames, 1 to 127 (Q.921 5.9.5), `n200` transmissions of a frame again, 1 to 100 (Q.921
+    /// 5.9.2), and room for `room` messages in the I queue, 1 to 1,024. `None` where a number is out of its range.
+    pub fn new(k: u8, n200: u8, room: u16) -> Option<Params>
+        ensures { result ≡ parameters_of k n200 room }
+    {
+        let in_range = 1 <= k && k <= 127 && 1 <= n200 && n200 <= 100 && 1 <= room && room <= 1024;
+        if in_range {
+            Some(Params {
+                k,
+                n200,
+                room,
+                recovery: Recovery::Enquiry,
+            })
+        } else {
+            None
+        }
+    }
+
+    /// What Q.921 5.9 gives basic access: a window of 1 for call control, of 3 for packet communication, N200 of 3, and
+    /// room for 512 messages. Management has no link, and is answered as call control.
+    pub fn basic(sapi: Sapi) -> Params
+        ensures { result ≡ basic_parameters sapi }
+    {
+        let k = match sapi {
+            Sapi::Packet => 3,
+            Sapi::Call | Sapi::Management => 1,
+        };
+        Params {
+            k,
+            n200: 3,
+            room: 512,
+            recovery: Recovery::Enquiry,
+        }
+    }
+
+    /// What Q.921 5.9 gives primary rate: a window of 7, N200 of 3, and room for 512 messages.
+    pub fn primary() -> Params
+        ensures { result ≡ primary_parameters }
+    {
+        Params {
+            k: 7,
+            n200: 3,
+            room: 512,
+            recovery: Recovery::Enquiry,
+        }
+    }
+
+    /// The same with this recovery. What [`Params::new`], [`Params::basic`] and [`Params::primary`] give has
+    /// [`Recovery::Enquiry`].
+    pub fn with_recovery(self, recovery: Recovery) -> Params
+        ensures { result ≡ record self { recovery = recovery } }
+    {
+        Params { recovery, ..self }
+    }
+
+    /// What T200 sends in state 7.
+    pub fn recovery(&self) -> Recovery
+        ensures { result ≡ self.now.recovery }
+    {
+        self.recovery
+    }
+
+    /// The window, 1 to 127 frames.
+    pub fn k(&self) -> u8
+        ensures same { result ≡ self.now.k }
+        ensures low { 1 ≤ result }
+        ensures high { result ≤ 127 }
+    {
+        self.k
+    }
+
+    /// How often a frame is sent again, 1 to 100.
+    pub fn n200(&self) -> u8
+        ensures same { result ≡ self.now.n200 }
+        ensures low { 1 ≤ result }
+        ensures high { result ≤ 100 }
+    {
+        self.n200
+    }
+
+    /// How many messages there is room for, 1 to 1,024.
+    pub fn room(&self) -> u16
+        ensures same { result ≡ self.now.room }
+        ensures low { 1 ≤ result }
+        ensures high { result ≤ 1024 }
+    {
+        self.room
+    }
+}

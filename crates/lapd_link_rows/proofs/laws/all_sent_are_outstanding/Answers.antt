@@ -1,5 +1,0 @@
-use Rattle.lapd_link_rows.proofs.Soundness.{sound_new, sound_step}
-use Rattle.lapd_link_rows.proofs.laws.all_sent_are_outstanding.Goals as goal
-
-pub returns : goal.returns
-returns c = record { begins = sound_new; stays = sound_step }

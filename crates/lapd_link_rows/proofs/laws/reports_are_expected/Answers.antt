@@ -1,6 +1,0 @@
-use Rattle.lapd_link_rows.proofs.DueOnTags.{due_on_tags}
-use Rattle.lapd_link_rows.proofs.ReportsOfStep.{due_is_expected}
-use Rattle.lapd_link_rows.proofs.laws.reports_are_expected.Goals as goal
-
-pub returns : goal.returns
-returns c = record { expected = due_is_expected; tags = due_on_tags }

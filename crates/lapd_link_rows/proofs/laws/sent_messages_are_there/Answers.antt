@@ -1,5 +1,0 @@
-use Rattle.lapd_link_rows.proofs.MessagesThere.{messages_are_there}
-use Rattle.lapd_link_rows.proofs.laws.sent_messages_are_there.Goals as goal
-
-pub returns : goal.returns
-returns c = messages_are_there

@@ -1,5 +1,0 @@
-use Rattle.lapd_link_rows.proofs.TimersOfStep.{timers_begin, timers_stay, timers_follow}
-use Rattle.lapd_link_rows.proofs.laws.timers_follow_outputs.Goals as goal
-
-pub returns : goal.returns
-returns c = record { begins = timers_begin; stays = timers_stay; follows = timers_follow }

@@ -1,5 +1,0 @@
-use Rattle.std.proofs.Common.{rules}
-use Rattle.lapd_link_rows.proofs.out.Letter.name.Goals as goal
-
-pub returns-in-G : goal.returns-in-G
-returns-in-G c = search rules

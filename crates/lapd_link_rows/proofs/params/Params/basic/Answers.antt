@@ -1,5 +1,0 @@
-use Rattle.std.proofs.Common.{rules}
-use Rattle.lapd_link_rows.proofs.params.Params.basic.Goals as goal
-
-pub returns : goal.returns
-returns c = search rules

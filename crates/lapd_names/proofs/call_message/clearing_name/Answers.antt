@@ -1,5 +1,0 @@
-use Rattle.std.proofs.Common.{rules}
-use Rattle.lapd_names.proofs.call_message.clearing_name.Goals as goal
-
-pub returns-in-77 : goal.returns-in-77
-returns-in-77 c = search rules

@@ -1,5 +1,0 @@
-use Rattle.std.proofs.Common.{rules}
-use Rattle.lapd_names.proofs.call_message.reference_of.Goals as goal
-
-pub returns : goal.returns
-returns c = search rules

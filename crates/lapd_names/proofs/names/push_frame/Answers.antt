@@ -1,5 +1,0 @@
-use Rattle.std.proofs.Common.{rules}
-use Rattle.lapd_names.proofs.names.push_frame.Goals as goal
-
-pub returns-in-Ui : goal.returns-in-Ui
-returns-in-Ui c = search rules

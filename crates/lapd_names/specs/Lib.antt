@@ -1,2 +1,0 @@
-pub mod CallMessage
-pub mod Names

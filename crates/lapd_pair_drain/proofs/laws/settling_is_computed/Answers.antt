@@ -1,5 +1,0 @@
-use Rattle.lapd_pair_drain.proofs.Worked.{new_settles, sabme_settles, three_settle, three_settle_by_last, busy_settles}
-use Rattle.lapd_pair_drain.proofs.laws.settling_is_computed.Goals as goal
-
-pub returns : goal.returns
-returns c = record { new_pair = new_settles; sabme = sabme_settles; three = three_settle; three_by_last = three_settle_by_last; busy = busy_settles }

@@ -1,0 +1,354 @@
+-- A quiet line drains.
+use Rattle.std.proofs.Common.{◌≡◌, ◌⊎◌, inl, inr, ℕ, zero, suc, ◌+◌, ◌-◌, ◌*◌, ◌≤◌, ◌<◌, nat_lt, ◌&&◌, ◌||◌, Bool, true, false, List, [], ◌∷◌, length, Some, None, refl, sym, ap, subst, ◌∙◌, arith}
+use Rattle.std.proofs.lemmas.Bool.Decides.{nat_tests}
+use Rattle.lapd_frame.specs.declared.Side.TheVariants as side
+use Rattle.lapd_mod128.specs.Counting.{Whole, steps}
+use Rattle.lapd_supervision.specs.StateVariables.{StateVariables, may_send}
+use Rattle.lapd_link_definition.specs.declared.state.State.TheVariants.{MultipleFrameEstablished}
+use Rattle.lapd_link_definition.specs.EndOfStep.{is_7_or_8}
+use Rattle.lapd_link_definition.specs.End.{End, begin}
+use Rattle.lapd_link_definition.specs.Table.{step}
+use Rattle.lapd_pair_laws.specs.Kept.{is_one_of, AreSettled, IsKeptWorld}
+use Rattle.lapd_pair_laws.specs.Line.{Flight}
+use Rattle.lapd_pair_laws.specs.Move.{Deed, Deliver, Expire200, Move, Station, acts, hears, takes, delivers, expires_200}
+use Rattle.lapd_pair_laws.specs.Safe.{IsAmong}
+use Rattle.lapd_pair_laws.specs.World.{World, swapped, view_of, world_after, happens, run, left, left_of}
+use Rattle.lapd_pair_laws.proofs.Keeping.{run_kept}
+use Rattle.lapd_pair_laws.proofs.Settled.{left_settled}
+use Rattle.lapd_pair_laws.proofs.Swaps.{network_alike}
+use Rattle.lapd_pair_laws.specs.Kinds.{kinds}
+use Rattle.lapd_pair_laws.specs.Parties.{party}
+use Rattle.lapd_pair_laws.specs.Conjuncts.{IsNumbering}
+use Rattle.lapd_pair_laws.specs.Invariant.{IsInvariant}
+use Rattle.lapd_pair_laws.proofs.MidSteps.{Mid, enter, numbering}
+use Rattle.lapd_pair_laws.proofs.Moves.{after_by_user}
+use Rattle.lapd_pair_laws.proofs.Whole.{each_move_keeps}
+use Rattle.lapd_pair_laws.proofs.Worlds.{left_by, safe_by_invariant}
+use Rattle.lapd_pair_laws.specs.Settle.{IsQuiet, next_move, settling, bound, most_moves}
+use Rattle.lapd_pair_laws.specs.Drained.{IsServed, IsDrained}
+use Rattle.lapd_pair_laws.specs.Timed.{IsTimedIn, IsRested, AreRested}
+use Rattle.lapd_pair_laws.proofs.Facts.{between_open}
+use Rattle.lapd_pair_laws.proofs.Flow.{Source, Sink, source, sink, IsComing, Stage, Clean, Waiting, Polling, Answered, IsAt, weight, Stream, fresh}
+use Rattle.lapd_pair_laws.proofs.Drains.{Seen, Drains, drains_swapped, seen_delivered, kept_delivered, mine_open}
+use Rattle.lapd_pair_laws.proofs.DrainsByT200.{seen_expired, kept_expired}
+use Rattle.lapd_pair_laws.proofs.Resting.{move_rests}
+use Rattle.lapd_pair_laws.proofs.Stepping.{user_move, network_move}
+
+-- ---- One move.
+
+user_drains : (n : ℕ) (deed : Deed) (w : World) → Drains n w → Seen (n - 1) (left_by (view_of side.User w) (acts Whole side.User deed (view_of side.User w))) w.network → Drains (n - 1) (world_after w (happens Whole (user_move deed) w))
+unfolding happens
+user_drains n deed w d s = record {
+  holds = each_move_keeps (user_move deed) w d.holds;
+  rested = move_rests (user_move deed) w d.rested;
+  sees = rw (after_by_user w (acts Whole side.User deed (view_of side.User w))) s;
+}
+
+network_drains : (n : ℕ) (deed : Deed) (w : World) → Drains (n - 1) (world_after (swapped w) (happens Whole (user_move deed) (swapped w))) → Drains (n - 1) (world_after w (happens Whole (network_move deed) w))
+network_drains n deed w d = rw (network_alike Whole deed w) (drains_swapped (n - 1) (world_after (swapped w) (happens Whole (user_move deed) (swapped w))) d)
+
+-- what was dropped
+pub record SameDropped (w v : World) : Type 0 where
+  pub user : v.user.history.dropped ≡ w.user.history.dropped
+  pub network : v.network.history.dropped ≡ w.network.history.dropped
+
+same_twice : {w v u : World} → SameDropped w v → SameDropped v u → SameDropped w u
+same_twice a b = record { user = b.user ∙ a.user; network = b.network ∙ a.network }
+
+user_kept : (deed : Deed) (w : World) → (left_by (view_of side.User w) (acts Whole side.User deed (view_of side.User w))).station.history.dropped ≡ w.user.history.dropped → SameDropped w (world_after w (happens Whole (user_move deed) w))
+unfolding happens
+user_kept deed w same = rw (after_by_user w (acts Whole side.User deed (view_of side.User w))) (record { user = same; network = refl })
+
+network_kept : (deed : Deed) (w : World) → SameDropped (swapped w) (world_after (swapped w) (happens Whole (user_move deed) (swapped w))) → SameDropped w (world_after w (happens Whole (network_move deed) w))
+network_kept deed w same = rw (network_alike Whole deed w) (record { user = same.network; network = same.user })
+
+-- what a settling line comes to: a move is made, or none is possible, and then T200 runs nowhere and nothing is on the line
+pub record MovesOn (n : ℕ) (w : World) : Type 0 where
+  pub move : Move
+  pub is : next_move Whole w ≡ Some move
+  pub some : 1 ≤ n
+  pub drains : Drains (n - 1) (world_after w (happens Whole move w))
+  pub kept : SameDropped w (world_after w (happens Whole move w))
+
+pub record IsStill (w : World) : Type 0 where
+  pub to_user : w.to_user ≡ []
+  pub to_network : w.to_network ≡ []
+  pub user : w.user.end.t200 ≡ false
+  pub network : w.network.end.t200 ≡ false
+
+pub record Stands (w : World) : Type 0 where
+  pub is : next_move Whole w ≡ None
+  pub still : IsStill w
+
+module _ (n : ℕ) (user network : Station) where
+  abbrev at : List Flight → List Flight → World
+  at to_user to_network = record { user = user; network = network; to_user = to_user; to_network = to_network }
+
+  by_user : (frame : Flight) (rest to_network : List Flight) → Drains n (at (frame ∷ rest) to_network) → Drains (n - 1) (world_after (at (frame ∷ rest) to_network) (happens Whole (user_move Deliver) (at (frame ∷ rest) to_network)))
+  by_user frame rest to_network d = user_drains n Deliver (at (frame ∷ rest) to_network) d (seen_delivered user network frame rest to_network n d.holds.user_base d.holds.network_base d.holds.both d.rested.user d.sees)
+
+  by_user_kept : (frame : Flight) (rest to_network : List Flight) → Drains n (at (frame ∷ rest) to_network) → SameDropped (at (frame ∷ rest) to_network) (world_after (at (frame ∷ rest) to_network) (happens Whole (user_move Deliver) (at (frame ∷ rest) to_network)))
+  by_user_kept frame rest to_network d = user_kept Deliver (at (frame ∷ rest) to_network) (kept_delivered user network frame rest to_network n d.holds.user_base d.holds.network_base d.holds.both d.rested.user d.sees)
+
+  expired_kept : user.end.t200 ≡ true → Drains n (at [] []) → SameDropped (at [] []) (world_after (at [] []) (happens Whole (user_move Expire200) (at [] [])))
+  expired_kept on d = user_kept Expire200 (at [] []) (kept_expired user network n on d.sees)
+
+  expired : user.end.t200 ≡ true → Drains n (at [] []) → Drains (n - 1) (world_after (at [] []) (happens Whole (user_move Expire200) (at [] [])))
+  expired on d = user_drains n Expire200 (at [] []) d (seen_expired user network n on d.sees)
+
+-- where T200 runs and nothing is on the line, something is still to come
+some_at : (x : Source) (y : Sink) (a : ℕ) → x.t200 ≡ true → Stream x y [] [] a → 1 ≤ a
+some_at x y a on s = by_stage s.stage s.so s.most
+  where
+    still : (rejecting : Bool) → (y.vr < x.vs) ⊎ IsAmong x.vs [] → IsComing rejecting y.vr x.vs [] → ⊥
+    still false (inl less) same = absurd (omega (arith, less, same))
+    still true (inl less) same = absurd (omega (arith, less, same))
+    still rejecting (inr none) same = absurd none
+
+    by_stage : (stage : Stage) → IsAt stage x y [] [] → weight stage x y ≤ a → 1 ≤ a
+    by_stage Clean c most = absurd (still y.rejecting (c.stopped on) c.coming)
+    by_stage Waiting w most = omega (arith, most)
+    by_stage Polling w most = absurd (omega (arith, w.1))
+    by_stage Answered w most = absurd (omega (arith, w.1))
+
+pub progress : (n : ℕ) (user network : Station) (to_user to_network : List Flight) → Drains n (at n user network to_user to_network) → MovesOn n (at n user network to_user to_network) ⊎ Stands (at n user network to_user to_network)
+unfolding happens acts delivers hears takes expires_200 step
+progress n user network to_user (frame ∷ rest) d = inl (record {
+  move = network_move Deliver;
+  is = refl;
+  some = let le = d.sees.flow.most in omega (arith, le);
+  drains = network_drains n Deliver (at n user network to_user (frame ∷ rest)) (by_user n network user frame rest to_user (drains_swapped n (at n user network to_user (frame ∷ rest)) d));
+  kept = network_kept Deliver (at n user network to_user (frame ∷ rest)) (by_user_kept n network user frame rest to_user (drains_swapped n (at n user network to_user (frame ∷ rest)) d));
+})
+progress n user network (frame ∷ rest) [] d = inl (record {
+  move = user_move Deliver;
+  is = refl;
+  some = let le = d.sees.flow.most in omega (arith, le);
+  drains = by_user n user network frame rest [] d;
+  kept = by_user_kept n user network frame rest [] d;
+})
+progress n user network [] [] d = by_timers user.end.t200 network.end.t200 refl refl
+  where
+    w : World
+    w = at n user network [] []
+
+    by_timers : (a b : Bool) → user.end.t200 ≡ a → network.end.t200 ≡ b → MovesOn n w ⊎ Stands w
+    by_timers true b on other = inl (record {
+      move = user_move Expire200;
+      is = rw on refl;
+      some = let f = d.sees.flow in let some = some_at (source user.end) (sink network.end) f.a on f.mine in let le = f.most in omega (arith, some, le);
+      drains = expired n user network on d;
+      kept = expired_kept n user network on d;
+    })
+    by_timers false true off on = inl (record {
+      move = network_move Expire200;
+      is = rw (off, on) refl;
+      some = let f = d.sees.flow in let some = some_at (source network.end) (sink user.end) f.b on f.its in let le = f.most in omega (arith, some, le);
+      drains = network_drains n Expire200 w (expired n network user on (drains_swapped n w d));
+      kept = network_kept Expire200 w (expired_kept n network user on (drains_swapped n w d));
+    })
+    by_timers false false off none = inr (record { is = rw (off, none) refl; still = record { to_user = refl; to_network = refl; user = off; network = none } })
+
+-- ---- All its moves.
+
+-- where it ends
+pub record Ends (begun w : World) : Type 0 where
+  pub n : ℕ
+  pub drains : Drains n w
+  pub stands : Stands w
+  pub kept : SameDropped begun w
+
+none_on : (fuel : ℕ) (w : World) → Stands w → settling Whole fuel w ≡ []
+none_on zero w s = refl
+none_on (suc fuel) w s = rw s.is refl
+
+stood : (fuel n : ℕ) (w : World) → Drains n w → Stands w → Ends w (run Whole (settling Whole fuel w) w)
+stood fuel n w d stands = rw (none_on fuel w stands) (record { n = n; drains = d; stands = stands; kept = record { user = refl; network = refl } })
+
+moved_on : (fuel : ℕ) (w : World) (move : Move) → next_move Whole w ≡ Some move → SameDropped w (world_after w (happens Whole move w)) → Ends (world_after w (happens Whole move w)) (run Whole (settling Whole fuel (world_after w (happens Whole move w))) (world_after w (happens Whole move w))) → Ends w (run Whole (settling Whole (suc fuel) w) w)
+moved_on fuel w move is same ends = rw is (record { n = ends.n; drains = ends.drains; stands = ends.stands; kept = same_twice same ends.kept })
+
+pub settles : (fuel n : ℕ) (w : World) → n ≤ fuel → Drains n w → Ends w (run Whole (settling Whole fuel w) w)
+settles zero n w few d = elim (progress n w.user w.network w.to_user w.to_network d) [
+  | inl on ↦ absurd (let some = on.some in omega (arith, few, some))
+  | inr stands ↦ stood zero n w d stands
+]
+settles (suc fuel) n w few d = elim (progress n w.user w.network w.to_user w.to_network d) [
+  | inl on ↦ moved_on fuel w on.move on.is on.kept (settles fuel (n - 1) (world_after w (happens Whole on.move w)) (omega (arith, few)) on.drains)
+  | inr stands ↦ stood (suc fuel) n w d stands
+]
+
+-- each takes one of what is still to come, so there are at most as many
+pub few_moves : (fuel n : ℕ) (w : World) → Drains n w → length (settling Whole fuel w) ≤ n
+few_moves zero n w d = omega arith
+few_moves (suc fuel) n w d = elim (progress n w.user w.network w.to_user w.to_network d) [
+  | inl on ↦
+      let rest = few_moves fuel (n - 1) (world_after w (happens Whole on.move w)) on.drains in
+      let some = on.some in
+      rw on.is (omega (arith, rest, some))
+  | inr stands ↦ rw stands.is (omega arith)
+]
+
+-- ---- Where nothing more happens, nothing is left.
+
+none_unsent : (k next given : ℕ) (m : StateVariables) → 1 ≤ k → m.vs ≡ m.va → m.peer_busy ≡ false → (may_send Whole k m && nat_lt next given) ≡ false → given ≤ next
+unfolding may_send steps
+none_unsent k next given m some same free sent =
+    let room : nat_lt (m.vs - m.va) k ≡ true = grind (arith, nat_tests, some, same) in
+    let none : nat_lt next given ≡ false = rw (free, room) at sent in
+    grind (arith, nat_tests, none)
+
+-- a side's unsent and unacknowledged messages: none
+side_done : (x y : End) (a : ℕ) → Stream (source x) (sink y) [] [] a → x.t200 ≡ false → IsRested x → (length x.given ≤ x.next) × (x.window.vs ≡ x.window.va)
+unfolding begin
+side_done x y a s off rested = by_stage s.stage s.so
+  where
+    by_stage : (stage : Stage) → IsAt stage (source x) (sink y) [] [] → (length x.given ≤ x.next) × (x.window.vs ≡ x.window.va)
+    by_stage Clean c =
+        let same : x.window.vs ≡ x.window.va = c.timed off in
+        let sent = rested.closed.sent in
+        let some = rested.some in
+        (none_unsent x.parameters.k x.next (length x.given) x.window some same c.free (rw (c.in_7) at sent), same)
+    by_stage Waiting w = let on = w.1 in cc
+    by_stage Polling w = absurd (omega (arith, w.1))
+    by_stage Answered w = absurd (omega (arith, w.1))
+
+entered : {n : ℕ} {w : World} (d : Drains n w) → is_7_or_8 w.user.end.state ≡ true → Mid (party d.holds.user_base w.user) (party d.holds.network_base w.network) (kinds w.to_network) (kinds w.to_user)
+entered {w = w} d opened = enter (party d.holds.user_base w.user) (party d.holds.network_base w.network) (kinds w.to_network) (kinds w.to_user) opened d.holds.both
+
+user_empty : (n : ℕ) (w : World) → Drains n w → IsStill w → AreSettled w.user.history → left_of w.user ≡ 0
+user_empty n w d stands settled =
+    let f = d.sees.flow in
+    let num : IsNumbering (party d.holds.user_base w.user).sends = numbering (entered d (mine_open f)) in
+    let s : Stream (source w.user.end) (sink w.network.end) [] [] f.a = subst (λ l. Stream (source w.user.end) (sink w.network.end) (kinds l) [] f.a) stands.to_network (subst (λ l. Stream (source w.user.end) (sink w.network.end) (kinds w.to_network) (kinds l) f.a) stands.to_user f.mine) in
+    let done = side_done w.user.end w.network.end f.a s stands.user d.rested.user in
+    let passed : w.user.history.passed ≡ w.user.end.first = d.holds.both.mine.passed in
+    let first : w.user.end.first ≡ d.holds.user_base + w.user.end.window.va = num.first in
+    let next : w.user.end.next ≡ d.holds.user_base + w.user.end.window.vs = num.next in
+    left_settled w.user settled ∙ omega (arith, passed, first, next, done.0, done.1)
+
+pub nothing_left : (begun w : World) → IsKeptWorld Whole w → Ends begun w → left w ≡ 0
+nothing_left begun w kept e =
+    let stands = e.stands.still in
+    let user = user_empty e.n w e.drains stands kept.user.settled in
+    let network = user_empty e.n (swapped w) (drains_swapped e.n w e.drains) (record { to_user = stands.to_network; to_network = stands.to_user; user = stands.network; network = stands.user }) kept.network.settled in
+    omega (arith, user, network)
+
+-- ---- How much is still to come of a quiet line.
+
+stream_begins : (x : Source) (y : Sink) → x.state ≡ MultipleFrameEstablished → x.va ≤ y.vr → y.vr ≤ x.vs → (x.t200 ≡ false → (x.vs ≡ x.va) × (x.busy ≡ false)) → Stream x y [] [] (3 * (x.unsent + (x.vs - x.va)) + 4)
+stream_begins x y is low high timed = by_timer x.t200 refl
+  where
+    same_coming : (rejecting : Bool) → y.vr ≡ x.vs → IsComing rejecting y.vr x.vs []
+    same_coming false same = same
+    same_coming true same = same
+
+    by_fresh : (rejecting : Bool) → 3 * x.unsent + 2 * (x.vs - y.vr) + fresh rejecting + 3 ≤ 3 * (x.unsent + (x.vs - x.va)) + 4
+    by_fresh true = omega (arith, low, high)
+    by_fresh false = omega (arith, low, high)
+
+    by_timer : (on : Bool) → x.t200 ≡ on → Stream x y [] [] (3 * (x.unsent + (x.vs - x.va)) + 4)
+    by_timer true on = record { stage = Waiting; so = (is, on); most = by_fresh y.rejecting }
+    by_timer false off =
+        let t = timed off in
+        let same : y.vr ≡ x.vs = omega (arith, low, high, t.0) in
+        record {
+          stage = Clean;
+          so = record { in_7 = is; free = t.1; coming = same_coming y.rejecting same; wanted = refl; timed = λ _. t.0; stopped = λ on. cc };
+          most = omega (arith, same);
+        }
+
+in_7 : (e : End) → e.state ≡ MultipleFrameEstablished → IsTimedIn e.state e.t200 e.window.vs e.window.va e.window.peer_busy → e.t200 ≡ false → (e.window.vs ≡ e.window.va) × (e.window.peer_busy ≡ false)
+in_7 e is timed = let t : IsTimedIn MultipleFrameEstablished e.t200 e.window.vs e.window.va e.window.peer_busy = rw is at timed in t
+
+-- what is left of a side
+side_left : (s : Station) (base : ℕ) → IsNumbering (party base s).sends → s.history.passed ≡ s.end.first → AreSettled s.history → left_of s ≡ (length s.end.given - s.end.next) + (s.end.window.vs - s.end.window.va)
+side_left s base num passed settled =
+    let first : s.end.first ≡ base + s.end.window.va = num.first in
+    let next : s.end.next ≡ base + s.end.window.vs = num.next in
+    let ordered : s.end.window.va ≤ s.end.window.vs = num.ordered in
+    let within : s.end.next ≤ length s.end.given = num.within in
+    left_settled s settled ∙ omega (arith, passed, first, next, ordered, within)
+
+-- two sides in state 7, with nothing between them
+module _ (user network : Station) (i : IsInvariant (record { user = user; network = network; to_user = []; to_network = [] })) (rested : AreRested (record { user = user; network = network; to_user = []; to_network = [] }))
+    (user_settled : AreSettled user.history) (network_settled : AreSettled network.history)
+    (user_in_7 : user.end.state ≡ MultipleFrameEstablished) (network_in_7 : network.end.state ≡ MultipleFrameEstablished)
+    (user_free : user.end.window.own_busy ≡ false) (network_free : network.end.window.own_busy ≡ false) where
+  abbrev line_empty : World
+  line_empty = record { user = user; network = network; to_user = []; to_network = [] }
+
+  empty_drains : Drains (most_moves line_empty) line_empty
+  empty_drains =
+      let user_open : is_7_or_8 user.end.state ≡ true = rw user_in_7 refl in
+      let network_open : is_7_or_8 network.end.state ≡ true = rw network_in_7 refl in
+      let x = party i.user_base user in
+      let y = party i.network_base network in
+      let mine : Mid x y [] [] = enter x y [] [] user_open i.both in
+      let its : Mid y x [] [] = enter y x [] [] network_open (record { mine = i.both.its; its = i.both.mine }) in
+      let between = between_open {x = x} {y = y} {out = []} {back = []} network_open mine in
+      let between_its = between_open {x = y} {y = x} {out = []} {back = []} user_open its in
+      let left_user = side_left user i.user_base (numbering mine) i.both.mine.passed user_settled in
+      let left_network = side_left network i.network_base (numbering its) i.both.its.passed network_settled in
+      record {
+        holds = i;
+        rested = rested;
+        sees = record {
+          flow = record {
+            a = 3 * ((length user.end.given - user.end.next) + (user.end.window.vs - user.end.window.va)) + 4;
+            b = 3 * ((length network.end.given - network.end.next) + (network.end.window.vs - network.end.window.va)) + 4;
+            mine = stream_begins (source user.end) (sink network.end) user_in_7 between.0 between.1 (in_7 user.end user_in_7 rested.user.timed);
+            its = stream_begins (source network.end) (sink user.end) network_in_7 between_its.0 between_its.1 (in_7 network.end network_in_7 rested.network.timed);
+            most = omega (arith, left_user, left_network);
+          };
+          idle = user_free;
+          its_idle = network_free;
+          going = tt;
+          coming = tt;
+        };
+      }
+
+abbrev with_lines : World → List Flight → List Flight → World
+with_lines w to_user to_network = record w { to_user = to_user; to_network = to_network }
+
+pub quiet_drains : (w : World) → IsInvariant w → IsKeptWorld Whole w → AreRested w → IsQuiet w → Drains (most_moves w) w
+quiet_drains w i kept rested q =
+    let F : World → Type 0 = λ v. Drains (most_moves v) v in
+    let same : with_lines w [] [] ≡ w = ap (λ l. with_lines w l []) (sym q.to_user) ∙ ap (λ l. with_lines w w.to_user l) (sym q.to_network) in
+    subst F same (empty_drains w.user w.network (subst IsInvariant (sym same) i) (subst AreRested (sym same) rested) kept.user.settled kept.network.settled q.user q.network q.user_free q.network_free)
+
+-- ---- The theorem, on whole numbers.
+
+or_second : (a b : Bool) → b ≡ false → (a || b) ≡ true → a ≡ true
+or_second true b absent either = refl
+or_second false b absent either = cc
+
+side_served : (before after : Station) → AreSettled after.history → left_of after ≡ 0 → after.history.dropped ≡ before.history.dropped → IsServed before after
+side_served before after settled none same = record {
+  dropped = same;
+  acknowledged = λ place there not_dropped.
+      let left : left_of after ≡ length after.end.given - after.history.passed = left_settled after settled in
+      let passed : nat_lt place after.history.passed ≡ true = all_passed place (length after.end.given) after.history.passed there (omega (arith, left, none)) in
+      or_second (is_one_of after.history.acked place) (is_one_of after.history.dropped place) (ap (λ l. is_one_of l place) same ∙ not_dropped) (settled.settled place ∙ passed);
+}
+  where
+    all_passed : (place given passed : ℕ) → place < given → given ≤ passed → nat_lt place passed ≡ true
+    all_passed place given passed there all = grind (arith, nat_tests, there, all)
+
+pub quiet_line_drains : (w : World) → IsInvariant w → IsKeptWorld Whole w → AreRested w → IsQuiet w → IsDrained Whole w
+quiet_line_drains w i kept rested q =
+    let drains = quiet_drains w i kept rested q in
+    let ends = settles (bound w) (most_moves w) w (omega arith) drains in
+    let after = run Whole (settling Whole (bound w) w) w in
+    let kept_after = run_kept Whole (settling Whole (bound w) w) w kept in
+    let none = nothing_left w after kept_after ends in
+    record {
+      few = few_moves (bound w) (most_moves w) w drains;
+      drained = record {
+        rests = ends.stands.is;
+        empty = none;
+        user = side_served w.user after.user kept_after.user.settled (omega (arith, none)) ends.kept.user;
+        network = side_served w.network after.network kept_after.network.settled (omega (arith, none)) ends.kept.network;
+        safe = safe_by_invariant after ends.drains.holds;
+      };
+    }

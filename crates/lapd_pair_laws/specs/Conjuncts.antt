@@ -1,0 +1,268 @@
+-- The conjuncts of the invariant, each over the values that it reads. One side speaks and the other hears; all that is said
+-- here is said of both sides.
+use Rattle.std.specs.Prelude.{◌≡◌, ◌⊎◌, ℕ, ◌+◌, ◌<◌, ◌≤◌, Bool, true, false, List, [], ◌∷◌, length, map, slice_get, Option, Some}
+use Rattle.lapd_link_definition.specs.declared.state.State.{State}
+use Rattle.lapd_link_definition.specs.declared.state.State.TheVariants.{TeiAssigned, AwaitingEstablishment, AwaitingRelease, MultipleFrameEstablished, TimerRecovery}
+use Rattle.lapd_link_definition.specs.EndOfStep.{is_7_or_8}
+use Rattle.lapd_pair_laws.specs.Histories.{Receipt}
+use Rattle.lapd_pair_laws.specs.Safe.{IsAmong}
+use Rattle.lapd_pair_laws.specs.Kinds.{Message, Kind, Final, messages, numbers, rejections, tally, ask_of, answer_of, poll_of, final_of, foreign_of}
+use Rattle.lapd_pair_laws.specs.Parties.{Sender, Receiver, Party, Hearing, OnHearing, frames_heard}
+
+abbrev pub Each : {A : Type 0} → (A → Type 0) → List A → Type 0
+Each P [] = Unit {0}
+Each P (x ∷ xs) = P x × Each P xs
+
+-- ---- Messages received.
+
+-- one past the last place received, and the establishment in which it came; from these where none is
+abbrev pub high_from : ℕ → List Receipt → ℕ
+high_from low [] = low
+high_from low (r ∷ rs) = high_from (r.place + 1) rs
+
+abbrev pub high : List Receipt → ℕ
+high rs = high_from 0 rs
+
+abbrev pub era_from : ℕ → List Receipt → ℕ
+era_from era [] = era
+era_from era (r ∷ rs) = era_from r.establishment rs
+
+abbrev pub latest : List Receipt → ℕ
+latest rs = era_from 0 rs
+
+-- the places received
+abbrev pub places_of : List Receipt → List ℕ
+places_of received = map (λ message. message.place) received
+
+-- each message received is what was given at its place
+abbrev pub AreGiven : List (List ℕ) → List Receipt → Type 0
+AreGiven given [] = Unit {0}
+AreGiven given (message ∷ received) = (slice_get given message.place ≡ Some message.octets)
+    × AreGiven given received
+
+-- the places rise from `next` on, and one that was received in the same establishment as the one before it is the very next
+abbrev pub IsRow : ℕ → ℕ → List Receipt → Type 0
+IsRow next establishment [] = Unit {0}
+IsRow next establishment (message ∷ received) =
+    (next ≤ message.place) × (message.establishment ≡ establishment → message.place ≡ next)
+    × IsRow (message.place + 1) message.establishment received
+
+-- this place was received
+abbrev pub HasPlace : ℕ → List Receipt → Type 0
+HasPlace place rs = IsAmong place (places_of rs)
+
+-- each of the n places from `base` on was received
+abbrev pub IsGot : ℕ → ℕ → List Receipt → Type 0
+IsGot base n rs = (m : ℕ) → m < n → HasPlace (base + m) rs
+
+-- ---- A side by itself.
+
+-- In an open link, message number n of the establishment stands at place base + n: the first that waits has number V(A), the
+-- first that is not sent V(S), and all before that were sent in this establishment; at most k are outstanding.
+pub record IsNumbering (s : Sender) : Type 0 where
+  pub first : s.first ≡ s.base + s.va
+  pub next : s.next ≡ s.base + s.vs
+  pub ordered : s.va ≤ s.vs
+  pub window : s.vs ≤ s.va + s.k
+  pub within : s.next ≤ length s.given
+  pub since : (place : ℕ) → s.base ≤ place → place < s.next → s.sent_in place ≡ Some s.era
+
+-- what waits of the establishment before still stands so
+pub record IsHolding (s : Sender) : Type 0 where
+  pub first : s.first ≡ s.base + s.va
+  pub next : s.next ≡ s.base + s.vs
+  pub ordered : s.va ≤ s.vs
+  pub within : s.next ≤ length s.given
+
+-- nothing waits
+pub record IsEmpty (s : Sender) : Type 0 where
+  pub first : s.first ≡ length s.given
+  pub next : s.next ≡ length s.given
+
+abbrev pub IsKept : State → Bool → Bool → Sender → Type 0
+IsKept TeiAssigned asked leaving s = IsEmpty s
+IsKept AwaitingEstablishment true leaving s = IsEmpty s
+IsKept AwaitingEstablishment false true s = IsEmpty s
+IsKept AwaitingEstablishment false false s = IsHolding s
+IsKept AwaitingRelease asked leaving s = IsEmpty s
+IsKept MultipleFrameEstablished asked leaving s = IsNumbering s
+IsKept TimerRecovery asked leaving s = IsNumbering s
+
+-- whether what waits was sent, or may have been, in the last establishment
+abbrev pub is_holding : State → Bool → Bool → Bool
+is_holding AwaitingEstablishment false false = true
+is_holding MultipleFrameEstablished asked leaving = true
+is_holding TimerRecovery asked leaving = true
+is_holding state asked leaving = false
+
+-- a place was sent in no later establishment than the present, and in the present one not below its base
+abbrev pub IsPast : Sender → Type 0
+IsPast s = (place era : ℕ) → s.sent_in place ≡ Some era
+    → (era ≤ s.era) × (era ≡ s.era → s.base ≤ place)
+
+-- ---- The messages that are heard.
+
+-- a message with number n stands at place base + n, was sent last in the present establishment, and has the octets given
+pub record IsPlaced (s : Sender) (m : Message) : Type 0 where
+  pub place : m.place ≡ s.base + m.number
+  pub same : slice_get s.given m.place ≡ Some m.octets
+  pub sent : s.sent_in m.place ≡ Some s.era
+
+-- its number is near V(R) of the hearer, so that both are equal only where their tags are
+abbrev pub IsNearTo : ℕ → ℕ → Message → Type 0
+IsNearTo vr k m = (vr ≤ m.number + 1) × (m.number < vr + k)
+
+-- Numbers rise, from `low` on and below `end`; but one that polls repeats the last number, with none behind it.
+abbrev pub IsNext : Bool → ℕ → ℕ → ℕ → List Message → Type 0 → Type 0
+IsNext true low end number rest Run = (number + 1 ≡ end) × (rest ≡ [])
+IsNext false low end number rest Run = (low ≤ number) × (number < end) × Run
+
+abbrev pub IsRun : ℕ → ℕ → List Message → Type 0
+IsRun low end [] = Unit {0}
+IsRun low end (m ∷ ms) = IsNext m.polled low end m.number ms (IsRun (m.number + 1) end ms)
+
+-- before these there may be some above `low`, which were on their way when the sender went back
+abbrev pub IsJunkThenRun : ℕ → ℕ → List Message → Type 0
+IsJunkThenRun low end [] = Unit {0}
+IsJunkThenRun low end (m ∷ ms) = IsRun low end (m ∷ ms)
+    ⊎ ((low < m.number) × (m.polled ≡ false) × IsJunkThenRun low end ms)
+
+-- a hearer that is rejecting may hear such
+abbrev pub IsInOrder : Bool → ℕ → ℕ → List Message → Type 0
+IsInOrder false low end ms = IsRun low end ms
+IsInOrder true low end ms = IsJunkThenRun low end ms
+
+-- all places from the base up to V(R) of the hearer were received, and none above
+pub record IsInStep (base vr : ℕ) (received : List Receipt) : Type 0 where
+  pub below : high received ≤ base + vr
+  pub level : 0 < vr → high received ≡ base + vr
+  pub got : IsGot base vr received
+
+abbrev pub HasSome : List Message → Type 0
+HasSome [] = ⊥
+HasSome (m ∷ ms) = Unit {0}
+
+-- the messages that are heard, under V(R) and the reject condition of the hearer
+pub record IsStream (speaking : Bool) (s : Sender) (received : List Receipt) (vr : ℕ)
+    (rejecting : Bool) (ms : List Message) : Type 0 where
+  pub placed : Each (IsPlaced s) ms
+  pub near : Each (IsNearTo vr s.k) ms
+  pub order : IsInOrder rejecting vr s.vs ms
+  pub step : (speaking ≡ true) ⊎ HasSome ms → IsInStep s.base vr received
+  pub between : speaking ≡ true → (s.va ≤ vr) × (vr ≤ s.vs)
+
+-- ---- The N(R) that are heard.
+
+-- they do not fall, from `low` up to `top`
+abbrev pub IsClimb : ℕ → ℕ → List ℕ → Type 0
+IsClimb low top [] = low ≤ top
+IsClimb low top (n ∷ ns) = (low ≤ n) × IsClimb n top ns
+
+-- from V(A) to V(S) of the hearer; the speaker has received all that they acknowledge; an open speaker's go up to its V(R)
+pub record AreAcknowledging (speaking : Bool) (r : Receiver) (base va vs : ℕ) (ns : List ℕ) :
+    Type 0 where
+  pub climb : IsClimb va vs ns
+  pub known : Each (λ nr. IsGot base nr r.received) ns
+  pub top : speaking ≡ true → IsClimb va r.vr ns × (r.vr ≤ vs)
+
+-- ---- Polls of the hearer and their answers. `out` is what the speaker hears of the hearer's, `back` what the hearer hears.
+
+pub record NoneAsked (out back : List Kind) : Type 0 where
+  pub polls : tally poll_of out ≡ 0
+  pub finals : tally final_of back ≡ 0
+
+-- behind a poll is no message
+abbrev pub NoneBehindPoll : List Kind → Type 0
+NoneBehindPoll [] = Unit {0}
+NoneBehindPoll (k ∷ ks) = (0 < poll_of k → messages ks ≡ []) × NoneBehindPoll ks
+
+-- a final names all that was received, and no REJ is behind it
+abbrev pub NamesAll : Kind → ℕ → ℕ → List Kind → Type 0
+NamesAll (Final nr) base top ks = (top ≤ base + nr) × (rejections ks ≡ [])
+NamesAll k base top ks = Unit {0}
+
+abbrev pub FinalsNameAll : ℕ → ℕ → List Kind → Type 0
+FinalsNameAll base top [] = Unit {0}
+FinalsNameAll base top (k ∷ ks) = NamesAll k base top ks × FinalsNameAll base top ks
+
+-- at most one poll or final is on its way; beside a final there is no message
+pub record OneAsked (base : ℕ) (received : List Receipt) (out back : List Kind) : Type 0 where
+  pub one : tally poll_of out + tally final_of back ≤ 1
+  pub behind : NoneBehindPoll out
+  pub alone : 0 < tally final_of back → messages out ≡ []
+  pub names : FinalsNameAll base (high received) back
+
+abbrev pub AreAsked : State → ℕ → List Receipt → List Kind → List Kind → Type 0
+AreAsked TeiAssigned base received out back = Unit {0}
+AreAsked AwaitingEstablishment base received out back = NoneAsked out back
+AreAsked AwaitingRelease base received out back = Unit {0}
+AreAsked MultipleFrameEstablished base received out back = NoneAsked out back
+AreAsked TimerRecovery base received out back = OneAsked base received out back
+
+-- ---- The REJ with F=0 that are heard.
+
+-- the speaker rejects all but this number, and of the messages that it hears all have greater numbers
+pub record IsAwaiting (nr : ℕ) (h : Hearing) : Type 0 where
+  pub rejecting : h.rejecting ≡ true
+  pub at : h.vr ≡ nr
+  pub above : Each (λ m. m.polled ≡ false → nr < m.number) (messages h.frames)
+
+pub record IsSentBack (vs base : ℕ) (received : List Receipt) (waiting : Option Hearing) (nr : ℕ) :
+    Type 0 where
+  pub below : nr < vs
+  pub names : high received ≤ base + nr
+  pub waits : OnHearing (IsAwaiting nr) waiting
+
+abbrev pub AtMostOne : (ℕ → Type 0) → List ℕ → Type 0
+AtMostOne P [] = Unit {0}
+AtMostOne P (n ∷ []) = P n
+AtMostOne P (n ∷ m ∷ ns) = ⊥
+
+abbrev pub AreRejected : State → ℕ → ℕ → List Receipt → Option Hearing → List ℕ → Type 0
+AreRejected TeiAssigned vs base received waiting ns = Unit {0}
+AreRejected AwaitingEstablishment vs base received waiting ns = ns ≡ []
+AreRejected AwaitingRelease vs base received waiting ns = Unit {0}
+AreRejected MultipleFrameEstablished vs base received waiting ns =
+    AtMostOne (IsSentBack vs base received waiting) ns
+AreRejected TimerRecovery vs base received waiting ns = Unit {0}
+
+-- ---- All that y hears of x, where `waiting` is what x hears of y.
+
+pub record IsHeard (x y : Party) (waiting : Option Hearing) (h : Hearing) : Type 0 where
+  pub stream : IsStream (is_7_or_8 x.state) x.sends y.takes.received h.vr h.rejecting
+      (messages h.frames)
+  pub acks : AreAcknowledging (is_7_or_8 x.state) x.takes y.sends.base h.va h.vs (numbers h.frames)
+  pub asked : AreAsked y.state y.sends.base x.takes.received (frames_heard waiting) h.frames
+  pub rejected : AreRejected y.state y.sends.vs y.sends.base x.takes.received waiting
+      (rejections h.frames)
+
+-- ---- SABME and DISC, and their answers.
+
+-- in states 5 and 6 one may be under way
+abbrev pub most_asks : State → ℕ
+most_asks AwaitingEstablishment = 1
+most_asks AwaitingRelease = 1
+most_asks state = 0
+
+-- behind a SABME or DISC is no N(R)
+abbrev pub NoneBehindAsk : List Kind → Type 0
+NoneBehindAsk [] = Unit {0}
+NoneBehindAsk (k ∷ ks) = (0 < ask_of k → numbers ks ≡ []) × NoneBehindAsk ks
+
+-- of the speaker's SABME and DISC and the answers to them at most one is on its way; while an answer is, no N(R) of
+-- the speaker is
+pub record IsExchange (most : ℕ) (out back : List Kind) : Type 0 where
+  pub one : tally ask_of out + tally answer_of back ≤ most
+  pub behind : NoneBehindAsk out
+  pub before : 0 < tally answer_of back → numbers out ≡ []
+  pub clean : tally foreign_of out ≡ 0
+
+-- ---- The histories of a sender and a receiver, from which they are safe.
+
+pub record AreHistories (given : List (List ℕ)) (sent_in : ℕ → Option ℕ) (acked : List ℕ)
+    (received : List Receipt) : Type 0 where
+  pub as_given : AreGiven given received
+  pub row : IsRow 0 0 received
+  pub prefix : (place smaller : ℕ) → HasPlace place received → smaller < place
+      → sent_in smaller ≡ sent_in place → HasPlace smaller received
+  pub arrived : (place : ℕ) → IsAmong place acked → HasPlace place received

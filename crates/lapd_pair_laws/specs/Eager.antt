@@ -1,0 +1,91 @@
+-- Moves with less of a premise on T200: it does not expire while the command with P=1 that it guards, or the answer, is on
+-- its way. The moves of the world wait for more: for any command with P=1 of that side and any response with F=1 to it, also
+-- where nobody waits for an answer any more.
+use Rattle.std.specs.Prelude.{ℕ, ◌+◌, ◌==◌, ◌&&◌, if◌then◌else◌, List, [], ◌∷◌, ◌++◌, Some, None, Result}
+use Rattle.lapd_timers.specs.declared.timer.Timer.TheVariants.{T200}
+use Rattle.lapd_frame.specs.declared.Side.{Side}
+use Rattle.lapd_mod128.specs.Counting.{Reading}
+use Rattle.lapd_link_definition.specs.declared.state.State.{State}
+use Rattle.lapd_link_definition.specs.declared.state.State.TheVariants.{TeiAssigned, AwaitingEstablishment, AwaitingRelease, MultipleFrameEstablished, TimerRecovery}
+use Rattle.lapd_link_definition.specs.Input.{Expiry}
+use Rattle.lapd_pair_laws.specs.Move.{Deed, Give, Establish, Deliver, Lose, Expire200, Expire203, Move, View, Turn, Refusal, takes, expires_200, acts}
+use Rattle.lapd_pair_laws.specs.Schedule.{of_user, of_network, establishing, Figures, receipt}
+use Rattle.lapd_pair_laws.specs.World.{World, Happened, view_of, in_world, world_after}
+use Rattle.lapd_pair_laws.specs.Kinds.{Kind, kinds, tally, ask_of, answer_of, poll_of, final_of}
+
+-- How many frames T200 waits for in this state, of those on their way from its side and of those on their way to it. In
+-- states 5 and 6 it guards SABME and DISC, which UA and DM answer; in state 8 a command that polls, which a supervisory
+-- response with F=1 answers. An old one that the other side will pass over counts there too. In state 7 it guards nothing that
+-- is answered so: what it sends with P=1, an enquiry or the last I frame again, goes out when it has expired (Q.921 5.6.7).
+abbrev pub awaited : State → List Kind → List Kind → ℕ
+awaited TeiAssigned out back = 0
+awaited AwaitingEstablishment out back = tally ask_of out + tally answer_of back
+awaited AwaitingRelease out back = tally ask_of out + tally answer_of back
+awaited MultipleFrameEstablished out back = 0
+awaited TimerRecovery out back = tally poll_of out + tally final_of back
+
+abbrev pub awaited_in : View → ℕ
+awaited_in v = awaited v.station.end.state (kinds v.outgoing) (kinds v.incoming)
+
+-- T200 expires where it runs and nothing is awaited; else the move is as it was
+unfoldable pub expires_eagerly : Reading → Side → View → Result Turn Refusal
+expires_eagerly r side v = if v.station.end.t200 && (awaited_in v == 0)
+    then takes r (Expiry T200) [] v else expires_200 r side v
+
+-- and so is every other deed
+abbrev pub acts_eagerly : Reading → Side → Deed → View → Result Turn Refusal
+acts_eagerly r side Expire200 v = expires_eagerly r side v
+acts_eagerly r side deed v = acts r side deed v
+
+unfoldable pub happens_eagerly : Reading → Move → World → Result Happened Refusal
+happens_eagerly r move w = in_world move.side w
+    (acts_eagerly r move.side move.deed (view_of move.side w))
+
+abbrev pub run_eagerly : Reading → List Move → World → World
+run_eagerly r [] w = w
+run_eagerly r (move ∷ moves) w = run_eagerly r moves (world_after w (happens_eagerly r move w))
+
+abbrev pub outcomes_eagerly : Reading → List Move → World → List (Result Happened Refusal)
+outcomes_eagerly r [] w = []
+outcomes_eagerly r (move ∷ moves) w =
+    happens_eagerly r move w ∷ outcomes_eagerly r moves (world_after w (happens_eagerly r move w))
+
+-- ---- A schedule in which an enquiry is on its way that nobody will answer.
+
+-- The network establishes again while an enquiry of the user is on its way, which it will pass over in state 5. The user
+-- answers the SABME, and sends a message, which is lost: T200 guards that message now, and waits for no answer.
+abbrev pub passed_over : List Move
+passed_over = establishing ++ of_user Expire203 ∷ of_network Establish ∷ of_user Deliver
+    ∷ of_user (Give (1 ∷ [])) ∷ of_network (Lose 2) ∷ []
+
+-- T200 expires; behind the first enquiry and the UA a second enquiry comes, which is answered, and the message is sent again
+abbrev pub second_enquiry : List Move
+second_enquiry = of_user Expire200 ∷ of_network Deliver ∷ of_network Deliver ∷ of_network Deliver
+    ∷ of_user Deliver ∷ of_network Deliver ∷ of_user Deliver ∷ []
+
+-- it is received once, and acknowledged
+abbrev pub user_at_end : Figures
+user_at_end = record {
+  state = MultipleFrameEstablished;
+  vs = 1;
+  va = 1;
+  vr = 0;
+  received = [];
+  acked = 0 ∷ [];
+  dropped = [];
+  begun = 0 ∷ 0 ∷ [];
+  sent_in = Some 2 ∷ None ∷ None ∷ None ∷ [];
+}
+
+abbrev pub network_at_end : Figures
+network_at_end = record {
+  state = MultipleFrameEstablished;
+  vs = 0;
+  va = 0;
+  vr = 1;
+  received = receipt 0 2 (1 ∷ []) ∷ [];
+  acked = [];
+  dropped = [];
+  begun = 0 ∷ 0 ∷ [];
+  sent_in = None ∷ None ∷ None ∷ None ∷ [];
+}

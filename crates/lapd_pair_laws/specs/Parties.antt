@@ -1,0 +1,125 @@
+-- What the invariant reads of a side, and what a side hears of the frames on their way to it.
+use Rattle.std.specs.Prelude.{ℕ, Bool, true, false, List, [], ◌∷◌, Option, Some, None, option_map}
+use Rattle.lapd_link_definition.specs.declared.state.State.{State}
+use Rattle.lapd_link_definition.specs.declared.state.State.TheVariants.{TeiAssigned, AwaitingEstablishment, AwaitingRelease, MultipleFrameEstablished, TimerRecovery}
+use Rattle.lapd_link_definition.specs.End.{End}
+use Rattle.lapd_pair_laws.specs.Histories.{History, Receipt}
+use Rattle.lapd_pair_laws.specs.Move.{Station}
+use Rattle.lapd_pair_laws.specs.Kinds.{Kind, is_acceptance}
+
+-- A side as it sends: its window k; the place of message number 0 of its present establishment, and how many
+-- establishments it has had; V(S) and V(A); its messages, of these the first that waits, the first that is not sent, and
+-- how many are acknowledged or dropped; and in which establishment each was last sent, and which were acknowledged.
+pub record Sender : Type 0 where
+  pub k : ℕ
+  pub base : ℕ
+  pub era : ℕ
+  pub vs : ℕ
+  pub va : ℕ
+  pub given : List (List ℕ)
+  pub first : ℕ
+  pub next : ℕ
+  pub passed : ℕ
+  pub sent_in : ℕ → Option ℕ
+  pub acked : List ℕ
+
+-- a side as it receives: V(R), the reject condition, and the messages received
+pub record Receiver : Type 0 where
+  pub vr : ℕ
+  pub rejecting : Bool
+  pub received : List Receipt
+
+-- a side: its state, whether layer 3 initiated the establishment and whether a release waits, and both of these
+pub record Party : Type 0 where
+  pub state : State
+  pub asked : Bool
+  pub leaving : Bool
+  pub sends : Sender
+  pub takes : Receiver
+
+abbrev pub sender_of : ℕ → End → History → Sender
+sender_of base e h = record {
+  k = e.parameters.k;
+  base = base;
+  era = e.establishments;
+  vs = e.window.vs;
+  va = e.window.va;
+  given = e.given;
+  first = e.first;
+  next = e.next;
+  passed = h.passed;
+  sent_in = h.sent_in;
+  acked = h.acked;
+}
+
+abbrev pub receiver_of : End → History → Receiver
+receiver_of e h = record { vr = e.window.vr; rejecting = e.window.rejecting; received = h.received }
+
+-- the party of an end with its history, where message number 0 of the present establishment stands at place `base`
+abbrev pub party_of : ℕ → End → History → Party
+party_of base e h = record {
+  state = e.state;
+  asked = e.layer3_initiated;
+  leaving = e.release_pending;
+  sends = sender_of base e h;
+  takes = receiver_of e h;
+}
+
+abbrev pub party : ℕ → Station → Party
+party base s = party_of base s.end s.history
+
+-- ---- Hearing.
+
+-- the frames that a side will take under numbers that are known now, with these numbers: V(S), V(A), V(R), rejecting
+pub record Hearing : Type 0 where
+  pub vs : ℕ
+  pub va : ℕ
+  pub vr : ℕ
+  pub rejecting : Bool
+  pub frames : List Kind
+
+-- what stands behind the first UA
+abbrev pub behind : Bool → List Kind → Option (List Kind) → Option (List Kind)
+behind true ks later = Some ks
+behind false ks later = later
+
+abbrev pub behind_acceptance : List Kind → Option (List Kind)
+behind_acceptance [] = None
+behind_acceptance (k ∷ ks) = behind (is_acceptance k) ks (behind_acceptance ks)
+
+-- in an open link, all frames under its numbers
+abbrev pub hearing_now : Party → List Kind → Hearing
+hearing_now y ks = record {
+  vs = y.sends.vs;
+  va = y.sends.va;
+  vr = y.takes.vr;
+  rejecting = y.takes.rejecting;
+  frames = ks;
+}
+
+-- in an establishment that is about to begin, with all numbers at 0
+abbrev pub hearing_to_come : List Kind → Hearing
+hearing_to_come ks = record { vs = 0; va = 0; vr = 0; rejecting = false; frames = ks }
+
+-- In states 7 and 8 a side hears all frames on their way to it; in state 5, where no release waits, those behind the UA;
+-- else nothing.
+abbrev pub heard_in : State → Bool → Hearing → List Kind → Option Hearing
+heard_in TeiAssigned leaving now ks = None
+heard_in AwaitingEstablishment true now ks = None
+heard_in AwaitingEstablishment false now ks = option_map hearing_to_come (behind_acceptance ks)
+heard_in AwaitingRelease leaving now ks = None
+heard_in MultipleFrameEstablished leaving now ks = Some now
+heard_in TimerRecovery leaving now ks = Some now
+
+abbrev pub hears : Party → List Kind → Option Hearing
+hears y ks = heard_in y.state y.leaving (hearing_now y ks) ks
+
+-- a fact of what is heard, where anything is
+abbrev pub OnHearing : (Hearing → Type 0) → Option Hearing → Type 0
+OnHearing P None = Unit {0}
+OnHearing P (Some h) = P h
+
+-- the frames that are heard
+abbrev pub frames_heard : Option Hearing → List Kind
+frames_heard None = []
+frames_heard (Some h) = h.frames

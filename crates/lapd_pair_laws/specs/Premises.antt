@@ -1,0 +1,61 @@
+-- Moves without the premises under which runs are safe, and a schedule for each premise by which it is seen to be needed.
+use Rattle.std.specs.Prelude.{ℕ, if◌then◌else◌, List, [], ◌∷◌, ◌++◌, map, slice_get, Option, Some, None, Result, Err}
+use Rattle.lapd_timers.specs.declared.timer.Timer.TheVariants.{T200}
+use Rattle.lapd_frame.specs.declared.Side.{Side}
+use Rattle.lapd_frame.specs.declared.Side.TheVariants as side
+use Rattle.lapd_mod128.specs.Counting.{Whole}
+use Rattle.lapd_link_definition.specs.Input.{Expiry}
+use Rattle.lapd_pair_laws.specs.Line.{Flight, without_lost}
+use Rattle.lapd_pair_laws.specs.Move.{Move, View, Turn, Refusal, Give, Establish, Deliver, NothingThere, NotRunning, hears, takes, quietly, restarts}
+use Rattle.lapd_pair_laws.specs.Schedule.{of_user, of_network, establishing}
+use Rattle.lapd_pair_laws.specs.World.{World, Happened, view_of, in_world, world_after, happens}
+
+-- A move as it is admitted; T200 expires where it runs, whatever is still on its way; a side starts anew, and what is on the
+-- line stays there; the frame at a position is delivered before those in front of it.
+pub data Free : Type 0 where
+  Admitted : (move : Move) → Free
+  Expires : (side : Side) → Free
+  StartsAnew : (side : Side) → Free
+  Overtakes : (side : Side) → (at : ℕ) → Free
+
+abbrev pub heard_at : Option Flight → ℕ → View → Result Turn Refusal
+heard_at None at v = Err NothingThere
+heard_at (Some frame) at v = hears Whole frame (record v { incoming = without_lost at v.incoming })
+
+abbrev pub freely : Free → World → Result Happened Refusal
+freely (Admitted move) w = happens Whole move w
+freely (Expires s) w = in_world s w (if (view_of s w).station.end.t200
+    then takes Whole (Expiry T200) [] (view_of s w) else Err NotRunning)
+freely (StartsAnew s) w = in_world s w (quietly
+    (record (restarts (view_of s w)) {
+      incoming = (view_of s w).incoming;
+      outgoing = (view_of s w).outgoing;
+    }))
+freely (Overtakes s at) w = in_world s w (heard_at
+    (slice_get (view_of s w).incoming at) at (view_of s w))
+
+abbrev pub run_freely : List Free → World → World
+run_freely [] w = w
+run_freely (move ∷ moves) w = run_freely moves (world_after w (freely move w))
+
+abbrev pub admitted : List Move → List Free
+admitted moves = map (λ move. Admitted move) moves
+
+-- T200 expires while the answer to the SABME is on its way: the second SABME begins another establishment of the network,
+-- and the user takes the message of the first for the message of the second
+abbrev pub hasty : List Free
+hasty = admitted (of_user Establish ∷ of_network Deliver ∷ of_network (Give (1 ∷ [])) ∷ [])
+    ++ Expires side.User ∷ admitted (of_network Deliver ∷ of_user Deliver
+    ∷ of_network (Give (2 ∷ [])) ∷ of_user Deliver ∷ of_network Deliver ∷ [])
+
+-- the network starts anew, and the answer to its SABME from before comes
+abbrev pub stale : List Free
+stale = admitted (of_network Establish ∷ of_user Deliver ∷ []) ++ StartsAnew side.Network
+    ∷ admitted (of_network Establish ∷ of_user (Give (1 ∷ [])) ∷ of_user Deliver
+    ∷ of_user (Give (2 ∷ [])) ∷ of_network Deliver ∷ of_network Deliver ∷ of_user Deliver ∷ [])
+
+-- a SABME of the network overtakes its acknowledgement
+abbrev pub overtaken : List Free
+overtaken = admitted (establishing ++ of_user (Give (1 ∷ [])) ∷ of_network Deliver
+    ∷ of_network Establish ∷ []) ++ Overtakes side.User 1
+    ∷ admitted (of_user (Give (2 ∷ [])) ∷ of_user Deliver ∷ [])

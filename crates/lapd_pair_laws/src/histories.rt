@@ -1,0 +1,194 @@
+//! Laws by which the definitions are tried. They do nothing when they are called.
+
+ghost use Rattle.std.specs.Prelude.{◌≡◌, ◌↔◌, ◌≤◌, ℕ, true, false, List, [], ◌∷◌, ◌++◌, map, length, None, Ok, Err};
+ghost use Rattle.lapd_frame.specs.declared.Side.TheVariants as side;
+ghost use Rattle.lapd_frame.specs.declared.Role.TheVariants.{Command, Answer};
+ghost use Rattle.lapd_frame.specs.declared.Control.TheVariants.{I, Rr, Rnr, Disc};
+ghost use Rattle.lapd_mod128.specs.Counting.{Reading, Whole, Tagged};
+ghost use Rattle.lapd_link_definition.specs.declared.event.LinkFault.TheVariants.{NotEstablished};
+ghost use Rattle.lapd_link_definition.specs.declared.out.Out.{Out};
+ghost use Rattle.lapd_link_definition.specs.Counts.{ups};
+ghost use Rattle.lapd_link_definition.specs.End.{End, StepState};
+ghost use Rattle.lapd_link_definition.specs.Input.{Input};
+ghost use Rattle.lapd_link_definition.specs.SentFrames.{AreShort};
+ghost use Rattle.lapd_link_definition.specs.Table.{step};
+ghost use Rattle.lapd_frame.specs.Frame.{n201};
+ghost use Rattle.lapd_link_definition.specs.Parameters.{Parameters};
+ghost use Rattle.lapd_pair_laws.specs.Histories.{Occasion, Story, unit_frame, tell};
+ghost use Rattle.lapd_pair_laws.specs.Kept.{AreSettled, IsKept, AreProper, IsKeptWorld, AreInOrder, is_heard};
+ghost use Rattle.lapd_pair_laws.specs.Line.{without_info};
+ghost use Rattle.lapd_pair_laws.specs.Move.{Move, Station, Deed, Give, Release, Deliver, Lose, Expire200, Expire203, Busy, UnitData, NothingThere, NotRunning, NotYet, Refused};
+ghost use Rattle.lapd_pair_laws.specs.Safe.{IsSafe, AreSafe};
+ghost use Rattle.lapd_pair_laws.specs.Schedule.{figures, of_user, of_network, start, establishing, losing, schedule, restarting, user_in_recovery, user_at_end, network_at_end, user_restarted, receipt, one_message, two_messages, three_messages, in_first, in_first_but};
+ghost use Rattle.lapd_pair_laws.specs.Tagged.{tag_world, tag_outcome, IsNearMove, AreFirstWithin, AreNearMoves};
+ghost use Rattle.lapd_pair_laws.specs.World.{World, Happened, swapped, happens, world_after, left, new_world, run, outcomes};
+
+/// On whole numbers and on tags: a message is lost, T200 expires, the enquiry is answered, and the message is sent again;
+/// a second is lost, and dropped by a second establishment; a third is received. What was received, acknowledged, dropped
+/// and sent, and the state variables of both ends, are as the standard has them, and nothing is left on the line. A restart
+/// drops what waits and what is on the line, and unit data passes in state 4.
+pub fn schedule_is_computed()
+    ensures recovery { (r : Reading) → figures (run r (establishing ++ losing) start).user
+        ≡ user_in_recovery }
+    ensures user { (r : Reading) → figures (run r schedule start).user ≡ user_at_end }
+    ensures network { (r : Reading) → figures (run r schedule start).network ≡ network_at_end }
+    ensures lines { (r : Reading) → (run r schedule start).to_user
+        ++ (run r schedule start).to_network ≡ [] }
+    ensures nothing_left { (r : Reading) → left (run r schedule start) ≡ 0 }
+    ensures one_left { (r : Reading) → left (run r (establishing ++ losing) start) ≡ 1 }
+    ensures restarted { (r : Reading) → figures (run r restarting start).user ≡ user_restarted }
+    ensures restarted_lines { (r : Reading) → (run r restarting start).to_user
+        ++ (run r restarting start).to_network ≡ [] }
+    ensures units { (r : Reading)
+        → (run r (of_user (UnitData (9 ∷ [])) ∷ of_network Deliver ∷ [])
+        start).network.history.units ≡ (9 ∷ []) ∷ [] }
+{}
+
+/// What each move puts on the line, on whole numbers and on tags: a message goes out with its place, and the first of two is
+/// lost; a release sends a DISC, T203 an enquiry, a busy condition an RNR and its end an RR, and unit data goes in a UI.
+pub fn moves_are_computed()
+    ensures given { (r : Reading)
+        → (run r (establishing ++ of_user (Give (8 ∷ 1 ∷ [])) ∷ []) start).to_network
+        ≡ record { role = Command; control = I 0 0 false; info = 8 ∷ 1 ∷ []; place = 0 } ∷ [] }
+    ensures lost { (r : Reading)
+        → (run r (establishing ++ of_user (Give (8 ∷ 1 ∷ [])) ∷ of_user (Give (8 ∷ 2 ∷ []))
+        ∷ of_network (Lose 0) ∷ []) start).to_network ≡ record {
+          role = Command;
+          control = I 1 0 false;
+          info = 8 ∷ 2 ∷ [];
+          place = 1;
+        } ∷ [] }
+    ensures release { (r : Reading)
+        → (run r (establishing ++ of_user Release ∷ []) start).to_network
+        ≡ without_info Command (Disc true) ∷ [] }
+    ensures t203 { (r : Reading) → (run r (establishing ++ of_user Expire203 ∷ []) start).to_network
+        ≡ without_info Command (Rr 0 true) ∷ [] }
+    ensures busy { (r : Reading)
+        → (run r (establishing ++ of_user (Busy true) ∷ []) start).to_network
+        ≡ without_info Answer (Rnr 0 false) ∷ [] }
+    ensures busy_no_longer { (r : Reading)
+        → (run r (establishing ++ of_user (Busy true) ∷ of_user (Busy false) ∷ []) start).to_network
+        ≡ without_info Answer (Rnr 0 false) ∷ without_info Answer (Rr 0 false) ∷ [] }
+    ensures unit { (r : Reading) → (run r (of_user (UnitData (9 ∷ [])) ∷ []) start).to_network
+        ≡ unit_frame (9 ∷ []) ∷ [] }
+{}
+
+/// A move is refused where no frame is there, the timer does not run, the enquiry or its answer is on the line, or the
+/// state table refuses it.
+pub fn refusals_are_computed()
+    ensures nothing_to_deliver { (r : Reading) → happens r (of_user Deliver) start
+        ≡ Err NothingThere }
+    ensures nothing_to_lose { (r : Reading) → happens r (of_user (Lose 0)) start
+        ≡ Err NothingThere }
+    ensures t200_stands { (r : Reading) → happens r (of_user Expire200) start ≡ Err NotRunning }
+    ensures t203_stands { (r : Reading) → happens r (of_user Expire203) start ≡ Err NotRunning }
+    ensures enquiry_under_way { (r : Reading) → happens r (of_user Expire200)
+        (run r (establishing ++ losing) start) ≡ Err (NotYet side.Network 0) }
+    ensures enquiry_behind_message { (r : Reading)
+        → happens r (of_user Expire200)
+        (run r (establishing ++ of_user (Give (8 ∷ 1 ∷ [])) ∷ of_user Expire200 ∷ []) start)
+        ≡ Err (NotYet side.Network 1) }
+    ensures answer_under_way { (r : Reading) → happens r (of_user Expire200)
+        (run r (establishing ++ losing ++ of_network Deliver ∷ []) start)
+        ≡ Err (NotYet side.User 0) }
+    ensures not_established { (r : Reading) → happens r (of_user (Give (1 ∷ []))) start
+        ≡ Err (Refused NotEstablished) }
+{}
+
+/// The two sides are alike: a move of the network is that move of the user, with the sides exchanged before and after.
+pub fn sides_are_alike()
+    ensures { (r : Reading) (deed : Deed) (w : World)
+        → world_after w (happens r (of_network deed) w)
+        ≡ swapped (world_after (swapped w) (happens r (of_user deed) (swapped w))) }
+{}
+
+/// The histories of the worked schedule are safe, on whole numbers and on tags.
+pub fn schedule_is_safe()
+    ensures { (r : Reading) → AreSafe (run r schedule start) }
+{}
+
+/// A world as it begins is safe.
+pub fn new_worlds_are_safe()
+    ensures { (user network : Parameters) → AreSafe (new_world user network) }
+{}
+
+/// These histories are not safe: one message received twice; two in the other order; one skipped in an establishment of
+/// the receiver; one missing of those that were sent in an establishment of the sender; one acknowledged and not received;
+/// and octets that were not given.
+pub fn wrong_histories_are_not_safe()
+    ensures twice { IsSafe one_message in_first []
+        (receipt 0 1 (1 ∷ []) ∷ receipt 0 2 (1 ∷ []) ∷ []) → ⊥ }
+    ensures swapped { IsSafe two_messages in_first []
+        (receipt 1 1 (2 ∷ []) ∷ receipt 0 2 (1 ∷ []) ∷ []) → ⊥ }
+    ensures skipped { IsSafe three_messages (in_first_but 1) []
+        (receipt 0 1 (1 ∷ []) ∷ receipt 2 1 (3 ∷ []) ∷ []) → ⊥ }
+    ensures missing { IsSafe two_messages in_first [] (receipt 1 1 (2 ∷ []) ∷ []) → ⊥ }
+    ensures unreceived { IsSafe one_message in_first (0 ∷ []) [] → ⊥ }
+    ensures altered { IsSafe one_message in_first [] (receipt 0 1 (2 ∷ []) ∷ []) → ⊥ }
+{}
+
+/// Every world keeps what is written in `IsKeptWorld`: a new one with windows of up to 127 has it, an admitted move leaves
+/// it, and so does every run. On whole numbers and on tags.
+pub fn worlds_are_kept()
+    ensures begins { (r : Reading) (user network : Parameters) → user.k ≤ 127 → network.k ≤ 127
+        → IsKeptWorld r (new_world user network) }
+    ensures stays { (r : Reading) (move : Move) (w : World) (happened : Happened) → IsKeptWorld r w
+        → happens r move w ≡ Ok happened → IsKeptWorld r happened.world }
+    ensures runs { (r : Reading) (moves : List Move) (w : World) → IsKeptWorld r w
+        → IsKeptWorld r (run r moves w) }
+{}
+
+/// What a step of a side puts out is in order, and leads from its history to the end after the step; the information of a
+/// frame goes up once at most, and only of a frame that is heard.
+pub fn outputs_are_in_order()
+    ensures order { (r : Reading) (input : Input) (station : Station) (s : StepState)
+        → IsKept r station → step r input station.end ≡ Ok s
+        → AreInOrder s.end station.history.passed s.outs }
+    ensures up { (r : Reading) (input : Input) (e : End) (s : StepState) → step r input e ≡ Ok s
+        → ups s.outs ≤ 1 }
+    ensures unheard { (r : Reading) (input : Input) (e : End) (s : StepState)
+        → is_heard input ≡ false → step r input e ≡ Ok s → ups s.outs ≡ 0 }
+{}
+
+/// One output is told: those behind it are still in order; the places acknowledged or dropped are still those before the
+/// first that waits; no establishment begins; no message was sent that was not given; and what is on the line is in the
+/// grammar.
+pub fn outputs_are_told()
+    ensures rest { (e : End) (o : Occasion) (out : Out) (outs : List Out) (t : Story)
+        → AreInOrder e t.history.passed (out ∷ outs)
+        → AreInOrder e (tell o out t).history.passed outs }
+    ensures settled { (o : Occasion) (out : Out) (t : Story) → AreSettled t.history
+        → AreSettled (tell o out t).history }
+    ensures begun { (o : Occasion) (out : Out) (t : Story)
+        → (tell o out t).history.begun ≡ t.history.begun }
+    ensures unsent { (e : End) (o : Occasion) (out : Out) (outs : List Out) (t : Story)
+        → AreInOrder e t.history.passed (out ∷ outs)
+        → ((place : ℕ) → length e.given ≤ place → t.history.sent_in place ≡ None) → (place : ℕ)
+        → length e.given ≤ place → (tell o out t).history.sent_in place ≡ None }
+    ensures proper { (e : End) (o : Occasion) (out : Out) (outs : List Out) (t : Story)
+        → AreInOrder e t.history.passed (out ∷ outs) → AreShort o.given → length o.octets ≤ n201
+        → AreProper t.line → AreProper (tell o out t).line }
+{}
+
+/// A move on tags does what it does on whole numbers: it is refused for the same reason, or it leaves the same world and puts
+/// out the same, each number in its tag. So it is where the world is one that moves keep, and a frame that is delivered and
+/// heard in states 7 and 8 carries numbers near those of the end (Q.921 3.5.2, 5.9.5), as it does within the bounds of the
+/// windows. And so does a run of such moves: in what each of them comes to, and in the world that is left.
+pub fn tags_move_as_whole_numbers()
+    ensures moves { (move : Move) (w : World) → IsKeptWorld Whole w → IsNearMove move w
+        → happens Tagged move (tag_world w) ≡ tag_outcome (happens Whole move w) }
+    ensures near { (move : Move) (w : World) → IsKeptWorld Whole w → AreFirstWithin w
+        → IsNearMove move w }
+    ensures runs { (moves : List Move) (w : World) → IsKeptWorld Whole w → AreNearMoves moves w
+        → run Tagged moves (tag_world w) ≡ tag_world (run Whole moves w) }
+    ensures outcomes { (moves : List Move) (w : World) → IsKeptWorld Whole w → AreNearMoves moves w
+        → outcomes Tagged moves (tag_world w) ≡ map tag_outcome (outcomes Whole moves w) }
+{}
+
+/// Tags are not read where it is said what is safe, nor what is left; and a new world is its own, since all counters are 0.
+pub fn tags_are_not_read()
+    ensures safe { (w : World) → AreSafe (tag_world w) ↔ AreSafe w }
+    ensures left { (w : World) → left (tag_world w) ≡ left w }
+    ensures begins { (user network : Parameters)
+        → tag_world (new_world user network) ≡ new_world user network }
+{}

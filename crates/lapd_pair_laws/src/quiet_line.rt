@@ -1,0 +1,43 @@
+//! Laws of a quiet line. They do nothing when they are called.
+
+ghost use Rattle.std.specs.Prelude.{◌≡◌, ◌≤◌, List};
+ghost use Rattle.lapd_mod128.specs.Counting.{Reading, Whole};
+ghost use Rattle.lapd_link_definition.specs.Parameters.{Parameters};
+ghost use Rattle.lapd_link_definition.specs.declared.recovery.Recovery.TheVariants.{Enquiry, LastMessage};
+ghost use Rattle.lapd_pair_laws.specs.Move.{Move};
+ghost use Rattle.lapd_pair_laws.specs.World.{new_world, run};
+ghost use Rattle.lapd_pair_laws.specs.Drained.{IsDrained};
+ghost use Rattle.lapd_pair_laws.specs.Settle.{IsQuiet};
+ghost use Rattle.lapd_pair_laws.specs.Timed.{AreRested};
+ghost use Rattle.lapd_pair_laws.specs.Worked.{outcome_of, new_pair, sabme_lost, three_lost, busy, nothing_to_do, established, recovered, held_up};
+
+/// A quiet line drains, after whatever run from a new world, on whole numbers and on tags, in windows of 1 to 127, whatever
+/// each end does when T200 expires: by the moves by which it settles, three for each message that is left and eight at most,
+/// nothing is left, nothing was dropped, and each message that was left is acknowledged, and so was received (Q.921 5.6).
+pub fn every_quiet_line_drains()
+    ensures { (r : Reading) (user network : Parameters)
+        → user.k ≤ 127 → network.k ≤ 127 → 1 ≤ user.k → 1 ≤ network.k → (moves : List Move)
+        → IsQuiet (run r moves (new_world user network))
+        → IsDrained r (run r moves (new_world user network)) }
+{}
+
+/// After every run of moves both ends are at rest between two steps: in state 7, T200 runs where a message is outstanding or
+/// the peer is thought busy; no message may go out that has not; and in states 7 and 8 no acknowledgement is pending
+/// (Q.921 5.6.1, 5.6.2, 5.6.5).
+pub fn ends_rest_between_moves()
+    ensures { (user network : Parameters) → 1 ≤ user.k → 1 ≤ network.k → (moves : List Move)
+        → AreRested (run Whole moves (new_world user network)) }
+{}
+
+/// Worked worlds settle as was written down beforehand, on whole numbers and on tags: a new pair; one whose SABME was lost;
+/// three messages that were lost, with either recovery; and a busy network, where nothing drains.
+pub fn settling_is_computed()
+    ensures new_pair { (r : Reading) → outcome_of r (new_pair 3 Enquiry) ≡ nothing_to_do }
+    ensures sabme { (r : Reading) → outcome_of r (run r sabme_lost (new_pair 3 Enquiry))
+        ≡ established }
+    ensures three { (r : Reading) → outcome_of r (run r three_lost (new_pair 3 Enquiry))
+        ≡ recovered }
+    ensures three_by_last { (r : Reading) → outcome_of r (run r three_lost (new_pair 3 LastMessage))
+        ≡ recovered }
+    ensures busy { (r : Reading) → outcome_of r (run r busy (new_pair 1 Enquiry)) ≡ held_up }
+{}

@@ -1,5 +1,0 @@
-use Rattle.lapd_pair_proof.proofs.Reached.{every_run_asks_one}
-use Rattle.lapd_pair_proof.proofs.laws.each_side_asks_one_at_a_time.Goals as goal
-
-pub returns : goal.returns
-returns c = every_run_asks_one

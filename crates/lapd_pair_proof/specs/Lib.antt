@@ -1,9 +1,0 @@
-pub mod Kinds
-pub mod Parties
-pub mod Conjuncts
-pub mod Invariant
-pub mod Reports
-pub mod Fresh
-pub mod Exchanges
-pub mod Eager
-pub mod Premises

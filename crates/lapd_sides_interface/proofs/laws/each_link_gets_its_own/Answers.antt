@@ -1,6 +1,0 @@
-use Rattle.lapd_sides_interface.proofs.Networks.{of_network}
-use Rattle.lapd_sides_interface.proofs.Users.{of_user}
-use Rattle.lapd_sides_interface.proofs.laws.each_link_gets_its_own.Goals as goal
-
-pub returns : goal.returns
-returns c = record { network = of_network; user = of_user }

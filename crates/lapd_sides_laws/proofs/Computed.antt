@@ -1,0 +1,208 @@
+-- The worked runs, computed; and that what the last three come to is not right.
+use Rattle.std.proofs.Common.{◌≡◌, inl, inr, ℕ, ◌≤◌, List, [], ◌∷◌, length, map, slice_get, Option, Some, None, refl, sym, ap, subst, arith, true, false}
+use Rattle.std.specs.Prelude.{Vec}
+use Rattle.std.specs.declared.alloc.Global.{Global}
+use Rattle.lapd_mod128.specs.Counting.{after, steps, lies_within}
+use Rattle.lapd_supervision.specs.StateVariables.{initial_variables, without_exceptions, with_zero_counters, status_frame, acknowledgement, without_ack_pending, poll_response, is_accepted, is_rejected, after_i_frame, i_frame_response, is_valid_nr, with_va, acknowledged_count, acknowledges_all, with_vs, may_send, next_i_frame, after_sending, with_own_busy, with_peer_busy}
+use Rattle.lapd_link_definition.specs.AwaitingEstablishment.{end_establishment, confirm_or_indicate, ua_final, awaiting_establishment_t200, awaiting_establishment}
+use Rattle.lapd_link_definition.specs.AwaitingRelease.{confirm_release, awaiting_release_t200, awaiting_release}
+use Rattle.lapd_link_definition.specs.EndOfStep.{send_all, acknowledge_pending, end_step}
+use Rattle.lapd_link_definition.specs.End.{begin}
+use Rattle.lapd_link_definition.specs.Established.{established_t200, acknowledge_with_timers, i_frame_nr, poll_or_final, rr_nr, rej_nr, rnr_nr, busy_on, busy_off, in_7_and_8, multiple_frame_established}
+use Rattle.lapd_link_definition.specs.Procedures.{put, state_to, rc_to, increment_rc, layer3_initiated_to, release_pending_to, start, stop, expired, clear_exception_conditions, zero_state_variables, set_peer_busy, set_own_busy, enquiry_response, transmit_enquiry, queue_up, discard_i_queue, acknowledge, invoke_retransmission, i_frame_ns, discard_unacknowledged, transmit_i_frame, ensure_t200, transmit_rr, establish_data_link, reestablish_data_link, nr_error_recovery}
+use Rattle.lapd_link_definition.specs.Table.{by_state, report_fault, row, step}
+use Rattle.lapd_link_definition.specs.TeiAssigned.{tei_assigned}
+use Rattle.lapd_link_definition.specs.TimerRecovery.{i_frame_nr_in_recovery, poll, rr_nr_in_recovery, rnr_nr_in_recovery, timer_recovery_t200, timer_recovery}
+use Rattle.lapd_pair_laws.specs.Safe.{IsAmong}
+use Rattle.lapd_pair_laws.specs.Schedule.{one_message, two_messages}
+use Rattle.lapd_sides_links.specs.declared.primitive.What.TheVariants as what
+use Rattle.lapd_sides_links.specs.Links.{links_below, link_acts, link_expires, in_links, with_tei, without_tei, told_of_tei}
+use Rattle.lapd_sides.specs.Management.{manages}
+use Rattle.lapd_sides.specs.Network.{assigner_acts, link_of_network, network_takes, network_expires, network_requested}
+use Rattle.lapd_sides.specs.User.{link_of_user, terminal_acts, user_takes, user_expires, user_requested}
+use Rattle.lapd_sides_laws.specs.Interface.{run}
+use Rattle.lapd_sides_laws.specs.Premises.{AreTimely, GiveTeiOnce, KeepPremises}
+use Rattle.lapd_sides_laws.specs.Projects.{IsRight}
+use Rattle.lapd_sides_laws.specs.Schedule.{configs, call, packet, at_first, unassigned, IsMessage, both_links, assigned, removed, hasty, regained, with_old_frames, answered_before}
+use Rattle.lapd_sides_laws.specs.SideView.{does}
+use Rattle.lapd_sides_laws.specs.Told.{told_of, given_to, known_of, IsReceived}
+use Rattle.lapd_sides_laws.proofs.Whole.{received_as}
+
+-- ---- A message of given octets.
+
+abbrev Fits : Vec ℕ Global → List ℕ → Type 0
+Fits v octets = (v.len ≡ length octets) × (v.len ≤ v.cap)
+
+abbrev holding : (v : Vec ℕ Global) (octets : List ℕ) → Fits v octets → Vec ℕ Global
+holding v octets fits = record { ptr = v.ptr; len = v.len; cap = v.cap; alloc = v.alloc; items = octets; ok = fits; small = v.small }
+
+-- what is so of each that holds these octets is so of this one, whose octets they are
+with_octets : (P : Vec ℕ Global → Type 0) (octets : List ℕ) → ((v : Vec ℕ Global) (fits : Fits v octets) → P (holding v octets fits)) → (v : Vec ℕ Global) → v.items ≡ octets → P v
+with_octets P octets each v is = subst (λ (xs : List ℕ). (fits : Fits v xs) → P (holding v xs fits)) (sym is) (λ fits. each v fits) v.ok
+
+with_both : (P : Vec ℕ Global → Vec ℕ Global → Type 0) (a b : List ℕ) → ((v w : Vec ℕ Global) (x : Fits v a) (y : Fits w b) → P (holding v a x) (holding w b y)) → (v w : Vec ℕ Global) → v.items ≡ a → w.items ≡ b → P v w
+with_both P a b each v w is_a is_b = with_octets (λ u. P u w) a (λ u x. with_octets (λ t. P (holding u a x) t) b (λ t y. each u t x y) w is_b) v is_a
+
+-- ---- Both links.
+
+pub record BothLinks (message answer : Vec ℕ Global) : Type 0 where
+  pub call_premises : KeepPremises configs call (both_links message answer) at_first
+  pub packet_premises : KeepPremises configs packet (both_links message answer) at_first
+  pub call_to_user : told_of call (run configs (both_links message answer) at_first).told_to_user ≡ what.Confirmed ∷ what.Acknowledged 1 ∷ []
+  pub call_to_network : told_of call (run configs (both_links message answer) at_first).told_to_network ≡ what.Established ∷ what.Up (1 ∷ []) ∷ []
+  pub packet_to_user : told_of packet (run configs (both_links message answer) at_first).told_to_user ≡ what.Confirmed ∷ what.Up (2 ∷ []) ∷ []
+  pub packet_to_network : told_of packet (run configs (both_links message answer) at_first).told_to_network ≡ what.Established ∷ what.Acknowledged 1 ∷ []
+
+both_links_hold : (v w : Vec ℕ Global) (x : Fits v (1 ∷ [])) (y : Fits w (2 ∷ [])) → BothLinks (holding v (1 ∷ []) x) (holding w (2 ∷ []) y)
+unfolding link_acts link_expires in_links with_tei without_tei told_of_tei manages assigner_acts link_of_network network_takes network_expires network_requested begin put state_to rc_to increment_rc layer3_initiated_to release_pending_to start stop expired clear_exception_conditions zero_state_variables set_peer_busy set_own_busy enquiry_response transmit_enquiry queue_up discard_i_queue acknowledge invoke_retransmission i_frame_ns discard_unacknowledged transmit_i_frame ensure_t200 transmit_rr establish_data_link reestablish_data_link end_establishment tei_assigned confirm_or_indicate ua_final awaiting_establishment_t200 awaiting_establishment confirm_release awaiting_release_t200 awaiting_release acknowledge_with_timers nr_error_recovery i_frame_nr i_frame_nr_in_recovery poll_or_final poll rr_nr rej_nr rnr_nr rr_nr_in_recovery rnr_nr_in_recovery timer_recovery_t200 busy_on busy_off in_7_and_8 established_t200 multiple_frame_established timer_recovery by_state report_fault row send_all acknowledge_pending end_step step initial_variables without_exceptions with_zero_counters status_frame acknowledgement without_ack_pending poll_response is_accepted is_rejected after_i_frame i_frame_response is_valid_nr with_va acknowledged_count acknowledges_all with_vs may_send next_i_frame after_sending with_own_busy with_peer_busy after steps lies_within link_of_user terminal_acts user_takes user_expires user_requested links_below does
+both_links_hold v w x y = record {
+  call_premises = ((tt, (tt, (tt, (tt, (tt, (λ t o. (refl, refl), (tt, (tt, (tt, (tt, (tt, (tt, (tt, (λ t o. (refl, refl), (tt, (tt, (tt, (tt, tt)))))))))))))))))), (λ there. refl, (λ there. refl, (λ there. refl, (λ there. refl, (λ there. refl, (λ there. refl, (λ there. refl, (λ there. refl, (λ there. refl, (λ there. refl, (λ there. refl, (λ there. refl, (λ there. refl, (λ there. refl, (λ there. refl, (λ there. refl, (λ there. refl, (λ there. refl, tt)))))))))))))))))));
+  packet_premises = ((tt, (tt, (tt, (tt, (tt, (λ t o. (refl, refl), (tt, (tt, (tt, (tt, (tt, (tt, (tt, (λ t o. (refl, refl), (tt, (tt, (tt, (tt, tt)))))))))))))))))), (λ there. refl, (λ there. refl, (λ there. refl, (λ there. refl, (λ there. refl, (λ there. refl, (λ there. refl, (λ there. refl, (λ there. refl, (λ there. refl, (λ there. refl, (λ there. refl, (λ there. refl, (λ there. refl, (λ there. refl, (λ there. refl, (λ there. refl, (λ there. refl, tt)))))))))))))))))));
+  call_to_user = refl;
+  call_to_network = refl;
+  packet_to_user = refl;
+  packet_to_network = refl;
+}
+
+pub both_links_so : (message answer : Vec ℕ Global) → IsMessage 1 message → IsMessage 2 answer → BothLinks message answer
+both_links_so = with_both BothLinks (1 ∷ []) (2 ∷ []) both_links_hold
+
+-- ---- A TEI that is assigned.
+
+pub record Assigned (message : Vec ℕ Global) : Type 0 where
+  pub premises : KeepPremises configs call (assigned message) unassigned
+  pub to_user : told_of call (run configs (assigned message) unassigned).told_to_user ≡ what.Confirmed ∷ what.Acknowledged 1 ∷ []
+  pub to_network : told_of call (run configs (assigned message) unassigned).told_to_network ≡ what.Established ∷ what.Up (1 ∷ []) ∷ []
+
+assigned_holds : (v : Vec ℕ Global) (x : Fits v (1 ∷ [])) → Assigned (holding v (1 ∷ []) x)
+unfolding link_acts link_expires in_links with_tei without_tei told_of_tei manages assigner_acts link_of_network network_takes network_expires network_requested begin put state_to rc_to increment_rc layer3_initiated_to release_pending_to start stop expired clear_exception_conditions zero_state_variables set_peer_busy set_own_busy enquiry_response transmit_enquiry queue_up discard_i_queue acknowledge invoke_retransmission i_frame_ns discard_unacknowledged transmit_i_frame ensure_t200 transmit_rr establish_data_link reestablish_data_link end_establishment tei_assigned confirm_or_indicate ua_final awaiting_establishment_t200 awaiting_establishment confirm_release awaiting_release_t200 awaiting_release acknowledge_with_timers nr_error_recovery i_frame_nr i_frame_nr_in_recovery poll_or_final poll rr_nr rej_nr rnr_nr rr_nr_in_recovery rnr_nr_in_recovery timer_recovery_t200 busy_on busy_off in_7_and_8 established_t200 multiple_frame_established timer_recovery by_state report_fault row send_all acknowledge_pending end_step step initial_variables without_exceptions with_zero_counters status_frame acknowledgement without_ack_pending poll_response is_accepted is_rejected after_i_frame i_frame_response is_valid_nr with_va acknowledged_count acknowledges_all with_vs may_send next_i_frame after_sending with_own_busy with_peer_busy after steps lies_within link_of_user terminal_acts user_takes user_expires user_requested links_below does
+assigned_holds v x = record {
+  premises = ((tt, (tt, (tt, (tt, (tt, (tt, (tt, (tt, tt)))))))), (λ there. refl, (λ there. (let never : false ≡ true = there in cc), (λ there. (let never : false ≡ true = there in cc), (λ there. refl, (λ there. refl, (λ there. refl, (λ there. refl, (λ there. refl, tt)))))))));
+  to_user = refl;
+  to_network = refl;
+}
+
+pub assigned_so : (message : Vec ℕ Global) → IsMessage 1 message → Assigned message
+assigned_so = with_octets Assigned (1 ∷ []) assigned_holds
+
+-- ---- A TEI that is taken away.
+
+pub record Removed (first : Vec ℕ Global) : Type 0 where
+  pub premises : KeepPremises configs call (removed first) at_first
+  pub to_user : told_of call (run configs (removed first) at_first).told_to_user ≡ what.Confirmed ∷ what.Released ∷ []
+
+removed_holds : (v : Vec ℕ Global) (x : Fits v (1 ∷ [])) → Removed (holding v (1 ∷ []) x)
+unfolding link_acts link_expires in_links with_tei without_tei told_of_tei manages assigner_acts link_of_network network_takes network_expires network_requested begin put state_to rc_to increment_rc layer3_initiated_to release_pending_to start stop expired clear_exception_conditions zero_state_variables set_peer_busy set_own_busy enquiry_response transmit_enquiry queue_up discard_i_queue acknowledge invoke_retransmission i_frame_ns discard_unacknowledged transmit_i_frame ensure_t200 transmit_rr establish_data_link reestablish_data_link end_establishment tei_assigned confirm_or_indicate ua_final awaiting_establishment_t200 awaiting_establishment confirm_release awaiting_release_t200 awaiting_release acknowledge_with_timers nr_error_recovery i_frame_nr i_frame_nr_in_recovery poll_or_final poll rr_nr rej_nr rnr_nr rr_nr_in_recovery rnr_nr_in_recovery timer_recovery_t200 busy_on busy_off in_7_and_8 established_t200 multiple_frame_established timer_recovery by_state report_fault row send_all acknowledge_pending end_step step initial_variables without_exceptions with_zero_counters status_frame acknowledgement without_ack_pending poll_response is_accepted is_rejected after_i_frame i_frame_response is_valid_nr with_va acknowledged_count acknowledges_all with_vs may_send next_i_frame after_sending with_own_busy with_peer_busy after steps lies_within link_of_user terminal_acts user_takes user_expires user_requested links_below does
+removed_holds v x = record {
+  premises = ((tt, (tt, (tt, (tt, (tt, (tt, (tt, (λ t o. (refl, refl), (tt, (tt, (tt, (λ t o. (refl, refl), (tt, (tt, tt)))))))))))))), (λ there. refl, (λ there. refl, (λ there. refl, (λ there. refl, (λ there. refl, (λ there. refl, (λ there. refl, (λ there. refl, (λ there. refl, (λ there. refl, (λ there. refl, (λ there. refl, (λ there. refl, (λ there. refl, tt)))))))))))))));
+  to_user = refl;
+}
+
+pub removed_so : (first : Vec ℕ Global) → IsMessage 1 first → Removed first
+removed_so = with_octets Removed (1 ∷ []) removed_holds
+
+-- ---- A place that counts as acknowledged and was not received.
+
+one_of : {Y : Type 0} (f : ℕ → Y) (y : Y) (places : List ℕ) (at : ℕ) → map f places ≡ y ∷ [] → IsAmong at places → f at ≡ y
+one_of f y [] at same among = absurd among
+one_of f y (place ∷ []) at same (inl here) = subst (λ (p : ℕ). f p ≡ y) here cc
+one_of f y (place ∷ []) at same (inr never) = absurd never
+one_of f y (place ∷ next ∷ places) at same among = cc
+
+none_of : {Y : Type 0} (f : ℕ → Y) (places : List ℕ) (at : ℕ) → map f places ≡ [] → IsAmong at places → ⊥
+none_of f [] at same among = among
+none_of f (place ∷ places) at same among = cc
+
+abbrev first_octet : Option (List ℕ) → ℕ
+first_octet None = 0
+first_octet (Some []) = 0
+first_octet (Some (octet ∷ octets)) = octet
+
+abbrev Octet : ℕ → Option (List ℕ)
+Octet octet = Some (octet ∷ [])
+
+same_octet : (a b : ℕ) → Octet a ≡ Octet b → a ≡ b
+same_octet a b same = ap first_octet same
+
+differ : Octet 1 ≡ Octet 2 → ⊥
+differ same = omega (arith, same_octet 1 2 same)
+
+-- ---- T200, and of that link.
+
+pub record Hasty (first second : Vec ℕ Global) : Type 0 where
+  pub tei : GiveTeiOnce configs call (hasty first second) at_first
+  pub packet_premises : KeepPremises configs packet (hasty first second) at_first
+  pub given : given_to call (run configs (hasty first second) at_first).given_to_network ≡ two_messages
+  pub acked : (known_of call (run configs (hasty first second) at_first).told_to_network).acked ≡ 1 ∷ []
+  pub received : (known_of call (run configs (hasty first second) at_first).told_to_user).received ≡ one_message
+
+hasty_holds : (v w : Vec ℕ Global) (x : Fits v (1 ∷ [])) (y : Fits w (2 ∷ [])) → Hasty (holding v (1 ∷ []) x) (holding w (2 ∷ []) y)
+unfolding link_acts link_expires in_links with_tei without_tei told_of_tei manages assigner_acts link_of_network network_takes network_expires network_requested begin put state_to rc_to increment_rc layer3_initiated_to release_pending_to start stop expired clear_exception_conditions zero_state_variables set_peer_busy set_own_busy enquiry_response transmit_enquiry queue_up discard_i_queue acknowledge invoke_retransmission i_frame_ns discard_unacknowledged transmit_i_frame ensure_t200 transmit_rr establish_data_link reestablish_data_link end_establishment tei_assigned confirm_or_indicate ua_final awaiting_establishment_t200 awaiting_establishment confirm_release awaiting_release_t200 awaiting_release acknowledge_with_timers nr_error_recovery i_frame_nr i_frame_nr_in_recovery poll_or_final poll rr_nr rej_nr rnr_nr rr_nr_in_recovery rnr_nr_in_recovery timer_recovery_t200 busy_on busy_off in_7_and_8 established_t200 multiple_frame_established timer_recovery by_state report_fault row send_all acknowledge_pending end_step step initial_variables without_exceptions with_zero_counters status_frame acknowledgement without_ack_pending poll_response is_accepted is_rejected after_i_frame i_frame_response is_valid_nr with_va acknowledged_count acknowledges_all with_vs may_send next_i_frame after_sending with_own_busy with_peer_busy after steps lies_within link_of_user terminal_acts user_takes user_expires user_requested links_below does
+hasty_holds v w x y = record {
+  tei = (λ there. refl, (λ there. refl, (λ there. refl, (λ there. refl, (λ there. refl, (λ there. refl, (λ there. refl, (λ there. refl, (λ there. refl, tt)))))))));
+  packet_premises = ((tt, (tt, (tt, (λ t o. (refl, refl), (tt, (tt, (tt, (tt, (tt, tt))))))))), (λ there. refl, (λ there. refl, (λ there. refl, (λ there. refl, (λ there. refl, (λ there. refl, (λ there. refl, (λ there. refl, (λ there. refl, tt))))))))));
+  given = refl;
+  acked = refl;
+  received = refl;
+}
+
+pub hasty_so : (first second : Vec ℕ Global) → IsMessage 1 first → IsMessage 2 second → Hasty first second
+hasty_so = with_both Hasty (1 ∷ []) (2 ∷ []) hasty_holds
+
+pub hasty_is_not_right : (first second : Vec ℕ Global) → IsMessage 1 first → IsMessage 2 second → IsRight call (run configs (hasty first second) at_first) → ⊥
+hasty_is_not_right first second one two right =
+    let h = hasty_so first second one two in
+    let plain : IsReceived two_messages (1 ∷ []) one_message = received_as _ two_messages _ (1 ∷ []) _ one_message (sym h.given) (sym h.acked) (sym h.received) right.to_user in
+    differ (sym (one_of (λ place. slice_get two_messages place) (Some (1 ∷ [])) plain.places 1 plain.same (plain.acknowledged 1 (inl refl))))
+
+-- ---- The TEI.
+
+pub record Regained (first second : Vec ℕ Global) : Type 0 where
+  pub timely : AreTimely configs call (regained first second) at_first
+  pub given : given_to call (run configs (regained first second) at_first).given_to_user ≡ two_messages
+  pub acked : (known_of call (run configs (regained first second) at_first).told_to_user).acked ≡ 0 ∷ []
+  pub received : (known_of call (run configs (regained first second) at_first).told_to_network).received ≡ (2 ∷ []) ∷ []
+
+regained_holds : (v w : Vec ℕ Global) (x : Fits v (1 ∷ [])) (y : Fits w (2 ∷ [])) → Regained (holding v (1 ∷ []) x) (holding w (2 ∷ []) y)
+unfolding link_acts link_expires in_links with_tei without_tei told_of_tei manages assigner_acts link_of_network network_takes network_expires network_requested begin put state_to rc_to increment_rc layer3_initiated_to release_pending_to start stop expired clear_exception_conditions zero_state_variables set_peer_busy set_own_busy enquiry_response transmit_enquiry queue_up discard_i_queue acknowledge invoke_retransmission i_frame_ns discard_unacknowledged transmit_i_frame ensure_t200 transmit_rr establish_data_link reestablish_data_link end_establishment tei_assigned confirm_or_indicate ua_final awaiting_establishment_t200 awaiting_establishment confirm_release awaiting_release_t200 awaiting_release acknowledge_with_timers nr_error_recovery i_frame_nr i_frame_nr_in_recovery poll_or_final poll rr_nr rej_nr rnr_nr rr_nr_in_recovery rnr_nr_in_recovery timer_recovery_t200 busy_on busy_off in_7_and_8 established_t200 multiple_frame_established timer_recovery by_state report_fault row send_all acknowledge_pending end_step step initial_variables without_exceptions with_zero_counters status_frame acknowledgement without_ack_pending poll_response is_accepted is_rejected after_i_frame i_frame_response is_valid_nr with_va acknowledged_count acknowledges_all with_vs may_send next_i_frame after_sending with_own_busy with_peer_busy after steps lies_within link_of_user terminal_acts user_takes user_expires user_requested links_below does
+regained_holds v w x y = record {
+  timely = (tt, (tt, (tt, (tt, (tt, (tt, (tt, (λ t o. (refl, refl), (tt, (tt, (tt, (λ t o. (refl, refl), (tt, (tt, (tt, (tt, (tt, (tt, (tt, (tt, (tt, (tt, (tt, tt)))))))))))))))))))))));
+  given = refl;
+  acked = refl;
+  received = refl;
+}
+
+pub regained_so : (first second : Vec ℕ Global) → IsMessage 1 first → IsMessage 2 second → Regained first second
+regained_so = with_both Regained (1 ∷ []) (2 ∷ []) regained_holds
+
+pub regained_is_not_right : (first second : Vec ℕ Global) → IsMessage 1 first → IsMessage 2 second → IsRight call (run configs (regained first second) at_first) → ⊥
+regained_is_not_right first second one two right =
+    let h = regained_so first second one two in
+    let plain : IsReceived two_messages (0 ∷ []) ((2 ∷ []) ∷ []) = received_as _ two_messages _ (0 ∷ []) _ ((2 ∷ []) ∷ []) (sym h.given) (sym h.acked) (sym h.received) right.to_network in
+    differ (one_of (λ place. slice_get two_messages place) (Some (2 ∷ [])) plain.places 0 plain.same (plain.acknowledged 0 (inl refl)))
+
+-- ---- The line.
+
+pub record AnsweredBefore (message : Vec ℕ Global) : Type 0 where
+  pub premises : KeepPremises configs call (answered_before message) with_old_frames
+  pub given : given_to call (run configs (answered_before message) with_old_frames).given_to_user ≡ one_message
+  pub acked : (known_of call (run configs (answered_before message) with_old_frames).told_to_user).acked ≡ 0 ∷ []
+  pub received : (known_of call (run configs (answered_before message) with_old_frames).told_to_network).received ≡ []
+
+answered_before_holds : (v : Vec ℕ Global) (x : Fits v (1 ∷ [])) → AnsweredBefore (holding v (1 ∷ []) x)
+unfolding link_acts link_expires in_links with_tei without_tei told_of_tei manages assigner_acts link_of_network network_takes network_expires network_requested begin put state_to rc_to increment_rc layer3_initiated_to release_pending_to start stop expired clear_exception_conditions zero_state_variables set_peer_busy set_own_busy enquiry_response transmit_enquiry queue_up discard_i_queue acknowledge invoke_retransmission i_frame_ns discard_unacknowledged transmit_i_frame ensure_t200 transmit_rr establish_data_link reestablish_data_link end_establishment tei_assigned confirm_or_indicate ua_final awaiting_establishment_t200 awaiting_establishment confirm_release awaiting_release_t200 awaiting_release acknowledge_with_timers nr_error_recovery i_frame_nr i_frame_nr_in_recovery poll_or_final poll rr_nr rej_nr rnr_nr rr_nr_in_recovery rnr_nr_in_recovery timer_recovery_t200 busy_on busy_off in_7_and_8 established_t200 multiple_frame_established timer_recovery by_state report_fault row send_all acknowledge_pending end_step step initial_variables without_exceptions with_zero_counters status_frame acknowledgement without_ack_pending poll_response is_accepted is_rejected after_i_frame i_frame_response is_valid_nr with_va acknowledged_count acknowledges_all with_vs may_send next_i_frame after_sending with_own_busy with_peer_busy after steps lies_within link_of_user terminal_acts user_takes user_expires user_requested links_below does
+answered_before_holds v x = record {
+  premises = ((tt, (tt, (tt, (tt, tt)))), (λ there. refl, (λ there. refl, (λ there. refl, (λ there. refl, tt)))));
+  given = refl;
+  acked = refl;
+  received = refl;
+}
+
+pub answered_before_so : (message : Vec ℕ Global) → IsMessage 1 message → AnsweredBefore message
+answered_before_so = with_octets AnsweredBefore (1 ∷ []) answered_before_holds
+
+pub answered_before_is_not_right : (message : Vec ℕ Global) → IsMessage 1 message → IsRight call (run configs (answered_before message) with_old_frames) → ⊥
+answered_before_is_not_right message one right =
+    let h = answered_before_so message one in
+    let plain : IsReceived one_message (0 ∷ []) [] = received_as _ one_message _ (0 ∷ []) _ [] (sym h.given) (sym h.acked) (sym h.received) right.to_network in
+    none_of (λ place. slice_get one_message place) plain.places 0 plain.same (plain.acknowledged 0 (inl refl))

@@ -1,0 +1,193 @@
+-- A user side keeps its links' timers exact, whatever it takes, whichever timer expires, and whatever is asked for.
+use Rattle.std.proofs.Common.{ℕ, Bool, true, false, List, [], ◌∷◌, length, Option, Some, None, Result, Ok, Err, refl}
+use Rattle.std.specs.Prelude.{IfOk}
+use Rattle.std.proofs.lemmas.List.Elements.{All-append}
+use Rattle.rand_pcg.specs.Lcg.{Lcg}
+use Rattle.lapd_timers.specs.declared.timer.Timer.{Timer}
+use Rattle.lapd_frame.specs.declared.Sapi.{Sapi}
+use Rattle.lapd_frame.specs.declared.Sapi.TheVariants as sapi
+use Rattle.lapd_frame.specs.declared.Side.TheVariants as side
+use Rattle.lapd_frame.specs.declared.Address.{Address}
+use Rattle.lapd_frame.specs.declared.fault_kind.FaultKind.{FaultKind}
+use Rattle.lapd_frame.specs.declared.frame_fault.FrameFault.{FrameFault}
+use Rattle.lapd_frame.specs.Frame.{Fields}
+use Rattle.lapd_frame.specs.Reading.{frame_at}
+use Rattle.lapd_field.specs.Control.{IsControl}
+use Rattle.lapd_link_definition.specs.declared.event.LinkFault.TheVariants.{NotEstablished}
+use Rattle.lapd_link_definition.specs.Input as input
+use Rattle.lapd_link_definition.specs.Input.{Input, Heard, Faulty, UnitData}
+use Rattle.lapd_link_definition.specs.Numbers.{HearsNumbers}
+use Rattle.lapd_mod128.specs.Counting.{Tagged}
+use Rattle.lapd_tei.specs.declared.message.TeiMessage.{TeiMessage}
+use Rattle.lapd_tei.specs.declared.fault.TeiFault.{TeiFault}
+use Rattle.lapd_tei.specs.declared.out.TeiOut.{TeiOut}
+use Rattle.lapd_tei.specs.declared.out.TeiOut.TheVariants as outcome
+use Rattle.lapd_tei.specs.declared.phase.Phase.{Phase}
+use Rattle.lapd_tei.specs.declared.phase.Phase.TheVariants.{Unassigned, Awaiting, Assigned}
+use Rattle.lapd_tei.specs.declared.terminal.TerminalEvent.{TerminalEvent}
+use Rattle.lapd_tei.specs.declared.terminal.TerminalEvent.TheVariants as event
+use Rattle.lapd_tei.specs.Terminal.{TerminalStep, terminal_step}
+use Rattle.lapd_tei.specs.Message.{message_at}
+use Rattle.lapd_table.specs.declared.link_id.LinkId.{LinkId}
+use Rattle.lapd_sides_links.specs.declared.config.Config.{Config}
+use Rattle.lapd_sides_links.specs.declared.side_fault.SideKind.{SideKind}
+use Rattle.lapd_sides_links.specs.declared.side_fault.SideKind.TheVariants.{NoLink, Link}
+use Rattle.lapd_sides_links.specs.Effects.{no_effects, stopped}
+use Rattle.lapd_sides_links.specs.Links.{Links, Reaction, of_sapi, is_served, in_links, link_acts, link_expires, no_links}
+use Rattle.lapd_sides.specs.declared.request.Request.{Request}
+use Rattle.lapd_sides.specs.declared.request.Request.TheVariants as request
+use Rattle.lapd_sides.specs.Management.{carries_message, manages}
+use Rattle.lapd_sides.specs.User.{User, new_user, nothing_kept, unmoved, discards, next, next_reference, drawn, among_links, link_of_user, or_discarded, or_unmoved, establishes, establishes_kept, gives_up_kept, kept_after, assigned, terminal_acts, message_heard, unit_from_group, for_layer_3, data_heard, fault_heard, heard, user_takes, user_expires, with_tei_or, is_kept, keeps, wants, forgets, user_requested}
+use Rattle.lapd_sides_laws.specs.ExactTimers.{HaveExactTimers}
+use Rattle.lapd_sides_laws.proofs.ExactLinks.{if_either, IsNoExpiry, CarriesTags, IsExact, IsExactAmong, quietly, acts_exactly, expires_exactly, no_link_is_exact, with_tei_exact, manages_exactly}
+
+abbrev pub AreExact : User → Type 0
+AreExact s = HaveExactTimers s.served.links
+
+abbrev pub Keeps : Reaction User → Type 0
+Keeps a = IsExact side.User a.after.served.links a.effects
+
+abbrev pub KeepsIfOk : Result (Reaction User) SideKind → Type 0
+KeepsIfOk r = IfOk r Keeps
+
+nothing : (s : User) → AreExact s → Keeps (unmoved s)
+nothing s all = quietly side.User s.served.links no_effects refl all
+
+discarding : (s : User) → AreExact s → Keeps (discards s)
+discarding s all = quietly side.User s.served.links no_effects refl all
+
+-- one step after another
+then_keeps : (a : Reaction User) (does : User → Reaction User) → Keeps a → ((s : User) → AreExact s → Keeps (does s)) → Keeps (next a does)
+then_keeps a does first each =
+    let second = each a.after first.timers in
+    record { timers = second.timers; frames = All-append (CarriesTags side.User) a.effects.frames (does a.after).effects.frames first.frames second.frames }
+
+-- ---- A link.
+
+among : (s : User) (r : Result (Reaction Links) SideKind) → IsExactAmong side.User r → KeepsIfOk (among_links s r)
+among s (Ok a) h = h
+among s (Err kind) h = tt
+
+linked : (now : ℕ) (id : LinkId) (input : Input) (octets : List ℕ) (s : User) → IsNoExpiry input → HearsNumbers Tagged input → AreExact s → KeepsIfOk (link_of_user now id input octets s)
+unfolding link_of_user
+linked now id input octets s plain numbers all = among s (in_links id (link_acts side.User id now input octets) s.served.links) (acts_exactly side.User id now input octets s.served.links plain numbers all)
+
+otherwise_discarded : (s : User) (r : Result (Reaction User) SideKind) → AreExact s → KeepsIfOk r → Keeps (or_discarded s r)
+otherwise_discarded s (Ok a) all h = h
+otherwise_discarded s (Err kind) all h = discarding s all
+
+otherwise_unmoved : (s : User) (r : Result (Reaction User) SideKind) → AreExact s → KeepsIfOk r → Keeps (or_unmoved s r)
+otherwise_unmoved s (Ok a) all h = h
+otherwise_unmoved s (Err kind) all h = nothing s all
+
+module _ (now : ℕ) where
+  -- ---- Establishments that are kept.
+
+  establishing : (on : Bool) (id : LinkId) (s : User) → AreExact s → Keeps (establishes on now id s)
+  establishing true id s all = otherwise_unmoved s (link_of_user now id input.Establish [] s) all (linked now id input.Establish [] s tt tt all)
+  establishing false id s all = nothing s all
+
+  establishing_kept : (own : ℕ) (s : User) → AreExact s → Keeps (establishes_kept now own s)
+  establishing_kept own s all =
+      then_keeps (establishes s.kept.call now (of_sapi sapi.Call own) (record s { kept = nothing_kept })) (establishes s.kept.packet now (of_sapi sapi.Packet own))
+      (establishing s.kept.call (of_sapi sapi.Call own) (record s { kept = nothing_kept }) all) (establishing s.kept.packet (of_sapi sapi.Packet own))
+
+  giving_up : (s : User) → AreExact s → Keeps (gives_up_kept s)
+  giving_up s all = quietly side.User s.served.links (gives_up_kept s).effects refl all
+
+  keeping : (outs : List TeiOut) (s : User) → AreExact s → Keeps (kept_after now outs s)
+  keeping [] s all = nothing s all
+  keeping (outcome.Got own ∷ outs) s all = establishing_kept own s all
+  keeping (outcome.Failed ∷ outs) s all = giving_up s all
+  keeping (outcome.Given t ∷ outs) s all = keeping outs s all
+  keeping (outcome.Free t ∷ outs) s all = keeping outs s all
+  keeping (outcome.Doubled t ∷ outs) s all = keeping outs s all
+  keeping (outcome.Gone t ∷ outs) s all = keeping outs s all
+  keeping (outcome.InUse t ∷ outs) s all = keeping outs s all
+  keeping (outcome.Send message ∷ outs) s all = keeping outs s all
+  keeping (outcome.Start timer ∷ outs) s all = keeping outs s all
+  keeping (outcome.Stop timer ∷ outs) s all = keeping outs s all
+
+module _ (config : Config) (now : ℕ) where
+  -- ---- TEI management.
+
+  assigning : (step : TerminalStep) (s : User) → AreExact s → Keeps (assigned config now step s)
+  assigning step s all =
+      let managed = manages side.User config now step.outs s.served in
+      let exact = manages_exactly side.User config now step.outs s.served all in
+      then_keeps (record { after = record s { served = managed.after; terminal = step.now; random = drawn step.outs s.random }; effects = managed.effects }) (kept_after now step.outs)
+      (record { timers = exact.timers; frames = exact.frames }) (keeping now step.outs)
+
+  acting : (event : ℕ → TerminalEvent) (s : User) → AreExact s → Keeps (terminal_acts config now event s)
+  unfolding terminal_acts
+  acting event s all = assigning (terminal_step s.terminal (event (next_reference s.random))) s all
+
+  message : (r : Result TeiMessage TeiFault) (s : User) → AreExact s → Keeps (message_heard config now r s)
+  message (Ok m) s all = acting (event.Heard m) s all
+  message (Err fault) s all = nothing s all
+
+  -- ---- Octets come from the line.
+
+  data_hearing : (frame : Fields) (s : User) → IsControl frame.control → AreExact s → Keeps (data_heard config now frame s)
+  data_hearing frame s tags all =
+      let id = of_sapi frame.address.sapi frame.address.tei in
+      let input = Heard frame.control frame.address.role in
+      let does = link_of_user now id input frame.info s in
+      if_either Keeps (for_layer_3 config frame) (unit_from_group frame.address.sapi frame.info s) (or_discarded s does)
+      (quietly side.User s.served.links (unit_from_group frame.address.sapi frame.info s).effects refl all)
+      (otherwise_discarded s does all (linked now id input frame.info s tt tags all))
+
+  faulty : (kind : FaultKind) (address : Option Address) (s : User) → AreExact s → Keeps (fault_heard now kind address s)
+  faulty kind None s all = discarding s all
+  faulty kind (Some address) s all =
+      let id = of_sapi address.sapi address.tei in
+      otherwise_discarded s (link_of_user now id (Faulty kind) [] s) all (linked now id (Faulty kind) [] s tt tt all)
+
+  hearing : (r : Result Fields FrameFault) (s : User) → IfOk r (λ f. IsControl f.control) → AreExact s → Keeps (heard config now r s)
+  hearing (Ok frame) s tags all =
+      if_either Keeps (carries_message frame) (message_heard config now (message_at frame.info) s) (data_heard config now frame s) (message (message_at frame.info) s all) (data_hearing frame s tags all)
+  hearing (Err fault) s tags all = faulty fault.kind fault.address s all
+
+  pub user_taking : (octets : List ℕ) (s : User) → CarriesTags side.Network octets → AreExact s → Keeps (user_takes config octets now s)
+  unfolding user_takes
+  user_taking octets s tags all = hearing (frame_at side.Network octets) s tags all
+
+  -- ---- A timer expires.
+
+  pub user_expiring : (timer : Timer) (of : Option LinkId) (s : User) → AreExact s → Keeps (user_expires config now timer of s)
+  unfolding user_expires
+  user_expiring timer None s all = acting event.T202 (record s { served = record { links = s.served.links; timers = stopped timer s.served.timers } }) all
+  user_expiring timer (Some id) s all =
+      let r = in_links id (link_expires side.User id now timer) s.served.links in
+      otherwise_unmoved s (among_links s r) all (among s r (expires_exactly side.User id now timer s.served.links all))
+
+  -- ---- Requests.
+
+  with_own : (terminal : Phase) (at : Sapi) (input : Input) (octets : List ℕ) (otherwise : Result (Reaction User) SideKind) (s : User) → IsNoExpiry input → HearsNumbers Tagged input → AreExact s → KeepsIfOk otherwise
+      → KeepsIfOk (with_tei_or now terminal at input octets otherwise s)
+  with_own (Assigned by own) at input octets otherwise s plain numbers all h = linked now (of_sapi at own) input octets s plain numbers all
+  with_own Unassigned at input octets otherwise s plain numbers all h = h
+  with_own (Awaiting purpose count ri) at input octets otherwise s plain numbers all h = h
+
+  wanting : (at : Sapi) (s : User) → AreExact s → KeepsIfOk (wants config now at s)
+  wanting at s all = if_either KeepsIfOk (is_served config at) (Ok (terminal_acts config now event.Want (record s { kept = keeps at true s.kept }))) (Err NoLink) (acting event.Want (record s { kept = keeps at true s.kept }) all) tt
+
+  forgetting : (at : Sapi) (s : User) → AreExact s → KeepsIfOk (forgets at s)
+  forgetting at s all = if_either KeepsIfOk (is_kept at s.kept) _ (Err NoLink) (quietly side.User s.served.links _ refl all) tt
+
+  pub user_asked : (asked : Request) (s : User) → AreExact s → KeepsIfOk (user_requested config asked now s)
+  unfolding user_requested
+  user_asked (request.Establish id) s all = with_own s.terminal id.sapi input.Establish [] (wants config now id.sapi s) s tt tt all (wanting id.sapi s all)
+  user_asked (request.Release id) s all = with_own s.terminal id.sapi input.Release [] (forgets id.sapi s) s tt tt all (forgetting id.sapi s all)
+  user_asked (request.Unit id octets) s all = with_own s.terminal id.sapi (UnitData (length octets.items)) octets.items (Err NoLink) s tt tt all tt
+  user_asked (request.Give id message) s all = with_own s.terminal id.sapi (input.Give message.items) [] (Err (Link NotEstablished)) s tt tt all tt
+  user_asked (request.Busy id true) s all = with_own s.terminal id.sapi input.BusyOn [] (Err NoLink) s tt tt all tt
+  user_asked (request.Busy id false) s all = with_own s.terminal id.sapi input.BusyOff [] (Err NoLink) s tt tt all tt
+  user_asked request.AskTei s all = acting event.Ask s all
+  user_asked (request.Check tei) s all = nothing s all
+
+-- ---- As it is made.
+
+pub new_user_exact : (config : Config) (fixed : Option ℕ) (random : Lcg) → AreExact (new_user config fixed random)
+new_user_exact config None random = λ id. no_link_is_exact
+new_user_exact config (Some tei) random = with_tei_exact config tei no_links (λ id. no_link_is_exact)

@@ -1,0 +1,110 @@
+-- What a step sends are the octets of the frames that the world puts on the line, what it tells is what the world writes down,
+-- and what it reports is expected where its outputs are.
+use Rattle.std.proofs.Common.{◌≡◌, ℕ, ◌+◌, List, [], ◌∷◌, ◌++◌, get_or, map, Option, Some, refl, sym, ap, ◌∙◌, append_assoc, arith}
+use Rattle.std.specs.List.{filter_map}
+use Rattle.std.proofs.lemmas.List.{map-append, append-nil, get_or-drop}
+use Rattle.lapd_frame.specs.declared.Side.{Side}
+use Rattle.lapd_frame.specs.declared.Role.TheVariants.{Command}
+use Rattle.lapd_frame.specs.declared.Control.{Control}
+use Rattle.lapd_link_definition.specs.declared.out.Out.{Out}
+use Rattle.lapd_link_definition.specs.declared.out.Out.TheVariants.{Send, SendMessage, SendUnit, Up, UnitUp, Established, Confirmed, Released, ReleaseConfirm, Acknowledged, Dropped, Start, Stop, Report}
+use Rattle.lapd_link_definition.specs.End.{End}
+use Rattle.lapd_link_definition.specs.Reports.{AreExpected}
+use Rattle.lapd_pair_laws.specs.Histories.{Occasion, Story, Receipt, tell, told, message_frame, unit_frame}
+use Rattle.lapd_pair_laws.specs.Kept.{AreInOrder}
+use Rattle.lapd_pair_laws.specs.Line.{Flight, without_info, sent_behind}
+use Rattle.lapd_pair_laws.proofs.Telling.{in_order_then}
+use Rattle.lapd_table.specs.declared.link_id.LinkId.{LinkId}
+use Rattle.lapd_table.specs.LinkId.{setup_for}
+use Rattle.lapd_sides_links.specs.declared.primitive.What.TheVariants as what
+use Rattle.lapd_sides_links.specs.Effects.{sent_by, what_of}
+use Rattle.lapd_sides_laws.specs.Addressed.{spelled, all_spelled}
+use Rattle.lapd_sides_laws.specs.Told.{Known, learns, learns_all, AreExpectedWhats}
+use Rattle.lapd_sides_laws.specs.Projects.{known_by}
+
+-- ---- The frames of a step.
+
+module _ (side : Side) (id : LinkId) (e : End) (o : Occasion) (same : o.given ≡ e.given) where
+  abbrev sends : Out → Option (List ℕ)
+  sends out = sent_by (setup_for side id) e o.octets out
+
+  -- one frame more
+  one_more : (out : Out) (outs : List Out) (line : List Flight) (frame : Flight) (after : List (List ℕ)) → sends out ≡ Some (spelled side id frame)
+      → after ≡ all_spelled side id (sent_behind line frame) ++ filter_map sends outs → after ≡ all_spelled side id line ++ filter_map sends (out ∷ outs)
+  one_more out outs line frame after is h = rw is (h ∙ ap (λ l. l ++ filter_map sends outs) (map-append (spelled side id) line (frame ∷ [])) ∙ append_assoc (all_spelled side id line) (spelled side id frame ∷ []) (filter_map sends outs))
+
+  -- the message is named by its place behind those that wait no more
+  message_there : (passed n : ℕ) (control : Control) (outs : List Out) → AreInOrder e passed (SendMessage n control ∷ outs)
+      → sends (SendMessage n control) ≡ Some (spelled side id (message_frame o control (passed + n)))
+  message_there passed n control outs order =
+      let first : e.first ≡ passed = omega (arith, order.first, order.counted.0) in
+      ap (λ (message : List ℕ). Some (spelled side id (record { role = Command; control = control; info = message; place = passed + n })))
+      (get_or-drop e.first e.given n [] ∙ ap (λ (at : ℕ). get_or e.given (at + n) []) first ∙ ap (λ (given : List (List ℕ)). get_or given (passed + n) []) (sym same))
+
+  pub told_frames : (outs : List Out) (t : Story) → AreInOrder e t.history.passed outs → all_spelled side id (told o outs t).line ≡ all_spelled side id t.line ++ filter_map sends outs
+  told_frames [] t order = sym (append-nil (all_spelled side id t.line))
+  told_frames (Send role control ∷ outs) t order =
+      one_more (Send role control) outs t.line (without_info role control) _ refl (told_frames outs (tell o (Send role control) t) (in_order_then e o (Send role control) outs t order))
+  told_frames (SendMessage n control ∷ outs) t order =
+      one_more (SendMessage n control) outs t.line (message_frame o control (t.history.passed + n)) _ (message_there t.history.passed n control outs order)
+      (told_frames outs (tell o (SendMessage n control) t) (in_order_then e o (SendMessage n control) outs t order))
+  told_frames (SendUnit ∷ outs) t order =
+      one_more SendUnit outs t.line (unit_frame o.octets) _ refl (told_frames outs (tell o SendUnit t) (in_order_then e o SendUnit outs t order))
+  told_frames (Up ∷ outs) t order = told_frames outs (tell o Up t) (in_order_then e o Up outs t order)
+  told_frames (UnitUp ∷ outs) t order = told_frames outs (tell o UnitUp t) (in_order_then e o UnitUp outs t order)
+  told_frames (Acknowledged n ∷ outs) t order = told_frames outs (tell o (Acknowledged n) t) (in_order_then e o (Acknowledged n) outs t order)
+  told_frames (Dropped n ∷ outs) t order = told_frames outs (tell o (Dropped n) t) (in_order_then e o (Dropped n) outs t order)
+  told_frames (Established ∷ outs) t order = told_frames outs t (in_order_then e o Established outs t order)
+  told_frames (Confirmed ∷ outs) t order = told_frames outs t (in_order_then e o Confirmed outs t order)
+  told_frames (Released ∷ outs) t order = told_frames outs t (in_order_then e o Released outs t order)
+  told_frames (ReleaseConfirm ∷ outs) t order = told_frames outs t (in_order_then e o ReleaseConfirm outs t order)
+  told_frames (Start timer ∷ outs) t order = told_frames outs t (in_order_then e o (Start timer) outs t order)
+  told_frames (Stop timer ∷ outs) t order = told_frames outs t (in_order_then e o (Stop timer) outs t order)
+  told_frames (Report letter ∷ outs) t order = told_frames outs t (in_order_then e o (Report letter) outs t order)
+
+-- ---- What is told.
+
+received_more : (before : List Receipt) (message : Receipt) → map (λ (m : Receipt). m.octets) (before ++ message ∷ []) ≡ map (λ (m : Receipt). m.octets) before ++ message.octets ∷ []
+received_more before message = map-append (λ (m : Receipt). m.octets) before (message ∷ [])
+
+-- one thing learned is what one output writes down
+learned : (o : Occasion) (out : Out) (outs : List Out) (k : Known) (t : Story) → k ≡ known_by t.history
+    → ((t : Story) (k : Known) → k ≡ known_by t.history → learns_all (filter_map (what_of o.octets) outs) k ≡ known_by (told o outs t).history)
+    → learns_all (filter_map (what_of o.octets) (out ∷ outs)) k ≡ known_by (told o (out ∷ outs) t).history
+learned o Up outs k t is rest = rest (tell o Up t) (learns (what.Up o.octets) k) (ap (learns (what.Up o.octets)) is ∙ ap (λ r. record (known_by t.history) { received = r }) (sym (received_more t.history.received _)))
+learned o UnitUp outs k t is rest = rest (tell o UnitUp t) (learns (what.UnitUp o.octets) k) (ap (learns (what.UnitUp o.octets)) is)
+learned o (Acknowledged n) outs k t is rest = rest (tell o (Acknowledged n) t) (learns (what.Acknowledged n) k) (ap (learns (what.Acknowledged n)) is)
+learned o (Dropped n) outs k t is rest = rest (tell o (Dropped n) t) (learns (what.Dropped n) k) (ap (learns (what.Dropped n)) is)
+learned o (Send role control) outs k t is rest = rest (tell o (Send role control) t) k is
+learned o (SendMessage n control) outs k t is rest = rest (tell o (SendMessage n control) t) k is
+learned o SendUnit outs k t is rest = rest (tell o SendUnit t) k is
+learned o Established outs k t is rest = rest t k is
+learned o Confirmed outs k t is rest = rest t k is
+learned o Released outs k t is rest = rest t k is
+learned o ReleaseConfirm outs k t is rest = rest t k is
+learned o (Start timer) outs k t is rest = rest t k is
+learned o (Stop timer) outs k t is rest = rest t k is
+learned o (Report letter) outs k t is rest = rest t k is
+
+pub told_is_known : (o : Occasion) (outs : List Out) (t : Story) (k : Known) → k ≡ known_by t.history → learns_all (filter_map (what_of o.octets) outs) k ≡ known_by (told o outs t).history
+told_is_known o [] t k is = is
+told_is_known o (out ∷ outs) t k is = learned o out outs k t is (told_is_known o outs)
+
+-- ---- What is reported.
+
+pub told_is_expected : (octets : List ℕ) (outs : List Out) → AreExpected outs → AreExpectedWhats (filter_map (what_of octets) outs)
+told_is_expected octets [] h = tt
+told_is_expected octets (Report letter ∷ outs) h = (h.0, told_is_expected octets outs h.1)
+told_is_expected octets (Up ∷ outs) h = (tt, told_is_expected octets outs h.1)
+told_is_expected octets (UnitUp ∷ outs) h = (tt, told_is_expected octets outs h.1)
+told_is_expected octets (Established ∷ outs) h = (tt, told_is_expected octets outs h.1)
+told_is_expected octets (Confirmed ∷ outs) h = (tt, told_is_expected octets outs h.1)
+told_is_expected octets (Released ∷ outs) h = (tt, told_is_expected octets outs h.1)
+told_is_expected octets (ReleaseConfirm ∷ outs) h = (tt, told_is_expected octets outs h.1)
+told_is_expected octets (Acknowledged n ∷ outs) h = (tt, told_is_expected octets outs h.1)
+told_is_expected octets (Dropped n ∷ outs) h = (tt, told_is_expected octets outs h.1)
+told_is_expected octets (Send role control ∷ outs) h = told_is_expected octets outs h.1
+told_is_expected octets (SendMessage n control ∷ outs) h = told_is_expected octets outs h.1
+told_is_expected octets (SendUnit ∷ outs) h = told_is_expected octets outs h.1
+told_is_expected octets (Start timer ∷ outs) h = told_is_expected octets outs h.1
+told_is_expected octets (Stop timer ∷ outs) h = told_is_expected octets outs h.1

@@ -1,0 +1,227 @@
+-- Each move of an interface is nothing, or one move, to each of its links; hence each link is safe after every run.
+use Rattle.std.proofs.Common.{◌≡◌, inl, inr, ℕ, ◌<◌, ◌≤◌, List, [], ◌∷◌, ◌++◌, map, Option, Some, Ok, refl, sym, ap, subst, ◌∙◌, ◌⊎◌}
+use Rattle.std.specs.List.{filter_map}
+use Rattle.lapd_timers.specs.Durations.{Lengths}
+use Rattle.lapd_frame.specs.declared.Side.{Side}
+use Rattle.lapd_frame.specs.declared.Side.TheVariants as side
+use Rattle.lapd_mod128.specs.Counting.{Tagged}
+use Rattle.lapd_link_definition.specs.End.{new_end}
+use Rattle.lapd_link_definition.specs.Parameters.{Parameters}
+use Rattle.lapd_link_definition.specs.Reports.{AreExpected}
+use Rattle.lapd_pair_laws.specs.Histories.{Receipt}
+use Rattle.lapd_pair_laws.specs.Kept.{IsKeptWorld}
+use Rattle.lapd_pair_laws.specs.Move as world
+use Rattle.lapd_pair_laws.specs.Move.{View}
+use Rattle.lapd_pair_laws.specs.Safe.{IsSafe, AreSafe}
+use Rattle.lapd_pair_laws.specs.World as world_of
+use Rattle.lapd_pair_laws.specs.World.{World, new_world, view_of, with_view, in_world, world_after, outcomes}
+use Rattle.lapd_pair_laws.proofs.Keeping.{view_of_kept, run_kept, new_world_kept}
+use Rattle.lapd_pair_laws.specs.Reports.{ReportsExpected, AllReportsExpected}
+use Rattle.lapd_pair_laws.proofs.Reached.{every_run_safe, every_run_reports}
+use Rattle.lapd_table.specs.declared.link_id.LinkId.{LinkId}
+use Rattle.lapd_sides_links.specs.declared.primitive.What.{What}
+use Rattle.lapd_sides_links.specs.Effects.{what_of}
+use Rattle.lapd_sides_links.specs.Links.{new_linked, Links, Linked}
+use Rattle.lapd_sides.specs.Network.{Network}
+use Rattle.lapd_sides.specs.User.{User}
+use Rattle.lapd_sides_laws.specs.Addressed.{those_for}
+use Rattle.lapd_sides_laws.specs.Interface.{fresh_link, Configs, Interface, Move, user_behaviour, network_behaviour, new_interface, from_here, by_user, by_network, with_user, with_network, side_does, happens, run}
+use Rattle.lapd_sides_laws.specs.Premises.{IsTimelyMove, IsMoveGivingTeiOnce, AreTimely, GiveTeiOnce, KeepPremises}
+use Rattle.lapd_sides_laws.specs.Projects.{HasLink, AwaitsLink, ShowsEnd, Projects, ProjectsTo, IsRight, IsSafeAt}
+use Rattle.lapd_sides_laws.specs.SideView.{Deed, SideView, does}
+use Rattle.lapd_sides_laws.specs.Told.{told_of, IsReceived, AreExpectedWhats}
+use Rattle.lapd_sides_laws.proofs.Deeds.{each_deed}
+use Rattle.lapd_sides_laws.proofs.Frames.{told_is_expected}
+use Rattle.lapd_sides_laws.proofs.LinkParts.{expected_both}
+use Rattle.lapd_sides_laws.proofs.Networks.{of_network}
+use Rattle.lapd_sides_laws.proofs.Timed.{new_is_timed}
+use Rattle.lapd_sides_laws.proofs.Users.{of_user}
+
+-- ---- Runs of the world.
+
+-- one move more
+run_more : (moves : List world.Move) (m : world.Move) (w : World) → world_of.run Tagged (moves ++ m ∷ []) w ≡ world_after (world_of.run Tagged moves w) (world_of.happens Tagged m (world_of.run Tagged moves w))
+run_more [] m w = refl
+run_more (first ∷ moves) m w = run_more moves m (world_after w (world_of.happens Tagged first w))
+
+last_is_expected : (moves : List world.Move) (m : world.Move) (w : World) → AllReportsExpected (outcomes Tagged (moves ++ m ∷ []) w) → ReportsExpected (world_of.happens Tagged m (world_of.run Tagged moves w))
+last_is_expected [] m w h = h.0
+last_is_expected (first ∷ moves) m w h = last_is_expected moves m (world_after w (world_of.happens Tagged first w)) h.1
+
+module _ (who : Side) (deed : world.Deed) (w : World) (turn : world.Turn) (is : world.acts Tagged who deed (view_of who w) ≡ Ok turn) where
+  after_move : world_after w (world_of.happens Tagged (record { side = who; deed = deed }) w) ≡ with_view who turn.view w
+  unfolding world_of.happens
+  after_move = ap (λ o. world_after w (in_world who w o)) is
+
+  outs_are_expected : ReportsExpected (world_of.happens Tagged (record { side = who; deed = deed }) w) → AreExpected turn.outs
+  unfolding world_of.happens
+  outs_are_expected h = subst (λ o. ReportsExpected (in_world who w o)) is h
+
+-- a link is there as new, or not there yet
+abbrev pub IsNew : Linked → Links → LinkId → Parameters → Type 0
+IsNew fresh links id p = HasLink links id (new_end p) ⊎ AwaitsLink fresh links id (new_end p)
+
+-- so it shows a new end, whatever was told before
+new_shows : (fresh : Linked) (links : Links) (id : LinkId) (p : Parameters) → IsNew fresh links id p → ShowsEnd fresh links id [] (new_end p)
+new_shows fresh links id p (inl h) = inl h
+new_shows fresh links id p (inr h) = inr (inl h)
+
+-- ---- What is safe is right.
+
+some_octets : (received : List Receipt) → map (λ (message : Receipt). Some message.octets) received ≡ map (λ message. Some message) (map (λ (message : Receipt). message.octets) received)
+some_octets [] = refl
+some_octets (message ∷ received) = ap (λ l. Some message.octets ∷ l) (some_octets received)
+
+safe_is_received : (given : List (List ℕ)) (sent_in : ℕ → Option ℕ) (acked : List ℕ) (received : List Receipt) → IsSafe given sent_in acked received → IsReceived given acked (map (λ (message : Receipt). message.octets) received)
+safe_is_received given sent_in acked received h = record { places = h.places; rising = h.rising; same = h.same ∙ some_octets received; acknowledged = h.acknowledged }
+
+pub received_as : (given given_now : List (List ℕ)) (acked acked_now : List ℕ) (received received_now : List (List ℕ)) → given_now ≡ given → acked_now ≡ acked → received_now ≡ received → IsReceived given acked received → IsReceived given_now acked_now received_now
+received_as given given_now acked acked_now received received_now g a r h =
+    subst (λ x. IsReceived x acked_now received_now) (sym g) (subst (λ x. IsReceived given x received_now) (sym a) (subst (λ x. IsReceived given acked x) (sym r) h))
+
+module _ (c : Configs) (id : LinkId) (low : id.tei < 127) where
+  -- ---- The other side, after a deed of one.
+
+  network_beside : (v : SideView User) (i : Interface) (view : View) (w : World) → Projects (user_behaviour c.user) side.User id v view → Projects (network_behaviour c.network) side.Network id (by_network i) (view_of side.Network w)
+      → Projects (network_behaviour c.network) side.Network id (by_network (with_user v i)) (view_of side.Network (with_view side.User view w))
+  network_beside v i view w acted other = record {
+    link = other.link;
+    known = other.known;
+    given = other.given;
+    incoming = acted.outgoing;
+    outgoing = acted.incoming;
+  }
+
+  user_beside : (v : SideView Network) (i : Interface) (view : View) (w : World) → Projects (network_behaviour c.network) side.Network id v view → Projects (user_behaviour c.user) side.User id (by_user i) (view_of side.User w)
+      → Projects (user_behaviour c.user) side.User id (by_user (with_network v i)) (view_of side.User (with_view side.Network view w))
+  user_beside v i view w acted other = record {
+    link = other.link;
+    known = other.known;
+    given = other.given;
+    incoming = acted.outgoing;
+    outgoing = acted.incoming;
+  }
+
+  by_user_after : (v : SideView User) (i : Interface) (view : View) (w : World) → Projects (user_behaviour c.user) side.User id v view → Projects (network_behaviour c.network) side.Network id (by_network i) (view_of side.Network w)
+      → ProjectsTo c id (with_user v i) (with_view side.User view w)
+  by_user_after v i view w acted other = record { user = acted; network = network_beside v i view w acted other }
+
+  by_network_after : (v : SideView Network) (i : Interface) (view : View) (w : World) → Projects (network_behaviour c.network) side.Network id v view → Projects (user_behaviour c.user) side.User id (by_user i) (view_of side.User w)
+      → ProjectsTo c id (with_network v i) (with_view side.Network view w)
+  by_network_after v i view w acted other = record { user = user_beside v i view w acted other; network = acted }
+
+  right_of : (i : Interface) (w : World) → ProjectsTo c id i w → AreSafe w → AreExpectedWhats (told_of id i.told_to_user) → AreExpectedWhats (told_of id i.told_to_network) → IsRight id i
+  right_of i w shows safe to_user to_network = record {
+    to_network = received_as w.user.end.given _ w.user.history.acked _ _ _ shows.user.given (ap (λ k. k.acked) shows.user.known) (ap (λ k. k.received) shows.network.known)
+        (safe_is_received w.user.end.given w.user.history.sent_in w.user.history.acked w.network.history.received safe.0);
+    to_user = received_as w.network.end.given _ w.network.history.acked _ _ _ shows.network.given (ap (λ k. k.acked) shows.network.known) (ap (λ k. k.received) shows.user.known)
+        (safe_is_received w.network.end.given w.network.history.sent_in w.network.history.acked w.user.history.received safe.1);
+    reports_to_user = to_user;
+    reports_to_network = to_network;
+  }
+
+  module _ (p q : Parameters) (small_p : p.k ≤ 127) (small_q : q.k ≤ 127) where
+    -- ---- One move.
+
+    abbrev Reached : List world.Move → World
+    Reached moves = world_of.run Tagged moves (new_world p q)
+
+    -- the interface shows a world that some moves led to, and what was reported is expected
+    pub record IsReached (i : Interface) : Type 0 where
+      pub moves : List world.Move
+      pub shows : ProjectsTo c id i (Reached moves)
+      pub reports_to_user : AreExpectedWhats (told_of id i.told_to_user)
+      pub reports_to_network : AreExpectedWhats (told_of id i.told_to_network)
+
+    kept : (moves : List world.Move) → IsKeptWorld Tagged (Reached moves)
+    kept moves = run_kept Tagged moves (new_world p q) (new_world_kept Tagged p q small_p small_q)
+
+    abbrev More : List world.Move → Side → world.Deed → List world.Move
+    More moves who deed = moves ++ record { side = who; deed = deed } ∷ []
+
+    more_is : (moves : List world.Move) (who : Side) (deed : world.Deed) (turn : world.Turn) → world.acts Tagged who deed (view_of who (Reached moves)) ≡ Ok turn
+        → with_view who turn.view (Reached moves) ≡ Reached (More moves who deed)
+    more_is moves who deed turn is = sym (run_more moves (record { side = who; deed = deed }) (new_world p q) ∙ after_move who deed (Reached moves) turn is)
+
+    -- what one move more tells of a link is expected
+    tells_expected : (moves : List world.Move) (who : Side) (deed : world.Deed) (turn : world.Turn) (octets : List ℕ) (before now : List What) → world.acts Tagged who deed (view_of who (Reached moves)) ≡ Ok turn
+        → now ≡ before ++ filter_map (what_of octets) turn.outs → AreExpectedWhats before → AreExpectedWhats now
+    tells_expected moves who deed turn octets before now is tells h =
+        let all = every_run_reports Tagged p q small_p small_q (More moves who deed) in
+        let outs = outs_are_expected who deed (Reached moves) turn is (last_is_expected moves (record { side = who; deed = deed }) (new_world p q) all) in
+        subst AreExpectedWhats (sym tells) (expected_both before (filter_map (what_of octets) turn.outs) h (told_is_expected octets turn.outs outs))
+
+    one_move : (i : Interface) (who : Side) (deed : Deed) → IsTimelyMove id who deed i → IsMoveGivingTeiOnce c id who deed i → IsReached i → IsReached (side_does c who deed i)
+    one_move i side.User deed timely stays r =
+        let w = Reached r.moves in
+        let v = does (user_behaviour c.user) deed (by_user i) in
+        elim (each_deed User (user_behaviour c.user) side.User id (of_user c.user id low) (by_user i) (view_of side.User w) deed timely stays r.shows.user (view_of_kept Tagged side.User w (kept r.moves))) [
+          | inl n ↦ record {
+            moves = r.moves;
+            shows = by_user_after v i (view_of side.User w) w n.shows r.shows.network;
+            reports_to_user = n.expected r.reports_to_user;
+            reports_to_network = r.reports_to_network;
+          }
+          | inr m ↦ record {
+            moves = More r.moves side.User m.deed;
+            shows = subst (ProjectsTo c id (with_user v i)) (more_is r.moves side.User m.deed m.turn m.is) (by_user_after v i m.turn.view w m.shows r.shows.network);
+            reports_to_user = tells_expected r.moves side.User m.deed m.turn m.octets (told_of id i.told_to_user) (told_of id v.told) m.is m.tells r.reports_to_user;
+            reports_to_network = r.reports_to_network;
+          }
+        ]
+    one_move i side.Network deed timely stays r =
+        let w = Reached r.moves in
+        let v = does (network_behaviour c.network) deed (by_network i) in
+        elim (each_deed Network (network_behaviour c.network) side.Network id (of_network c.network id low) (by_network i) (view_of side.Network w) deed timely stays r.shows.network (view_of_kept Tagged side.Network w (kept r.moves))) [
+          | inl n ↦ record {
+            moves = r.moves;
+            shows = by_network_after v i (view_of side.Network w) w n.shows r.shows.user;
+            reports_to_user = r.reports_to_user;
+            reports_to_network = n.expected r.reports_to_network;
+          }
+          | inr m ↦ record {
+            moves = More r.moves side.Network m.deed;
+            shows = subst (ProjectsTo c id (with_network v i)) (more_is r.moves side.Network m.deed m.turn m.is) (by_network_after v i m.turn.view w m.shows r.shows.user);
+            reports_to_user = r.reports_to_user;
+            reports_to_network = tells_expected r.moves side.Network m.deed m.turn m.octets (told_of id i.told_to_network) (told_of id v.told) m.is m.tells r.reports_to_network;
+          }
+        ]
+
+    -- ---- Every run.
+
+    all_moves : (i : Interface) (moves : List Move) → AreTimely c id moves i → GiveTeiOnce c id moves i → IsReached i → IsReached (run c moves i)
+    all_moves i [] timely stays r = r
+    all_moves i (move ∷ moves) timely stays r = all_moves (happens c move i) moves timely.1 stays.1 (one_move i move.side move.deed timely.0 stays.0 r)
+
+    -- the link is new on both sides, there or not there yet, and no octets for it are on their way
+    begins : (i : Interface) → IsNew (fresh_link c.user id) i.user.served.links id p
+        → IsNew (fresh_link c.network id) i.network.served.links id q
+        → those_for side.Network id i.to_user ≡ [] → those_for side.User id i.to_network ≡ [] → IsReached (from_here i)
+    begins i of_u of_n no_to_user no_to_network = record {
+      moves = [];
+      shows = record {
+        user = record { link = new_shows _ _ id p of_u; incoming = no_to_user; outgoing = no_to_network; known = refl; given = refl };
+        network = record { link = new_shows _ _ id q of_n; incoming = no_to_network; outgoing = no_to_user; known = refl; given = refl };
+      };
+      reports_to_user = tt;
+      reports_to_network = tt;
+    }
+
+    pub link_safe_as : (i : Interface) → IsNew (fresh_link c.user id) i.user.served.links id p
+        → IsNew (fresh_link c.network id) i.network.served.links id q
+        → those_for side.Network id i.to_user ≡ [] → those_for side.User id i.to_network ≡ [] → (moves : List Move) → KeepPremises c id moves (from_here i) → IsSafeAt c id (run c moves (from_here i))
+    link_safe_as i of_u of_n no_to_user no_to_network moves premises =
+        let r = all_moves (from_here i) moves premises.0 premises.1 (begins i of_u of_n no_to_user no_to_network) in
+        let safe = every_run_safe Tagged p q small_p small_q r.moves in
+        record { user = p; network = q; moves = r.moves; shows = r.shows; safe = safe; right = right_of (run c moves (from_here i)) (Reached r.moves) r.shows safe r.reports_to_user r.reports_to_network }
+
+    pub link_safe_from : (i : Interface) (m n : Lengths) → i.user.served.links id ≡ Some (new_linked p m) → i.network.served.links id ≡ Some (new_linked q n)
+        → those_for side.Network id i.to_user ≡ [] → those_for side.User id i.to_network ≡ [] → (moves : List Move) → KeepPremises c id moves (from_here i) → IsSafeAt c id (run c moves (from_here i))
+    link_safe_from i m n of_u of_n no_to_user no_to_network moves premises = link_safe_as i
+        (inl (record { linked = new_linked p m; there = of_u; end = refl; timed = new_is_timed p m }))
+        (inl (record { linked = new_linked q n; there = of_n; end = refl; timed = new_is_timed q n }))
+        no_to_user no_to_network moves premises
+
+    pub link_safe : (user : User) (network : Network) (m n : Lengths) → user.served.links id ≡ Some (new_linked p m) → network.served.links id ≡ Some (new_linked q n)
+        → (moves : List Move) → KeepPremises c id moves (new_interface user network) → IsSafeAt c id (run c moves (new_interface user network))
+    link_safe user network m n of_u of_n moves premises = link_safe_from (new_interface user network) m n of_u of_n refl refl moves premises

@@ -1,0 +1,35 @@
+-- How the calls of a side in code are deeds.
+use Rattle.std.specs.Prelude.{◌≡◌, ℕ, ◌++◌, Result, Ok, Err, ⊤}
+use Rattle.lapd_sides_links.specs.declared.config.Config.{Config}
+use Rattle.lapd_sides_links.specs.Effects.{Effects}
+use Rattle.lapd_sides.specs.declared.net_side.NetSide.{NetSide}
+use Rattle.lapd_sides.specs.declared.user_side.UserSide.{UserSide}
+use Rattle.lapd_sides.specs.Network.{Network}
+use Rattle.lapd_sides.specs.ShowsNetwork.{ShowNetwork}
+use Rattle.lapd_sides.specs.ShowsUser.{ShowUser}
+use Rattle.lapd_sides.specs.User.{User}
+use Rattle.lapd_sides_laws.specs.Interface.{network_behaviour, user_behaviour}
+use Rattle.lapd_sides_laws.specs.SideView.{Behaviour, Deed, SideView, Take, Lose, does}
+
+-- What a deed sent and told, all of it, is what a call put here.
+pub record Puts {S : Type 0} (w : Behaviour S) (acts : Effects) (deed : Deed) (v : SideView S) :
+    Type 0 where
+  pub sent : (does w deed v).outgoing ≡ v.outgoing ++ acts.frames
+  pub told : (does w deed v).told ≡ v.told ++ acts.primitives
+
+-- The side in code shows the side after the deed, and what the call put is what the deed sent and told.
+pub record SideDoes {C S : Type 0} (Show : C → Config → S → Type 0) (w : Config → Behaviour S)
+    (code : C) (config : Config) (acts : Effects) (deed : Deed) (v : SideView S) : Type 0 where
+  pub shown : Show code config (does (w config) deed v).now
+  pub puts : Puts (w config) acts deed v
+
+abbrev pub NetworkDoes : NetSide → Config → Effects → Deed → SideView Network → Type 0
+NetworkDoes = SideDoes ShowNetwork network_behaviour
+
+abbrev pub UserDoes : UserSide → Config → Effects → Deed → SideView User → Type 0
+UserDoes = SideDoes ShowUser user_behaviour
+
+-- octets that are taken; those for which there was no memory, and that are not taken again, are lost
+abbrev pub take_of : {E : Type 0} → Result ⊤ E → ℕ → Deed
+take_of (Ok done) now = Take now
+take_of (Err fault) now = Lose 0

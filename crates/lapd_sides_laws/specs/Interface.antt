@@ -1,0 +1,141 @@
+-- An interface: a user side, a network side, and the octets on their way between them, in the order in which they were sent.
+use Rattle.std.specs.Prelude.{ℕ, List, [], ◌∷◌}
+use Rattle.lapd_frame.specs.declared.Side.{Side}
+use Rattle.lapd_frame.specs.declared.Side.TheVariants as side
+use Rattle.lapd_tei.specs.declared.phase.Phase.{Phase}
+use Rattle.lapd_tei.specs.declared.phase.Phase.TheVariants.{Unassigned, Awaiting, Assigned}
+use Rattle.lapd_table.specs.declared.link_id.LinkId.{LinkId}
+use Rattle.lapd_sides_links.specs.declared.config.Config.{Config}
+use Rattle.lapd_sides_links.specs.declared.primitive.Primitive.{Primitive}
+use Rattle.lapd_sides_links.specs.Links.{Linked, of_sapi, new_linked, parameters_for}
+use Rattle.lapd_sides.specs.Network.{Network, network_takes, network_expires, network_requested}
+use Rattle.lapd_sides.specs.User.{User, user_takes, user_expires, user_requested}
+use Rattle.lapd_sides_laws.specs.SideView.{Behaviour, SideView, Deed, does}
+
+-- ---- The two sides.
+
+-- a link as it comes with its TEI
+abbrev pub fresh_link : Config → LinkId → Linked
+fresh_link config id = new_linked (parameters_for config id.sapi) config.durations
+
+-- a request of the user side means the link of the terminal's own TEI
+abbrev pub own_link : Phase → LinkId → LinkId
+own_link (Assigned by own) id = of_sapi id.sapi own
+own_link Unassigned id = id
+own_link (Awaiting purpose count ri) id = id
+
+abbrev pub network_behaviour : Config → Behaviour Network
+network_behaviour config = record {
+  takes = network_takes config;
+  expires = network_expires config;
+  requested = network_requested config;
+  means = λ s id. id;
+  served = λ s. s.served;
+  fresh = fresh_link config;
+}
+
+abbrev pub user_behaviour : Config → Behaviour User
+user_behaviour config = record {
+  takes = user_takes config;
+  expires = user_expires config;
+  requested = user_requested config;
+  means = λ s id. own_link s.terminal id;
+  served = λ s. s.served;
+  fresh = fresh_link config;
+}
+
+-- with what both were made
+pub record Configs : Type 0 where
+  pub user : Config
+  pub network : Config
+
+-- ---- Both, and what is between them.
+
+pub record Interface : Type 0 where
+  pub user : User
+  pub network : Network
+  pub told_to_user : List Primitive
+  pub told_to_network : List Primitive
+  pub given_to_user : List (LinkId × List ℕ)
+  pub given_to_network : List (LinkId × List ℕ)
+  pub to_user : List (List ℕ)
+  pub to_network : List (List ℕ)
+
+-- as it begins
+abbrev pub new_interface : User → Network → Interface
+new_interface user network = record {
+  user = user;
+  network = network;
+  told_to_user = [];
+  told_to_network = [];
+  given_to_user = [];
+  given_to_network = [];
+  to_user = [];
+  to_network = [];
+}
+
+-- the same, where what is told and given is written down from this moment on
+abbrev pub from_here : Interface → Interface
+from_here i = record i {
+  told_to_user = [];
+  told_to_network = [];
+  given_to_user = [];
+  given_to_network = [];
+}
+
+-- what each side sees of it, and the interface with that changed
+abbrev pub by_user : Interface → SideView User
+by_user i = record {
+  now = i.user;
+  told = i.told_to_user;
+  given = i.given_to_user;
+  incoming = i.to_user;
+  outgoing = i.to_network;
+}
+
+abbrev pub by_network : Interface → SideView Network
+by_network i = record {
+  now = i.network;
+  told = i.told_to_network;
+  given = i.given_to_network;
+  incoming = i.to_network;
+  outgoing = i.to_user;
+}
+
+abbrev pub with_user : SideView User → Interface → Interface
+with_user v i = record i {
+  user = v.now;
+  told_to_user = v.told;
+  given_to_user = v.given;
+  to_user = v.incoming;
+  to_network = v.outgoing;
+}
+
+abbrev pub with_network : SideView Network → Interface → Interface
+with_network v i = record i {
+  network = v.now;
+  told_to_network = v.told;
+  given_to_network = v.given;
+  to_network = v.incoming;
+  to_user = v.outgoing;
+}
+
+-- ---- Moves.
+
+-- a deed of one of the two sides
+pub record Move : Type 0 where
+  pub side : Side
+  pub deed : Deed
+
+abbrev pub side_does : Configs → Side → Deed → Interface → Interface
+side_does c side.User deed i = with_user (does (user_behaviour c.user) deed (by_user i)) i
+side_does c side.Network deed i =
+    with_network (does (network_behaviour c.network) deed (by_network i)) i
+
+abbrev pub happens : Configs → Move → Interface → Interface
+happens c move i = side_does c move.side move.deed i
+
+-- a list of moves, one after another
+abbrev pub run : Configs → List Move → Interface → Interface
+run c [] i = i
+run c (move ∷ moves) i = run c moves (happens c move i)

@@ -1,0 +1,96 @@
+-- The premises of one link: its T200 is timely, and its TEI is given once.
+use Rattle.std.specs.Prelude.{◌≡◌, ℕ, ◌==◌, ◌||◌, Bool, true, false, List, [], ◌∷◌, Some, is_some}
+use Rattle.std.specs.List.{list_any}
+use Rattle.lapd_timers.specs.declared.timer.Timer.TheVariants.{T200}
+use Rattle.lapd_frame.specs.declared.Side.{Side}
+use Rattle.lapd_frame.specs.declared.Side.TheVariants as side
+use Rattle.lapd_frame.specs.Address.{other_side}
+use Rattle.lapd_tei.specs.declared.out.TeiOut.TheVariants as outcome
+use Rattle.lapd_table.specs.declared.link_id.LinkId.{LinkId}
+use Rattle.lapd_sides_links.specs.declared.primitive.Primitive.{Primitive}
+use Rattle.lapd_sides_links.specs.declared.primitive.Primitive.TheVariants.{Management}
+use Rattle.lapd_sides_links.specs.Effects.{Effects}
+use Rattle.lapd_sides_links.specs.Links.{Links}
+use Rattle.lapd_sides_laws.specs.Addressed.{is_poll_for, is_final_for}
+use Rattle.lapd_sides_laws.specs.Interface.{Configs, Interface, Move, user_behaviour, network_behaviour, by_user, by_network, happens}
+use Rattle.lapd_sides_laws.specs.SideView.{Behaviour, SideView, Deed, Expire, reaction}
+
+-- ---- Of one deed.
+
+-- T200 of the link does not expire while a command with P=1 of this side, or a response with F=1 to it, is on the line.
+abbrev pub IsTimely : {S : Type 0} → Side → LinkId → Deed → SideView S → Type 0
+IsTimely side id (Expire timer of now) v = timer ≡ T200 → of ≡ Some id
+    → (list_any (is_poll_for side id) v.outgoing ≡ false)
+    × (list_any (is_final_for (other_side side) id) v.incoming ≡ false)
+IsTimely side id deed v = Unit {0}
+
+-- it is told that the TEI is freed, removed or given up
+abbrev pub tells_removal : ℕ → Primitive → Bool
+tells_removal tei (Management (outcome.Free t)) = t == tei
+tells_removal tei (Management (outcome.Doubled t)) = t == tei
+tells_removal tei (Management (outcome.Gone t)) = t == tei
+tells_removal tei other = false
+
+-- it is told that the TEI is given or got
+abbrev pub tells_assignment : ℕ → Primitive → Bool
+tells_assignment tei (Management (outcome.Given t)) = t == tei
+tells_assignment tei (Management (outcome.Got t)) = t == tei
+tells_assignment tei other = false
+
+-- The TEI is not given where the link is there, nor where the TEI was taken away before.
+abbrev pub IsGivenOnce : LinkId → Links → Bool → Effects → Type 0
+IsGivenOnce id links removed effects = (is_some (links id) || removed) ≡ true
+    → list_any (tells_assignment id.tei) effects.primitives ≡ false
+
+abbrev pub GivesTeiOnce : {S : Type 0} → Behaviour S → LinkId → Deed → SideView S → Type 0
+GivesTeiOnce w id deed v = IsGivenOnce id (w.served v.now).links
+    (list_any (tells_removal id.tei) v.told) (reaction w deed v).effects
+
+-- It is not given where it was taken away before. Of sides as they are made that is the same: they give no TEI whose links are
+-- there.
+abbrev pub IsNotGivenAgain : LinkId → Bool → Effects → Type 0
+IsNotGivenAgain id removed effects = removed ≡ true
+    → list_any (tells_assignment id.tei) effects.primitives ≡ false
+
+abbrev pub LeavesTeiTaken : {S : Type 0} → Behaviour S → LinkId → Deed → SideView S → Type 0
+LeavesTeiTaken w id deed v =
+    IsNotGivenAgain id (list_any (tells_removal id.tei) v.told) (reaction w deed v).effects
+
+-- ---- Of all moves of a run.
+
+abbrev pub IsTimelyMove : LinkId → Side → Deed → Interface → Type 0
+IsTimelyMove id side.User deed i = IsTimely side.User id deed (by_user i)
+IsTimelyMove id side.Network deed i = IsTimely side.Network id deed (by_network i)
+
+abbrev pub IsMoveGivingTeiOnce : Configs → LinkId → Side → Deed → Interface → Type 0
+IsMoveGivingTeiOnce c id side.User deed i = GivesTeiOnce (user_behaviour c.user) id deed (by_user i)
+IsMoveGivingTeiOnce c id side.Network deed i =
+    GivesTeiOnce (network_behaviour c.network) id deed (by_network i)
+
+abbrev pub IsMoveLeavingTeiTaken : Configs → LinkId → Side → Deed → Interface → Type 0
+IsMoveLeavingTeiTaken c id side.User deed i =
+    LeavesTeiTaken (user_behaviour c.user) id deed (by_user i)
+IsMoveLeavingTeiTaken c id side.Network deed i =
+    LeavesTeiTaken (network_behaviour c.network) id deed (by_network i)
+
+abbrev pub AreTimely : Configs → LinkId → List Move → Interface → Type 0
+AreTimely c id [] i = Unit {0}
+AreTimely c id (move ∷ moves) i = IsTimelyMove id move.side move.deed i
+    × AreTimely c id moves (happens c move i)
+
+abbrev pub GiveTeiOnce : Configs → LinkId → List Move → Interface → Type 0
+GiveTeiOnce c id [] i = Unit {0}
+GiveTeiOnce c id (move ∷ moves) i = IsMoveGivingTeiOnce c id move.side move.deed i
+    × GiveTeiOnce c id moves (happens c move i)
+
+abbrev pub LeaveTeiTaken : Configs → LinkId → List Move → Interface → Type 0
+LeaveTeiTaken c id [] i = Unit {0}
+LeaveTeiTaken c id (move ∷ moves) i = IsMoveLeavingTeiTaken c id move.side move.deed i
+    × LeaveTeiTaken c id moves (happens c move i)
+
+-- both premises, and both of sides as they are made
+abbrev pub KeepPremises : Configs → LinkId → List Move → Interface → Type 0
+KeepPremises c id moves i = AreTimely c id moves i × GiveTeiOnce c id moves i
+
+abbrev pub KeepPremisesAsMade : Configs → LinkId → List Move → Interface → Type 0
+KeepPremisesAsMade c id moves i = AreTimely c id moves i × LeaveTeiTaken c id moves i

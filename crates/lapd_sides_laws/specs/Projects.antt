@@ -1,0 +1,96 @@
+-- How what a side sees shows, for one link, what a side of the world of two ends sees; and that the link is safe.
+use Rattle.std.specs.Prelude.{◌≡◌, ◌⊎◌, true, List, map, Some, None, is_some}
+use Rattle.std.specs.List.{list_any}
+use Rattle.lapd_timers.specs.declared.timer.Timer.TheVariants.{T200, T203}
+use Rattle.lapd_timers.specs.Due.{deadline_of}
+use Rattle.lapd_frame.specs.declared.Side.{Side}
+use Rattle.lapd_frame.specs.declared.Side.TheVariants as side
+use Rattle.lapd_frame.specs.Address.{other_side}
+use Rattle.lapd_mod128.specs.Counting.{Tagged}
+use Rattle.lapd_link_definition.specs.End.{End}
+use Rattle.lapd_link_definition.specs.Parameters.{Parameters}
+use Rattle.lapd_pair_laws.specs.Histories.{History, Receipt}
+use Rattle.lapd_pair_laws.specs.Move as world
+use Rattle.lapd_pair_laws.specs.Safe.{AreSafe}
+use Rattle.lapd_pair_laws.specs.World.{World, view_of, new_world, run}
+use Rattle.lapd_table.specs.declared.link_id.LinkId.{LinkId}
+use Rattle.lapd_sides_links.specs.declared.primitive.Primitive.{Primitive}
+use Rattle.lapd_sides_links.specs.Links.{Links, Linked}
+use Rattle.lapd_sides_laws.specs.Addressed.{those_for, all_spelled}
+use Rattle.lapd_sides_laws.specs.Interface.{Configs, Interface, user_behaviour, network_behaviour, by_user, by_network}
+use Rattle.lapd_sides_laws.specs.Premises.{tells_removal}
+use Rattle.lapd_sides_laws.specs.SideView.{Behaviour, SideView}
+use Rattle.lapd_sides_laws.specs.Told.{Known, told_of, given_to, known_of, IsReceived, AreExpectedWhats}
+
+-- T200 and T203 of a link run only where its end says so
+pub record IsTimed (l : Linked) : Type 0 where
+  pub t200 : is_some (deadline_of T200 l.timers) ≡ true → l.end.t200 ≡ true
+  pub t203 : is_some (deadline_of T203 l.timers) ≡ true → l.end.t203 ≡ true
+
+-- what is known by a history
+abbrev pub known_by : History → Known
+known_by h = record {
+  received = map (λ (message : Receipt). message.octets) h.received;
+  units = h.units;
+  acked = h.acked;
+  dropped = h.dropped;
+  passed = h.passed;
+}
+
+-- a link is there, and its end is this one
+pub record HasLink (links : Links) (id : LinkId) (e : End) : Type 0 where
+  pub linked : Linked
+  pub there : links id ≡ Some linked
+  pub end : linked.end ≡ e
+  pub timed : IsTimed linked
+
+-- it is not there yet, and this is the end that it will have
+pub record AwaitsLink (fresh : Linked) (links : Links) (id : LinkId) (e : End) : Type 0 where
+  pub absent : links id ≡ None
+  pub end : e ≡ fresh.end
+
+-- it is there no more, since its TEI was taken away
+pub record LacksLink (links : Links) (id : LinkId) (told : List Primitive) : Type 0 where
+  pub absent : links id ≡ None
+  pub removed : list_any (tells_removal id.tei) told ≡ true
+
+abbrev pub ShowsEnd : Linked → Links → LinkId → List Primitive → End → Type 0
+ShowsEnd fresh links id told e =
+    HasLink links id e ⊎ (AwaitsLink fresh links id e ⊎ LacksLink links id told)
+
+-- The end of the link is the world's, unless it is there no more; the octets for it are the frames on their way, spelled; and
+-- what was told of it, and given to it, is what the world wrote down.
+pub record Projects {S : Type 0} (w : Behaviour S) (side : Side) (id : LinkId) (v : SideView S)
+    (view : world.View) : Type 0 where
+  pub link : ShowsEnd (w.fresh id) (w.served v.now).links id v.told view.station.end
+  pub incoming : those_for (other_side side) id v.incoming
+      ≡ all_spelled (other_side side) id view.incoming
+  pub outgoing : those_for side id v.outgoing ≡ all_spelled side id view.outgoing
+  pub known : known_of id v.told ≡ known_by view.station.history
+  pub given : given_to id v.given ≡ view.station.end.given
+
+-- on both sides
+pub record ProjectsTo (c : Configs) (id : LinkId) (i : Interface) (w : World) : Type 0 where
+  pub user : Projects (user_behaviour c.user) side.User id (by_user i) (view_of side.User w)
+  pub network : Projects (network_behaviour c.network) side.Network id (by_network i)
+      (view_of side.Network w)
+
+-- What came of the link is right, said of what was told and given alone: in both directions what was received was given, in
+-- order and once each, and what counts as acknowledged was received; and no error but F, G, H and I was reported.
+pub record IsRight (id : LinkId) (i : Interface) : Type 0 where
+  pub to_network : IsReceived (given_to id i.given_to_user) (known_of id i.told_to_user).acked
+      (known_of id i.told_to_network).received
+  pub to_user : IsReceived (given_to id i.given_to_network) (known_of id i.told_to_network).acked
+      (known_of id i.told_to_user).received
+  pub reports_to_user : AreExpectedWhats (told_of id i.told_to_user)
+  pub reports_to_network : AreExpectedWhats (told_of id i.told_to_network)
+
+-- Some moves of the world of two ends lead from its beginning to the one that the interface shows for the link, and it is
+-- safe, in both directions; so what came of the link is right.
+pub record IsSafeAt (c : Configs) (id : LinkId) (i : Interface) : Type 0 where
+  pub user : Parameters
+  pub network : Parameters
+  pub moves : List world.Move
+  pub shows : ProjectsTo c id i (run Tagged moves (new_world user network))
+  pub safe : AreSafe (run Tagged moves (new_world user network))
+  pub right : IsRight id i
