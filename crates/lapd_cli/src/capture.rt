@@ -2,9 +2,9 @@
 
 use crate::ending::say_memory;
 use crate::job::style_of;
-use crate::reason::{KindReason, Reason};
 use lapd_cli_console::Watched;
 use lapd_cli_decode::{Capture, CaptureStop, CaptureStyle, decode_capture};
+use lapd_cli_io::{KindReason, Reason};
 use lapd_cli_options::DecodeOptions;
 use lapd_cli_script::ScriptFault;
 use std::fs;

@@ -4,10 +4,8 @@
 ghost use Rattle.std.specs.Prelude.{◌≡◌, ◌&&◌, IfNone, IfSome, if◌then◌else◌};
 ghost use Rattle.lapd_cli_script.specs.Script.{status_of as status_of_fault};
 
-use crate::lost::words_of;
-use crate::reason::{KindReason, Reason};
-use crate::taps::NoTaps;
 use lapd_cli_console::{Script, reason};
+use lapd_cli_io::{KindReason, NoTaps, Reason, words_of};
 use lapd_cli_options::{Clock, NoInvocation, WordsFault};
 use lapd_cli_script::ScriptFault;
 use std::io::{self, ErrorKind};

@@ -1,11 +1,10 @@
 //! What the program does, by the word that chose it.
 
-use crate::connection;
 use crate::ending::Stop;
 use crate::live::do_live;
-use crate::notes::Notes;
 use lapd_cli_console::Script;
 use lapd_cli_decode::{LineForm, Style, decode_good_lines, decode_lines};
+use lapd_cli_io::{Notes, connection};
 use lapd_cli_link_commands::{answer, bus, decode, loop_over, pair};
 use lapd_cli_options::{Clock, DecodeOptions, Interface, Invocation, Job, LinkEnd, Params, Side};
 use lapd_cli_script::ScriptFault;

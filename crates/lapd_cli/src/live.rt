@@ -1,23 +1,18 @@
 //! `net` and `user` with the real clock.
 
-use crate::connection;
-use crate::connections::Connections;
 use crate::ending::Stop;
 use crate::job::{SideSetup, config_of};
-use crate::notes::Notes;
 use crate::person::Speaker;
-use crate::taps::Taps;
 use lapd_cli_console::Script;
+use lapd_cli_io::{ConnectionSetup, Connections, Notes, Taps, connect_side};
 use lapd_cli_live::{
     Impaired, LiveSide, LiveStop, Printer, Style, Tapped, live_script, live_session,
 };
 use lapd_cli_options::{Interface, LiveOptions};
 use lapd_cli_script::ScriptFault;
 use lapd_sides::{Acts, Config, EitherSide, NetSide, Side, UserSide};
-use mio::net::{TcpListener, TcpStream};
 use std::alloc::AllocError;
-use std::io::{self, IsTerminal, Read, Write};
-use std::net::{self, SocketAddr};
+use std::io::{IsTerminal, Read, Write};
 use std::random::RandomSource;
 
 /// A line to the other side, which can be impaired, and whose frames are recorded.
@@ -63,12 +58,23 @@ fn tapped_line<'a>(
     seed: u64,
 ) -> Result<Line<'a>, Stop> {
     let taps = Taps::open(rt, notes, side, options.pcap, options.gsmtap).map_err(Stop::NoTaps)?;
-    match connections(rt, notes, side, setup, options) {
+    match connect_side(rt, notes, side, &connection_setup(setup, options)) {
         Ok(connections) => {
             let line = Impaired::new(rt.alloc(), connections, seed);
             Ok(Tapped::new(side, line, taps))
         }
         Err(error) => Err(Stop::NoConnection(error)),
+    }
+}
+
+/// How a side of this interface gets its connections.
+fn connection_setup<'a>(setup: &SideSetup<'a>, options: &LiveOptions<'_>) -> ConnectionSetup<'a> {
+    ConnectionSetup {
+        address: setup.address,
+        terminals: options.terminals,
+        is_primary: setup.interface.pri,
+        keep: options.keep,
+        idle_limit: options.idle_limit,
     }
 }
 
@@ -157,64 +163,4 @@ fn seed_of(rt: &HostRuntime, interface: &Interface) -> u64 {
     // Octets that the system does not draw stay 0.
     let _ = rt.fill_bytes(&mut octets);
     u64::from_be_bytes(octets)
-}
-
-/// The connections of a side, and its clock, which begins when the first of them is made.
-fn connections<'a>(
-    rt: &'a HostRuntime,
-    notes: &'a Notes<'a>,
-    side: Side,
-    setup: &SideSetup<'_>,
-    options: &LiveOptions<'_>,
-) -> io::Result<Connections<'a>> {
-    match side {
-        Side::Network => accepted(rt, notes, setup, options),
-        Side::User => made(rt, notes, setup, options),
-    }
-}
-
-/// Accepts the first connection to the address of a network side, and later ones of several terminals, or with `--keep`.
-fn accepted<'a>(
-    rt: &'a HostRuntime,
-    notes: &'a Notes<'a>,
-    setup: &SideSetup<'_>,
-    options: &LiveOptions<'_>,
-) -> io::Result<Connections<'a>> {
-    let listener = connection::listening(rt, notes, setup.address)?;
-    let (stream, peer) = connection::next(notes, &listener)?;
-    let mut connections = Connections::new(rt, notes, options.terminals, setup.interface.pri)?;
-    add(&mut connections, stream, peer)?;
-    if options.keep || 1 < options.terminals {
-        listener.set_nonblocking(true)?;
-        connections.accept_from(TcpListener::from_std(listener))?;
-    }
-    connections.limit_idle(options.idle_limit);
-    Ok(connections)
-}
-
-/// Makes the connection of a user side to its address, and makes it again with `--keep`.
-fn made<'a>(
-    rt: &'a HostRuntime,
-    notes: &'a Notes<'a>,
-    setup: &SideSetup<'_>,
-    options: &LiveOptions<'_>,
-) -> io::Result<Connections<'a>> {
-    let stream = connection::made(rt, notes, setup.address)?;
-    let peer = stream.peer_addr()?;
-    let mut connections = Connections::new(rt, notes, 1, setup.interface.pri)?;
-    add(&mut connections, stream, peer)?;
-    if options.keep {
-        connections.dial(peer);
-    }
-    Ok(connections)
-}
-
-/// Adds a connection, which from now on does not wait in its calls.
-fn add(
-    connections: &mut Connections<'_>,
-    stream: net::TcpStream,
-    peer: SocketAddr,
-) -> io::Result<()> {
-    stream.set_nonblocking(true)?;
-    connections.add(TcpStream::from_std(stream), peer)
 }

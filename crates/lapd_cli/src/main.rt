@@ -9,25 +9,11 @@
 #![tactic(auto)]
 
 mod capture;
-mod clock;
-mod connection;
-mod connections;
-mod dialler;
-mod discards;
-mod door;
 mod ending;
-mod frame_stream;
-mod further;
 mod greeting;
-mod input;
 mod job;
 mod live;
-mod lost;
-mod notes;
-mod peers;
 mod person;
-mod reason;
-mod taps;
 
 use capture::do_capture;
 use ending::{Ending, Stop, say_ending, say_memory, say_no_invocation, say_words_fault};

@@ -1,7 +1,7 @@
 //! A person at the terminal of a live session, who is spoken to by notes.
 
-use crate::notes::Notes;
 use lapd_cli_console::{Script, put_help, reason, tidied};
+use lapd_cli_io::Notes;
 use lapd_cli_live::Person;
 use std::alloc::{AllocError, Global};
 

@@ -2,7 +2,7 @@
 use Rattle.std.proofs.Common.{◌≡◌, ℕ, List, [], ◌∷◌, ◌++◌, Option, None, Some, refl, sym, ap, subst, ◌∙◌, append_assoc, append-nil, inl, inr}
 use Rattle.std.specs.Prelude.{◌⊎◌}
 use Rattle.lapd_cli_live.specs.declared.service.Until.{Until}
-use Rattle.lapd_cli_live.specs.Deeds.{Adds, Comes, Deed, FindsNone, Reads, Sends, Waits}
+use Rattle.lapd_cli_outside.specs.Deeds.{Adds, Comes, Deed, FindsNone, Reads, Sends, Waits}
 use Rattle.lapd_cli_live.specs.Log.{LiveState, deeds_in, moment_of}
 use Rattle.lapd_cli_live.specs.Steps.{CatchesUp, LooksInVain, Receives, TakesAll, TakesMost}
 use Rattle.lapd_cli_live.specs.PromptLine.{Arrival, ExpiresInTime, HasAllThatArrived, IsPrompt, arrived_by, frames_received}

@@ -1,9 +1,6 @@
-pub mod Deeds
-pub mod Passed
 pub mod Printers
 pub mod Log
 pub mod Steps
 pub mod WaitingLines
 pub mod InTime
 pub mod StateAnswers
-pub mod SentLater

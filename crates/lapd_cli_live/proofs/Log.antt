@@ -14,15 +14,15 @@ use Rattle.lapd_sides_links.specs.declared.primitive.Primitive.{Primitive}
 use Rattle.lapd_sides_links.specs.Effects.{Effects}
 use Rattle.lapd_sides.specs.declared.either_side.EitherSide.{EitherSide}
 use Rattle.lapd_sides.specs.Either.{side_of}
-use Rattle.lapd_cli_live.specs.declared.outside.Sending.{Sending}
-use Rattle.lapd_cli_live.specs.declared.outside.Sending.TheVariants.{Sent as WasSent, Lost as WasLost}
+use Rattle.lapd_cli_outside.specs.declared.outside.Sending.{Sending}
+use Rattle.lapd_cli_outside.specs.declared.outside.Sending.TheVariants.{Sent as WasSent, Lost as WasLost}
 use Rattle.lapd_cli_live.specs.declared.style.Style.{Style}
 use Rattle.lapd_cli_live.specs.declared.printer.Printer.{Printer}
-use Rattle.lapd_cli_live.specs.Deeds.{Adds, Deed, Sends, SendsFront, all_sent}
+use Rattle.lapd_cli_outside.specs.Deeds.{Adds, Deed, Sends, SendsFront, all_sent}
 use Rattle.lapd_cli_live.specs.Entries.{Entry, Outgoing, Prints, Sent, Shown, Told, counted, entries_text, entry_text, is_awaited, moment_after, octets_of, outgoing_entry, sent_entry}
 use Rattle.lapd_cli_live.specs.Printers.{PrintsOn, SendsAll, shown}
 use Rattle.lapd_cli_live.specs.Log.{Around, CarriesOut, CarriesOutAll, Chain, Happen, HappenBeside, IsCarriedOut, LiveEvent, LiveState, Shows, deeds_in, entries_in, moment_of, sending_events, told_event}
-use Rattle.lapd_cli_live.proofs.Deeds.{adds_both, adds_none}
+use Rattle.lapd_cli_outside.proofs.Deeds.{adds_both, adds_none}
 
 -- ---- Events.
 

@@ -9,16 +9,16 @@ use Rattle.lapd_sides_links.specs.declared.side_fault.SideKind.TheVariants.{NoLi
 use Rattle.lapd_sides.specs.declared.either_side.EitherSide.{EitherSide}
 use Rattle.lapd_sides.specs.Either.{side_of}
 use Rattle.lapd_cli_live_text.specs.AwaitedText.{shown_words}
-use Rattle.lapd_cli_live.specs.declared.outside.Lines.{Lines}
+use Rattle.lapd_cli_outside.specs.declared.outside.Lines.{Lines}
 use Rattle.lapd_cli_live.specs.WaitingLines.{Expects}
 use Rattle.lapd_cli_live.specs.LineDone.{MissesLine}
 use Rattle.lapd_cli_live.specs.declared.printer.Printer.{Printer}
-use Rattle.lapd_cli_live.specs.Deeds.{Deed}
+use Rattle.lapd_cli_outside.specs.Deeds.{Deed}
 use Rattle.lapd_cli_live.specs.Entries.{Named, Worded, refused, stats_entries}
 use Rattle.lapd_cli_live.specs.Printers.{PrintsOn}
 use Rattle.lapd_cli_live.specs.Log.{HappenBeside, LiveState, Shows}
 use Rattle.lapd_cli_live.specs.StateLines.{PutsLink, PutsNoLink, PutsState, RefusesLink, StateEach, line_unless_empty, management_events, shown_event}
-use Rattle.lapd_cli_live.proofs.Deeds.{adds_none}
+use Rattle.lapd_cli_outside.proofs.Deeds.{adds_none}
 use Rattle.lapd_cli_live.proofs.Log.{live}
 
 pub puts_link : (id : LinkId) (found : Bool) (a b : LiveState) → found ≡ true → PutsState id found a b → PutsLink id a b

@@ -16,13 +16,13 @@ use Rattle.lapd_cli_live.specs.declared.service.Until.{Until}
 use Rattle.lapd_cli_live.specs.declared.service.Until.TheVariants as until
 use Rattle.lapd_cli_live.specs.declared.service.Came.{Came}
 use Rattle.lapd_cli_live.specs.declared.service.Came.TheVariants as came
-use Rattle.lapd_cli_live.specs.declared.outside.Woken.{Woken}
-use Rattle.lapd_cli_live.specs.Deeds.{Adds, Comes, Deed, Waits}
+use Rattle.lapd_cli_outside.specs.declared.outside.Woken.{Woken}
+use Rattle.lapd_cli_outside.specs.Deeds.{Adds, Comes, Deed, Waits}
 use Rattle.lapd_cli_live.specs.Entries.{Entry, Prints, Received, moment_after, refused}
 use Rattle.lapd_cli_live.specs.Printers.{PrintsOn, shown}
 use Rattle.lapd_cli_live.specs.Log.{Around, CarriesOut, CarriesOutAll, Chain, Happen, HappenBeside, IsCarriedOut, LiveEvent, LiveState, ReadsClock, Shows, entries_in, deeds_in, is_found, moment_of, read_at}
 use Rattle.lapd_cli_live.specs.Steps.{CatchesUp, DoesDue, EndsByFrame, GoesOn, HasCome, HasReceived, IsAsked, IsServed, Looks, LooksInVain, Receives, Step, TakesAll, TakesAndGoesOn, TakesAt, TakesFrame, TakesMost, WaitsFor, ended_by, most_frames, refusal_events}
-use Rattle.lapd_cli_live.proofs.Deeds.{adds_none, adds_same}
+use Rattle.lapd_cli_outside.proofs.Deeds.{adds_none, adds_same}
 use Rattle.lapd_cli_live.proofs.Log.{chain_more, happen_both, happen_none, live, prints_none}
 
 true_is_not_false : true ≡ false → ⊥

@@ -6,7 +6,7 @@ use Rattle.lapd_sides.specs.declared.either_side.EitherSide.{EitherSide}
 use Rattle.lapd_cli_live.specs.declared.printer.Printer.{Printer}
 use Rattle.lapd_cli_live.specs.declared.service.Came.{Came}
 use Rattle.lapd_cli_live.specs.declared.service.Came.TheVariants as came
-use Rattle.lapd_cli_live.specs.Deeds.{Deed}
+use Rattle.lapd_cli_outside.specs.Deeds.{Deed}
 use Rattle.lapd_cli_live.specs.Entries.{Shown}
 use Rattle.lapd_cli_live.specs.Printers.{Awaits, shown}
 use Rattle.lapd_cli_live.specs.Log.{HappenBeside, LiveState}

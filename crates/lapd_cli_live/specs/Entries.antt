@@ -17,8 +17,8 @@ use Rattle.lapd_cli_side_lines.specs.SideTexts.{frame_text_line, primitive_line}
 use Rattle.lapd_cli_live_text.specs.LineObjects.{words_object}
 use Rattle.lapd_cli_live_text.specs.declared.stats.Stats.{Stats}
 use Rattle.lapd_cli_live_text.specs.Stats.{received_counted, received_words, reports_words, sent_counted, sent_words, told_counted}
-use Rattle.lapd_cli_live.specs.declared.outside.Sending.{Sending}
-use Rattle.lapd_cli_live.specs.declared.outside.Sending.TheVariants as sending
+use Rattle.lapd_cli_outside.specs.declared.outside.Sending.{Sending}
+use Rattle.lapd_cli_outside.specs.declared.outside.Sending.TheVariants as sending
 use Rattle.lapd_cli_live.specs.declared.style.Style.{Style}
 
 -- Lines are of a moment from here on. A frame is received, sent, or lost on purpose. Layer 3 is told something. A line consists of

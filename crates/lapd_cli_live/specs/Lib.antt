@@ -1,4 +1,3 @@
-pub mod Deeds
 pub mod Entries
 pub mod Printers
 pub mod Log
@@ -7,6 +6,4 @@ pub mod WaitingLines
 pub mod StateLines
 pub mod LineDone
 pub mod PromptLine
-pub mod Passed
 pub mod Typed
-pub mod Delays

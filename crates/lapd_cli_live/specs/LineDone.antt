@@ -5,7 +5,7 @@ use Rattle.lapd_cli_live_text.specs.declared.words.LiveLine.TheVariants as line
 use Rattle.lapd_sides.specs.Either.{side_of}
 use Rattle.lapd_cli_live_text.specs.LiveWishes.{live_wish_of, live_wish_of_line}
 use Rattle.lapd_cli_live_text.specs.AwaitedText.{shown_words}
-use Rattle.lapd_cli_live.specs.declared.outside.Lines.{Lines}
+use Rattle.lapd_cli_outside.specs.declared.outside.Lines.{Lines}
 use Rattle.lapd_cli_live.specs.Entries.{Named}
 use Rattle.lapd_cli_live.specs.Log.{HappenBeside, LiveState, Shows}
 use Rattle.lapd_cli_live.specs.Steps.{IsAsked}

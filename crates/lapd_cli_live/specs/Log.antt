@@ -6,7 +6,7 @@ use Rattle.lapd_sides.specs.declared.either_side.EitherSide.{EitherSide}
 use Rattle.lapd_sides.specs.Either.{side_of}
 use Rattle.lapd_cli_live.specs.declared.style.Style.{Style}
 use Rattle.lapd_cli_live.specs.declared.live_side.LiveSide.{LiveSide}
-use Rattle.lapd_cli_live.specs.Deeds.{Adds, Comes, Deed, FindsNone, Reads, Sends}
+use Rattle.lapd_cli_outside.specs.Deeds.{Adds, Comes, Deed, FindsNone, Reads, Sends}
 use Rattle.lapd_cli_live.specs.Entries.{Dated, Entry, Outgoing, Prints, Received, Shown, Told, octets_of, outgoing_entry}
 use Rattle.lapd_cli_live.specs.Printers.{shown}
 

@@ -3,7 +3,7 @@ use Rattle.std.specs.Prelude.{◌≡◌, ℕ, ◌||◌, false, List, ◌++◌, m
 use Rattle.std.specs.Io.KnownBytes.{append_known}
 use Rattle.lapd_frame.specs.declared.Side.{Side}
 use Rattle.lapd_cli_live.specs.declared.printer.Printer.{Printer}
-use Rattle.lapd_cli_live.specs.Deeds.{Adds, Deed, all_sent}
+use Rattle.lapd_cli_outside.specs.Deeds.{Adds, Deed, all_sent}
 use Rattle.lapd_cli_live.specs.Entries.{Entry, Outgoing, Prints, Shown, begins_so, octets_of, outgoing_entry, printed_line}
 
 -- what was printed is what the writer has taken, and the text that it is still to be given

@@ -1,7 +1,7 @@
 -- A line that hands over what has arrived, and what a step knows when its timers expire.
 use Rattle.std.specs.Prelude.{◌≡◌, ◌⊎◌, ℕ, nat_le, List, [], ◌∷◌, ◌++◌, filter, map, Option, Some}
 use Rattle.lapd_cli_live.specs.declared.service.Until.{Until}
-use Rattle.lapd_cli_live.specs.Deeds.{Comes, Deed, FindsNone, Reads, Sends, Waits}
+use Rattle.lapd_cli_outside.specs.Deeds.{Comes, Deed, FindsNone, Reads, Sends, Waits}
 use Rattle.lapd_cli_live.specs.Log.{LiveState, moment_of}
 use Rattle.lapd_cli_live.specs.Steps.{CatchesUp, DoesDue, Receives, TakesMost}
 

@@ -1,6 +1,6 @@
 -- What the lines of a side do that wait.
 use Rattle.std.specs.Prelude.{◌≡◌, ◌⊎◌, ℕ, ◌+◌, Bool, false, List, [], ◌∷◌, codes, Option, None, Some}
-use Rattle.lapd_cli_live.specs.declared.outside.Lines.{Lines}
+use Rattle.lapd_cli_outside.specs.declared.outside.Lines.{Lines}
 use Rattle.lapd_cli_live.specs.declared.service.Service.{Service}
 use Rattle.lapd_cli_live.specs.declared.service.Until.{Until}
 use Rattle.lapd_cli_live.specs.declared.service.Until.TheVariants as until

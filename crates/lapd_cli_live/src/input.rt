@@ -6,9 +6,9 @@ ghost use Rattle.lapd_cli_live.specs.Typed.{deed_of};
 
 use crate::fault::LiveFault;
 use crate::live_side::LiveSide;
-use crate::outside::{Lines, Outside};
 use crate::service::Came;
 use crate::typed_lines::TypedLines;
+use lapd_cli_outside::{Lines, Outside};
 use lapd_cli_script::{LineFault, ScriptFault};
 use std::alloc::{AllocError, Global};
 use std::io::{ErrorKind, Read, Write};

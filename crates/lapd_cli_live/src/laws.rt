@@ -2,7 +2,7 @@
 
 ghost use Rattle.std.specs.Prelude.{◌≡◌, List, Some};
 ghost use Rattle.lapd_cli_live.specs.declared.service.Until.{Until};
-ghost use Rattle.lapd_cli_live.specs.Deeds.{Deed};
+ghost use Rattle.lapd_cli_outside.specs.Deeds.{Deed};
 ghost use Rattle.lapd_cli_live.specs.Log.{LiveState};
 ghost use Rattle.lapd_cli_live.specs.Steps.{CatchesUp};
 ghost use Rattle.lapd_cli_live.specs.PromptLine.{Arrival, ExpiresInTime, IsPrompt};

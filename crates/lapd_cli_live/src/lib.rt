@@ -8,30 +8,23 @@
 //! line passes each frame to a [`Tap`], and an [`Impaired`] line loses and delays frames on purpose.
 #![tactic(auto)]
 
-mod delays;
 mod fault;
-mod impaired;
 mod input;
 mod laws;
 mod live_lines;
 mod live_side;
-mod outside;
 mod printer;
 mod service;
 mod style;
-mod tapped;
 mod typed_lines;
 mod unseen;
 
 pub use fault::LiveFault;
-pub use impaired::Impaired;
 pub use input::{LiveStop, Person, live_script, live_session};
-pub use lapd_cli_live_text::Impairment;
+pub use lapd_cli_outside::{Impaired, Impairment, Lines, Outside, Sending, Tap, Tapped, Woken};
 pub use lapd_cli_side_lines::LineStyle;
 pub use laws::no_timer_expires_early;
 pub use live_side::LiveSide;
-pub use outside::{Lines, Outside, Sending, Woken};
 pub use printer::Printer;
 pub use service::{Came, Service, Until};
 pub use style::Style;
-pub use tapped::{Tap, Tapped};

@@ -4,9 +4,9 @@ ghost use Rattle.std.specs.Prelude.{◌≡◌, IfOk, OnOk};
 
 use crate::fault::LiveFault;
 use crate::live_side::LiveSide;
-use crate::outside::{Lines, Outside};
 use crate::service::{Came, Service, Until};
 use lapd_cli_live_text::{LiveLine, awaited_text, push_link, push_management, read_live_line};
+use lapd_cli_outside::{Lines, Outside};
 use lapd_sides::{EitherSide, LinkId, SideKind, Tei};
 use std::io::Write;
 

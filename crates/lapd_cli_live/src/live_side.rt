@@ -4,16 +4,16 @@ ghost use Rattle.std.specs.Prelude.{◌≡◌, map, true, false, IfOk, OnErr, On
 ghost use Rattle.std.specs.List.{All};
 ghost use Rattle.lapd_sides_links.specs.Effects.{HasLeastOctets};
 ghost use Rattle.lapd_frame.specs.declared.Side.{Side as SideValue};
-ghost use Rattle.lapd_cli_live.specs.Deeds.{SendsFront};
+ghost use Rattle.lapd_cli_outside.specs.Deeds.{SendsFront};
 ghost use Rattle.lapd_cli_live.specs.Entries.{Told};
 ghost use Rattle.lapd_cli_live.specs.Printers.{PrintsOn, SendsAll};
 ghost use Rattle.lapd_cli_live.specs.Steps.{came_of as came_from, ended_by as ends_by, HasCome, sooner as sooner_of};
 
 use crate::fault::LiveFault;
-use crate::outside::{Lines, Outside, Woken};
 use crate::printer::Printer;
 use crate::service::{Came, Service, Until};
 use arrayvec::ArrayVec;
+use lapd_cli_outside::{Lines, Outside, Woken};
 use lapd_cli_script::LineFault;
 use lapd_frame::{Side, read};
 use lapd_port::{MOST_OCTETS, PortFault};

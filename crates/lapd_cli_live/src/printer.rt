@@ -11,10 +11,10 @@ ghost use Rattle.lapd_cli_script.specs.Line.{text_line};
 ghost use Rattle.lapd_cli_side_lines.specs.SideTexts.{frame_text_line};
 
 use crate::fault::LiveFault;
-use crate::outside::Sending;
 use crate::style::Style;
 use crate::unseen::Unseen;
 use lapd_cli_live_text::{Stats, words_object};
+use lapd_cli_outside::Sending;
 use lapd_cli_script::LineFault;
 use lapd_cli_side_lines::{LineStyle, push_primitive, push_trace};
 use lapd_frame::Side;

@@ -1,6 +1,6 @@
 //! How long a side is served, and what ends a service.
 
-use crate::outside::Lines;
+use lapd_cli_outside::Lines;
 
 /// How long a side is served.
 #[derive(Clone, Copy)]

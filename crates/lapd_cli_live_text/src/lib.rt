@@ -27,4 +27,4 @@ pub use laws::{
 pub use line_objects::words_object;
 pub use link_text::{push_link, push_management, push_number, push_timers};
 pub use stats::Stats;
-pub use words::{Impairment, LiveLine, read_live_line};
+pub use words::{LiveLine, read_live_line};

@@ -6,6 +6,7 @@ ghost use Rattle.lapd_cli_script.specs.Line.{HasNoSpace, Reads, words_left, word
 ghost use Rattle.lapd_cli_side_lines.specs.Wishes.{check_wish};
 ghost use Rattle.lapd_cli_live_text.specs.LiveWishes.{Ask as Asks, delay_left, expect_wish, impair_wish, expected, link_named, live_wish_of, live_wish_of_line, live_wish_of_word, loss_said, network_link, own_live_wish, span_behind, span_left, span_said, state_wish, switch_behind, wish_of_link, with_link, without_percent as digits_of_percent};
 
+use lapd_cli_outside::Impairment;
 use lapd_cli_script::{LineFault, Words, number_of};
 use lapd_cli_side_lines::{SideLine, link_line, sapi_of, tei_of};
 use lapd_frame::{Side, Tei};
@@ -38,15 +39,6 @@ pub enum LiveLine<'l> {
     Ask(Request),
     /// Lose and delay frames that are sent.
     Impair(Impairment),
-}
-
-/// How frames that are sent are impaired.
-#[derive(Clone, Copy, PartialEq, Eq)]
-pub struct Impairment {
-    /// The chance that a frame is lost, in per cent, 0 to 100.
-    pub loss: u8,
-    /// By how much each frame is delayed, in milliseconds, 0 to 3,600,000.
-    pub delay: u64,
 }
 
 /// Reads what a line of this side requests. Links of the user side have the TEI `own`, and its

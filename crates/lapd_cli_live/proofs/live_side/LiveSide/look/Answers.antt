@@ -1,5 +1,5 @@
 use Rattle.std.proofs.Common.{◌≡◌, ℕ, Option, Some, subst}
-use Rattle.lapd_cli_live.specs.Deeds.{Adds, received}
+use Rattle.lapd_cli_outside.specs.Deeds.{Adds, received}
 use Rattle.lapd_cli_live.proofs.Steps.{looked}
 use Rattle.lapd_cli_live.proofs.live_side.LiveSide.look.Goals as goal
 

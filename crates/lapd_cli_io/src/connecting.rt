@@ -1,0 +1,85 @@
+//! How the connections of a side with the real clock are made.
+
+use crate::connection;
+use crate::connections::Connections;
+use crate::notes::Notes;
+use lapd_frame::Side;
+use mio::net::{TcpListener, TcpStream};
+use std::io;
+use std::net::{self, SocketAddr};
+
+/// How a side gets its connections.
+#[derive(Clone, Copy)]
+pub struct ConnectionSetup<'a> {
+    /// The address that it listens on or connects to.
+    pub address: &'a str,
+    /// How many terminals a network side serves, 1 to 127.
+    pub terminals: u8,
+    /// Whether the interface is one at primary rate.
+    pub is_primary: bool,
+    /// Whether a connection that is lost is replaced.
+    pub keep: bool,
+    /// How many milliseconds a connection may send no whole frame, if that is limited.
+    pub idle_limit: Option<u64>,
+}
+
+/// Makes the connections of a side, and starts its clock when the first of them is made.
+///
+/// # Errors
+///
+/// Those of the system, and out of memory.
+pub fn connect_side<'a>(
+    rt: &'a HostRuntime,
+    notes: &'a Notes<'a>,
+    side: Side,
+    setup: &ConnectionSetup<'_>,
+) -> io::Result<Connections<'a>> {
+    match side {
+        Side::Network => accepted(rt, notes, setup),
+        Side::User => made(rt, notes, setup),
+    }
+}
+
+/// Accepts the first connection to the address of a network side, and later ones of several terminals, or with `--keep`.
+fn accepted<'a>(
+    rt: &'a HostRuntime,
+    notes: &'a Notes<'a>,
+    setup: &ConnectionSetup<'_>,
+) -> io::Result<Connections<'a>> {
+    let listener = connection::listening(rt, notes, setup.address)?;
+    let (stream, peer) = connection::next(notes, &listener)?;
+    let mut connections = Connections::new(rt, notes, setup.terminals, setup.is_primary)?;
+    add(&mut connections, stream, peer)?;
+    if setup.keep || 1 < setup.terminals {
+        listener.set_nonblocking(true)?;
+        connections.accept_from(TcpListener::from_std(listener))?;
+    }
+    connections.limit_idle(setup.idle_limit);
+    Ok(connections)
+}
+
+/// Makes the connection of a user side to its address, and makes it again with `--keep`.
+fn made<'a>(
+    rt: &'a HostRuntime,
+    notes: &'a Notes<'a>,
+    setup: &ConnectionSetup<'_>,
+) -> io::Result<Connections<'a>> {
+    let stream = connection::made(rt, notes, setup.address)?;
+    let peer = stream.peer_addr()?;
+    let mut connections = Connections::new(rt, notes, 1, setup.is_primary)?;
+    add(&mut connections, stream, peer)?;
+    if setup.keep {
+        connections.dial(peer);
+    }
+    Ok(connections)
+}
+
+/// Adds a connection, which from now on does not wait in its calls.
+fn add(
+    connections: &mut Connections<'_>,
+    stream: net::TcpStream,
+    peer: SocketAddr,
+) -> io::Result<()> {
+    stream.set_nonblocking(true)?;
+    connections.add(TcpStream::from_std(stream), peer)
+}

@@ -1,0 +1,354 @@
+//! What is around a side of the program with the real clock: one TCP connection with the other side behind it, or several
+//! with a terminal behind each; the clock; and standard input. One wait serves all of them.
+
+ghost use Rattle.std.specs.Prelude.{◌≤◌, IfOk, IfSome};
+
+use crate::clock::RealClock;
+use crate::dialler::Dialler;
+use crate::discards::Discards;
+use crate::door::Door;
+use crate::frame_stream::FrameStream;
+use crate::further::{COMING, Coming, Further};
+use crate::input::Input;
+use crate::lost::words_of;
+use crate::notes::Notes;
+use crate::peers::{LostPeer, Peers};
+use lapd_cli_outside::{Impairment, Lines, Outside, Sending, Woken};
+use lapd_port::{MOST_OCTETS, PortFault};
+use lapd_table::LinkId;
+use mio::net::{TcpListener, TcpStream};
+use mio::{Events, Poll, Token};
+use std::io::{self, ErrorKind};
+use std::net::SocketAddr;
+use std::time::Duration;
+
+/// The token of standard input. Those of connections are their places, below 127.
+const INPUT: Token = Token(1000);
+
+/// How many reports a poll takes at most.
+const EVENTS: usize = 130;
+
+/// How many frames are taken one after another before it is polled what else has arrived.
+const MOST_IN_TURN: u32 = 64;
+
+/// Connections, and a clock that begins when they are made.
+#[derive(Drop)]
+pub struct Connections<'a> {
+    rt: &'a HostRuntime,
+    notes: &'a Notes<'a>,
+    clock: RealClock<'a>,
+    poll: Poll,
+    events: Events,
+    input: Input,
+    peers: Peers,
+    further: Further,
+    /// How many milliseconds a connection may send no whole frame, if that is limited.
+    idle_limit: Option<u64>,
+    discards: Discards,
+    /// How many frames were taken since the last poll.
+    taken: u32,
+    /// Whether the only connection is closed, and each frame was taken that arrived over it.
+    is_closed: bool,
+}
+
+impl<'a> Connections<'a> {
+    /// Room for up to so many connections, 1 to 127, of a side at primary rate or at basic access.
+    ///
+    /// # Errors
+    ///
+    /// Those of the system, and out of memory.
+    pub fn new(
+        rt: &'a HostRuntime,
+        notes: &'a Notes<'a>,
+        most: u8,
+        is_primary: bool,
+    ) -> io::Result<Connections<'a>> {
+        let poll = Poll::new(rt)?;
+        Ok(Connections {
+            rt,
+            notes,
+            clock: RealClock::start(rt)?,
+            events: Events::with_capacity(rt.alloc(), EVENTS)?,
+            input: Input::register(&poll, INPUT)?,
+            peers: Peers::new(rt, most),
+            further: Further::Nowhere,
+            idle_limit: None,
+            discards: Discards::new(is_primary),
+            taken: 0,
+            is_closed: false,
+            poll,
+        })
+    }
+
+    /// Adds this connection. It must not wait in its calls.
+    ///
+    /// # Errors
+    ///
+    /// Those of the system, and out of memory.
+    pub fn add(&mut self, stream: TcpStream, peer: SocketAddr) -> io::Result<()> {
+        let _ = stream.set_nodelay(true);
+        let stream = FrameStream::new(self.rt, stream, peer)?;
+        self.peers.add(&self.poll, stream, self.clock.latest())
+    }
+
+    /// Accepts further connections here from now on, when there is room. The listener must not wait in its calls.
+    ///
+    /// # Errors
+    ///
+    /// Those of the system.
+    pub fn accept_from(&mut self, listener: TcpListener) -> io::Result<()> {
+        self.further = Further::Door(Door::new(&self.poll, COMING, listener)?);
+        Ok(())
+    }
+
+    /// Connects to this address again when the connection is lost.
+    pub fn dial(&mut self, address: SocketAddr) {
+        self.further = Further::Dialler(Dialler::new(address));
+    }
+
+    /// Lets go of a connection that sends no whole frame for so many milliseconds.
+    pub fn limit_idle(&mut self, limit: Option<u64>) {
+        self.idle_limit = limit;
+    }
+
+    /// Says that the other side has closed the only connection, if it has, and nothing is left to be read.
+    pub fn tell_closed(&self) {
+        if self.further.is_nowhere() && self.peers.is_closed() {
+            self.notes.say(words_of(PortFault::End));
+        }
+    }
+
+    /// The next frame, of those that were reported.
+    fn next_frame(&mut self, frame: &mut [u8; MOST_OCTETS]) -> Result<Option<usize>, PortFault>
+        ensures { IfOk result (λ count. IfSome count (λ count. count ≤ MOST_OCTETS)) }
+    {
+        for _lost in 0..=self.peers.most() {
+            match self.peers.next_frame(frame, self.clock.latest()) {
+                Ok(Some(count)) => {
+                    self.taken = self.taken.saturating_add(1);
+                    return Ok(Some(count));
+                }
+                Ok(None) => return Ok(None),
+                Err(lost) => self.lose(lost)?,
+            }
+            if self.is_closed {
+                return Ok(None);
+            }
+        }
+        Ok(None)
+    }
+
+    /// A connection is lost. A further one may take its place; without it the side's service ends.
+    fn lose(&mut self, lost: LostPeer) -> Result<(), PortFault> {
+        match (self.further.is_nowhere(), lost.why.fault()) {
+            (true, PortFault::End) => {
+                self.is_closed = true;
+                Ok(())
+            }
+            (true, fault) => Err(fault),
+            (false, _) => {
+                self.let_go(lost);
+                Ok(())
+            }
+        }
+    }
+
+    /// Lets go of a connection whose place is for the next one, and says so.
+    fn let_go(&mut self, lost: LostPeer) {
+        let is_alone = self.peers.is_alone();
+        if let Some(peer) = self.peers.remove(lost.place) {
+            let now = self.clock.latest();
+            self.further.lose(peer, lost.why, is_alone, now, self.notes);
+        }
+    }
+
+    /// Adds the further connections that there are, while there is room.
+    fn connect_further(&mut self) {
+        for _connection in 0..self.peers.most() {
+            if !self.peers.has_room() {
+                return;
+            }
+            let now = self.clock.latest();
+            match self.further.next(self.rt, &self.poll, self.notes, now) {
+                Some(coming) => self.greet(coming),
+                None => return,
+            }
+        }
+    }
+
+    /// Adds a further connection, and says so.
+    fn greet(&mut self, coming: Coming) {
+        let Coming {
+            stream,
+            peer,
+            words,
+        } = coming;
+        match self.add(stream, peer) {
+            Ok(()) => self.notes.say(format_args!("{words} {peer}")),
+            Err(error) => {
+                let now = self.clock.latest();
+                self.further.miss(peer, &error, now, self.notes);
+            }
+        }
+    }
+
+    /// Lets go of the connections that were idle for too long at this moment, in milliseconds. What had arrived by then has to
+    /// be reported before.
+    fn drop_idle(&mut self, now: u64) {
+        let Some(limit) = self.idle_limit else {
+            return;
+        };
+        for _place in 0..self.peers.most() {
+            match self.peers.idle_peer(limit, now) {
+                Some(lost) => self.let_go(lost),
+                None => return,
+            }
+        }
+    }
+
+    /// Polls what has arrived, for so many milliseconds at most, or until something has.
+    fn poll(&mut self, left: Option<u64>) -> io::Result<()> {
+        self.taken = 0;
+        let left = left.map(Duration::from_millis);
+        self.poll.poll(&mut self.events, left)?;
+        for event in self.events.iter() {
+            let token = event.token();
+            if token == INPUT {
+                self.input.wake();
+            } else if token == COMING {
+                self.further.wake();
+            } else {
+                self.peers.wake(token.0);
+            }
+        }
+        Ok(())
+    }
+
+    /// How many milliseconds a wait may last from this moment on. `None` is without end.
+    fn left(&self, until: Option<u64>, now: u64) -> Option<u64> {
+        let idle = match self.idle_limit {
+            Some(limit) => self.peers.next_idle(limit),
+            None => None,
+        };
+        let further = if self.peers.has_room() {
+            self.further.next_moment()
+        } else {
+            None
+        };
+        let next = sooner(until, sooner(idle, further))?;
+        Some(next.saturating_sub(now))
+    }
+
+    /// Whether a line of input is awaited that can be read.
+    fn has_line(&self, lines: Lines) -> bool {
+        matches!(lines, Lines::Awaited) && self.input.is_ready()
+    }
+
+    /// Whether something is known that ends a wait.
+    fn is_awake(&self, lines: Lines) -> bool {
+        self.has_line(lines) || self.peers.is_ready() || self.is_closed
+    }
+
+    /// What ends a wait, if something is known that does.
+    fn woken(&mut self, lines: Lines) -> Option<Woken> {
+        if self.has_line(lines) {
+            self.input.pass_on();
+            Some(Woken::Line)
+        } else if self.peers.is_ready() {
+            Some(Woken::Arrival)
+        } else if self.is_closed {
+            Some(Woken::Closed)
+        } else {
+            None
+        }
+    }
+
+    /// Waits.
+    fn wait_for(&mut self, until: Option<u64>, lines: Lines) -> io::Result<Woken> {
+        if matches!(lines, Lines::Awaited) {
+            self.input.request(&self.poll, INPUT)?;
+        }
+        for _sleep in 0..u64::MAX {
+            let now = self.clock.now()?;
+            self.connect_further();
+            let left = if self.is_awake(lines) {
+                Some(0)
+            } else {
+                self.left(until, now)
+            };
+            self.poll(left)?;
+            self.drop_idle(now);
+            if let Some(woken) = self.woken(lines) {
+                return Ok(woken);
+            }
+            if has_come(until, self.clock.now()?) {
+                return Ok(Woken::Due);
+            }
+        }
+        Err(io::Error::from(ErrorKind::TimedOut))
+    }
+}
+
+/// The sooner of two moments that may be set.
+fn sooner(one: Option<u64>, other: Option<u64>) -> Option<u64> {
+    match (one, other) {
+        (Some(one), Some(other)) => Some(one.min(other)),
+        (Some(one), None) => Some(one),
+        (None, other) => other,
+    }
+}
+
+/// Whether a moment that is set has come.
+fn has_come(until: Option<u64>, now: u64) -> bool {
+    match until {
+        Some(until) => until <= now,
+        None => false,
+    }
+}
+
+impl Outside for Connections<'_> {
+    fn moment(&mut self) -> Result<u64, PortFault> {
+        self.clock.now().map_err(|_| PortFault::Device)
+    }
+
+    fn receive(&mut self, frame: &mut [u8; MOST_OCTETS]) -> Result<Option<usize>, PortFault> {
+        if self.peers.is_alone() {
+            // Reading its connection is as good as a poll.
+            self.peers.wake(0);
+            return self.next_frame(frame);
+        }
+        if self.taken < MOST_IN_TURN {
+            if let Some(count) = self.next_frame(frame)? {
+                return Ok(Some(count));
+            }
+        }
+        if self.poll(Some(0)).is_err() {
+            return Err(PortFault::Device);
+        }
+        self.connect_further();
+        self.next_frame(frame)
+    }
+
+    fn wait(&mut self, until: Option<u64>, lines: Lines) -> Result<Woken, PortFault> {
+        self.wait_for(until, lines).map_err(|_| PortFault::Device)
+    }
+
+    fn send(&mut self, frame: &[u8]) -> Result<Sending, PortFault> {
+        if self.peers.send(frame) {
+            return Ok(Sending::Sent);
+        }
+        if self.further.is_nowhere() {
+            Err(PortFault::Device)
+        } else {
+            Ok(Sending::Lost)
+        }
+    }
+
+    fn discarded(&mut self, id: LinkId) {
+        if let Some(discard) = self.discards.add(id) {
+            self.notes.say(discard);
+        }
+    }
+
+    fn impair(&mut self, _impairment: Impairment) {}
+}

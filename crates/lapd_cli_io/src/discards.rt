@@ -1,0 +1,72 @@
+//! Frames that were discarded because the side has no such link.
+
+ghost use Rattle.std.specs.Prelude.{◌<◌};
+
+use lapd_table::{LinkId, Sapi};
+use std::fmt;
+
+/// How many addresses there are.
+const ADDRESSES: usize = 3 * 128;
+
+/// The addresses of which a frame was discarded so far.
+#[derive(Drop)]
+pub struct Discards {
+    is_primary: bool,
+    seen: [bool; ADDRESSES],
+}
+
+/// What is said of the first frame that is discarded of an address.
+#[derive(Clone, Copy)]
+pub struct Discard {
+    id: LinkId,
+    /// Whether the side that discarded it is one at primary rate.
+    is_primary: bool,
+}
+
+impl Discards {
+    /// Those of a side at primary rate, or at basic access. No frame was discarded so far.
+    pub fn new(is_primary: bool) -> Discards {
+        Discards {
+            is_primary,
+            seen: [false; ADDRESSES],
+        }
+    }
+
+    /// A frame of this address is discarded. Returns what is to be said, if it is the first of its address.
+    pub fn add(&mut self, id: LinkId) -> Option<Discard> {
+        let place = place_of(&id);
+        if self.seen[place] {
+            return None;
+        }
+        self.seen[place] = true;
+        Some(Discard {
+            id,
+            is_primary: self.is_primary,
+        })
+    }
+}
+
+/// The place of an address.
+fn place_of(id: &LinkId) -> usize
+    ensures { result < ADDRESSES }
+{
+    let tei = usize::from(id.tei.value() % 128);
+    match id.sapi {
+        Sapi::Call => tei,
+        Sapi::Packet => 128 + tei,
+        Sapi::Management => 256 + tei,
+    }
+}
+
+impl fmt::Display for Discard {
+    fn fmt<W: fmt::Write>(&self, f: &mut fmt::Formatter<W>) -> fmt::Result {
+        let (sapi, tei) = (self.id.sapi, self.id.tei);
+        write!(f, "discarded: no link of SAPI {sapi} TEI {tei}")?;
+        // TEI 0 is the one of primary rate.
+        match (tei.value(), self.is_primary) {
+            (0, false) => f.write_str("; is the other side --pri and this one not?"),
+            (1.., true) => f.write_str("; is this side --pri and the other one not?"),
+            _ => Ok(()),
+        }
+    }
+}

@@ -1,8 +1,0 @@
-use Rattle.std.proofs.Common.{◌∙◌, ap}
-use Rattle.lapd_cli_live.specs.Delays.{sooner}
-use Rattle.lapd_cli_live.proofs.SentLater.{waits_once}
-use Rattle.lapd_cli_live.proofs.impaired.Impaired.wait_once.Goals as goal
-
-pub returns : goal.returns
-returns g c =
-    waits_once _ _ _ _ _ _ _ _ c.in_ok-send_due.ensures (c.sooner-next.ensures ∙ ap (sooner c.args.until) c.next_moment.ensures) c.wait.ensures.deeds

@@ -1,5 +1,0 @@
-use Rattle.lapd_cli_live.proofs.SentLater.{round}
-use Rattle.lapd_cli_live.proofs.impaired.Impaired.wait_round.Goals as goal
-
-pub returns : goal.returns
-returns g c = round _ _ _ _ _ _ _ _ _ c.in_ok-woken.ensures c.in_ok-is_over.ensures.delays c.in_ok-is_over.ensures.over

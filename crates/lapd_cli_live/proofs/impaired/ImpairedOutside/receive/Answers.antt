@@ -1,5 +1,0 @@
-use Rattle.lapd_cli_live.proofs.SentLater.{receives}
-use Rattle.lapd_cli_live.proofs.impaired.ImpairedOutside.receive.Goals as goal
-
-pub returns-clause-does : goal.returns-clause-does
-returns-clause-does g c = receives _ _ _ _ _ _ _ c.in_ok-send_due.ensures c.receive.ensures.deeds

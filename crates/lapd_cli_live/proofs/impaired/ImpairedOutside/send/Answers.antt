@@ -1,6 +1,0 @@
-use Rattle.lapd_cli_live.proofs.SentLater.{puts_off}
-use Rattle.lapd_cli_live.proofs.impaired.ImpairedOutside.send.Goals as goal
-
-pub returns : goal.returns
-returns g c =
-    puts_off _ _ _ _ _ _ _ _ c.draw.ensures c.if-draw.false c.is_direct.ensures c.if-is_direct.false c.in_ok-put_off.ensures

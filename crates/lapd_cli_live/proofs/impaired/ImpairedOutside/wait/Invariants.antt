@@ -1,6 +1,0 @@
-use Rattle.lapd_cli_live.proofs.SentLater.{SomeRounds}
-use Rattle.lapd_cli_live.proofs.impaired.ImpairedOutside.wait.Given as goal
-
-abbrev pub invariant-loop-sleep : goal.invariant-loop-sleep
-invariant-loop-sleep g l =
-    SomeRounds l.until l.initial.self.delays l.self.delays (g.O.Outside.deeds l.initial.self.inner) (g.O.Outside.deeds l.self.inner)

@@ -1,0 +1,180 @@
+-- A line that loses and delays the frames of one side on purpose.
+use Rattle.std.specs.Prelude.{◌≡◌, ◌⊎◌, ◌&&◌, ℕ, ◌<◌, ◌≤◌, ◌+◌, ◌%◌, nat_eq, nat_le, nat_lt, max, min, List, [], ◌∷◌, ◌++◌, length, map, flat_map, Bool, true, false, Option, None, Some, ⊤}
+use Rattle.std.specs.List.{All}
+use Rattle.rand_pcg.specs.Lcg.{Lcg}
+use Rattle.rand_pcg.specs.Pcg.{pcg32}
+use Rattle.lapd_cli_outside.specs.declared.delays.DelayedFrame.{DelayedFrame}
+use Rattle.lapd_cli_outside.specs.declared.delays.Delays.{Delays}
+use Rattle.lapd_cli_outside.specs.declared.outside.Sending.{Sending}
+use Rattle.lapd_cli_outside.specs.declared.outside.Sending.TheVariants.{Sent, Lost}
+use Rattle.lapd_cli_outside.specs.declared.outside.Woken.{Woken}
+use Rattle.lapd_cli_outside.specs.declared.outside.Woken.TheVariants.{Due}
+use Rattle.lapd_cli_outside.specs.Deeds.{Adds, Deed, Reads, Sends, Waits, received}
+
+-- some deeds are done of which this holds
+abbrev pub Does : Option (List Deed) → Option (List Deed) → (List Deed → Type 0) → Type 0
+Does before after P = (deeds : List Deed) × Adds before after deeds × P deeds
+
+-- ---- Which frames are lost.
+
+abbrev pub word_of : ℕ × Lcg → ℕ
+word_of (word, random) = word
+
+abbrev pub rest_of : ℕ × Lcg → Lcg
+rest_of (word, random) = random
+
+-- a frame is lost by a chance, a number of per cent, as the next word of the generator says
+abbrev pub is_lost : ℕ → Lcg → Bool
+is_lost loss random = nat_lt (word_of (pcg32 random) % 100) loss
+
+pub record IsDrawn (lost : Bool) (old new : Delays) : Type 0 where
+  pub is : lost ≡ is_lost old.impairment.loss old.random
+  pub drawn : new ≡ record old { random = rest_of (pcg32 old.random) }
+
+-- ---- Which frames are sent later, and when.
+
+abbrev pub octets_of : DelayedFrame → List ℕ
+octets_of frame = frame.octets.items
+
+abbrev pub sent_of : DelayedFrame → Deed
+sent_of frame = Sends (octets_of frame)
+
+-- the first frame is sent later than this moment, if there is one
+abbrev pub FirstIsLater : ℕ → List DelayedFrame → Type 0
+FirstIsLater now [] = ⊤
+FirstIsLater now (frame ∷ frames) = now < frame.moment
+
+abbrev pub first_moment : List DelayedFrame → Option ℕ
+first_moment [] = None
+first_moment (frame ∷ frames) = Some frame.moment
+
+-- a frame that is handed over now is sent after the delay, and not before the one that was put off
+-- last; moments end at 2^64 - 1
+abbrev pub moment_of_next : ℕ → Delays → ℕ
+moment_of_next now line = max (min (now + line.impairment.delay) 18446744073709551615) line.latest
+
+-- a frame is put behind the others
+pub record IsPutOff (now : ℕ) (octets : List ℕ) (old new : Delays) : Type 0 where
+  pub frame : DelayedFrame
+  pub octets_are : octets_of frame ≡ octets
+  pub moment : frame.moment ≡ moment_of_next now old
+  pub behind : new.delayed.items ≡ old.delayed.items ++ frame ∷ []
+  pub latest : new.latest ≡ moment_of_next now old
+  pub impairment : new.impairment ≡ old.impairment
+  pub random : new.random ≡ old.random
+
+-- the first frame is taken off
+pub record IsTakenOff (frame : DelayedFrame) (old new : Delays) : Type 0 where
+  pub front : old.delayed.items ≡ frame ∷ new.delayed.items
+  pub latest : new.latest ≡ old.latest
+  pub impairment : new.impairment ≡ old.impairment
+  pub random : new.random ≡ old.random
+
+-- ---- What the line does.
+
+-- The clock is read, and the frames that are due then are sent, in order. The others stay.
+pub record SendsDue (old new : Delays) (deeds : List Deed) : Type 0 where
+  pub now : ℕ
+  pub gone : List DelayedFrame
+  pub parts : old.delayed.items ≡ gone ++ new.delayed.items
+  pub due : All (λ frame. frame.moment ≤ now) gone
+  pub later : FirstIsLater now new.delayed.items
+  pub sent : deeds ≡ Reads now ∷ map sent_of gone
+  pub latest : new.latest ≡ old.latest
+  pub impairment : new.impairment ≡ old.impairment
+  pub random : new.random ≡ old.random
+
+-- the sooner of two moments that may be set
+abbrev pub sooner : Option ℕ → Option ℕ → Option ℕ
+sooner None other = other
+sooner (Some one) None = Some one
+sooner (Some one) (Some other) = Some (min one other)
+
+-- What is due is sent, and there is one wait, until the next frame is due or a moment has come.
+pub record WaitsOnce (until : Option ℕ) (woken : Woken) (old new : Delays) (deeds : List Deed)
+    : Type 0 where
+  pub first : List Deed
+  pub due : SendsDue old new first
+  pub all : deeds ≡ first ++ Waits (sooner until (first_moment new.delayed.items)) woken ∷ []
+
+-- ---- A frame is handed over.
+
+-- frames are sent at once while none is delayed
+abbrev pub is_direct : Delays → Bool
+is_direct line = nat_eq line.impairment.delay 0 && nat_eq (length line.delayed.items) 0
+
+-- it is lost, and nothing is done
+pub record LosesFrame (sending : Sending) (old new : Delays) (deeds : List Deed) : Type 0 where
+  pub drawn : IsDrawn true old new
+  pub told : sending ≡ Lost
+  pub none : deeds ≡ []
+
+-- or it is sent
+pub record SendsFrame (octets : List ℕ) (old new : Delays) (deeds : List Deed) : Type 0 where
+  pub drawn : IsDrawn false old new
+  pub direct : is_direct old ≡ true
+  pub sent : deeds ≡ Sends octets ∷ []
+
+-- the clock is read, and a frame is put off
+pub record PutsOff (octets : List ℕ) (old new : Delays) (deeds : List Deed) : Type 0 where
+  pub now : ℕ
+  pub put_off : IsPutOff now octets old new
+  pub read : deeds ≡ Reads now ∷ []
+
+-- or it is put off
+pub record PutsFrameOff (octets : List ℕ) (sending : Sending) (old new : Delays) (deeds : List Deed)
+    : Type 0 where
+  pub mid : Delays
+  pub drawn : IsDrawn false old mid
+  pub indirect : is_direct old ≡ false
+  pub put_off : PutsOff octets mid new deeds
+  pub told : sending ≡ Sent
+
+abbrev pub HandsOver : List ℕ → Sending → Delays → Delays → List Deed → Type 0
+HandsOver octets sending old new deeds = LosesFrame sending old new deeds
+    ⊎ SendsFrame octets old new deeds ⊎ PutsFrameOff octets sending old new deeds
+
+-- ---- A frame of the other side is received.
+
+-- what is due is sent, and then the line is looked at
+pub record Receives (room : List ℕ) (count : Option ℕ) (old new : Delays) (deeds : List Deed)
+    : Type 0 where
+  pub first : List Deed
+  pub due : SendsDue old new first
+  pub all : deeds ≡ first ++ received room count
+
+-- ---- A wait.
+
+abbrev pub has_come : Option ℕ → ℕ → Bool
+has_come None now = false
+has_come (Some until) now = nat_le until now
+
+-- A wait that something ended is over, unless that was the moment of a delayed frame alone.
+abbrev pub IsOver : Option ℕ → Woken → Bool → List Deed → Type 0
+IsOver until Due over deeds = (now : ℕ) × (deeds ≡ Reads now ∷ []) × (over ≡ has_come until now)
+IsOver until woken over deeds = (deeds ≡ []) × (over ≡ true)
+
+-- one wait, and whether it is over
+pub record Round (until : Option ℕ) (woken : Woken) (over : Bool) (old new : Delays)
+    (deeds : List Deed) : Type 0 where
+  pub first : List Deed
+  pub once : WaitsOnce until woken old new first
+  pub rest : List Deed
+  pub is : IsOver until woken over rest
+  pub all : deeds ≡ first ++ rest
+
+-- rounds that are not over, one after another
+abbrev pub AreRounds : Option ℕ → List (List Deed) → Delays → Delays → Type 0
+AreRounds until [] old new = new ≡ old
+AreRounds until (deeds ∷ more) old new = (mid : Delays) × (woken : Woken)
+    × Round until woken false old mid deeds × AreRounds until more mid new
+
+-- Rounds follow each other until one is over.
+pub record WaitsOn (until : Option ℕ) (woken : Woken) (old new : Delays) (deeds : List Deed)
+    : Type 0 where
+  pub rounds : List (List Deed)
+  pub mid : Delays
+  pub are : AreRounds until rounds old mid
+  pub last : List Deed
+  pub end : Round until woken true mid new last
+  pub all : deeds ≡ flat_map (λ round. round) rounds ++ last

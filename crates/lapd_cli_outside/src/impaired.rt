@@ -1,0 +1,190 @@
+//! A line that loses and delays the frames of one side on purpose, to try how links recover.
+
+ghost use Rattle.std.specs.Prelude.{◌≡◌, ◌≤◌, length, IfOk, IfSome, OnOk};
+ghost use Rattle.lapd_port.specs.SocketText.{IsFrameLength};
+ghost use Rattle.lapd_cli_outside.specs.Delays.{has_come as come_by, sooner as sooner_of};
+
+use crate::delays::Delays;
+use crate::impairment::Impairment;
+use crate::outside::{Lines, Outside, Sending, Woken};
+use lapd_port::{MOST_OCTETS, PortFault};
+use lapd_table::LinkId;
+use std::alloc::Global;
+
+/// What is around a side, with a line that can be impaired ([`Outside::impair`]). Each frame of the side is lost
+/// with the chance that was set. Else it is sent when the delay has passed, behind those that were handed over
+/// before it. Frames of the other side are not impaired.
+#[derive(Drop)]
+pub struct Impaired<O> {
+    inner: O,
+    delays: Delays,
+}
+
+impl<O: Outside> Impaired<O> {
+    ghost use Rattle.std.specs.Prelude.{[]};
+    ghost use Rattle.rand_core.specs.Pcg32Seed.{pcg32_seed};
+    ghost use Rattle.rand_pcg.specs.Pcg.{pcg32_of_seed};
+    ghost use Rattle.lapd_cli_outside.specs.Delays.{Does, IsOver, PutsOff, Round, SendsDue, WaitsOnce};
+
+    /// A line that is not impaired so far. Which frames are lost later depends on the seed.
+    pub fn new(alloc: Global, inner: O, seed: u64) -> Impaired<O>
+        ensures inner { result.inner ≡ inner }
+        ensures loss { result.delays.impairment.loss ≡ 0 }
+        ensures delay { result.delays.impairment.delay ≡ 0 }
+        ensures random { result.delays.random ≡ pcg32_of_seed (pcg32_seed 16 seed) }
+        ensures none { result.delays.delayed.items ≡ [] }
+    {
+        Impaired {
+            inner,
+            delays: Delays::new(alloc, seed),
+        }
+    }
+
+    /// What is around the side. Frames that are still to be sent are lost.
+    pub fn into_inner(self) -> O
+        ensures { result ≡ self.inner }
+    {
+        self.inner
+    }
+
+    /// Sends the delayed frames that are due.
+    fn send_due(&mut self) -> Result<(), PortFault>
+        ensures { OnOk result (Does (O.deeds self.old.inner) (O.deeds self.new.inner)
+            (SendsDue self.old.delays self.new.delays)) }
+    {
+        let now = self.inner.moment()?;
+        while let Some(frame) = self.delays.take_due(now) {
+            let _ = self.inner.send(frame.octets.as_slice())?;
+        }
+        Ok(())
+    }
+
+    /// Sends what is due, and waits once, until the next frame is due or the moment `until` has come.
+    fn wait_once(&mut self, until: Option<u64>, lines: Lines) -> Result<Woken, PortFault>
+        ensures { IfOk result (λ woken. Does (O.deeds self.old.inner) (O.deeds self.new.inner)
+            (WaitsOnce until woken self.old.delays self.new.delays)) }
+    {
+        self.send_due()?;
+        let next = sooner(until, self.delays.next_moment());
+        self.inner.wait(next, lines)
+    }
+
+    /// Whether a wait is over that something ended: the moment of a delayed frame alone does not end it.
+    fn is_over(&mut self, until: Option<u64>, woken: Woken) -> Result<bool, PortFault>
+        ensures delays { self.new.delays ≡ self.old.delays }
+        ensures over { IfOk result (λ over. Does (O.deeds self.old.inner) (O.deeds self.new.inner)
+            (IsOver until woken over)) }
+    {
+        match woken {
+            Woken::Due => Ok(has_come(until, self.inner.moment()?)),
+            Woken::Arrival | Woken::Line | Woken::Closed => Ok(true),
+        }
+    }
+
+    /// Waits once, and returns what ended that, if the wait is over.
+    fn wait_round(&mut self, until: Option<u64>, lines: Lines) -> Result<(Woken, bool), PortFault>
+        ensures { IfOk result (λ end. Does (O.deeds self.old.inner) (O.deeds self.new.inner)
+            (Round until end.0 end.1 self.old.delays self.new.delays)) }
+    {
+        let woken = self.wait_once(until, lines)?;
+        let is_over = self.is_over(until, woken)?;
+        Ok((woken, is_over))
+    }
+
+    /// Puts a frame of 3 to 264 octets off.
+    fn put_off(&mut self, frame: &[u8]) -> Result<(), PortFault>
+        requires { IsFrameLength (length frame.now) }
+        ensures { OnOk result (Does (O.deeds self.old.inner) (O.deeds self.new.inner)
+            (PutsOff frame.now self.old.delays self.new.delays)) }
+    {
+        let now = self.inner.moment()?;
+        match self.delays.put_off(frame, now) {
+            Ok(()) => Ok(()),
+            Err(_) => Err(PortFault::Device),
+        }
+    }
+}
+
+impl<O: Outside> Outside for Impaired<O> {
+    ghost use Rattle.std.specs.Prelude.{◌∷◌, []};
+    ghost use Rattle.lapd_cli_outside.specs.Deeds.{Adds, Reads};
+    ghost use Rattle.lapd_cli_outside.specs.Delays.{Does, HandsOver, Receives, WaitsOn};
+
+    fn moment(&mut self) -> Result<u64, PortFault>
+        ensures moment { IfOk result (λ now. Adds (O.deeds self.old.inner)
+            (O.deeds self.new.inner) (Reads now ∷ [])) }
+        ensures delays { self.new.delays ≡ self.old.delays }
+    {
+        self.inner.moment()
+    }
+
+    fn receive(&mut self, frame: &mut [u8; MOST_OCTETS]) -> Result<Option<usize>, PortFault>
+        ensures room { IfOk result (λ count. IfSome count (λ count. count ≤ MOST_OCTETS)) }
+        ensures does { IfOk result (λ count. Does (O.deeds self.old.inner)
+            (O.deeds self.new.inner) (Receives frame.new count self.old.delays self.new.delays)) }
+    {
+        self.send_due()?;
+        self.inner.receive(frame)
+    }
+
+    fn wait(&mut self, until: Option<u64>, lines: Lines) -> Result<Woken, PortFault>
+        ensures { IfOk result (λ woken. Does (O.deeds self.old.inner) (O.deeds self.new.inner)
+            (WaitsOn until woken self.old.delays self.new.delays)) }
+    {
+        for _sleep in 0..u64::MAX {
+            let (woken, is_over) = self.wait_round(until, lines)?;
+            if is_over {
+                return Ok(woken);
+            }
+        }
+        Err(PortFault::TooManyTurns)
+    }
+
+    fn send(&mut self, frame: &[u8]) -> Result<Sending, PortFault>
+        requires { IsFrameLength (length frame.now) }
+        ensures { IfOk result (λ sending. Does (O.deeds self.old.inner) (O.deeds self.new.inner)
+            (HandsOver frame.now sending self.old.delays self.new.delays)) }
+    {
+        if self.delays.draw() {
+            return Ok(Sending::Lost);
+        }
+        if self.delays.is_direct() {
+            return self.inner.send(frame);
+        }
+        self.put_off(frame)?;
+        Ok(Sending::Sent)
+    }
+
+    fn discarded(&mut self, id: LinkId) {
+        self.inner.discarded(id);
+    }
+
+    fn impair(&mut self, impairment: Impairment)
+        ensures inner { self.new.inner ≡ self.old.inner }
+        ensures impairment { self.new.delays
+            ≡ record (self.old.delays) { impairment = impairment } }
+    {
+        self.delays.impairment = impairment;
+    }
+}
+
+/// The sooner of two moments that may be set.
+fn sooner(one: Option<u64>, other: Option<u64>) -> Option<u64>
+    ensures { result ≡ sooner_of one other }
+{
+    match (one, other) {
+        (Some(one), Some(other)) => Some(one.min(other)),
+        (Some(one), None) => Some(one),
+        (None, other) => other,
+    }
+}
+
+/// Whether a moment that is set has come.
+fn has_come(until: Option<u64>, now: u64) -> bool
+    ensures { result ≡ come_by until now }
+{
+    match until {
+        Some(until) => until <= now,
+        None => false,
+    }
+}

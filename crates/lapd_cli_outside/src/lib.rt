@@ -1,0 +1,16 @@
+//! What is around a side that is served in real time: the line to the other side, and a clock.
+//!
+//! [`Outside`] is that, be it connections or a device in memory. A [`Tapped`] line passes each frame to a [`Tap`], such as a
+//! capture (specs/Passed.antt), and an [`Impaired`] line loses and delays frames on purpose (specs/Delays.antt).
+#![tactic(auto)]
+
+mod delays;
+mod impaired;
+mod impairment;
+mod outside;
+mod tapped;
+
+pub use impaired::Impaired;
+pub use impairment::Impairment;
+pub use outside::{Lines, Outside, Sending, Woken};
+pub use tapped::{Tap, Tapped};
