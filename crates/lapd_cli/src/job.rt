@@ -5,7 +5,7 @@ use crate::live::do_live;
 use lapd_cli_console::Script;
 use lapd_cli_decode::{LineForm, Style, decode_good_lines, decode_lines};
 use lapd_cli_io::{Notes, connection};
-use lapd_cli_link_commands::{answer, bus, decode, loop_over, pair};
+use lapd_cli_link_commands::{answer, bus, loop_over, pair};
 use lapd_cli_options::{Clock, DecodeOptions, Interface, Invocation, Job, LinkEnd, Params, Side};
 use lapd_cli_script::ScriptFault;
 use lapd_cli_side_commands::{Config, FromRead, FromWrite, Port, SideRun, net, user};
@@ -123,10 +123,7 @@ fn do_decode<R: Read, W: Write>(
     if options.keep_going {
         return decode_good_lines(rt.alloc(), script, out, form, style, rt.stderr());
     }
-    match (form, style) {
-        (LineForm::Strict, Style::Plain) => decode(rt.alloc(), script, out),
-        _ => decode_lines(rt.alloc(), script, out, form, style),
-    }
+    decode_lines(rt.alloc(), script, out, form, style)
 }
 
 // The form of the lines that `decode` takes.

@@ -11,12 +11,14 @@ use lapd_cli_script::{Command, LineFault, ScriptFault, put_line, walk};
 use std::alloc::Global;
 use std::io::{Read, Write};
 
-/// What prints lines of a form in a style.
+/// What prints lines of a form in a style. The rooms of a line's octets and of its text are kept from line to line.
 #[derive(Drop)]
 struct LineDecoder {
     alloc: Global,
     form: LineForm,
     style: Style,
+    octets: Vec<u8>,
+    text: String,
 }
 
 /// Goes over a script of lines of this form, and writes each frame in this style.
@@ -35,7 +37,7 @@ pub fn decode_lines<R: Read, W: Write>(
         (record { form = form; style = style }) result
         (lines_of octets) (W.contents out.old) (W.contents out.new)) }
 {
-    let mut decoder = LineDecoder { alloc, form, style };
+    let mut decoder = LineDecoder::new(alloc, form, style);
     walk(alloc, &mut decoder, script, out)
 }
 
@@ -57,7 +59,7 @@ pub fn decode_good_lines<R: Read, W: Write, E: Write + Drop>(
         (record { form = form; style = style }) result (lines_of octets)
         (W.contents out.old) (W.contents out.new)) }
 {
-    let decoder = LineDecoder { alloc, form, style };
+    let decoder = LineDecoder::new(alloc, form, style);
     let mut decoder = GoodLines { decoder, errors };
     walk(alloc, &mut decoder, script, out)
 }
@@ -65,18 +67,29 @@ pub fn decode_good_lines<R: Read, W: Write, E: Write + Drop>(
 impl LineDecoder {
     ghost use Rattle.lapd_cli_script.specs.Script.{LineEndsAs};
 
+    /// Decodes lines of this form, and prints each frame in this style.
+    fn new(alloc: Global, form: LineForm, style: Style) -> LineDecoder
+        ensures { stood_for result ≡ record { form = form; style = style } }
+    {
+        LineDecoder {
+            alloc,
+            form,
+            style,
+            octets: Vec::new(alloc),
+            text: String::new(alloc),
+        }
+    }
+
     /// Prints what one line tells.
-    fn decode<W: Write>(&self, line: &[u8], out: &mut W) -> Result<(), LineFault>
+    fn decode<W: Write>(&mut self, line: &[u8], out: &mut W) -> Result<(), LineFault>
         ensures { LineEndsAs (λ decoder state. state ≡ stood_for decoder)
-            (line_step (stood_for self.now) line.now) result self.now
+            (line_step (stood_for self.old) line.now) result self.new
             (W.contents out.old) (W.contents out.new) }
     {
-        let sent = self.form.read(self.alloc, line)?;
-        match self
-            .style
-            .text(self.alloc, sent.from, sent.octets.as_slice())
-        {
-            Ok(text) => put_line(text.as_bytes(), &[], out),
+        let from = self.form.read(self.alloc, line, &mut self.octets)?;
+        let octets = self.octets.as_slice();
+        match self.style.write(self.alloc, from, octets, &mut self.text) {
+            Ok(()) => put_line(self.text.as_bytes(), &[], out),
             Err(_) => Err(LineFault::Memory),
         }
     }

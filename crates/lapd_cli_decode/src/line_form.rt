@@ -19,7 +19,7 @@ pub enum LineForm {
     Loose(Side),
 }
 
-/// What a line tells.
+/// What a loose line tells.
 #[derive(Drop)]
 pub(crate) struct Sent {
     /// Who sent the octets.
@@ -29,32 +29,41 @@ pub(crate) struct Sent {
 }
 
 impl LineForm {
-    /// Who sent what, by a line of this form.
+    /// Returns who sent the octets of a line of this form, and reads them into `octets`, in place of what these were.
     ///
     /// # Errors
     ///
     /// `Bad` where the line is none of this form, and `Memory`.
-    pub(crate) fn read(self, alloc: Global, line: &[u8]) -> Result<Sent, LineFault>
-        ensures { Reads (λ sent. (sent.from, sent.octets.items)) result (sent_in self line.now) }
+    pub(crate) fn read(
+        self,
+        alloc: Global,
+        line: &[u8],
+        octets: &mut Vec<u8>,
+    ) -> Result<Side, LineFault>
+        ensures { Reads (λ from. (from, octets.new.items)) result (sent_in self line.now) }
     {
         match self {
-            LineForm::Strict => strict_words(alloc, Words::of(line)),
-            LineForm::Loose(printer) => loose_line(alloc, printer, line),
+            LineForm::Strict => strict_words(Words::of(line), octets),
+            LineForm::Loose(printer) => {
+                let sent = loose_line(alloc, printer, line)?;
+                *octets = sent.octets;
+                Ok(sent.from)
+            }
         }
     }
 }
 
 /// Who sent what, by the words of a strict line.
-fn strict_words(alloc: Global, mut words: Words<'_>) -> Result<Sent, LineFault>
-    ensures { Reads (λ sent. (sent.from, sent.octets.items)) result (strict_words words.entry) }
+fn strict_words(mut words: Words<'_>, octets: &mut Vec<u8>) -> Result<Side, LineFault>
+    ensures { Reads (λ from. (from, octets.new.items)) result (strict_words words.entry) }
 {
     let from = match words.next_word() {
         Some(b"user") => Side::User,
         Some(b"net") => Side::Network,
         _ => return Err(LineFault::Bad),
     };
-    let octets = words.octets(alloc)?;
-    Ok(Sent { from, octets })
+    words.octets_into(octets)?;
+    Ok(from)
 }
 
 /// Who sent what, by a loose line.

@@ -1,4 +1,4 @@
-ghost use Rattle.std.specs.Prelude.{◌≡◌, ◌++◌, IfOk};
+ghost use Rattle.std.specs.Prelude.{◌≡◌, ◌++◌, IfOk, OnOk};
 ghost use Rattle.std.specs.String.{string_bytes};
 ghost use Rattle.lapd_cli_decode.specs.Style.{styled_packet, styled_text};
 
@@ -33,6 +33,32 @@ impl Style {
             Style::Named => named_line(alloc, from, octets),
             Style::Json => lapd_cli_render::line(alloc, from, octets),
             Style::NamedJson => lapd_cli_render::named_line(alloc, from, octets),
+        }
+    }
+
+    /// Writes the text for octets that `from` sent into `line`, in place of what that was. So one text serves for many lines.
+    ///
+    /// # Errors
+    ///
+    /// `AllocError` where there was no memory for the text.
+    pub(crate) fn write(
+        self,
+        alloc: Global,
+        from: Side,
+        octets: &[u8],
+        line: &mut String,
+    ) -> Result<(), AllocError>
+        ensures { OnOk result (string_bytes line.new ≡ styled_text self from octets.now) }
+    {
+        match self {
+            Style::Plain => {
+                line.clear();
+                lapd_trace::push_line(alloc, line, from, octets)
+            }
+            Style::Named | Style::Json | Style::NamedJson => {
+                *line = self.text(alloc, from, octets)?;
+                Ok(())
+            }
         }
     }
 

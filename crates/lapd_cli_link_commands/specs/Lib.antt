@@ -3,7 +3,6 @@ pub mod Bus
 pub mod BusLines
 pub mod BusMoves
 pub mod Crossing
-pub mod Decode
 pub mod Loop
 pub mod LoopState
 pub mod Moves

@@ -5,7 +5,7 @@
 //! a script of moves as two ends and the line between them: `move_named` in specs/Moves.antt has a row for each word, and
 //! `pair_step` in specs/Pair.antt for the word `settle`. [`Mover`] makes the moves alone. [`loop_over`] is the command
 //! `loop`: two ends whose frames go out through a port and have to come back by it (`loop_step` in specs/LoopState.antt).
-//! [`decode`] prints octets as trace lines. [`bus`] goes over a script of moves as several terminals without a fixed TEI and
+//! [`bus`] goes over a script of moves as several terminals without a fixed TEI and
 //! the network side that assigns TEIs (Q.921 5.3): `bus_line` in specs/Bus.antt. All end as a script of `lapd_cli_script`
 //! ends.
 #![tactic(auto)]
@@ -15,7 +15,6 @@ mod bus_lines;
 mod bus_moves;
 mod bus_runner;
 mod crossing;
-mod decoder;
 mod looper;
 mod move_lines;
 mod mover;
@@ -27,7 +26,6 @@ mod words;
 
 pub use answerer::{Answerer, answer};
 pub use bus_runner::bus;
-pub use decoder::decode;
 pub use lapd_cli_script::ScriptFault;
 pub use lapd_link::{Link, Params, Side};
 pub use lapd_pair::Pair;

@@ -1,6 +1,7 @@
 //! What a command does over any devices.
 
-use lapd_cli_link_commands::{answer, bus, decode, loop_over, pair};
+use lapd_cli_decode::{LineForm, Style, decode_lines};
+use lapd_cli_link_commands::{answer, bus, loop_over, pair};
 use lapd_cli_options::{Interface, Invocation, Job, LinkEnd};
 use lapd_cli_script::ScriptFault;
 use lapd_cli_side_commands::{Config, Port, SideRun, Sink, Source, net, user};
@@ -27,7 +28,10 @@ pub(crate) fn run<R: Read, W: Write, S: Source, K: Sink>(
     match &chosen.job {
         Job::Answer(end) => (do_answer(alloc, script, out, *end), port),
         Job::Bus { terminals } => (bus(alloc, script, out, *terminals), port),
-        Job::Decode(_) => (decode(alloc, script, out), port),
+        Job::Decode(_) => (
+            decode_lines(alloc, script, out, LineForm::Strict, Style::Plain),
+            port,
+        ),
         Job::Loop { user, network } => loop_over(alloc, script, out, *user, *network, port),
         Job::Net(interface) => do_net(alloc, (interface, style), script, out, port),
         Job::Pair { user, network } => (pair(alloc, script, out, *user, *network), port),
