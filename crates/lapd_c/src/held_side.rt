@@ -215,8 +215,8 @@ impl HeldSide {
     }
 
     /// Moves the first waiting frame to the beginning of the buffer. `count` is its number of
-    /// octets, or 0 if no frame is left. If the buffer is too small, the frame still waits, and
-    /// `count` is set as well.
+    /// octets, or 0 if no frame is left. If the buffer is too small, only `count` is set, and the
+    /// frame still waits.
     pub(crate) fn next_frame(&mut self, buffer: &mut [u8], count: &mut usize) -> u32
         ensures { FetchesFrame self.old self.new result count.new
             (record { before = buffer.old; after = buffer.new }) }

@@ -252,8 +252,8 @@ pub extern "C" fn lapd_side_check_tei(handle: &mut Handle, tei: u8, now: u64, al
     }
 }
 
-/// Expires the first timer that is due at `now`, in milliseconds. `expired` is 1 if one was due, else 0. Before you
-/// expire timers for a moment, pass in every frame that had arrived by then.
+/// Expires the first timer that is due at `now`, in milliseconds. `expired` is 1 if one was due,
+/// else 0. Before you expire timers for a moment, pass in every frame that had arrived by then.
 #[unsafe(no_mangle)]
 pub extern "C" fn lapd_side_tick(
     handle: &mut Handle,

@@ -46,7 +46,8 @@ message_at [] = None
 message_at (discriminator ∷ octets) = if discriminator == 0x08 then behind_discriminator octets
     else None
 
--- the names of Table 4-2 of Q.931 (4.4): call establishment, call information, call clearing, and miscellaneous
+-- the names of Table 4-2 of Q.931 (4.4): call establishment, call information, call clearing, and
+-- miscellaneous
 abbrev pub establishment_name : ℕ → Option (List ℕ)
 establishment_name kind = if kind == 0x01 then Some (codes "ALERTING") else (
     if kind == 0x02 then Some (codes "CALL PROCEEDING") else (

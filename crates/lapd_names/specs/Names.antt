@@ -37,7 +37,8 @@ tei_text (Err fault) = []
 tei_text (Ok m) = kind_text m.kind
     ++ (reference_number_text m.ri ++ (codes " Ai=" ++ decimal m.ai))
 
--- the information of an I or UI frame of this service access point: 0 carries Q.931, 63 in UI frames TEI management
+-- the information of an I or UI frame of this service access point: 0 carries Q.931, 63 in UI
+-- frames TEI management
 abbrev pub information_text : Sapi → List ℕ → List ℕ
 information_text Call info = call_text (message_at info)
 information_text Packet info = []

@@ -9,8 +9,8 @@ use lapd_frame::{Control, Frame, Sapi, Side};
 use lapd_tei::{TeiKind, TeiMessage};
 use std::alloc::AllocError;
 
-/// Appends a space and the name of the message in these octets, which `from` sent. Appends nothing if
-/// they are not a frame with a message of TEI management or of Q.931.
+/// Appends a space and the name of the message in these octets, which `from` sent. Appends nothing
+/// if they are not a frame with a message of TEI management or of Q.931.
 ///
 /// ```text
 ///  identity request Ri=6199 Ai=127

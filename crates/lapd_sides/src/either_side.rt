@@ -48,8 +48,9 @@ impl EitherSide {
         }
     }
 
-    /// Expires the first timer that is due at `now`, in milliseconds. Returns `false` if none is due; call it until then. Before
-    /// you expire timers for a moment, pass in every frame that had arrived by then.
+    /// Expires the first timer that is due at `now`, in milliseconds. Returns `false` if none is
+    /// due; call it until then. Before you expire timers for a moment, pass in every frame that had
+    /// arrived by then.
     pub fn tick(&mut self, now: u64, acts: &mut Acts) -> bool
         ensures side { side_of self.new ≡ side_of self.old }
         ensures due { result ≡ true → Expires now self.old self.new acts.new }

@@ -202,8 +202,9 @@ impl UserSide {
         }
     }
 
-    /// Expires the first timer that is due at `now`, in milliseconds. Returns `false` if none is due; call it until then. Before
-    /// you expire timers for a moment, pass in every frame that had arrived by then. Does not allocate.
+    /// Expires the first timer that is due at `now`, in milliseconds. Returns `false` if none is
+    /// due; call it until then. Before you expire timers for a moment, pass in every frame that had
+    /// arrived by then. Does not allocate.
     pub fn tick(&mut self, now: u64, acts: &mut Acts) -> bool
         ensures due { result ≡ true → Expires self.old self.new acts.new now }
         ensures none { result ≡ false → Rests self.old self.new now }

@@ -1,6 +1,6 @@
--- The timer of a side that is due: of the running timers whose deadline is past, the one with the
--- earliest deadline; if several share it, the first of T200, T201, T202, T203, then the one with
--- the lowest SAPI, then with the lowest TEI (Q.921 5.9).
+-- The timer of a side that is due: of the running timers whose deadline has been reached, the one
+-- with the earliest deadline; if several share it, the first of T200, T201, T202, T203, then the
+-- one with the lowest SAPI, then with the lowest TEI (Q.921 5.9).
 use Rattle.std.specs.Prelude.{◌≡◌, ℕ, ◌<◌, ◌≤◌, Option, Some, None, option_map, ◌⊎◌, ⊤}
 use Rattle.lapd_timers.specs.declared.timer.Timer.{Timer}
 use Rattle.lapd_timers.specs.Due.{Timers, deadline_of, place}

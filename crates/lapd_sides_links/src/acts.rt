@@ -19,12 +19,11 @@ use std::marker::Model;
 /// The maximum number of primitives of one step of a link.
 pub const MOST_TOLD: usize = 6;
 
-/// The maximum number of frames of a call: those of one step of a link. If a TEI is assigned, two
-/// links establish, with at most seven outputs each.
+/// The room for frames: enough for one step of a link, and for the two links that establish when a
+/// TEI is assigned, with at most seven outputs each.
 pub const MOST_FRAMES: usize = MOST_OUTPUTS;
 
-/// The maximum number of primitives of a call: those of one step of each of two links, and of TEI
-/// management.
+/// The room for primitives: enough for one step of each of two links, and of TEI management.
 pub const MOST_PRIMITIVES: usize = 20;
 
 /// The result of a call of a side: the frames to send, as octets, and the primitives for the layers

@@ -103,8 +103,8 @@ fn is_allowed(assigner: &mut Assigner, held: &mut Held, random: &mut Pcg32) -> b
     all && held.are_of(assigner)
 }
 
-/// Passes random events to an assigner, and writes whether it never assigned a held TEI, and the
-/// maximum number of held TEIs.
+/// Passes random events to an assigner. Writes the maximum number of held TEIs, or a failure if the
+/// assigner's outputs or its held TEIs are wrong.
 pub(crate) fn put_drawn(text: &mut Text) {
     let mut random = Pcg32::seed_from_u64(921);
     let mut assigner = Assigner::new(&[]);

@@ -82,8 +82,8 @@ impl Watch {
         }
     }
 
-    /// Passes no octets, each single octet, and each pair of octets. Each address octet of SAPI 0
-    /// and the link's TEI is also followed by each pair.
+    /// Passes no octets, each single octet, each pair of octets, and each pair after the address of
+    /// the link (SAPI 0 and TEI 64, as a command and as a response).
     fn hear_two_octets(&mut self) {
         self.hear(&[]);
         for first in 0..=u8::MAX {
@@ -97,7 +97,7 @@ impl Watch {
     }
 
     /// Passes enumerated strings: the octets of each line of `COME` and each prefix of them to a
-    /// new side; then to another side all strings of up to two octets, and strings of all lengths
+    /// new side; then to one more side the strings of `hear_two_octets`, and strings of all lengths
     /// that begin like frames.
     fn hear_all(&mut self, links: &str, state: u8) {
         for line in come().lines() {

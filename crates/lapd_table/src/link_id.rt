@@ -31,8 +31,8 @@ impl LinkId {
         }
     }
 
-    /// The address of the link's frames with this role (Q.921 3.3). This is all that a frame without
-    /// information needs; no link is required.
+    /// The address of the link's frames with this role (Q.921 3.3). This is all that a frame
+    /// without information needs; no link is required.
     pub fn address(&self, role: Role) -> Address
         ensures { result ≡ record { sapi = self.now.sapi; tei = self.now.tei; role = role } }
     {

@@ -243,7 +243,7 @@ held_until_freed b (Want t ri) tei is knows unfreed = terminal_way b (HeldAfter 
 held_until_freed b (Join t fixed) tei is knows unfreed = is
 held_until_freed b (Restart known) tei is knows unfreed = knows
 
--- ---- The moves of a bus are events, and references that differ in the whole run are no other terminal's.
+-- ---- The moves of a bus are events, and references that all differ are no other terminal's.
 
 pub moves_are_events : (b : BusState) (ms : List BusMove) → after_events b (map Move ms) ≡ run b ms
 moves_are_events b [] = refl

@@ -43,7 +43,8 @@ may_name_the_group CheckResponse = false
 may_name_the_group Verify = false
 may_name_the_group kind = true
 
--- the five octets: the management entity, Ri high and low, the message type, and Ai with its extension bit set (5.3.6)
+-- the five octets: the management entity, Ri high and low, the message type, and Ai with its
+-- extension bit set (5.3.6)
 abbrev pub message_octets : TeiMessage → List ℕ
 message_octets m = management_entity ∷ (m.ri / 256) ∷ (m.ri % 256) ∷ kind_number m.kind
     ∷ (m.ai * 2 + 1) ∷ []

@@ -44,7 +44,7 @@ abbrev pub Differ : List ℕ → Type 0
 Differ [] = Unit {0}
 Differ (r ∷ rs) = AllByRecursion (λ s. s ≢ r) rs × Differ rs
 
--- ---- The second premise: a TEI is freed only while no terminal holds it and no assignment of it is in transit.
+-- ---- The second premise: a TEI is freed only while it is neither held nor being assigned.
 
 -- the TEIs that these outputs free
 abbrev pub freed : List TeiOut → List ℕ

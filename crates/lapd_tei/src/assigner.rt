@@ -23,7 +23,8 @@ pub enum AssignerEvent {
     T201,
 }
 
-/// The TEI management of the network side (Q.921 5.3): the assigned TEIs and the check in progress.
+/// The TEI management of the network side (Q.921 5.3): the held TEIs, which were assigned or known
+/// from the start, and the check in progress.
 #[derive(Clone, Copy, PartialEq, Eq)]
 pub struct Assigner {
     held: [bool; 127],
@@ -57,7 +58,7 @@ impl Assigner {
         Assigner { held, check: None }
     }
 
-    /// Whether the TEI is held, so that no terminal is assigned it. The group TEI never is.
+    /// Whether the TEI is held. The group TEI never is.
     pub fn holds(&self, tei: Tei) -> bool
         ensures { result ≡ is_held self.now.held tei }
     {

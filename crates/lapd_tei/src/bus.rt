@@ -109,11 +109,11 @@ impl Bus {
     /// Afterwards no two terminals hold the same TEI, under either of two conditions on the whole
     /// history of the bus, these moves included:
     ///
-    /// - Since it was in service (`in_service`), no terminal requested a TEI by another terminal's
-    ///   last reference, and no TEI in use was lost. In this case the assigner also holds each TEI
-    ///   of 64 to 126 that a terminal holds.
-    /// - Since it was new, each reference was used once, and a TEI was freed only while no terminal
-    ///   held it and no assignment of it was in transit.
+    /// - It began in service (`in_service`), and since then no terminal requested a TEI by another
+    ///   terminal's last reference, and no TEI in use was lost. In this case the assigner also
+    ///   holds each TEI of 64 to 126 that a terminal holds.
+    /// - It began as a new bus, and since then each reference was used once, and a TEI was freed
+    ///   only while no terminal held it and no assignment of it was in transit.
     ///
     /// # Errors
     ///
