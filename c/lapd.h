@@ -54,7 +54,8 @@ typedef struct lapd_side {
 	void *lapd_private;
 } lapd_side;
 
-/* A handle that owns no side, as in `lapd_side side = LAPD_SIDE_INIT;`. All octets are 0. */
+/* A handle that owns no side, as in `lapd_side side = LAPD_SIDE_INIT;`. A handle whose octets are
+ * all 0 is the same. */
 #define LAPD_SIDE_INIT { NULL }
 
 /* The result of a call. If it is not LAPD_DONE, the side is unchanged, with no new frames or
@@ -197,8 +198,8 @@ uint32_t lapd_side_busy(lapd_side *side, uint8_t sapi, uint8_t tei, uint8_t on, 
 /* Requests a TEI if the user side has none. A network side ignores it. */
 uint32_t lapd_side_ask_tei(lapd_side *side, uint64_t now);
 
-/* Checks which terminals have this TEI, 0 to 126. Ignored if tei is 127 or another check is in
- * progress, and by a user side. */
+/* Checks whether terminals have this TEI, 0 to 126. Ignored if tei is 127 or another check is in
+ * progress, and by a user side. LAPD_OUT_OF_RANGE: tei is above 127. */
 uint32_t lapd_side_check_tei(lapd_side *side, uint8_t tei, uint64_t now);
 
 /* Expires the first timer that is due at `now`. *expired is 1 if one was due, else 0; call it until
