@@ -1,6 +1,7 @@
-/* A data link that calls back, as libpri and its kin do, over one that is asked: some 60 lines to copy, and a program that uses
- * them. Each call hands something to the side, and then calls back with all that waits. A call from within a call-back only hands
- * in: what it gives waits behind the rest, so that no call-back is called while another runs, and they come in order. */
+/* A data link with callbacks, as in libpri, over liblapd, which has none: some 60 lines to copy,
+ * and a program that uses them. Each call passes something to the side, and then calls back with
+ * all frames and primitives that wait. A call from within a callback only passes its argument in:
+ * its results are queued behind the rest. So callbacks are never nested, and keep the order. */
 #include "lapd.h"
 
 #include <stdbool.h>
@@ -28,7 +29,7 @@ static void dl_init(struct dl *dl, const struct dl_callbacks *callbacks, void *u
 	dl->user = user;
 }
 
-/* Calls back with the next frame, or else with the next primitive; false where nothing waits. */
+/* Calls back with the next frame, or else with the next primitive; false if nothing waits. */
 static bool dl_call_back(struct dl *dl)
 {
 	uint8_t octets[LAPD_MOST_FRAME];
@@ -46,7 +47,7 @@ static bool dl_call_back(struct dl *dl)
 	return false;
 }
 
-/* Calls back with all that waits, unless that is being done. The call's code is handed on. */
+/* Calls back with all that waits, unless a callback is running. Returns the call's code. */
 static uint32_t dl_done(struct dl *dl, uint32_t code)
 {
 	if (dl->calls_back)
@@ -73,7 +74,7 @@ static uint32_t dl_send(struct dl *dl, uint8_t sapi, uint8_t tei, const uint8_t 
 	return dl_done(dl, lapd_side_give(&dl->side, sapi, tei, message, length, now));
 }
 
-/* When dl_schedule_run is to be called next, LAPD_NEVER where not at all. */
+/* The moment for the next call of dl_schedule_run; LAPD_NEVER if none is needed. */
 static uint64_t dl_schedule_next(struct dl *dl)
 {
 	uint64_t moment;
@@ -92,7 +93,7 @@ static void dl_schedule_run(struct dl *dl, uint64_t now)
 	while (expired);
 }
 
-/* ---- The program: a user side answers within a call-back, over a line that is a call of the other's dl_receive. */
+/* ---- The program: a user side answers within a callback. The line calls the peer's dl_receive. */
 
 struct end {
 	struct dl dl;

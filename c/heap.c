@@ -1,5 +1,6 @@
-/* The heap of liblapd: malloc, realloc and free. A program that defines these three functions has its own heap in place of it:
- * the archive's member is not linked then. Blocks are to be aligned as malloc's are. */
+/* The heap of liblapd: malloc, realloc and free. A program can define these three functions itself,
+ * to use its own heap: this member of the archive is not linked then. Blocks must be aligned like
+ * those of malloc. */
 #include <stdbool.h>
 #include <stdlib.h>
 
@@ -21,7 +22,8 @@ struct lapd_block rattle_alloc(size_t size, size_t align)
 	return block;
 }
 
-/* `kept` of the octets are to be kept; realloc keeps all that fit. Where it is refused, the old block stays. */
+/* Must keep the first `kept` octets; realloc keeps all that fit. If it fails, the old block remains
+ * valid. */
 struct lapd_block rattle_realloc(void *at, size_t kept, size_t size, size_t align)
 {
 	struct lapd_block block;

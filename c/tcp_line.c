@@ -78,7 +78,7 @@ void write_frame(int socket, const uint8_t *frame, size_t length)
 		fail("send");
 }
 
-/* How many octets the next frame has with its length, as far as that is known. */
+/* The number of octets of the next frame and its length, as far as known. */
 static size_t wanted(const struct tcp_line *line)
 {
 	if (line->count < LENGTH_OCTETS)

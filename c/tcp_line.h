@@ -1,5 +1,6 @@
-/* A line over TCP on this machine, and a clock: the examples use them in place of a D channel and its driver. Each frame follows its
- * length: two octets, the high one first, as with `lapd net` and `lapd user`. A failure ends the program. */
+/* A line over TCP on this machine, and a clock: the examples use them in place of a D channel and
+ * its driver. Each frame follows its length: two octets, the high one first, as with `lapd net` and
+ * `lapd user`. A failure ends the program. */
 #ifndef TCP_LINE_H
 #define TCP_LINE_H
 
@@ -9,28 +10,31 @@
 
 #define LENGTH_OCTETS 2
 
-/* A connection, and the part of the next frame that has arrived: its length, and octets behind it. */
+/* A connection, and the part of the next frame that has arrived: its length, then octets. */
 struct tcp_line {
 	int socket;
 	size_t count;
 	uint8_t octets[LENGTH_OCTETS + LAPD_MOST_FRAME];
 };
 
-/* Milliseconds of a clock that does not go back. */
+/* The time of a monotonic clock, in milliseconds. */
 uint64_t clock_now(void);
 
-/* Ends the program: a call of the system, or of the library, has failed. */
+/* Ends the program, because a call of the system or of the library has failed. */
 void fail(const char *what);
 void check(uint32_t code, const char *what);
 
-/* Waits for a connection on this machine at this port, 1 to 65535, or makes one to it. Returns its socket. */
+/* Waits for a connection on this machine at this port, 1 to 65535, or makes one to it. Returns its
+ * socket. */
 int connected(bool listens, const char *port);
 
-/* Sends a frame of at most LAPD_MOST_FRAME octets. It does not wait: a line that does not take the frame at once has failed. */
+/* Sends a frame of at most LAPD_MOST_FRAME octets, without waiting: if the line does not accept the
+ * frame at once, it has failed. */
 void write_frame(int socket, const uint8_t *frame, size_t length);
 
-/* Takes the next frame that has arrived whole, without waiting, into LAPD_MOST_FRAME octets. Returns its length, or 0 if no whole frame
- * had arrived, or -1 if the other side has hung up or sent a length that is not from 1 to LAPD_MOST_FRAME. */
+/* Takes the next complete frame, without waiting, into LAPD_MOST_FRAME octets. Returns its length,
+ * or 0 if no complete frame had arrived, or -1 if the other side has hung up or sent a length that
+ * is not from 1 to LAPD_MOST_FRAME. */
 int next_frame(struct tcp_line *line, uint8_t *frame);
 
 #endif

@@ -1,6 +1,7 @@
-/* One side of a primary rate interface with the real clock: one link, SAPI 0 and TEI 0. `terminal net 4000` waits for a connection
- * on this machine. `terminal user 4000` makes one, establishes the link, sends a message, and hangs up when it is acknowledged.
- * tcp_line.c takes the place of the D channel. */
+/* One side of a primary rate interface with the real clock: one link, SAPI 0 and TEI 0.
+ * `terminal net 4000` waits for a connection on this machine. `terminal user 4000` makes one,
+ * establishes the link, sends a message, and hangs up when it is acknowledged. tcp_line.c takes the
+ * place of the D channel. */
 #include "tcp_line.h"
 
 #include <poll.h>
@@ -8,7 +9,7 @@
 #include <string.h>
 #include <unistd.h>
 
-#define MOST_FRAMES 4096 /* received before timers get their turn, so that a flood of frames can't stop them */
+#define MOST_FRAMES 4096 /* frames received before timers are served: a flood cannot stop timers */
 
 struct terminal {
 	lapd_side side;
@@ -16,7 +17,8 @@ struct terminal {
 	bool finished;
 };
 
-/* Sends the frames of the calls so far, and prints what they report to layer 3, which sends a message once the link is established. */
+/* Sends the frames of the calls so far, and prints what they report to layer 3, which sends a
+ * message once the link is established. */
 static void send_and_report(struct terminal *t)
 {
 	static const uint8_t setup[] = { 0x08, 0x01 };
@@ -36,7 +38,8 @@ static void send_and_report(struct terminal *t)
 	} while (told.kind != LAPD_NOTHING);
 }
 
-/* Passes in every frame that has arrived. Returns a moment for which timers may expire: no other frame had arrived by then. */
+/* Passes in every frame that has arrived. Returns a moment for which timers may expire: no other
+ * frame had arrived by then. */
 static uint64_t receive(struct terminal *t)
 {
 	uint8_t frame[LAPD_MOST_FRAME];

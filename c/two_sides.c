@@ -1,5 +1,5 @@
-/* A network side and a user side of one interface, in memory. Read this first: the user side asks for a TEI, its link is
- * established, a message goes each way, and the link is released. */
+/* A network side and a user side of one interface, in memory. Read this first: the user side
+ * requests a TEI, its link is established, a message is sent each way, and the link is released. */
 #include "lapd.h"
 
 #include <stdio.h>
@@ -13,7 +13,7 @@ static void done(uint32_t code, const char *what)
 	}
 }
 
-/* Prints what a side tells its layer 3. */
+/* Prints the primitives that a side reports to its layer 3. */
 static void tell(lapd_side *side, const char *name)
 {
 	lapd_primitive primitive;
@@ -36,7 +36,8 @@ static void tell(lapd_side *side, const char *name)
 	}
 }
 
-/* Carries frames between the two, one at a time, until there are none. Each call here gives one frame at most. */
+/* Carries frames between the two, one at a time, until none is left. Each call here sends at most
+ * one frame. */
 static void carry(lapd_side *from, const char *from_name, lapd_side *to, const char *to_name)
 {
 	uint8_t frame[LAPD_MOST_FRAME], none[LAPD_MOST_FRAME];

@@ -1,6 +1,7 @@
-/* liblapd and libpri in one process, over a socket pair, in a loop of `poll` by the real clock. `libpri basic|primary net|user`
- * has our network side or our user side of that interface, and libpri as the other one. It takes some 75 seconds, prints rows, and
- * its status is 1 where one says no. */
+/* liblapd and libpri in one process, over a socket pair, in a `poll` loop with the real clock.
+ * `libpri basic|primary net|user` runs our network side or our user side of that interface, and
+ * libpri as the other side. It takes some 75 seconds and prints rows; its status is 1 if a row says
+ * no. */
 #include "common.h"
 #include "libpri_end.h"
 
@@ -19,10 +20,10 @@ static struct pri *pri;
 static lapd_side side = LAPD_SIDE_INIT;
 static struct tcp_line our_line;
 static int their_line;
-static uint8_t tei; /* of the link: 0, or what was given or got */
+static uint8_t tei; /* of the link: 0, or the assigned TEI */
 static bool we_lose, they_lose; /* the next I frame is lost */
 static struct {
-	int teis, established, reports; /* what our layer 3 is told */
+	int teis, established, reports; /* primitives for our layer 3 */
 	int setups, broadcast_setups, clears; /* messages of libpri */
 	int up, rings, hangups; /* events of libpri */
 	int our_polls, our_answers, their_polls, their_answers, rejects;
@@ -50,13 +51,14 @@ static void send_frame(const uint8_t *frame, size_t length)
 
 /* ---- Our layer 3. */
 
-/* The place of the message type: behind the protocol discriminator and the call reference. */
+/* The index of the message type: after the protocol discriminator and the call reference. */
 static size_t type_at(const uint8_t *message, size_t length)
 {
 	return length >= 2 && message[0] == 8 && 2 + (size_t)(message[1] & 15) < length ? 2 + (size_t)(message[1] & 15) : 0;
 }
 
-/* A RELEASE COMPLETE, user busy, for the call of a message: the call reference is the same with its flag turned. */
+/* Sends RELEASE COMPLETE, user busy, for the call of a message: the same call reference with the
+ * flag inverted. */
 static void refuse_call(const uint8_t *message)
 {
 	static const uint8_t busy[] = { 0x5a, 0x08, 0x02, 0x80, 0x91 };
@@ -83,7 +85,7 @@ static void heard(const lapd_primitive *told, const uint8_t *message)
 	refuse_call(message);
 }
 
-/* A SETUP with a bearer of speech, a channel and the called number 200. */
+/* Sends a SETUP with bearer capability speech, a channel and the called number 200. */
 static void give_setup(uint8_t reference)
 {
 	static const uint8_t bearer[] = { 0x05, 0x04, 0x03, 0x80, 0x90, 0xa3 };
@@ -146,7 +148,8 @@ static void take_frame(const uint8_t *frame, size_t length, uint64_t now)
 	fetch();
 }
 
-/* Passes in every frame that has arrived. Returns a moment for which timers may expire: no other frame had arrived by then. */
+/* Passes in every frame that has arrived. Returns a moment for which timers may expire: no other
+ * frame had arrived by then. */
 static uint64_t receive(void)
 {
 	uint8_t frame[LAPD_MOST_FRAME];
@@ -189,7 +192,7 @@ static void step(void)
 	on_event(libpri_tick(pri));
 }
 
-/* Waits until a frame arrives at either end, a timer is due or this moment has come. */
+/* Waits until a frame arrives at either end, a timer is due, or this moment is reached. */
 static void wait_until(uint64_t moment)
 {
 	struct pollfd lines[2] = { { our_line.socket, POLLIN, 0 }, { their_line, POLLIN, 0 } };
@@ -200,7 +203,7 @@ static void wait_until(uint64_t moment)
 	poll(lines, 2, libpri_wait(pri, due > now ? (int)(due - now) : 0));
 }
 
-/* Goes on until a count is as much as is wanted; false if it is not in so many milliseconds. */
+/* Runs until a count reaches `wanted`; false if it does not within this many milliseconds. */
 static bool reaches(const int *count, int wanted, uint64_t milliseconds)
 {
 	uint64_t end = clock_now() + milliseconds;
@@ -217,7 +220,7 @@ static void pass(uint64_t milliseconds)
 	reaches(&never, 1, milliseconds);
 }
 
-/* ---- What is tried, one after the other on one line. */
+/* ---- The tests, which run one after another on one line. */
 
 static void begin(void)
 {
@@ -255,7 +258,8 @@ static void try_calls(void)
 {
 	const int *setups = !is_primary && !we_are_network ? &seen.broadcast_setups : &seen.setups;
 
-	/* As the network of a bus, libpri sends it to all, and waits for other terminals until its T303 has expired twice. */
+	/* As the network of a bus, libpri broadcasts the SETUP, and waits for other terminals until its
+	 * T303 has expired twice. */
 	libpri_call(pri, is_primary);
 	row("SETUP from libpri, refused by us", reaches(setups, 1, 3000) && reaches(&seen.hangups, 1, 12000),
 	    setups == &seen.setups ? "" : "as unit data to all");

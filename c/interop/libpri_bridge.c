@@ -1,6 +1,7 @@
-/* libpri as one side of an interface, behind a TCP connection of this machine with the framing of `lapd net` and `lapd user`.
- * `libpri_bridge basic|primary net|user listen|connect PORT [call]` prints the events of libpri, refuses each call, and with
- * `call` makes one when 2 seconds have passed. It ends when the other side hangs up. */
+/* libpri as one side of an interface, behind a TCP connection on this machine with the framing of
+ * `lapd net` and `lapd user`. `libpri_bridge basic|primary net|user listen|connect PORT [call]`
+ * prints the events of libpri and refuses each call; with `call` it makes one after 2 seconds. It
+ * ends when the other side hangs up. */
 #include "common.h"
 #include "libpri_end.h"
 

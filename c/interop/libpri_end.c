@@ -7,7 +7,7 @@
 #include <string.h>
 #include <sys/time.h>
 
-#define CHECK_SEQUENCE 2 /* libpri counts two octets of frame check sequence behind each frame, and looks at neither */
+#define CHECK_SEQUENCE 2 /* octets that libpri adds to the length of each frame, and ignores */
 
 bool libpri_line_closed;
 
@@ -34,7 +34,7 @@ static int on_write(struct pri *end, void *octets, int size)
 	return size;
 }
 
-/* libpri's own words, on standard error where INTEROP_LOG is set. */
+/* Prints libpri's messages on standard error if INTEROP_LOG is set. */
 static void on_words(struct pri *end, char *words)
 {
 	(void)end;

@@ -7,22 +7,23 @@
 
 #include <libpri.h>
 
-/* An end of a basic rate interface with TEIs that are assigned, or of a primary rate interface. A process has one. */
+/* Creates an end of a basic rate interface with assigned TEIs, or of a primary rate interface. A
+ * process has only one. */
 struct pri *libpri_end(int socket, bool is_primary, bool network);
 
 /* Whether the other side has hung up. */
 extern bool libpri_line_closed;
 
-/* Milliseconds until a timer of libpri's is due, at most `most`. */
+/* The milliseconds until a timer of libpri is due, at most `most`. */
 int libpri_wait(struct pri *end, int most);
 
-/* What is due is done; the event of it, if there is one. */
+/* Expires the timers that are due, and returns the resulting event, if any. */
 pri_event *libpri_tick(struct pri *end);
 
-/* A call: libpri sends a SETUP. */
+/* Makes a call: libpri sends a SETUP. */
 void libpri_call(struct pri *end, bool is_primary);
 
-/* The call of an event is refused, or cleared. */
+/* Refuses or clears the call of an event. */
 void libpri_clear(struct pri *end, pri_event *event);
 
 #endif

@@ -1,5 +1,6 @@
-/* liblapd and Osmocom's LAPD in one process: a line in memory, and a clock for both that is moved by hand. `osmocom net` has our
- * network side and Osmocom's user side, and `osmocom user` the other way round. It prints rows; the status is 1 where one says no. */
+/* liblapd and Osmocom's LAPD in one process: a line in memory, and a simulated clock for both.
+ * `osmocom net` runs our network side and Osmocom's user side, and `osmocom user` the other way
+ * round. It prints rows; the status is 1 if a row says no. */
 #include "common.h"
 #include "osmocom_end.h"
 
@@ -24,12 +25,12 @@ struct frame {
 	size_t length;
 };
 
-/* What came to an end's layer 3, and what it sent. */
+/* An end: the frames that it sent, and the counts of its layer 3. */
 struct end {
-	struct frame line[ON_LINE]; /* what it sent, not yet delivered */
+	struct frame line[ON_LINE]; /* frames sent, not yet delivered */
 	int first, count;
 	int established, released, reports;
-	int received, in_order; /* messages; each begins with SETUP, and has its number behind */
+	int received, in_order; /* messages; each is a SETUP, then its number */
 	int given;
 	int polls, answers, i_frames, rejects;
 	bool loses; /* its next I frame is lost */
@@ -147,7 +148,7 @@ static void move_clock(uint64_t to)
 	osmo_clock_override_add(CLOCK_MONOTONIC, (time_t)(by / 1000), (long)(by % 1000 * 1000000));
 }
 
-/* Goes on for so many milliseconds, from what is due to what is due next. */
+/* Runs for this many milliseconds, from one deadline to the next. */
 static void pass(uint64_t milliseconds)
 {
 	uint64_t end = now + milliseconds, next, due;
@@ -168,7 +169,7 @@ static void pass(uint64_t milliseconds)
 	settle();
 }
 
-/* ---- What is tried. Each begins with two ends of its own, and the first three with no link. */
+/* ---- The tests. Each begins with two new ends, and the first three without a link. */
 
 static void begin_with(uint32_t our_t203, int their_t203)
 {
@@ -188,7 +189,7 @@ static void begin_with(uint32_t our_t203, int their_t203)
 	theirs = osmocom_end(!we_are_network, TEI, window, their_t203, &calls);
 }
 
-/* A link, established by the user side. */
+/* Creates both ends with a link that the user side establishes. */
 static void begin(uint32_t our_t203, int their_t203)
 {
 	begin_with(our_t203, their_t203);
@@ -212,7 +213,7 @@ static void give(int from)
 	fetch();
 }
 
-/* All that `from` gave has come, once and in order. */
+/* Whether all messages that `from` submitted have arrived, once and in order. */
 static bool arrived(int from)
 {
 	const struct end *to = &ends[from == OURS ? THEIRS : OURS];
@@ -290,7 +291,8 @@ static void try_enquiries(int from, uint32_t our_t203, int their_t203, const cha
 	    "%d polls, %d answers", poller->polls, other->answers);
 }
 
-/* Osmocom's end takes an RR for no end of an RNR, and so what it then sends is told, and not judged. */
+/* Osmocom's end does not clear the busy condition of an RNR when it receives an RR. So the last row
+ * only reports what it sends then, without a verdict. */
 static void try_busy(void)
 {
 	int at;

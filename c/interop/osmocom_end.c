@@ -10,7 +10,7 @@
 #include <osmocom/core/timer.h>
 
 #define ROOM 512
-#define HEADROOM 64 /* lapd_core writes a header before what it is handed */
+#define HEADROOM 64 /* lapd_core writes a header before the data that it is passed */
 
 static void on_transmit(struct msgb *frame, void *calls)
 {
@@ -30,7 +30,8 @@ static void on_receive(struct osmo_dlsap_prim *told, uint8_t tei, uint8_t sapi, 
 		msgb_free(message);
 }
 
-/* Osmocom's libraries want a context for their buffers, and a log, which is silent here unless INTEROP_LOG is set. */
+/* Osmocom's libraries require a context for their buffers, and a log, which is silent here unless
+ * INTEROP_LOG is set. */
 static void begin(void)
 {
 	static void *context;

@@ -1,9 +1,10 @@
 #!/usr/bin/env python3
-"""check_header.py CRATE LAPD.h ARCHIVE: that the header says what the crate exports.
+"""check_header.py CRATE LAPD.h ARCHIVE: checks that the header agrees with the crate's exports.
 
-Each export stands in the header with the C types and the names of what its Rattle types cross as, in order; each struct has the
-fields of its Rattle struct, in order; each code and kind has its number of the crate's definitions; and the archive defines the
-exports and nothing else for others, and asks for nothing but memcpy and its kin and the heap. Exit status 0 or 1."""
+The header declares each export with the C types and names that correspond to its Rattle parameters,
+in order. Each struct has the fields of its Rattle struct, in order, and each code and kind has its
+number in the crate's definitions. The archive exports only these functions, and requires only
+memcpy, similar functions and the heap. Exit status 0 or 1."""
 
 import re
 import subprocess
@@ -13,9 +14,9 @@ NUMBERS = {
     "u8": "uint8_t", "u16": "uint16_t", "u32": "uint32_t", "u64": "uint64_t", "usize": "size_t", "bool": "bool",
 }
 STRUCTS = {"Handle": "lapd_side", "Settings": "lapd_settings", "FlatPrimitive": "lapd_primitive", "LinkState": "lapd_link_state"}
-# Where a parameter has another name in C: what is plain there is not plain in the crate.
+# Parameters with another name in C, where the crate's name would be less clear.
 NAMES = {"handle": "side", "known": "teis", "fixed": "tei", "told": "primitive"}
-# What the archive may ask of the program that it is linked into.
+# The symbols that the archive may require of the program that it is linked into.
 ASKED = {"memcpy", "memmove", "memset", "memcmp", "bcmp", "malloc", "realloc", "free"}
 HEAP = {"rattle_alloc", "rattle_realloc", "rattle_dealloc"}
 
@@ -25,9 +26,9 @@ def c_type(rattle):
 
 
 def crossed(name, rattle):
-    """The parameters of C that a parameter crosses as, each as (type, name or None where any will do)."""
+    """The C parameters for a parameter, each as (type, name); the name is None if any is accepted."""
     if rattle == "Global":
-        return []  # it has no octets
+        return []  # zero-sized: not passed
     name = NAMES.get(name, name)
     found = re.fullmatch(r"&(mut )?\[(\w+)\]", rattle)
     if found:

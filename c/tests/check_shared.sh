@@ -1,5 +1,5 @@
 #!/bin/sh
-# check_shared.sh LIBRARY: it needs libc alone, and shows nothing but the calls of lapd.h.
+# check_shared.sh LIBRARY: checks that it needs only libc, and exports only the calls of lapd.h.
 set -u
 needed=$(ldd "$1" | sed 's/ (0x.*//' | grep -v -e linux-vdso -e ld-linux -e 'libc\.so')
 [ -z "$needed" ] || { echo "it needs $needed"; exit 1; }

@@ -1,9 +1,10 @@
 #!/usr/bin/env python3
-"""check_stopped.py PROGRAM [PREFIX]: that a user side over TCP receives before it expires timers, and that half a frame does not
-stop them.
+"""check_stopped.py PROGRAM [PREFIX]: checks that a user side over TCP receives before it expires
+timers, and that half a frame does not stop them.
 
-The program is started as `PROGRAM user PREFIXport`. It is stopped for longer than T200 while the UA is on its way, and sends no second
-SABME. Then half an RR arrives: T200 expires meanwhile, and the other half still counts. Exit status 0 or 1."""
+The program is started as `PROGRAM user PREFIXport`. Stopped for longer than T200 while the UA is in
+transit, it must not send a second SABME. Then half an RR arrives: T200 expires meanwhile, and the
+other half must still count. Exit status 0 or 1."""
 
 import select
 import signal
@@ -12,7 +13,7 @@ import subprocess
 import sys
 import time
 
-# Of SAPI 0 and TEI 0, each behind its length. T200 is a second.
+# Frames of SAPI 0 and TEI 0, each after its length. T200 is a second.
 SABME, UA = b"\0\3\0\x01\x7f", b"\0\3\0\x01\x73"
 MESSAGE, RR, ENQUIRY = b"\0\6\0\x01\0\0\x08\x01", b"\0\4\0\x01\x01\x02", b"\0\4\0\x01\x01\x01"
 

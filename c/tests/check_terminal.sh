@@ -1,5 +1,6 @@
 #!/bin/sh
-# check_terminal.sh TERMINAL: two of them over TCP on this machine, until the user's has its message acknowledged.
+# check_terminal.sh TERMINAL: runs two of them over TCP on this machine, until the message of the
+# user side is acknowledged.
 set -u
 port=$((20000 + $$ % 20000))
 net=$(mktemp)

@@ -1,5 +1,5 @@
-/* When the codes that are the handle's own come, what the calls that read tell, and that buffers that are too small stay as they
- * are. */
+/* Tests the codes that calls return because of the handle, the results of queries, and that buffers
+ * that are too small are unchanged. */
 #include "test.h"
 
 #include <string.h>
@@ -7,7 +7,7 @@
 static const uint8_t message[] = { 0x08, 0x01 };
 static uint8_t buffer[LAPD_MOST_FRAME];
 
-/* All calls that hand something in, with numbers in their ranges, return this code. */
+/* All calls that pass something in, with numbers in range, return this code. */
 static void all_return(lapd_side *side, uint32_t code)
 {
 	uint8_t expired = 7;
@@ -24,7 +24,7 @@ static void all_return(lapd_side *side, uint32_t code)
 	WANT(expired == 0);
 }
 
-/* Links and TEIs that are none. */
+/* Calls with invalid links and TEIs. */
 static void all_are_out_of_range(lapd_side *side)
 {
 	lapd_link_state state;
@@ -64,7 +64,7 @@ static void no_side(lapd_side *side)
 	WANT(told.kind == LAPD_NOTHING && told.octets == 0);
 }
 
-/* Settings of which one is out of its range: the handle owns what it owned. */
+/* Settings with one number out of range: no side is created, and the handle is unchanged. */
 static void not_made(lapd_side *side, const lapd_settings *settings)
 {
 	WANT_CODE(lapd_side_network(side, settings, message, 0), LAPD_OUT_OF_RANGE);
@@ -93,7 +93,7 @@ static void ranges(lapd_side *side)
 	WANT_CODE(lapd_side_user(side, &basic, 254), LAPD_OUT_OF_RANGE);
 }
 
-/* A frame that a side gives, and the state of its link then. */
+/* Fetches a frame of a side, and checks the state of its link. */
 static void a_frame(lapd_side *side, const char *wanted, size_t wants, unsigned state, unsigned vs, unsigned va, unsigned vr, unsigned waiting)
 {
 	lapd_link_state link;
@@ -110,7 +110,7 @@ static void a_frame(lapd_side *side, const char *wanted, size_t wants, unsigned 
 	WANT(length == 0);
 }
 
-/* A primitive that a side tells, with these octets. */
+/* Fetches a primitive of a side, with these octets. */
 static void a_primitive(lapd_side *side, unsigned kind, const uint8_t *wanted, size_t wants)
 {
 	lapd_primitive told;
@@ -160,7 +160,7 @@ static void a_link(lapd_side *side)
 	WANT(link.own_busy == 1 && link.peer_busy == 0 && link.rejecting == 0);
 }
 
-/* Unit data for all terminals, with a number for its octets: one frame. */
+/* Sends unit data to all terminals, with a number as its octets: one frame. */
 static void a_unit(lapd_side *side, unsigned number)
 {
 	uint8_t octets[2];
@@ -178,7 +178,7 @@ static void wants_unit(lapd_side *side, unsigned number)
 	WANT(length == 5 && buffer[3] == number >> 8 && buffer[4] == (number & 255));
 }
 
-/* What several calls give waits in order, and as much as the side was made for. */
+/* The results of several calls wait in order, up to the configured limit. */
 static void a_pile(lapd_side *side, uint16_t most)
 {
 	lapd_settings settings = LAPD_BASIC;
@@ -201,7 +201,7 @@ static void a_pile(lapd_side *side, uint16_t most)
 	WANT(length == 0);
 }
 
-/* Lines of text, with buffers that just fit and that do not. */
+/* A line of text, with a buffer that just fits and one that is too small. */
 static void a_text(const char *octets, size_t count, uint8_t network, const char *wanted)
 {
 	uint8_t text[128];

@@ -1,4 +1,5 @@
-/* What calls cost: `count WHAT N` does it N times over sides in memory. count.sh counts the instructions of two runs. */
+/* The cost of calls: `count WHAT N` repeats WHAT N times with sides in memory. count.sh counts the
+ * instructions of two runs. */
 #include "test.h"
 
 #include <string.h>
@@ -20,7 +21,8 @@ static void fetch_told(lapd_side *side)
 	}
 }
 
-/* Carries frames from one side to the other and back until there are none, and fetches all that is told. */
+/* Carries frames from one side to the other and back until none is left, and fetches all
+ * primitives. */
 static void carry(lapd_side *from, lapd_side *to)
 {
 	uint8_t frame[LAPD_MOST_FRAME];
@@ -45,7 +47,7 @@ static void carry(lapd_side *from, lapd_side *to)
 	} while (is_any);
 }
 
-/* A message of 20 octets, and its RR. */
+/* Sends a message of 20 octets, and its RR. */
 static void message(void)
 {
 	static const uint8_t octets[20] = { 0x08, 0x01, 0x01, 0x05 };
@@ -54,7 +56,7 @@ static void message(void)
 	carry(&user, &network);
 }
 
-/* An RR with P=1, and its answer. */
+/* Passes in an RR with P=1, and fetches the response. */
 static void poll(void)
 {
 	static const uint8_t rr[] = { 0x00, 0x81, 0x01, 0x01 };
@@ -66,7 +68,7 @@ static void poll(void)
 	WANT(length == 4 && answer[3] == 1);
 }
 
-/* A network side with 254 links, of which each is established, so that its T203 runs. */
+/* Creates a network side with 254 links and establishes each, so that its T203 runs. */
 static void establish_all(lapd_settings settings)
 {
 	uint8_t teis[127], sabme[] = { 0, 0, 0x7f }, octets[LAPD_MOST_FRAME];

@@ -1,5 +1,6 @@
 #!/bin/sh
-# count.sh COUNT: the instructions of each thing that the program COUNT does, from two runs, so that the start falls out.
+# count.sh COUNT: prints the instructions of each action of the program COUNT. It subtracts two runs,
+# so that the program's start does not count.
 set -u
 counted() {
 	valgrind --tool=callgrind --callgrind-out-file="$(dirname "$1")/callgrind.$2" "$1" "$2" "$3" 2>&1 | awk '/Collected/ { print $4 }'

@@ -1,4 +1,5 @@
-/* Goes through dialogues.txt, whose name is the argument: each call has to give the octets and the words that stand there. */
+/* Runs the dialogues of dialogues.txt, whose name is the argument: each call must have the listed
+ * results. */
 #include "test.h"
 
 #include <string.h>
@@ -8,7 +9,7 @@
 static lapd_side side = LAPD_SIDE_INIT;
 static char given[ROOM];
 
-/* The octets that hexadecimal digits write, - for none, and how many. */
+/* Reads octets in hexadecimal digits, - for none, and returns their number. */
 static size_t octets_of(const char *digits, uint8_t *octets)
 {
 	size_t count = 0;
@@ -137,7 +138,7 @@ static void make(const char *kind, const char *tei, const char *sapi16)
 		DONE(lapd_side_user(&side, &settings, *tei == '-' ? LAPD_NO_TEI : teis[0]));
 }
 
-/* Makes the call of a line; false where the line is none. */
+/* Makes the call of a line; false if the line is not a call. */
 static bool called(const char *line)
 {
 	char name[32] = "", a[32] = "", b[32] = "", c[ROOM] = "", d[ROOM] = "";

@@ -1,4 +1,5 @@
-/* The structs of lapd.h lie as repr(C) lays out those of the crate, on a machine of 64 bits. It is compiled, and not run. */
+/* Checks that the structs of lapd.h have the repr(C) layout of the crate's, on a 64-bit machine.
+ * This file is compiled, and not run. */
 #include "lapd.h"
 
 #define SIZE(type, size) typedef char type##_size[sizeof(type) == (size) ? 1 : -1]

@@ -1,6 +1,7 @@
-/* A heap of the test's own, in which one request for memory is refused: the first, then the second, until a run meets none. The
- * whole dialogue is gone through each time. What is refused has to be LAPD_NO_MEMORY, the same call has to do it at the next
- * try, every message has to arrive, and nothing may be left when the sides are freed. */
+/* Uses a heap of its own, in which one allocation fails: the first, then the second, until a run
+ * makes fewer allocations than that. Each run is the whole dialogue. The failed call must return
+ * LAPD_NO_MEMORY, the same call must succeed when it is repeated, every message must arrive, and no
+ * memory may be left when the sides are freed. */
 #include "test.h"
 
 #define MESSAGES 20
@@ -51,7 +52,7 @@ void rattle_dealloc(void *at)
 	free(at);
 }
 
-/* Makes a call, and once more where it finds no memory. */
+/* Makes a call, and repeats it if an allocation fails. */
 #define TWICE(call)                                                                                  \
 	do {                                                                                             \
 		uint32_t first_ = (call);                                                                    \
@@ -64,7 +65,7 @@ void rattle_dealloc(void *at)
 
 static int arrived;
 
-/* The frame that a side gave goes to the other, and what that gives back goes on, until there is none. */
+/* Passes the frame of a side to the other, and the answer back, until no frame is left. */
 static void carry(lapd_side *from, lapd_side *to)
 {
 	uint8_t frame[LAPD_MOST_FRAME], octets[LAPD_MOST_FRAME];
@@ -89,7 +90,7 @@ static void carry(lapd_side *from, lapd_side *to)
 	}
 }
 
-/* Calls without a fetch between them: what they give waits, and each comes once and in order. */
+/* Makes several calls before it fetches: their frames wait, and are fetched once and in order. */
 static void pile(lapd_side *side)
 {
 	uint8_t frame[LAPD_MOST_FRAME], octet;

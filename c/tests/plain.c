@@ -1,4 +1,4 @@
-/* The header alone, as C89 and C++ take it. It is compiled, and not run. */
+/* Only includes the header, to compile it as C89 and C++. This file is not run. */
 #include "lapd.h"
 
 lapd_side side = LAPD_SIDE_INIT;

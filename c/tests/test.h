@@ -1,4 +1,4 @@
-/* What the tests share. */
+/* Shared by the tests. */
 #ifndef TEST_H
 #define TEST_H
 
@@ -8,7 +8,7 @@
 #include <stdio.h>
 #include <stdlib.h>
 
-/* Ends the test where a fact does not hold. */
+/* Ends the test if a fact does not hold. */
 #define WANT(fact)                                                                                   \
 	do {                                                                                             \
 		if (!(fact)) {                                                                               \
@@ -17,7 +17,7 @@
 		}                                                                                            \
 	} while (0)
 
-/* Ends the test where a call returns another code. */
+/* Ends the test if a call returns another code. */
 #define WANT_CODE(call, code)                                                                        \
 	do {                                                                                             \
 		uint32_t code_ = (call);                                                                     \

@@ -1,5 +1,6 @@
-/* Pairs of sides that the main thread makes and frees, and that other threads use in turn: each pair is handed from thread to
- * thread, by start and join, in the middle of its messages. */
+/* Pairs of sides that the main thread creates and frees, and that other threads use one after
+ * another: each pair passes from thread to thread, by start and join, in the middle of its
+ * messages. */
 #include "test.h"
 
 #include <pthread.h>

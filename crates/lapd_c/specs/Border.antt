@@ -1,4 +1,4 @@
--- What a call does through a handle, which may own no side.
+-- The effect of a call through a handle, which may own no side.
 use Rattle.std.specs.Prelude.{◌≡◌, ◌⊎◌, ℕ, List, Option, Some, None, Vec}
 use Rattle.std.specs.declared.alloc.Global.{Global}
 use Rattle.lapd_table.specs.declared.link_id.LinkId.{LinkId}
@@ -12,58 +12,59 @@ use Rattle.lapd_c.specs.Codes.{done, no_side, out_of_range, memory}
 use Rattle.lapd_c.specs.Owned.{Held}
 use Rattle.lapd_c.specs.Settings.{IsNew}
 
--- Where the handle owns a side, it does this with it, and it still owns one; where it owns none, it
--- comes to that, and it still owns none.
+-- If the handle owns a side, the call has the first effect on it, and the handle still owns one. If
+-- it owns none, the call has the second effect, and the handle still owns none.
 abbrev pub Through : (HeldSide → HeldSide → Type 0) → Type 0 → Held → Held → Type 0
 Through Does Without (Some old) (Some new) = Does old new
 Through Does Without (Some old) None = ⊥
 Through Does Without None (Some new) = ⊥
 Through Does Without None None = Without
 
--- a call that may give more
+-- a call that may add results
 abbrev pub AsksSide : Call → ℕ → Held → Held → Type 0
 AsksSide call code old new = Through (λ o n. Asks call o n code) (code ≡ no_side) old new
 
--- a call for a link with a SAPI and a TEI; where they are none, it is refused, and nothing changes
+-- a call for a link with this SAPI and TEI; if they are not valid, it is refused, and nothing
+-- changes
 abbrev pub AsksLink : (LinkId → Call) → ℕ → Held → Held → Option LinkId → Type 0
 AsksLink call code old new None = (code ≡ out_of_range) × (new ≡ old)
 AsksLink call code old new (Some id) = AsksSide (call id) code old new
 
--- the state of a link
+-- a query of the state of a link
 abbrev pub TellsStateOf : LinkState → ℕ → Held → Held → Option LinkId → Type 0
 TellsStateOf told code old new None = (code ≡ out_of_range) × (told ≡ no_state) × (new ≡ old)
 TellsStateOf told code old new (Some id) =
     Through (λ o n. TellsState id told o n code) ((code ≡ no_side) × (told ≡ no_state)) old new
 
--- a call for a TEI, in the same way
+-- a call for a TEI, likewise
 abbrev pub AsksTei : (ℕ → Call) → ℕ → Held → Held → Option ℕ → Type 0
 AsksTei call code old new None = (code ≡ out_of_range) × (new ≡ old)
 AsksTei call code old new (Some tei) = AsksSide (call tei) code old new
 
--- octets as a request has them
+-- the octets of a request
 abbrev pub Message : Type 0
 Message = Vec ℕ Global
 
--- memory is refused, and nothing changes
+-- an allocation failed, and nothing changes
 pub record IsWithoutMemory (code : ℕ) (old new : Held) : Type 0 where
   pub refused : code ≡ memory
   pub same : new ≡ old
 
--- it is asked with these octets
+-- the call is made with these octets
 pub record AsksWithMessage (call : Message → Call) (octets : List ℕ) (code : ℕ) (old new : Held) :
     Type 0 where
   pub message : Message
   pub items : message.items ≡ octets
   pub asks : AsksSide (call message) code old new
 
--- a call for a link with octets, for which memory may be refused
+-- a call for a link with octets, whose copy may fail to be allocated
 abbrev pub AsksLinkWith : (LinkId → Message → Call) → List ℕ → ℕ → Held → Held → Option LinkId
     → Type 0
 AsksLinkWith call octets code old new None = (code ≡ out_of_range) × (new ≡ old)
 AsksLinkWith call octets code old new (Some id) =
     IsWithoutMemory code old new ⊎ AsksWithMessage (call id) octets code old new
 
--- a side is made
+-- a side is created
 pub record HasMade (config : Config) (IsMade : Config → EitherSide → Type 0) (most code : ℕ)
     (new : Held) : Type 0 where
   pub done : code ≡ done
@@ -71,8 +72,8 @@ pub record HasMade (config : Config) (IsMade : Config → EitherSide → Type 0)
   pub owned : new ≡ Some held
   pub is_new : IsNew config IsMade most held
 
--- A side is made with what the settings come to, or memory is refused; where a number is out of its
--- range, none is made. Where none is made, the handle owns what it owned.
+-- Creates a side with the configuration of these settings, unless an allocation fails or a number
+-- is out of range. If none is created, the handle is unchanged.
 abbrev pub Makes : (Config → EitherSide → Type 0) → ℕ → ℕ → Held → Held → Option Config
     → Type 0
 Makes IsMade most code old new None = (code ≡ out_of_range) × (new ≡ old)

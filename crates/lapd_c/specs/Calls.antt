@@ -1,4 +1,5 @@
--- What a call does with a side that is held: what the side's own call does, and what is fetched.
+-- The effect of a call on a held side: that of the side's own call, and the results that are
+-- fetched.
 use Rattle.std.specs.Prelude.{◌≡◌, ◌≤◌, ◌⊎◌, ℕ, ◌++◌, ◌||◌, ◌&&◌, nat_eq, nat_lt, nat_le, Bool, true, false, List, length, drop, slice_get, Option, Some, None, Result, ⊤}
 use Rattle.lapd_link.specs.Link.{LinkStandsFor}
 use Rattle.lapd_link.specs.declared.link.Link.{Link}
@@ -20,9 +21,9 @@ use Rattle.lapd_c.specs.Codes.{done, pending, out_of_range, memory, code_of, cod
 use Rattle.lapd_c.specs.FlatPrimitives.{flat, nothing, octets_of}
 use Rattle.lapd_c.specs.LinkStates.{state_of, no_state}
 
--- ---- What waits to be fetched.
+-- ---- The results that wait to be fetched.
 
--- what calls gave, the earlier before the later, and C has not fetched
+-- the results of calls that C has not fetched, the earlier before the later
 abbrev pub waiting : HeldSide → Effects
 waiting held = and_then held.backlog held.acts
 
@@ -30,18 +31,19 @@ waiting held = and_then held.backlog held.acts
 abbrev pub gives_nothing : Effects → Bool
 gives_nothing e = nat_eq (length e.frames) 0 && nat_eq (length e.primitives) 0
 
--- as many frames or primitives wait as it was made for, or more, so that no call may give more
+-- at least as many frames or primitives wait as the limit, so that no call may add more
 abbrev pub is_full : HeldSide → Bool
 is_full held = nat_le held.most_waiting (length (waiting held).frames)
     || nat_le held.most_waiting (length (waiting held).primitives)
 
--- ---- Calls that may give more.
+-- ---- Calls that may add results.
 
--- a call of a side, as the side states it: its result, the side before and after, and what it gives
+-- the contract of a side's call: its result, the side before and after, and its effects
 abbrev pub Call : Type 1
 Call = Result ⊤ SideFault → EitherSide → EitherSide → Effects → Type 0
 
--- it is done, what it gives waits behind the rest, and C is answered by the number of its result
+-- the call is made, its effects are appended to the waiting ones, and C receives the code of its
+-- result
 pub record HasCalled (call : Call) (old new : HeldSide) (code : ℕ) : Type 0 where
   pub result : Result ⊤ SideFault
   pub coded : code ≡ code_of result
@@ -50,18 +52,19 @@ pub record HasCalled (call : Call) (old new : HeldSide) (code : ℕ) : Type 0 wh
   pub waits : waiting new ≡ and_then (waiting old) given
   pub most : new.most_waiting ≡ old.most_waiting
 
--- it finds no memory for what the last call gave and waits still
+-- the waiting results of the last call cannot be set aside, because an allocation fails
 pub record HasNoMemory (old new : HeldSide) (code : ℕ) : Type 0 where
   pub refused : code ≡ memory
   pub same : new ≡ old
   pub gave : gives_nothing old.acts ≡ false
 
--- It is done, or there is no memory; where too much waits, it is refused. Then nothing changes.
+-- The call is made, or an allocation fails; if too many results wait, the call is refused. In the
+-- last two cases nothing changes.
 pub record Asks (call : Call) (old new : HeldSide) (code : ℕ) : Type 0 where
   pub refused : is_full old ≡ true → (code ≡ pending) × (new ≡ old)
   pub called : is_full old ≡ false → HasNoMemory old new code ⊎ HasCalled call old new code
 
--- the first timer that is due has expired, or none is due and nothing is given
+-- the first due timer has expired, or none is due and there are no results
 pub record HasTicked (now expired : ℕ) (old new : HeldSide) (code : ℕ) : Type 0 where
   pub done : code ≡ done
   pub flag : expired ≤ 1
@@ -71,7 +74,7 @@ pub record HasTicked (now expired : ℕ) (old new : HeldSide) (code : ℕ) : Typ
   pub waits : waiting new ≡ and_then (waiting old) given
   pub most : new.most_waiting ≡ old.most_waiting
 
--- none has, and nothing changes
+-- no timer has expired, and nothing changes
 pub record HasNotTicked (expired : ℕ) (old new : HeldSide) : Type 0 where
   pub none : expired ≡ 0
   pub same : new ≡ old
@@ -81,7 +84,7 @@ pub record Ticks (now expired : ℕ) (old new : HeldSide) (code : ℕ) : Type 0 
   pub ticked : is_full old ≡ false → ((expired ≡ 0) × HasNoMemory old new code)
       ⊎ HasTicked now expired old new code
 
--- ---- Calls that read.
+-- ---- Queries.
 
 pub record TellsDeadline (moment : ℕ) (old new : HeldSide) (code : ℕ) : Type 0 where
   pub done : code ≡ done
@@ -100,7 +103,7 @@ pub record TellsDiscarded (count : ℕ) (old new : HeldSide) (code : ℕ) : Type
   pub same : new ≡ old
   pub discarded : HasDiscarded old.side count
 
--- what is told of a link that is there, whatever end it stands for, and of one that is not
+-- the state of an existing link, whatever end it represents, and of one that does not exist
 abbrev pub TellsLink : LinkState → ℕ → Option Link → Type 0
 TellsLink told code None = (code ≡ code_of_kind NoLink) × (told ≡ no_state)
 TellsLink told code (Some link) =
@@ -115,28 +118,28 @@ pub record TellsState (id : LinkId) (told : LinkState) (old new : HeldSide) (cod
 
 -- ---- Calls that fetch.
 
--- these octets stand at the front of a buffer, and behind them what was there
+-- these octets overwrite the beginning of a buffer
 abbrev pub overwritten : List ℕ → List ℕ → List ℕ
 overwritten octets buffer = octets ++ drop (length octets) buffer
 
--- a buffer as it was handed in and as it is handed back
+-- a buffer before and after a call
 pub record Buffer : Type 0 where
   pub before : List ℕ
   pub after : List ℕ
 
--- it stays, since the buffer is too small
+-- the item still waits, since the buffer is too small
 pub record Stays (old new : HeldSide) (code : ℕ) (buffer : Buffer) : Type 0 where
   pub refused : code ≡ out_of_range
   pub octets : buffer.after ≡ buffer.before
   pub same : new ≡ old
 
--- there is none
+-- there is no item
 pub record HasNone (old new : HeldSide) (code : ℕ) (buffer : Buffer) : Type 0 where
   pub done : code ≡ done
   pub octets : buffer.after ≡ buffer.before
   pub same : new ≡ old
 
--- it is handed out, and what waits then is this
+-- the item is fetched, and these results still wait
 pub record HasFetched (octets : List ℕ) (left : Effects) (old new : HeldSide) (code : ℕ)
     (buffer : Buffer) : Type 0 where
   pub done : code ≡ done
@@ -145,14 +148,14 @@ pub record HasFetched (octets : List ℕ) (left : Effects) (old new : HeldSide) 
   pub side : new.side ≡ old.side
   pub most : new.most_waiting ≡ old.most_waiting
 
--- these octets are handed out where the buffer has room, and stay else
+-- these octets are fetched if the buffer has room for them, and still wait otherwise
 pub record Fetches (octets : List ℕ) (left : Effects) (old new : HeldSide) (code : ℕ)
     (buffer : Buffer) : Type 0 where
   pub fetched : nat_lt (length buffer.before) (length octets) ≡ false
       → HasFetched octets left old new code buffer
   pub stays : nat_lt (length buffer.before) (length octets) ≡ true → Stays old new code buffer
 
--- the first frame that waits, and how many octets it has
+-- the first waiting frame, and its number of octets
 abbrev pub without_first_frame : Effects → Effects
 without_first_frame e = record e { frames = drop 1 e.frames }
 
@@ -165,7 +168,7 @@ abbrev pub FetchesFrame : HeldSide → HeldSide → ℕ → ℕ → Buffer → T
 FetchesFrame old new code count buffer =
     FetchesFrameOr (slice_get (waiting old).frames 0) old new code count buffer
 
--- the first primitive that waits, and its octets
+-- the first waiting primitive, and its octets
 abbrev pub without_first_primitive : Effects → Effects
 without_first_primitive e = record e { primitives = drop 1 e.primitives }
 
@@ -181,7 +184,7 @@ FetchesPrimitive old new code told buffer =
 
 -- ---- Text.
 
--- it goes to the front of the buffer, where there is room for it
+-- the text is written to the beginning of the buffer, if it fits
 pub record TellsText (text : List ℕ) (code count : ℕ) (buffer : Buffer) : Type 0 where
   pub counted : count ≡ length text
   pub done : nat_lt (length buffer.before) (length text) ≡ false
@@ -189,7 +192,7 @@ pub record TellsText (text : List ℕ) (code count : ℕ) (buffer : Buffer) : Ty
   pub refused : nat_lt (length buffer.before) (length text) ≡ true
       → (code ≡ out_of_range) × (buffer.after ≡ buffer.before)
 
--- or memory is refused, and nothing is written
+-- or an allocation fails, and nothing is written
 pub record TellsNothing (code count : ℕ) (buffer : Buffer) : Type 0 where
   pub refused : code ≡ memory
   pub counted : count ≡ 0

@@ -1,4 +1,4 @@
--- The numbers that C is answered with: one for each thing that a call comes to.
+-- The codes that calls return to C, one for each result.
 use Rattle.std.specs.Prelude.{ℕ, Result, Ok, Err, ⊤}
 use Rattle.lapd_link_definition.specs.declared.event.LinkFault.{LinkFault}
 use Rattle.lapd_link_definition.specs.declared.event.LinkFault.TheVariants as link
@@ -6,7 +6,7 @@ use Rattle.lapd_sides_links.specs.declared.side_fault.SideFault.{SideFault}
 use Rattle.lapd_sides_links.specs.declared.side_fault.SideKind.{SideKind}
 use Rattle.lapd_sides_links.specs.declared.side_fault.SideKind.TheVariants as side
 
--- it was done
+-- the call succeeded
 abbrev pub done : ℕ
 done = 0
 
@@ -14,7 +14,7 @@ done = 0
 abbrev pub no_side : ℕ
 no_side = 1
 
--- so much waits to be fetched that no call may give more
+-- too many frames or primitives wait to be fetched
 abbrev pub pending : ℕ
 pending = 2
 
@@ -22,7 +22,7 @@ pending = 2
 abbrev pub out_of_range : ℕ
 out_of_range = 3
 
--- B3: memory was refused
+-- B3: an allocation failed
 abbrev pub memory : ℕ
 memory = 13
 
@@ -34,13 +34,13 @@ code_of_link_fault link.TooLong = 23
 code_of_link_fault link.Releasing = 24
 code_of_link_fault link.LayerThreeEstablishing = 25
 
--- B1, B3, and those of the link
+-- B1, B3, and the codes of the link
 abbrev pub code_of_kind : SideKind → ℕ
 code_of_kind side.NoLink = 11
 code_of_kind side.Memory = memory
 code_of_kind (side.Link fault) = code_of_link_fault fault
 
--- what a call of a side returns
+-- the result of a side's call
 abbrev pub code_of : Result ⊤ SideFault → ℕ
 code_of (Ok _) = done
 code_of (Err fault) = code_of_kind fault.kind

@@ -1,4 +1,4 @@
--- A primitive as C reads it: a kind, the numbers that go with it, and octets.
+-- A primitive in the form that C reads: a kind, its numbers, and octets.
 use Rattle.std.specs.Prelude.{ℕ, ◌==◌, if◌then◌else◌, List, [], length, Option, Some, None}
 use Rattle.lapd_frame.specs.Address.{sapi_value, sapi_at, number_at}
 use Rattle.lapd_frame.specs.declared.Sapi.{Sapi}
@@ -15,7 +15,7 @@ use Rattle.lapd_sides_links.specs.declared.primitive.What.{What}
 use Rattle.lapd_sides_links.specs.declared.primitive.What.TheVariants as what
 use Rattle.lapd_c.specs.declared.flat_primitive.FlatPrimitive.{FlatPrimitive}
 
--- ---- What is told of a link.
+-- ---- Primitives of a link.
 
 abbrev pub kind_of_link : What → ℕ
 kind_of_link (what.Up octets) = 1
@@ -28,7 +28,7 @@ kind_of_link (what.Acknowledged n) = 7
 kind_of_link (what.Dropped n) = 8
 kind_of_link (what.Report letter) = 9
 
--- how many messages were acknowledged or dropped
+-- the number of messages that were acknowledged or dropped
 abbrev pub count_of : What → ℕ
 count_of (what.Acknowledged n) = n
 count_of (what.Dropped n) = n
@@ -39,13 +39,13 @@ abbrev pub letter_of : What → ℕ
 letter_of (what.Report letter) = letter_code letter
 letter_of other = 0
 
--- the octets that go up to layer 3
+-- the octets for layer 3
 abbrev pub octets_up : What → List ℕ
 octets_up (what.Up octets) = octets
 octets_up (what.UnitUp octets) = octets
 octets_up other = []
 
--- ---- Outcomes of TEI management, of which a side tells only the last seven.
+-- ---- Outcomes of TEI management. A side reports only the last seven.
 
 abbrev pub kind_of_outcome : TeiOut → ℕ
 kind_of_outcome (tei.Send message) = 0
@@ -59,7 +59,7 @@ kind_of_outcome (tei.Free own) = 20
 kind_of_outcome (tei.InUse own) = 21
 kind_of_outcome (tei.Doubled own) = 22
 
--- whose TEI it is, and that of the group where it is of none
+-- the TEI of the outcome, or the group TEI if it has none
 abbrev pub tei_of_outcome : TeiOut → ℕ
 tei_of_outcome (tei.Got own) = own
 tei_of_outcome (tei.Gone own) = own
@@ -69,7 +69,7 @@ tei_of_outcome (tei.InUse own) = own
 tei_of_outcome (tei.Doubled own) = own
 tei_of_outcome other = group_tei
 
--- ---- All of it.
+-- ---- The whole primitive.
 
 abbrev pub flat : Primitive → FlatPrimitive
 flat (Of id told) = record {
@@ -89,7 +89,7 @@ flat (Management outcome) = record {
   octets = 0;
 }
 
--- where nothing is left to be fetched
+-- the value that stands for no primitive
 abbrev pub nothing : FlatPrimitive
 nothing = record { kind = 0; sapi = 0; tei = 0; letter = 0; count = 0; octets = 0 }
 
@@ -97,7 +97,7 @@ abbrev pub octets_of : Primitive → List ℕ
 octets_of (Of id told) = octets_up told
 octets_of (Management outcome) = []
 
--- ---- A link as C names it: SAPI 0, 16 or 63, and TEI 0 to 127.
+-- ---- A link named by C: SAPI 0, 16 or 63, and TEI 0 to 127.
 
 abbrev pub id_with : Option Sapi → Option ℕ → Option LinkId
 id_with (Some sapi) (Some tei) = Some (record { sapi = sapi; tei = tei })
@@ -107,6 +107,6 @@ id_with None tei = None
 abbrev pub link_of : ℕ → ℕ → Option LinkId
 link_of sapi tei = id_with (sapi_at sapi) (number_at tei)
 
--- a side as C names it: the network side by what is not 0
+-- a side named by C: the network side if the number is not 0
 abbrev pub sender : ℕ → Side
 sender network = if network == 0 then side.User else side.Network

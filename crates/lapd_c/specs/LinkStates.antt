@@ -1,4 +1,4 @@
--- A link as C reads it: its end of the state table in numbers.
+-- The state of a link in the form that C reads: its end of the state table as numbers.
 use Rattle.std.specs.Prelude.{ℕ, Bool, true, false}
 use Rattle.lapd_link_definition.specs.End.{End, waiting}
 use Rattle.lapd_link_definition.specs.State.{state_number}
@@ -21,7 +21,7 @@ state_of e = record {
   waiting = waiting e;
 }
 
--- where there is no link
+-- the value for a link that does not exist
 abbrev pub no_state : LinkState
 no_state = record {
   state = 0;

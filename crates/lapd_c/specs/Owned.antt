@@ -1,4 +1,4 @@
--- What a handle owns: nothing, or a box.
+-- The ownership of a handle: nothing, or a box.
 use base.Fml.{Fml, ftrue, fex}
 use base.Stored.{Coded}
 use denote.RawPtr.{Ptr, block_ptr, null_ptr}

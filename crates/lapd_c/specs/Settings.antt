@@ -1,4 +1,4 @@
--- What a side is made with, as C says it.
+-- The configuration of a side, in the form that C passes.
 use Rattle.std.specs.Prelude.{◌≡◌, ℕ, List, Bool, Option, Some, None, not, ◌==◌, ◌||◌, nat_lt, if◌then◌else◌}
 use Rattle.std.specs.List.{list_all}
 use Rattle.lapd_timers.specs.Durations.{Lengths, lengths_of}
@@ -15,7 +15,7 @@ use Rattle.lapd_c.specs.declared.settings.Settings.{Settings}
 use Rattle.lapd_c.specs.declared.held_side.HeldSide.{HeldSide}
 use Rattle.lapd_c.specs.Calls.{waiting}
 
--- ---- The numbers of it, each in its range.
+-- ---- The configuration, if each number is in its range.
 
 abbrev pub config_with : Settings → Option Parameters → Option Parameters → Option Lengths
     → Option Config
@@ -30,20 +30,20 @@ config_with s None params16 durations = None
 config_with s (Some params0) None durations = None
 config_with s (Some params0) (Some params16) None = None
 
--- one frame or primitive at least may wait
+-- at least one frame or primitive may wait
 abbrev pub config_of : Settings → Option Config
 config_of s = if s.most_waiting == 0 then None
     else config_with s (parameters_of s.k0 s.n200 s.room) (parameters_of s.k16 s.n200 s.room)
     (lengths_of s.t200 s.t201 s.t202 s.t203)
 
--- the TEI of one terminal, 0 to 126
+-- a TEI of 0 to 126
 abbrev pub is_own_tei : ℕ → Bool
 is_own_tei tei = nat_lt tei 127
 
 abbrev pub network_config : Settings → List ℕ → Option Config
 network_config settings known = if list_all is_own_tei known then config_of settings else None
 
--- 255 says that a user side has no fixed TEI
+-- 255 means that a user side has no fixed TEI
 abbrev pub fixed_tei : ℕ → Option ℕ
 fixed_tei tei = if tei == 255 then None else Some tei
 
@@ -53,7 +53,7 @@ is_fixed_tei tei = (tei == 255) || is_own_tei tei
 abbrev pub user_config : Settings → ℕ → Option Config
 user_config settings tei = if is_fixed_tei tei then config_of settings else None
 
--- ---- The side that is made.
+-- ---- The created side.
 
 abbrev pub IsNewNetwork : List ℕ → Config → EitherSide → Type 0
 IsNewNetwork known config (either.Network side) = ShowNetwork side config (new_network config known)
@@ -64,7 +64,7 @@ IsNewUser tei config (either.Network side) = ⊥
 IsNewUser tei config (either.User side) =
     ShowUser side config (new_user config (fixed_tei tei) (seeded config.seed))
 
--- it has given nothing yet, and so much may wait
+-- the side is new, without results, and has this limit for waiting results
 pub record IsNew (config : Config) (IsMade : Config → EitherSide → Type 0) (most : ℕ)
     (held : HeldSide) : Type 0 where
   pub side : IsMade config held.side

@@ -1,29 +1,29 @@
-//! The numbers that C is answered with.
+//! The codes that calls return to C.
 
 ghost use Rattle.std.specs.Prelude.{◌≡◌};
 ghost use Rattle.lapd_c.specs.Codes.{code_of, code_of_kind, code_of_link_fault};
 
 use lapd_sides::{LinkFault, SideFault, SideKind};
 
-/// It was done.
+/// The call succeeded.
 pub(crate) const DONE: u32 = 0;
 
 /// The handle owns no side.
 pub(crate) const NO_SIDE: u32 = 1;
 
-/// So much waits to be fetched that no call may give more.
+/// Too many frames or primitives wait to be fetched.
 pub(crate) const PENDING: u32 = 2;
 
 /// A number is out of its range, or a buffer is too small.
 pub(crate) const OUT_OF_RANGE: u32 = 3;
 
-/// B1: there is no such link.
+/// B1: the link does not exist.
 pub(crate) const NO_LINK: u32 = 11;
 
-/// B3: memory was refused.
+/// B3: an allocation failed.
 pub(crate) const MEMORY: u32 = 13;
 
-/// The number of what a call of a side returns.
+/// The code for the result of a side's call.
 pub(crate) fn code_of(answer: Result<(), SideFault>) -> u32
     ensures { result ≡ code_of answer }
 {
@@ -33,7 +33,7 @@ pub(crate) fn code_of(answer: Result<(), SideFault>) -> u32
     }
 }
 
-/// The number of a refusal of a side: B1, B3, or that of its link.
+/// The code of a side's refusal: B1, B3, or that of its link.
 fn code_of_kind(kind: SideKind) -> u32
     ensures { result ≡ code_of_kind kind }
 {
@@ -44,7 +44,7 @@ fn code_of_kind(kind: SideKind) -> u32
     }
 }
 
-/// The number of a refusal of a link, L1 to L5.
+/// The code of a link's refusal, L1 to L5.
 fn code_of_link_fault(fault: LinkFault) -> u32
     ensures { result ≡ code_of_link_fault fault }
 {

@@ -1,4 +1,4 @@
-//! A primitive as C reads it.
+//! A primitive in the form that C reads.
 
 ghost use Rattle.std.specs.Prelude.{◌≡◌};
 ghost use Rattle.lapd_c.specs.FlatPrimitives.{flat, nothing, octets_of, octets_up, kind_of_link, count_of, letter_of, kind_of_outcome, tei_of_outcome, link_of};
@@ -6,26 +6,26 @@ ghost use Rattle.lapd_link_definition.specs.Out.{letter_code};
 
 use lapd_sides::{Letter, LinkId, Primitive, Sapi, Tei, TeiOut, What};
 
-/// What the layers above are told, in numbers. Its octets are handed out beside it.
+/// A primitive for the layers above, as numbers. Its octets are returned separately.
 #[repr(C)]
 #[derive(Clone, Copy)]
 pub struct FlatPrimitive {
-    /// What it is; 0 where nothing is left.
+    /// The kind; 0 if no primitive is left.
     pub kind: u8,
-    /// The link's SAPI; 63 of TEI management.
+    /// The SAPI of the link; 63 for TEI management.
     pub sapi: u8,
-    /// The link's TEI; 127 of the group, and where it is of none.
+    /// The TEI of the link; 127 for the group, or if there is none.
     pub tei: u8,
-    /// Of an error report, its letter, `A` to `O`; else 0.
+    /// The letter of an error report, `A` to `O`; else 0.
     pub letter: u8,
-    /// How many messages were acknowledged or dropped; else 0.
+    /// The number of messages that were acknowledged or dropped; else 0.
     pub count: u16,
-    /// How many octets go up.
+    /// The number of octets for layer 3.
     pub octets: usize,
 }
 
 impl FlatPrimitive {
-    /// Where nothing is left to be fetched.
+    /// The value that stands for no primitive.
     pub(crate) fn nothing() -> FlatPrimitive
         ensures { result ≡ nothing }
     {
@@ -39,7 +39,7 @@ impl FlatPrimitive {
         }
     }
 
-    /// A primitive in numbers.
+    /// Converts a primitive.
     pub(crate) fn of(primitive: &Primitive) -> FlatPrimitive
         ensures { result ≡ flat primitive.now }
     {
@@ -64,7 +64,7 @@ impl FlatPrimitive {
     }
 }
 
-/// The octets that a primitive takes up to layer 3.
+/// The octets of a primitive for layer 3.
 pub(crate) fn octets_of(primitive: &Primitive) -> &[u8]
     ensures { result.now ≡ octets_of primitive.now }
 {
@@ -74,7 +74,7 @@ pub(crate) fn octets_of(primitive: &Primitive) -> &[u8]
     }
 }
 
-/// The octets that go up.
+/// The octets of a link's primitive for layer 3.
 fn octets_up(what: &What) -> &[u8]
     ensures { result.now ≡ octets_up what.now }
 {
@@ -85,7 +85,7 @@ fn octets_up(what: &What) -> &[u8]
     }
 }
 
-/// The number of what is told of a link.
+/// The kind of a link's primitive.
 fn kind_of_link(what: &What) -> u8
     ensures { result ≡ kind_of_link what.now }
 {
@@ -102,7 +102,7 @@ fn kind_of_link(what: &What) -> u8
     }
 }
 
-/// How many messages were acknowledged or dropped.
+/// The number of messages that were acknowledged or dropped.
 fn count_of(what: &What) -> u16
     ensures { result ≡ count_of what.now }
 {
@@ -123,7 +123,7 @@ fn letter_of(what: &What) -> u8
     }
 }
 
-/// A letter as ASCII has it.
+/// The ASCII code of a letter.
 fn letter_code(letter: Letter) -> u8
     ensures { result ≡ letter_code letter }
 {
@@ -146,7 +146,7 @@ fn letter_code(letter: Letter) -> u8
     }
 }
 
-/// The number of an outcome of TEI management.
+/// The kind of an outcome of TEI management.
 fn kind_of_outcome(outcome: &TeiOut) -> u8
     ensures { result ≡ kind_of_outcome outcome.now }
 {
@@ -164,7 +164,7 @@ fn kind_of_outcome(outcome: &TeiOut) -> u8
     }
 }
 
-/// The TEI of an outcome of TEI management, 127 where it is of none.
+/// The TEI of an outcome of TEI management; 127 if it has none.
 fn tei_of_outcome(outcome: &TeiOut) -> u8
     ensures { result ≡ tei_of_outcome outcome.now }
 {
@@ -182,7 +182,7 @@ fn tei_of_outcome(outcome: &TeiOut) -> u8
     }
 }
 
-/// A link as C names it; `None` where the SAPI is not 0, 16 or 63, or the TEI above 127.
+/// The link with this SAPI and TEI; `None` if the SAPI is not 0, 16 or 63, or the TEI is above 127.
 pub(crate) fn link_of(sapi: u8, tei: u8) -> Option<LinkId>
     ensures { result ≡ link_of sapi tei }
 {

@@ -1,4 +1,4 @@
-//! What C holds.
+//! The handle that C holds.
 
 ghost use Rattle.std.specs.Prelude.{◌≡◌, Some, None, MatchOption};
 ghost use Rattle.lapd_c.specs.Owned.{owns, held_coded, Held};
@@ -10,7 +10,7 @@ use std::marker::{Model, Send};
 use std::mem::replace;
 use std::ptr::null_mut;
 
-/// What C holds of a side: a pointer to it, or null where there is none.
+/// A handle in C: a pointer to a side, or null.
 #[repr(C)]
 pub struct Handle {
     at: *mut u8,
@@ -23,7 +23,7 @@ impl Model for Handle {
 }
 
 impl Handle {
-    /// One that owns nothing.
+    /// A handle that owns nothing.
     pub(crate) fn empty(alloc: Global) -> Handle
         ensures { result.held ≡ None }
     {
@@ -33,7 +33,7 @@ impl Handle {
         }
     }
 
-    /// One that owns a side.
+    /// A handle that owns a side.
     pub(crate) fn of_parts(parts: BoxParts<HeldSide, Global>) -> Handle
         ensures { result.held ≡ Some parts.value }
     {
@@ -44,7 +44,7 @@ impl Handle {
         }
     }
 
-    /// The side that it owns.
+    /// The side that the handle owns, if any.
     pub(crate) fn into_parts(self) -> Option<BoxParts<HeldSide, Global>>
         ensures { MatchOption result (self.held ≡ None) (λ p. self.held ≡ Some p.value) }
     {
@@ -60,10 +60,10 @@ impl Handle {
     }
 }
 
-// C may hand it to another thread.
+// C may pass a handle to another thread.
 unsafe impl Send for Handle {}
 
-// Without it a handle that is written over would leak its side.
+// Without this, overwriting a handle would leak its side.
 impl Drop for Handle {
     fn drop(self) {
         if let Some(parts) = self.into_parts() {
@@ -72,7 +72,7 @@ impl Drop for Handle {
     }
 }
 
-/// Takes out what a handle owns.
+/// Takes the side out of a handle, if it owns one.
 pub(crate) fn opened(handle: &mut Handle, alloc: Global) -> Option<Box<HeldSide>>
     ensures owned { MatchOption result (handle.old.held ≡ None)
         (λ b. handle.old.held ≡ Some b.value) }
@@ -92,7 +92,7 @@ pub(crate) fn shut(handle: &mut Handle, side: Box<HeldSide>)
     *handle = Handle::of_parts(BoxParts::of(crossing(side)));
 }
 
-/// What may go to another thread, since C may send it there.
+/// Requires that a value is `Send`, because C may pass it to another thread.
 fn crossing<T: Send>(value: T) -> T
     ensures { result ≡ value }
 {

@@ -1,4 +1,4 @@
-//! A side with what it gave.
+//! A side together with its results that wait to be fetched.
 
 ghost use Rattle.std.specs.Prelude.{◌≡◌, ◌<◌, ◌≤◌, length, slice_get, option_copied, IfOk, OnOk, OnErr, false};
 ghost use Rattle.lapd_sides_links.specs.Effects.{no_effects};
@@ -13,18 +13,20 @@ use lapd_sides::{Acts, EitherSide, LinkId, Primitive, Request};
 use lapd_sides_links::Backlog;
 use std::alloc::{AllocError, Global};
 
-/// A side, and what its calls gave that C has not fetched: the last in `acts`, and those before it in `backlog`.
+/// A side, and the results of its calls that C has not fetched: the last in `acts`, the earlier
+/// ones in `backlog`.
 #[derive(Drop)]
 pub struct HeldSide {
     side: EitherSide,
     acts: Acts,
     backlog: Backlog,
-    /// How many frames, or how many primitives, may wait until a call that could give more is refused.
+    /// If this many frames or primitives wait, calls that could add more are refused.
     most_waiting: u16,
 }
 
 impl HeldSide {
-    /// A side that has given nothing yet, of which so many frames and so many primitives may wait.
+    /// Holds a new side without results, with this limit for waiting frames and for waiting
+    /// primitives.
     pub(crate) fn new(
         alloc: Global,
         side: EitherSide,
@@ -45,7 +47,7 @@ impl HeldSide {
         })
     }
 
-    /// Whether so much waits that no call may give more.
+    /// Whether so many results wait that a call must be refused.
     fn is_full(&self) -> bool
         ensures { result ≡ is_full self.now }
     {
@@ -54,11 +56,11 @@ impl HeldSide {
             || most <= self.backlog.primitives().len() + self.acts.primitives().len()
     }
 
-    /// Puts what the last call gave behind what waits.
+    /// Appends the results of the last call to the waiting ones.
     ///
     /// # Errors
     ///
-    /// `AllocError` where memory was refused. Nothing is changed.
+    /// `AllocError` if an allocation failed. Nothing is changed.
     #[inline(always)]
     fn set_aside(&mut self) -> Result<(), AllocError>
         ensures ok { OnOk result (self.new ≡ record self.old {
@@ -74,7 +76,7 @@ impl HeldSide {
         self.backlog.append(&mut self.acts)
     }
 
-    /// Octets come from the line at the moment `now`.
+    /// Processes octets received from the line at the time `now`.
     pub(crate) fn take(&mut self, octets: &[u8], now: u64) -> u32
         ensures { Asks (Takes octets.now now) self.old self.new result }
     {
@@ -87,7 +89,7 @@ impl HeldSide {
         }
     }
 
-    /// Something is asked for at the moment `now`.
+    /// Executes a request at the time `now`.
     pub(crate) fn request(&mut self, request: Request, now: u64) -> u32
         ensures { Asks (Answers request now) self.old self.new result }
     {
@@ -100,7 +102,8 @@ impl HeldSide {
         }
     }
 
-    /// What is due at the moment `now`, the first alone: 1 where a timer had expired, and else 0.
+    /// Expires the first timer that is due at the time `now`. `expired` is 1 if one was due, else
+    /// 0.
     pub(crate) fn tick(&mut self, now: u64, expired: &mut u8) -> u32
         ensures { Ticks now expired.new self.old self.new result }
     {
@@ -119,7 +122,8 @@ impl HeldSide {
         }
     }
 
-    /// The next moment at which something is due, in milliseconds; the last moment that there is where nothing ever is.
+    /// Sets `moment` to the next moment at which something is due, in milliseconds, or to the
+    /// greatest moment if no timer runs.
     pub(crate) fn next_deadline(&self, moment: &mut u64) -> u32
         ensures { TellsDeadline moment.new self.now self.now result }
     {
@@ -127,7 +131,7 @@ impl HeldSide {
         DONE
     }
 
-    /// The same moment.
+    /// Sets `moment` to the same moment.
     pub(crate) fn quiet_until(&self, moment: &mut u64) -> u32
         ensures { TellsQuiet moment.new self.now self.now result }
     {
@@ -135,7 +139,7 @@ impl HeldSide {
         DONE
     }
 
-    /// How many frames it has discarded.
+    /// Sets `count` to the number of discarded frames.
     pub(crate) fn discarded(&self, count: &mut u64) -> u32
         ensures { TellsDiscarded count.new self.now self.now result }
     {
@@ -143,7 +147,7 @@ impl HeldSide {
         DONE
     }
 
-    /// The state of a link.
+    /// Sets `state` to the state of a link.
     pub(crate) fn state(&self, id: LinkId, state: &mut LinkState) -> u32
         ensures { TellsState id state.new self.now self.now result }
     {
@@ -159,7 +163,7 @@ impl HeldSide {
         }
     }
 
-    /// The first frame that waits.
+    /// The first waiting frame.
     fn first_frame(&self) -> Option<&[u8]>
         ensures { option_copied result ≡ slice_get (waiting self.now).frames 0 }
     {
@@ -172,7 +176,7 @@ impl HeldSide {
         }
     }
 
-    /// The first primitive that waits.
+    /// The first waiting primitive.
     fn first_primitive(&self) -> Option<&Primitive>
         ensures { option_copied result ≡ slice_get (waiting self.now).primitives 0 }
     {
@@ -182,7 +186,7 @@ impl HeldSide {
         }
     }
 
-    /// Lets the first frame that waits go.
+    /// Removes the first waiting frame.
     fn remove_frame(&mut self)
         requires { 0 < length (waiting self.old).frames }
         ensures waits { waiting self.new ≡ without_first_frame (waiting self.old) }
@@ -196,7 +200,7 @@ impl HeldSide {
         }
     }
 
-    /// Lets the first primitive that waits go.
+    /// Removes the first waiting primitive.
     fn remove_primitive(&mut self)
         requires { 0 < length (waiting self.old).primitives }
         ensures waits { waiting self.new ≡ without_first_primitive (waiting self.old) }
@@ -210,8 +214,9 @@ impl HeldSide {
         }
     }
 
-    /// The first frame that waits goes to the front of the buffer. `count` is how many octets it has, also where the buffer
-    /// is too small for it and it stays; 0 where no frame is left.
+    /// Moves the first waiting frame to the beginning of the buffer. `count` is its number of
+    /// octets, or 0 if no frame is left. If the buffer is too small, only `count` is set, and the
+    /// frame still waits.
     pub(crate) fn next_frame(&mut self, buffer: &mut [u8], count: &mut usize) -> u32
         ensures { FetchesFrame self.old self.new result count.new
             (record { before = buffer.old; after = buffer.new }) }
@@ -229,8 +234,8 @@ impl HeldSide {
         DONE
     }
 
-    /// The first primitive that waits, with its octets at the front of the buffer; where the buffer is too small for them, it
-    /// stays.
+    /// Fetches the first waiting primitive, and copies its octets to the beginning of the buffer.
+    /// If the buffer is too small for them, the primitive still waits.
     pub(crate) fn next_primitive(&mut self, told: &mut FlatPrimitive, buffer: &mut [u8]) -> u32
         ensures { FetchesPrimitive self.old self.new result told.new
             (record { before = buffer.old; after = buffer.new }) }
@@ -250,7 +255,7 @@ impl HeldSide {
     }
 }
 
-/// The moment, or the last that there is where there is none.
+/// The moment, or the greatest moment if there is none.
 fn moment_or_last(moment: Option<u64>) -> u64
     ensures { result ≡ or_last moment }
 {
@@ -260,7 +265,7 @@ fn moment_or_last(moment: Option<u64>) -> u64
     }
 }
 
-/// Puts octets to the front of a buffer.
+/// Overwrites the beginning of a buffer with these octets.
 pub(crate) fn overwrite(buffer: &mut [u8], octets: &[u8])
     requires { length octets.now ≤ length buffer.old }
     ensures { buffer.new ≡ overwritten octets.now buffer.old }

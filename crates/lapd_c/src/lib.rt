@@ -1,9 +1,11 @@
-//! The data link for C: a side of an ISDN D channel interface (ITU-T Q.921) behind one opaque word.
+//! The data link layer for C: a side of an ISDN D channel interface (ITU-T Q.921) behind one opaque
+//! word.
 //!
-//! Each export calls that of a [`lapd_sides::EitherSide`] which it is named after, and states its clause again. A handle that
-//! owns no side, as a fresh or a freed one, is answered by code 1; the numbers are those of `codes`. What calls give waits, in
-//! order, until it is fetched by [`lapd_side_frame`] and [`lapd_side_primitive`]. `c/lapd.h` is the header, and docs/C.md says
-//! what a program keeps.
+//! Each exported function calls the function of [`lapd_sides::EitherSide`] that it is named after,
+//! and repeats its contract. For a handle that owns no side, new or freed, it returns code 1; the
+//! codes are those of `codes`. The results of calls wait, in order, until [`lapd_side_frame`] and
+//! [`lapd_side_primitive`] fetch them. `c/lapd.h` is the header, and docs/C.md lists the duties of
+//! a program.
 #![tactic(auto)]
 
 ghost use Rattle.std.specs.Prelude.{◌≡◌, ◌==◌, Some, None, not};
@@ -36,7 +38,7 @@ use making::{make_network, make_user};
 use settings::Settings;
 use std::alloc::Global;
 
-/// The version of the library: a thousand for each greater number, one for each smaller.
+/// The version of the library: thousands are major versions, units are minor versions.
 #[unsafe(no_mangle)]
 pub extern "C" fn lapd_version() -> u32
     ensures { result ≡ 1 }
@@ -44,8 +46,8 @@ pub extern "C" fn lapd_version() -> u32
     1
 }
 
-/// Makes a network side that holds the TEIs that are known, 0 to 126 each, and frees the side that the handle owned. Where
-/// it is refused, the handle owns what it owned.
+/// Creates a network side that holds these TEIs, each 0 to 126, and frees the side that the handle
+/// owned. If the call fails, the handle is unchanged.
 #[unsafe(no_mangle)]
 pub extern "C" fn lapd_side_network(
     handle: &mut Handle,
@@ -65,8 +67,8 @@ pub extern "C" fn lapd_side_network(
     }
 }
 
-/// Makes a user side with a fixed TEI, 0 to 126, or with none for 255, and frees the side that the handle owned. Where it is
-/// refused, the handle owns what it owned.
+/// Creates a user side with a fixed TEI, 0 to 126, or without one if `fixed` is 255, and frees the
+/// side that the handle owned. If the call fails, the handle is unchanged.
 #[unsafe(no_mangle)]
 pub extern "C" fn lapd_side_user(
     handle: &mut Handle,
@@ -86,7 +88,7 @@ pub extern "C" fn lapd_side_user(
     }
 }
 
-/// Frees what a handle owns, and puts a side into it.
+/// Frees the side that a handle owns, if any, and puts another into it.
 fn put(handle: &mut Handle, side: Box<HeldSide>, alloc: Global) -> u32
     ensures owned { handle.new.held ≡ Some side.value }
     ensures done { result ≡ 0 }
@@ -96,7 +98,7 @@ fn put(handle: &mut Handle, side: Box<HeldSide>, alloc: Global) -> u32
     DONE
 }
 
-/// Frees the side that the handle owns, where it owns one.
+/// Frees the side that the handle owns, if any.
 #[unsafe(no_mangle)]
 pub extern "C" fn lapd_side_free(handle: &mut Handle, alloc: Global)
     ensures { handle.new.held ≡ None }
@@ -104,7 +106,8 @@ pub extern "C" fn lapd_side_free(handle: &mut Handle, alloc: Global)
     let _side = opened(handle, alloc);
 }
 
-/// The octets of a frame come from the line, without flags and check sequence, at the moment `now`.
+/// Processes the octets of a frame received from the line, without flags and check sequence, at the
+/// time `now`.
 #[unsafe(no_mangle)]
 pub extern "C" fn lapd_side_take(handle: &mut Handle, octets: &[u8], now: u64, alloc: Global) -> u32
     ensures { AsksSide (Takes octets.now now) result handle.old.held handle.new.held }
@@ -117,7 +120,7 @@ pub extern "C" fn lapd_side_take(handle: &mut Handle, octets: &[u8], now: u64, a
     code
 }
 
-/// Something is asked for.
+/// Executes a request.
 fn ask(handle: &mut Handle, request: Request, now: u64, alloc: Global) -> u32
     ensures { AsksSide (Answers request now) result handle.old.held handle.new.held }
 {
@@ -129,7 +132,7 @@ fn ask(handle: &mut Handle, request: Request, now: u64, alloc: Global) -> u32
     code
 }
 
-/// A link is to be established (DL-ESTABLISH request).
+/// Establishes a link (DL-ESTABLISH request).
 #[unsafe(no_mangle)]
 pub extern "C" fn lapd_side_establish(
     handle: &mut Handle,
@@ -147,7 +150,7 @@ pub extern "C" fn lapd_side_establish(
     }
 }
 
-/// A link is to be released (DL-RELEASE request).
+/// Releases a link (DL-RELEASE request).
 #[unsafe(no_mangle)]
 pub extern "C" fn lapd_side_release(
     handle: &mut Handle,
@@ -165,7 +168,8 @@ pub extern "C" fn lapd_side_release(
     }
 }
 
-/// This end can take no more messages of a link where `on` is not 0, or can again (own receiver busy, Q.921 5.6.6).
+/// Enters own receiver busy on a link if `on` is not 0, so that this end accepts no more messages,
+/// or leaves it (Q.921 5.6.6).
 #[unsafe(no_mangle)]
 pub extern "C" fn lapd_side_busy(
     handle: &mut Handle,
@@ -184,7 +188,7 @@ pub extern "C" fn lapd_side_busy(
     }
 }
 
-/// A message is to be sent (DL-DATA request).
+/// Sends a message (DL-DATA request).
 #[unsafe(no_mangle)]
 pub extern "C" fn lapd_side_give(
     handle: &mut Handle,
@@ -206,7 +210,7 @@ pub extern "C" fn lapd_side_give(
     }
 }
 
-/// Unit data is to be sent (DL-UNIT DATA request); on a network side to all terminals, where the TEI is 127.
+/// Sends unit data (DL-UNIT DATA request); on a network side to all terminals if the TEI is 127.
 #[unsafe(no_mangle)]
 pub extern "C" fn lapd_side_unit(
     handle: &mut Handle,
@@ -228,7 +232,7 @@ pub extern "C" fn lapd_side_unit(
     }
 }
 
-/// A TEI is to be asked for. A network side does nothing.
+/// Requests a TEI. A network side ignores it.
 #[unsafe(no_mangle)]
 pub extern "C" fn lapd_side_ask_tei(handle: &mut Handle, now: u64, alloc: Global) -> u32
     ensures { AsksSide (Answers Request.AskTei now) result handle.old.held handle.new.held }
@@ -236,7 +240,7 @@ pub extern "C" fn lapd_side_ask_tei(handle: &mut Handle, now: u64, alloc: Global
     ask(handle, Request::AskTei, now, alloc)
 }
 
-/// A TEI is to be checked. A user side does nothing.
+/// Checks a TEI. A user side ignores it.
 #[unsafe(no_mangle)]
 pub extern "C" fn lapd_side_check_tei(handle: &mut Handle, tei: u8, now: u64, alloc: Global) -> u32
     ensures { AsksTei (λ tei. Answers (Request.Check tei) now) result
@@ -248,8 +252,8 @@ pub extern "C" fn lapd_side_check_tei(handle: &mut Handle, tei: u8, now: u64, al
     }
 }
 
-/// Expires the first timer that is due at `now`, in milliseconds. `expired` is 1 if one was due, else 0. Before you
-/// expire timers for a moment, pass in every frame that had arrived by then.
+/// Expires the first timer that is due at `now`, in milliseconds. `expired` is 1 if one was due,
+/// else 0. Before you expire timers for a moment, pass in every frame that had arrived by then.
 #[unsafe(no_mangle)]
 pub extern "C" fn lapd_side_tick(
     handle: &mut Handle,
@@ -269,8 +273,8 @@ pub extern "C" fn lapd_side_tick(
     code
 }
 
-/// The next moment at which something is due; before it [`lapd_side_tick`] has nothing to do. It is the last moment that
-/// there is where no timer runs, and where the handle owns no side.
+/// Sets `moment` to the next moment at which something is due; before it [`lapd_side_tick`] has
+/// nothing to do. `moment` is the greatest moment if no timer runs or the handle owns no side.
 #[unsafe(no_mangle)]
 pub extern "C" fn lapd_side_deadline(handle: &mut Handle, moment: &mut u64, alloc: Global) -> u32
     ensures { Through (λ old new. TellsDeadline moment.new old new result)
@@ -285,7 +289,8 @@ pub extern "C" fn lapd_side_deadline(handle: &mut Handle, moment: &mut u64, allo
     code
 }
 
-/// The moment of [`lapd_side_deadline`], and the last moment that there is where the handle owns no side.
+/// Sets `moment` to that of [`lapd_side_deadline`], or to the greatest moment if the handle owns no
+/// side.
 #[unsafe(no_mangle)]
 pub extern "C" fn lapd_side_quiet_until(handle: &mut Handle, moment: &mut u64, alloc: Global) -> u32
     ensures { Through (λ old new. TellsQuiet moment.new old new result)
@@ -300,7 +305,8 @@ pub extern "C" fn lapd_side_quiet_until(handle: &mut Handle, moment: &mut u64, a
     code
 }
 
-/// How many frames the side has discarded since it was made; it stays at the greatest number once it is there.
+/// Sets `count` to the number of frames that the side has discarded since it was created. It stops
+/// at the greatest number.
 #[unsafe(no_mangle)]
 pub extern "C" fn lapd_side_discarded(handle: &mut Handle, count: &mut u64, alloc: Global) -> u32
     ensures { Through (λ old new. TellsDiscarded count.new old new result)
@@ -315,7 +321,7 @@ pub extern "C" fn lapd_side_discarded(handle: &mut Handle, count: &mut u64, allo
     code
 }
 
-/// The state of a link, of all 0 where it is not there.
+/// Sets `state` to the state of a link; all fields are 0 if the link does not exist.
 #[unsafe(no_mangle)]
 pub extern "C" fn lapd_side_state(
     handle: &mut Handle,
@@ -338,8 +344,9 @@ pub extern "C" fn lapd_side_state(
     code
 }
 
-/// The line of text for the octets of a frame, which a network side sent where `network` is not 0, and else a user side. It
-/// goes to the front of the buffer, with no 0 behind it; `count` is how many octets it has, also where the buffer is too small.
+/// Writes a line of text for the octets of a frame, sent by a network side if `network` is not 0,
+/// else by a user side. The text is at the beginning of the buffer, without a final 0. `count` is
+/// its length, even if the buffer is too small.
 #[unsafe(no_mangle)]
 pub extern "C" fn lapd_frame_text(
     octets: &[u8],
@@ -363,7 +370,7 @@ pub extern "C" fn lapd_frame_text(
     DONE
 }
 
-/// The side that sends: the network side where it is not 0.
+/// The side that sends: the network side if `network` is not 0.
 fn sender(network: u8) -> Side
     ensures { result ≡ sender network }
 {
@@ -374,8 +381,9 @@ fn sender(network: u8) -> Side
     }
 }
 
-/// The next frame that is to be sent goes to the front of the buffer. `count` is how many octets it has, 0 where none is
-/// left. Where the buffer is too small, nothing is written, and the frame waits.
+/// Moves the next frame to send to the beginning of the buffer. `count` is its number of octets, or
+/// 0 if no frame is left. If the buffer is too small, nothing is written, and the frame still
+/// waits.
 #[unsafe(no_mangle)]
 pub extern "C" fn lapd_side_frame(
     handle: &mut Handle,
@@ -397,8 +405,9 @@ pub extern "C" fn lapd_side_frame(
     code
 }
 
-/// The next primitive, with its octets at the front of the buffer; its kind is 0 where none is left. Where the buffer is too
-/// small, nothing is written to it, and the primitive waits.
+/// Fetches the next primitive, and copies its octets to the beginning of the buffer. Its kind is 0
+/// if none is left. If the buffer is too small, nothing is written to it, and the primitive still
+/// waits.
 #[unsafe(no_mangle)]
 pub extern "C" fn lapd_side_primitive(
     handle: &mut Handle,

@@ -1,4 +1,4 @@
-//! A link as C reads it.
+//! The state of a link in the form that C reads.
 
 ghost use Rattle.std.specs.Prelude.{◌≡◌};
 ghost use Rattle.lapd_link.specs.Link.{LinkStandsFor};
@@ -7,11 +7,11 @@ ghost use Rattle.lapd_c.specs.LinkStates.{flag, state_of, no_state};
 
 use lapd_link::Link;
 
-/// The state of a link, in numbers (Q.921 3.5.2 and Annex B).
+/// The state of a link, as numbers (Q.921 3.5.2 and Annex B).
 #[repr(C)]
 #[derive(Clone, Copy)]
 pub struct LinkState {
-    /// 4 to 8; 0 where there is no link.
+    /// 4 to 8; 0 if the link does not exist.
     pub state: u8,
     /// RC, 0 to N200.
     pub rc: u8,
@@ -21,18 +21,18 @@ pub struct LinkState {
     pub va: u8,
     /// V(R), 0 to 127.
     pub vr: u8,
-    /// 1 where the peer can take no messages, and else 0.
+    /// 1 if the peer is in a receiver busy condition, else 0.
     pub peer_busy: u8,
-    /// 1 where this end can take none.
+    /// 1 if this end is in a receiver busy condition, else 0.
     pub own_busy: u8,
-    /// 1 where a message is missing that REJ has asked for.
+    /// 1 if a message is missing whose retransmission REJ has requested, else 0.
     pub rejecting: u8,
-    /// How many messages are neither acknowledged nor dropped, 0 to 1,024.
+    /// The number of messages that are neither acknowledged nor dropped, 0 to 1,024.
     pub waiting: u16,
 }
 
 impl LinkState {
-    /// Where there is no link.
+    /// The value for a link that does not exist.
     pub(crate) fn nothing() -> LinkState
         ensures { result ≡ no_state }
     {
@@ -49,7 +49,7 @@ impl LinkState {
         }
     }
 
-    /// That of a link.
+    /// The state of a link.
     pub(crate) fn of(link: &Link) -> LinkState
         ensures { (e : End) → LinkStandsFor link.now e → result ≡ state_of e }
     {

@@ -1,4 +1,4 @@
-//! How sides are made.
+//! Creates sides.
 
 ghost use Rattle.std.specs.Prelude.{◌≡◌, ◌<◌, true, IfOk, IfSome};
 ghost use Rattle.std.specs.List.{list_all};
@@ -10,11 +10,11 @@ use crate::settings::{fixed_tei, known_teis};
 use lapd_sides::{Config, EitherSide, NetSide, UserSide};
 use std::alloc::{AllocError, Global};
 
-/// A network side that holds the TEIs that are known.
+/// Creates a network side that holds these TEIs.
 ///
 /// # Errors
 ///
-/// `AllocError` where memory was refused.
+/// `AllocError` if an allocation failed.
 pub(crate) fn make_network(
     alloc: Global,
     config: Config,
@@ -29,11 +29,11 @@ pub(crate) fn make_network(
     boxed(alloc, EitherSide::Network(side), most_waiting)
 }
 
-/// A user side with a fixed TEI, or with none for 255.
+/// Creates a user side with a fixed TEI, or without one for 255.
 ///
 /// # Errors
 ///
-/// `AllocError` where memory was refused.
+/// `AllocError` if an allocation failed.
 pub(crate) fn make_user(
     alloc: Global,
     config: Config,
@@ -47,7 +47,7 @@ pub(crate) fn make_user(
     boxed(alloc, EitherSide::User(side), most_waiting)
 }
 
-/// A side on the heap, which has given nothing yet.
+/// Puts a side on the heap, without results.
 fn boxed(alloc: Global, side: EitherSide, most_waiting: u16) -> Result<Box<HeldSide>, AllocError>
     ensures { IfOk result (λ held. held.value ≡ record {
       side = side;

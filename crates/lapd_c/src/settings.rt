@@ -1,4 +1,4 @@
-//! What a side is made with, as C says it.
+//! The configuration of a side, in the form that C passes.
 
 ghost use Rattle.std.specs.Prelude.{◌≡◌, ◌<◌, IfOk, IfSome, MatchOption, true, false};
 ghost use Rattle.std.specs.List.{All, list_all};
@@ -7,13 +7,15 @@ ghost use Rattle.lapd_c.specs.Settings.{config_of, network_config, user_config, 
 use lapd_sides::{Config, Durations, Params, Tei};
 use std::alloc::{AllocError, Global};
 
-/// What a side is made with.
+/// The configuration of a side.
 #[repr(C)]
 #[derive(Clone, Copy)]
 pub struct Settings {
-    /// Where a user side's references begin. Two sides of one bus are to have two seeds.
+    /// The seed of a user side's references (Ri, Q.921 5.3.2). Terminals on one bus must have
+    /// different seeds: with the same seed, two terminals draw the same Ri and can be assigned one
+    /// TEI.
     pub seed: u64,
-    /// T200 in milliseconds, 1 to 3,600,000 as the three after it.
+    /// T200 in milliseconds, 1 to 3,600,000, as are the next three.
     pub t200: u32,
     /// T201.
     pub t201: u32,
@@ -21,9 +23,9 @@ pub struct Settings {
     pub t202: u32,
     /// T203.
     pub t203: u32,
-    /// Room for so many messages in a link's queue, 1 to 1,024.
+    /// The capacity of a link's message queue, 1 to 1,024.
     pub room: u16,
-    /// How many frames, or how many primitives, may wait until a call that could give more is refused, 1 to 65,535.
+    /// If this many frames or primitives wait, calls that could add more are refused; 1 to 65,535.
     pub most_waiting: u16,
     /// N200, 1 to 100.
     pub n200: u8,
@@ -31,12 +33,13 @@ pub struct Settings {
     pub k0: u8,
     /// The window of SAPI 16, 1 to 127.
     pub k16: u8,
-    /// Whether SAPI 16 is served: not where it is 0.
+    /// 0: only SAPI 0 is served. Otherwise SAPI 16 is served too.
     pub sapi16: u8,
 }
 
 impl Settings {
-    /// They as a network side takes them, with the TEIs that it holds; `None` where a number is out of its range.
+    /// The configuration of a network side that holds these TEIs; `None` if a number is out of
+    /// range.
     pub(crate) fn network_config(&self, known: &[u8]) -> Option<Config>
         ensures { result ≡ network_config self.now known.now }
     {
@@ -47,7 +50,8 @@ impl Settings {
         }
     }
 
-    /// They as a user side takes them, with its fixed TEI, or 255; `None` where a number is out of its range.
+    /// The configuration of a user side with this fixed TEI, or 255 for none; `None` if a number is
+    /// out of range.
     pub(crate) fn user_config(&self, fixed: u8) -> Option<Config>
         ensures { result ≡ user_config self.now fixed }
     {
@@ -58,7 +62,7 @@ impl Settings {
         }
     }
 
-    /// They as the sides take them.
+    /// The configuration; `None` if a number is out of range.
     fn config(&self) -> Option<Config>
         ensures { result ≡ config_of self.now }
     {
@@ -78,21 +82,21 @@ impl Settings {
     }
 }
 
-/// Whether each is the TEI of one terminal, 0 to 126.
+/// Whether each value is 0 to 126.
 fn are_own_teis(values: &[u8]) -> bool
     ensures { result ≡ list_all is_own_tei values.now }
 {
     values.iter().all(|value| *value < 127)
 }
 
-/// Whether it is a fixed TEI, 0 to 126, or 255 for none.
+/// Whether the value is a fixed TEI, 0 to 126, or 255 for none.
 fn is_fixed_tei(value: u8) -> bool
     ensures { result ≡ is_fixed_tei value }
 {
     value == 255 || value < 127
 }
 
-/// TEIs of one terminal each.
+/// Converts TEIs, each 0 to 126.
 pub(crate) fn known_teis(alloc: Global, values: &[u8]) -> Result<Vec<Tei>, AllocError>
     requires { list_all is_own_tei values.now ≡ true }
     ensures { IfOk result (λ known. (known.items ≡ values.now)
@@ -108,14 +112,14 @@ pub(crate) fn known_teis(alloc: Global, values: &[u8]) -> Result<Vec<Tei>, Alloc
     Ok(known)
 }
 
-/// The TEI of one terminal.
+/// Converts a TEI, 0 to 126.
 fn own_tei(value: u8) -> Option<Tei>
     ensures { MatchOption result (is_own_tei value ≡ false) (λ tei. (tei ≡ value) × (tei < 127)) }
 {
     if value < 127 { Tei::new(value) } else { None }
 }
 
-/// A fixed TEI, or none for 255.
+/// The fixed TEI, or `None` for 255.
 pub(crate) fn fixed_tei(value: u8) -> Option<Tei>
     requires { is_fixed_tei value ≡ true }
     ensures fixed { result ≡ fixed_tei value }

@@ -1,10 +1,11 @@
--- The head of a message of Q.931: its call reference (4.3) and its message type (4.4).
+-- The header of a Q.931 message: its call reference (4.3) and its message type (4.4).
 use Rattle.std.specs.Prelude.{ℕ, ◌+◌, ◌*◌, ◌/◌, ◌%◌, ◌==◌, if◌then◌else◌, Bool, List, [], ◌∷◌, ◌++◌, codes, Option, Some, None}
 use Rattle.std.specs.Fmt.{decimal}
 use Rattle.lapd_cli_render.specs.declared.call_message.CallMessage.{CallMessage}
 use Rattle.lapd_cli_render.specs.declared.call_message.CallReference.{CallReference}
 
--- a call reference: its flag, bit 8 of the first octet, is 1 in a message to the side that the call began at (4.3)
+-- a call reference; its flag, bit 8 of the first octet, is 1 in a message to the side that
+-- originated the call (4.3)
 abbrev pub reference_of : ℕ → ℕ → CallReference
 reference_of flag value = record { value = value; to_origin = flag / 128 == 1 }
 
@@ -29,7 +30,7 @@ with_two_octets (high ∷ low ∷ kind ∷ rest) = Some (record {
 })
 with_two_octets octets = None
 
--- what stands behind the length of the call reference
+-- the message after the length of the call reference
 abbrev pub by_length : ℕ → List ℕ → Option CallMessage
 by_length count octets = if count == 0 then with_dummy octets else (
     if count == 1 then with_one_octet octets else (
@@ -39,13 +40,14 @@ abbrev pub behind_discriminator : List ℕ → Option CallMessage
 behind_discriminator [] = None
 behind_discriminator (count ∷ octets) = by_length count octets
 
--- the message that these octets begin: the protocol discriminator is 8 (4.2)
+-- the message that begins these octets: the protocol discriminator is 8 (4.2)
 abbrev pub message_at : List ℕ → Option CallMessage
 message_at [] = None
 message_at (discriminator ∷ octets) = if discriminator == 0x08 then behind_discriminator octets
     else None
 
--- the names of Table 4-2 of Q.931 (4.4): call establishment, call information, call clearing, and miscellaneous
+-- the names of Table 4-2 of Q.931 (4.4): call establishment, call information, call clearing, and
+-- miscellaneous
 abbrev pub establishment_name : ℕ → Option (List ℕ)
 establishment_name kind = if kind == 0x01 then Some (codes "ALERTING") else (
     if kind == 0x02 then Some (codes "CALL PROCEEDING") else (
@@ -86,12 +88,12 @@ kind_name kind = if kind / 32 == 0 then establishment_name kind else (
     if kind / 32 == 2 then clearing_name kind else (
     if kind / 32 == 3 then miscellaneous_name kind else None)))
 
--- the name of a message type, or its number where the table has none
+-- the name of a message type, or its number if the table has none
 abbrev pub name_or_number : ℕ → Option (List ℕ) → List ℕ
 name_or_number kind None = codes "message " ++ decimal kind
 name_or_number kind (Some name) = name
 
--- which way a message goes: from the side that the call began at, or to it
+-- the direction of a message: from the side that originated the call, or to it
 abbrev pub way_text : Bool → List ℕ
 way_text to_origin = if to_origin then codes " to origin" else codes " from origin"
 

@@ -1,4 +1,4 @@
--- What stands behind a trace line: the message of TEI management or of Q.931 in words.
+-- The end of a trace line: the message of TEI management or of Q.931 in words.
 use Rattle.std.specs.Prelude.{ℕ, ◌/◌, ◌%◌, List, [], ◌∷◌, ◌++◌, codes, Result, Ok, Err}
 use Rattle.std.specs.Fmt.{decimal}
 use Rattle.hex.specs.Hex.{encode_lower}
@@ -31,13 +31,14 @@ kind_text Verify = codes " identity verify Ri="
 abbrev pub reference_number_text : ℕ → List ℕ
 reference_number_text ri = encode_lower ((ri / 256) ∷ (ri % 256) ∷ [])
 
--- a message of TEI management; nothing for octets that are none
+-- a message of TEI management; nothing for octets that do not form one
 abbrev pub tei_text : Result TeiMessage TeiFault → List ℕ
 tei_text (Err fault) = []
 tei_text (Ok m) = kind_text m.kind
     ++ (reference_number_text m.ri ++ (codes " Ai=" ++ decimal m.ai))
 
--- the information of an I or UI frame of this service access point: 0 carries Q.931, 63 in UI frames TEI management
+-- the information of an I or UI frame of this service access point: 0 carries Q.931, 63 in UI
+-- frames TEI management
 abbrev pub information_text : Sapi → List ℕ → List ℕ
 information_text Call info = call_text (message_at info)
 information_text Packet info = []
@@ -57,6 +58,6 @@ abbrev pub frame_text : Result Fields FrameFault → List ℕ
 frame_text (Err fault) = []
 frame_text (Ok f) = control_text f.control f.address.sapi f.info
 
--- what stands behind the trace line of octets that this side sent
+-- the end of the trace line of octets that this side sent
 abbrev pub names_text : Side → List ℕ → List ℕ
 names_text from octets = frame_text (frame_at from octets)

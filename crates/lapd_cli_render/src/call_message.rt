@@ -1,27 +1,28 @@
 ghost use Rattle.std.specs.Prelude.{◌≡◌, option_map};
 ghost use Rattle.lapd_cli_render.specs.CallMessage.{message_at, reference_of, kind_name, establishment_name, information_name, clearing_name, miscellaneous_name};
 
-/// The head of a message of call control (ITU-T Q.931 4.1).
+/// The header of a call control message (ITU-T Q.931 4.1).
 #[derive(Clone, Copy, Debug, PartialEq, Eq)]
 pub struct CallMessage {
-    /// Its call reference, `None` for the dummy call reference (Q.931 4.3).
+    /// The call reference; `None` is the dummy call reference (Q.931 4.3).
     pub reference: Option<CallReference>,
-    /// Its message type (Q.931 4.4).
+    /// The message type (Q.931 4.4).
     pub kind: u8,
 }
 
 /// A call reference of one or two octets (Q.931 4.3).
 #[derive(Clone, Copy, Debug, PartialEq, Eq)]
 pub struct CallReference {
-    /// Its value, 0 to 127 in one octet and 0 to 32,767 in two. 0 is the global call reference.
+    /// The value: 0 to 127 in one octet, 0 to 32,767 in two. 0 is the global call reference.
     pub value: u16,
-    /// Whether the message goes to the side that the call began at.
+    /// Whether the message is sent to the side that originated the call.
     pub to_origin: bool,
 }
 
 impl CallMessage {
-    /// The message that these octets begin: protocol discriminator 8 (Q.931 4.2), a call reference of at most two octets, and
-    /// a message type. `None` where they begin none.
+    /// Reads the header at the beginning of these octets: protocol discriminator 8 (Q.931 4.2), a
+    /// call reference of at most two octets, and a message type. Returns `None` if they do not
+    /// begin with one.
     pub fn read(octets: &[u8]) -> Option<CallMessage>
         ensures { result ≡ message_at octets.now }
     {
@@ -45,7 +46,7 @@ impl CallMessage {
         }
     }
 
-    /// The name of its message type in Table 4-2 of Q.931, where it has one.
+    /// The name of the message type in Table 4-2 of Q.931, if it has one.
     pub fn name(&self) -> Option<&'static str>
         ensures { option_map (λ name. name.now) result ≡ kind_name self.now.kind }
     {
@@ -59,7 +60,7 @@ impl CallMessage {
     }
 }
 
-/// The call reference of this value, whose flag is in this octet.
+/// Builds the call reference with this value and with the flag in this octet.
 fn reference_of(flag: u8, value: u16) -> CallReference
     ensures { result ≡ reference_of flag value }
 {

@@ -9,8 +9,8 @@ use lapd_frame::{Control, Frame, Sapi, Side};
 use lapd_tei::{TeiKind, TeiMessage};
 use std::alloc::AllocError;
 
-/// Appends what the message in these octets is, which `from` sent: a space and the words, or nothing where they are no
-/// frame, or a frame without a message of TEI management or of Q.931.
+/// Appends a space and the name of the message in these octets, which `from` sent. Appends nothing
+/// if they are not a frame with a message of TEI management or of Q.931.
 ///
 /// ```text
 ///  identity request Ri=6199 Ai=127
@@ -19,7 +19,7 @@ use std::alloc::AllocError;
 ///
 /// # Errors
 ///
-/// `AllocError` where there was no memory for the text. A front of it may have been appended.
+/// `AllocError` if the text cannot be allocated. A part of it may have been appended.
 pub fn push_names(text: &mut String, from: Side, octets: &[u8]) -> Result<(), AllocError>
     ensures { OnOk result (string_bytes text.new
         ≡ string_bytes text.old ++ names_text from octets.now) }
@@ -30,7 +30,7 @@ pub fn push_names(text: &mut String, from: Side, octets: &[u8]) -> Result<(), Al
     }
 }
 
-/// Appends what the message of a frame is.
+/// Appends the name of the message in a frame, if any.
 fn push_frame(text: &mut String, frame: &Frame<'_>) -> Result<(), AllocError>
     ensures { OnOk result (string_bytes text.new ≡ string_bytes text.old
         ++ control_text frame.now.control frame.now.address.sapi frame.now.info) }
@@ -43,7 +43,7 @@ fn push_frame(text: &mut String, frame: &Frame<'_>) -> Result<(), AllocError>
     }
 }
 
-/// Appends what the information of an I frame is.
+/// Appends the name of the message in an I frame's information, if any.
 fn push_information(text: &mut String, sapi: Sapi, info: &[u8]) -> Result<(), AllocError>
     ensures { OnOk result (string_bytes text.new
         ≡ string_bytes text.old ++ information_text sapi info.now) }
@@ -54,7 +54,7 @@ fn push_information(text: &mut String, sapi: Sapi, info: &[u8]) -> Result<(), Al
     }
 }
 
-/// Appends what the information of a UI frame is.
+/// Appends the name of the message in a UI frame's information, if any.
 fn push_unit_data(text: &mut String, sapi: Sapi, info: &[u8]) -> Result<(), AllocError>
     ensures { OnOk result (string_bytes text.new
         ≡ string_bytes text.old ++ unit_data_text sapi info.now) }
@@ -66,7 +66,7 @@ fn push_unit_data(text: &mut String, sapi: Sapi, info: &[u8]) -> Result<(), Allo
     }
 }
 
-/// Appends a message of TEI management.
+/// Appends the name and numbers of a TEI management message, if the octets form one.
 fn push_management(text: &mut String, info: &[u8]) -> Result<(), AllocError>
     ensures { OnOk result (string_bytes text.new
         ≡ string_bytes text.old ++ tei_text (tei_message_at info.now)) }
@@ -110,7 +110,7 @@ fn kind_name(kind: TeiKind) -> &'static str
     }
 }
 
-/// Appends a message of Q.931.
+/// Appends the name and call reference of a Q.931 message, if the octets form one.
 fn push_call(text: &mut String, info: &[u8]) -> Result<(), AllocError>
     ensures { OnOk result (string_bytes text.new
         ≡ string_bytes text.old ++ call_text (message_at info.now)) }
@@ -146,7 +146,7 @@ fn push_reference(text: &mut String, reference: Option<CallReference>) -> Result
     write!(text, " cr={value}{way}")
 }
 
-/// Which way a message goes.
+/// The direction of a message, relative to the side that originated the call.
 fn way_name(to_origin: bool) -> &'static str
     ensures { result.now ≡ way_text to_origin }
 {

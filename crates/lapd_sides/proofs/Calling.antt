@@ -1,4 +1,4 @@
--- What holds of the calls of any side, whatever it shows.
+-- Facts about the calls of any side, whatever it represents.
 use Rattle.std.proofs.Common.{◌≡◌, ℕ, Option, Some, Result, Ok, Err, sym, subst}
 use Rattle.std.specs.Prelude.{IsErr, OnErr}
 use Rattle.lapd_timers.specs.Due.{Timers}
@@ -12,16 +12,16 @@ use Rattle.lapd_sides_links.specs.Links.{Reaction, Served}
 use Rattle.lapd_sides.specs.Calls.{HasDone, HasGranted, HasExpired, Expiry, Hears, LacksMemory}
 use Rattle.lapd_sides.specs.Shows.{Step}
 
--- what was granted comes to the same
+-- an executed request has the same result
 pub granted_as : {C S : Type 0} {Show : C → Config → S → Type 0} (code : C) (config : Config) (acts : Effects) (a b : Result (Reaction S) SideKind) → b ≡ a → HasGranted Show code config acts a → HasGranted Show code config acts b
 granted_as {S = S} {Show = Show} code config acts a b same h = subst (λ (o : Result (Reaction S) SideKind). HasGranted Show code config acts o) (sym same) h
 
--- no memory was found
+-- an allocation failed
 pub lacks : {C S E : Type 0} {Show : C → Config → S → Type 0} (result : Result (Unit {0}) E) (old after : C) (acts : Effects) (tei : S → Option ℕ) (step : Step S) → IsErr result → LacksMemory Show old after acts tei → Hears Show result old after acts tei step
 lacks (Ok u) old after acts tei step is h = absurd (cc)
 lacks (Err e) old after acts tei step is h = h
 
--- ---- What is due.
+-- ---- The due timer.
 
 pub due_so : (now : ℕ) (s : Served) (timers : Timers) (result e : Option RunningTimer) → timers ≡ s.timers → result ≡ e → IsDue now (record { links = s.links; timers = timers }) result → IsDue now s e
 due_so now s timers result e same is due = subst (λ (t : Timers). IsDue now (record { links = s.links; timers = t }) e) same (subst (IsDue now (record { links = s.links; timers = timers })) is due)
@@ -40,7 +40,7 @@ expired_so {Show = Show} {expires = expires} code config acts now s e of due is 
   done = subst (λ (o : Option LinkId). HasDone Show code config acts (expires config now e.timer o s)) (sym is) done;
 }
 
--- what holds anyhow holds of a refusal
+-- a general fact holds for a refusal
 pub on_err : {A E : Type 0} (result : Result A E) (P : Type 0) → P → OnErr result P
 on_err (Ok a) P p = tt
 on_err (Err e) P p = p

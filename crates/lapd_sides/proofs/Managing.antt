@@ -1,4 +1,4 @@
--- What the outputs of TEI management come to.
+-- The effects of the outputs of TEI management.
 use Rattle.std.proofs.Common.{◌≡◌, ℕ, List, ◌++◌, [], sym, ap, ◌∙◌}
 use Rattle.std.proofs.lemmas.List.{append-nil}
 use Rattle.std.specs.List.{filter_map}
@@ -16,7 +16,7 @@ use Rattle.lapd_sides_links.specs.Shown.{ShowLinks}
 use Rattle.lapd_sides.specs.Shows.{HaveServed}
 use Rattle.lapd_sides_links.proofs.Acting.{same_effects}
 
--- the links go, where a TEI is freed, and all that is told stands in order
+-- the links of a freed TEI are removed, and the primitives are in order
 pub carried_out : (side : Side) (config : Config) (now : ℕ) (outs : List TeiOut) (s : Served) (links : LinkSet) (timers : Timers) (acts : Effects)
     → ShowLinks side links (links_without (tei_freed outs) (links_with config (tei_given outs) s.links)) → timers ≡ managed now outs s.timers
     → acts.frames ≡ filter_map (message_sent side) outs
@@ -28,7 +28,7 @@ carried_out side config now outs s links timers acts shown timed frames primitiv
   given = same_effects acts _ _ frames primitives;
 }
 
--- behind what was put before, which is nothing
+-- appended to earlier effects, which are empty
 pub frames_first : (before first second third : Effects) (frames : List (List ℕ)) → before ≡ no_effects → first.frames ≡ before.frames ++ frames → second.frames ≡ first.frames → third.frames ≡ second.frames → third.frames ≡ frames
 frames_first before first second third frames empty is same still = still ∙ same ∙ is ∙ ap (λ (e : Effects). e.frames ++ frames) empty
 

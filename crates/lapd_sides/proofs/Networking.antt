@@ -1,4 +1,4 @@
--- What the steps of a network side come to.
+-- The effects of the steps of a network side.
 use Rattle.std.proofs.Common.{◌≡◌, ℕ, List, [], length, Bool, false, Option, Some, None, Result, Ok, Err, refl, sym, ap, subst, ◌∙◌}
 use Rattle.std.specs.declared.alloc.Global.{Global}
 use Rattle.std.specs.Prelude.{Vec, true, OnOk, OnErr, IfErr, ◌&&◌, ◌==◌, if◌then◌else◌}
@@ -42,7 +42,7 @@ assigned_so code config now event s outs acts configured counted same assigner d
     let served = subst (λ (o : List TeiOut). HaveServed side.Network code.served acts (manages side.Network config now o s.served)) same done in
     record { shown = record { configured = configured; served = served.shown; assigner = assigner; discarded = counted }; given = served.given }
 
--- where no TEI is given, the links are as they were
+-- without an assigned TEI, the links are unchanged
 pub none_given : (code : LinksAndTimer) (config : Config) (outs : List TeiOut) (s : Served) → tei_given outs ≡ None → ShowServed side.Network code s → ShowServed side.Network code (record s { links = links_with config (tei_given outs) s.links })
 none_given code config outs s none shown = subst (λ (t : Option ℕ). ShowServed side.Network code (record s { links = links_with config t s.links })) (sym none) shown
 
@@ -61,12 +61,12 @@ granted code config s before acts outcome configured assigner counted timers emp
 pub kept : (code : NetSide) (config : Config) (s : Network) → code.config ≡ config → code.assigner ≡ s.assigner → code.discarded ≡ s.discarded → code.served.timers ≡ s.served.timers → ShowLinks side.Network code.served.links s.served.links → ShowNetwork code config s
 kept code config s configured assigner counted timers shown = record { configured = configured; served = record { links = shown; timers = timers }; assigner = assigner; discarded = counted }
 
--- a link does what it does
+-- a link takes its step
 pub done_as : (after : Network → Result (Reaction Network) SideKind → Reaction Network) (code : NetSide) (config : Config) (s : Network) (acts : Effects) (outcome : Result (Reaction Network) SideKind)
     → ((a : Reaction Network) → after s (Ok a) ≡ a) → HasGranted code config acts outcome → HasDone code config acts (after s outcome)
 done_as after code config s acts outcome same h = subst (λ (o : Result (Reaction Network) SideKind). HasDone code config acts (after s o)) (sym h.is) (subst (HasDone code config acts) (sym (same h.acted)) h.done)
 
--- or nothing, where it is not there
+-- or nothing, if the link does not exist
 pub done_or_unmoved : (result : Result (Unit {0}) SideKind) (code : NetSide) (config : Config) (s : Network) (before acts : Effects) (outcome : Result (Reaction Links) SideKind)
     → code.config ≡ config → code.assigner ≡ s.assigner → code.discarded ≡ s.discarded → code.served.timers ≡ s.served.timers → before ≡ no_effects
     → OnOk result (HaveActed side.Network code.served.links before acts outcome) → IfErr result (λ k. outcome ≡ Err k) → OnErr result (ShowLinks side.Network code.served.links s.served.links) → OnErr result (acts ≡ before)
@@ -79,7 +79,7 @@ done_or_unmoved (Err k) code config s before acts outcome configured assigner co
 abbrev pub relinked : NetSide → LinkSet → NetSide
 relinked code links = record code { served = record code.served { links = links } }
 
--- what a call of a link set answers, the side answers
+-- the side returns the result of a call of its link set
 pub link_answers : (result : Result (Unit {0}) SideFault) (code : NetSide) (links : LinkSet) (before acts : Effects) (message : Option (Vec ℕ Global)) (does : Side → Links → Result (Reaction Links) SideKind) → before ≡ no_effects
     → OnOk result ((at : Side) (l : Links) → ShowLinks at code.served.links l → HaveActed at links before acts (does at l))
     → IfErr result (λ fault. (at : Side) (l : Links) → ShowLinks at code.served.links l → does at l ≡ Err fault.kind)
@@ -95,7 +95,7 @@ link_answers (Err fault) code links before acts message does empty ok err back s
   nothing = nothing ∙ empty;
 }
 
--- or it is discarded, and counted
+-- or the frame is discarded, and counted
 pub discarded_so : (code : NetSide) (config : Config) (s : Network) (before acts : Effects) (outcome : Result (Reaction Links) SideKind) (kind : SideKind) → code.config ≡ config → code.assigner ≡ s.assigner
     → code.discarded ≡ one_more s.discarded → code.served.timers ≡ s.served.timers → before ≡ no_effects → outcome ≡ Err kind → ShowLinks side.Network code.served.links s.served.links → acts ≡ before
     → HasDone code config acts (or_discarded s (among_links s outcome))
@@ -103,14 +103,14 @@ discarded_so code config s before acts outcome kind configured assigner counted 
     subst (λ (o : Result (Reaction Links) SideKind). HasDone code config acts (or_discarded s (among_links s o))) (sym err)
     (record { shown = record { configured = configured; served = record { links = shown; timers = timers }; assigner = assigner; discarded = counted }; given = nothing ∙ empty })
 
--- a frame is a message
+-- a frame is a TEI message
 pub heard_as_message : {E : Type 0} (result : Result (Unit {0}) E) (old after : NetSide) (acts : Effects) (now : ℕ) (frame : Fields) (test : Bool) (found : Result TeiMessage TeiFault) → test ≡ carries_message frame → test ≡ true → found ≡ message_at frame.info
     → Hears result old after acts (λ s. given_for_message s.assigner found) (λ config. message_heard config now found) → Hears result old after acts (λ s. given_for_frame s.assigner (Ok frame)) (λ config. frame_heard config now frame)
 heard_as_message result old after acts now frame test found is holds read h =
     subst (λ (b : Bool). Hears result old after acts (λ s. if b then given_for_message s.assigner (message_at frame.info) else None) (λ config s. if b then message_heard config now (message_at frame.info) s else or_discarded s (link_of_network now (id_of_address frame.address) (Heard frame.control frame.address.role) frame.info s))) (sym holds ∙ is)
     (subst (λ (r : Result TeiMessage TeiFault). Hears result old after acts (λ s. given_for_message s.assigner r) (λ config. message_heard config now r)) read h)
 
--- a frame that is no message is for the link that it names
+-- a frame that is not a TEI message is for the link that it is addressed to
 pub heard_by_link : (after : NetSide) (config : Config) (now : ℕ) (frame : Fields) (s : Network) (test : Bool) (address : Address) (id : LinkId) (octets : List ℕ) (acts : Effects) → test ≡ carries_message frame → test ≡ false
     → address ≡ frame.address → id ≡ id_of_address address → octets ≡ frame.info → HasDone after config acts (or_discarded s (link_of_network now id (Heard frame.control frame.address.role) octets s)) → HasDone after config acts (frame_heard config now frame s)
 heard_by_link after config now frame s test address id octets acts is fails of named same h =

@@ -1,4 +1,4 @@
--- What the steps of a user side come to.
+-- The effects of the steps of a user side.
 use Rattle.std.proofs.Common.{◌≡◌, ℕ, List, [], Option, Some, None, Result, Ok, Err, refl, sym, ap, subst, ◌∙◌, ◌<◌, ◌∷◌, length, get_or, drop, suc, append_assoc}
 use Rattle.std.proofs.lemmas.List.{append-nil}
 use Rattle.std.proofs.Math.Seq.{drop-cons}
@@ -74,7 +74,7 @@ link_refused s now id input octets kind h = ap (among_links s) h
 pub links_kept : (code : UserSide) (links : LinkSet) (config : Config) (s : User) → ShowUser code config s → ShowLinks side.User links s.served.links → ShowUser (relinked code links) config s
 links_kept code links config s shown l = reshown code links config s s.served.links shown l
 
--- what a call of a link set answers, the side answers
+-- the side returns the result of a call of its link set
 pub link_answers : (result : Result (Unit {0}) SideFault) (code : UserSide) (links : LinkSet) (before acts : Effects) (message : Option (Vec ℕ Global)) (does : Side → Links → Result (Reaction Links) SideKind) → before ≡ no_effects
     → OnOk result ((at : Side) (l : Links) → ShowLinks at code.served.links l → HaveActed at links before acts (does at l))
     → IfErr result (λ fault. (at : Side) (l : Links) → ShowLinks at code.served.links l → does at l ≡ Err fault.kind)
@@ -89,11 +89,11 @@ link_answers (Err fault) code links before acts message does empty ok err back s
   nothing = nothing ∙ empty;
 }
 
--- one after another
+-- effects are appended in any grouping
 in_turn : (before e f : Effects) → and_then (and_then before e) f ≡ and_then before (and_then e f)
 in_turn before e f = rw (append_assoc before.frames e.frames f.frames, append_assoc before.primitives e.primitives f.primitives) refl
 
--- nothing behind what was there
+-- appending no effects changes nothing
 behind : (e : Effects) → e ≡ and_then e no_effects
 behind e = rw (append-nil e.frames, append-nil e.primitives) refl
 
@@ -103,7 +103,8 @@ granted_follows code links config s before acts outcome shown done =
     subst (λ (o : Result (Reaction Links) SideKind). HasFollowed (relinked code links) config before acts (or_unmoved s (among_links s o))) (sym done.is)
     (record { shown = reshown code links config s done.acted.after shown done.shown; given = done.given })
 
--- what the calls of a link set answer, at the links that are shown: a link does what it does, or nothing where it is not there
+-- the result of a call of the link set, for the represented links: a link takes its step, or
+-- nothing happens if it does not exist
 pub step_follows : (result : Result (Unit {0}) SideKind) (code : UserSide) (links : LinkSet) (config : Config) (s : User) (before acts : Effects) (does : Side → Links → Result (Reaction Links) SideKind) → ShowUser code config s
     → OnOk result ((at : Side) (l : Links) → ShowLinks at code.served.links l → HaveActed at links before acts (does at l))
     → IfErr result (λ k. (at : Side) (l : Links) → ShowLinks at code.served.links l → does at l ≡ Err k)
@@ -114,11 +115,11 @@ step_follows (Err k) code links config s before acts does shown ok err same noth
     subst (λ (o : Result (Reaction Links) SideKind). HasFollowed (relinked code links) config before acts (or_unmoved s (among_links s o))) (sym (err side.User s.served.links shown.served.links))
     (record { shown = links_kept code links config s shown (same side.User s.served.links shown.served.links); given = nothing ∙ behind before })
 
--- a frame is heard by its link
+-- a link processes a frame
 pub heard_so : (code : UserSide) (config : Config) (s : User) (acts : Effects) (outcome : Result (Reaction User) SideKind) → HasGranted code config acts outcome → HasDone code config acts (or_discarded s outcome)
 heard_so code config s acts outcome h = subst (λ (o : Result (Reaction User) SideKind). HasDone code config acts (or_discarded s o)) (sym h.is) h.done
 
--- or it is discarded, and counted
+-- or the frame is discarded, and counted
 pub discarded_so : (code : UserSide) (links : LinkSet) (count : ℕ) (config : Config) (s : User) (before acts : Effects) (outcome : Result (Reaction Links) SideKind) (kind : SideKind) → ShowUser code config s → before ≡ no_effects
     → outcome ≡ Err kind → ShowLinks side.User links s.served.links → acts ≡ before → count ≡ one_more code.discarded → HasDone (record (relinked code links) { discarded = count }) config acts (or_discarded s (among_links s outcome))
 discarded_so code links count config s before acts outcome kind shown empty err l nothing counted =
@@ -134,13 +135,13 @@ discarded_so code links count config s before acts outcome kind shown empty err 
       given = nothing ∙ empty;
     })
 
--- behind nothing
+-- appended to no effects
 pub done_first : (code : UserSide) (config : Config) (before acts : Effects) (a : Reaction User) → before ≡ no_effects → HasFollowed code config before acts a → HasDone code config acts a
 done_first code config before acts a empty h = record { shown = h.shown; given = h.given ∙ ap (λ (e : Effects). and_then e a.effects) empty }
 
 -- ---- The terminal's own TEI.
 
--- the link of the terminal's own TEI was looked for, and there is one
+-- the link of the terminal's own TEI was looked up, and exists
 pub record IsOwn (code : UserSide) (found : Option ℕ) (tei : ℕ) (sapi : Sapi) (id : LinkId) : Type 0 where
   pub of : found ≡ tei_of code.terminal
   pub is : found ≡ Some tei
@@ -158,19 +159,19 @@ no_own_link Unassigned now sapi input octets otherwise s h = refl
 no_own_link (Awaiting purpose count ri) now sapi input octets otherwise s h = refl
 no_own_link (Assigned by own) now sapi input octets otherwise s h = absurd (cc)
 
--- with a TEI the link does it
+-- with a TEI the link takes the step
 pub is_own : (code : UserSide) (config : Config) (s : User) (found : Option ℕ) (tei now : ℕ) (sapi : Sapi) (id : LinkId) (input : Input) (octets : List ℕ) (otherwise : Result (Reaction User) SideKind) → ShowUser code config s
     → IsOwn code found tei sapi id → with_tei_or now s.terminal sapi input octets otherwise s ≡ link_of_user now id input octets s
 is_own code config s found tei now sapi id input octets otherwise shown own =
     own_link s.terminal tei now sapi input octets otherwise s (ap tei_of (sym shown.terminal) ∙ sym own.of ∙ own.is) ∙ ap (λ (i : LinkId). link_of_user now i input octets s) (sym own.named)
 
--- and without one there is something else
+-- without a TEI there is another result
 pub is_none : (code : UserSide) (config : Config) (s : User) (found : Option ℕ) (now : ℕ) (sapi : Sapi) (input : Input) (octets : List ℕ) (otherwise : Result (Reaction User) SideKind) → ShowUser code config s
     → found ≡ tei_of code.terminal → found ≡ None → with_tei_or now s.terminal sapi input octets otherwise s ≡ otherwise
 is_none code config s found now sapi input octets otherwise shown of is =
     no_own_link s.terminal now sapi input octets otherwise s (ap tei_of (sym shown.terminal) ∙ sym of ∙ is)
 
--- an answer to what comes to the same
+-- the answer to a request with the same result
 pub answers_as : (result : Result (Unit {0}) SideFault) (old after : UserSide) (acts : Effects) (message : Option (Vec ℕ Global)) (a b : Outcome User) → ((config : Config) (s : User) → ShowUser old config s → b config s ≡ a config s)
     → Answers result old after acts message a → Answers result old after acts message b
 answers_as (Ok u) old after acts message a b same h = λ config s shown. granted_as after config acts (a config s) (b config s) (same config s shown) (h config s shown)
@@ -201,7 +202,7 @@ both_establish code first second kept config s before mid after call packet one 
     (subst (λ (b : Bool). HasFollowed second config mid after (establishes b now (of_sapi sapi.Packet own) a.after)) (is_packet ∙ ap (λ (k : KeptEstablishments). k.packet) shown.kept)
     (subst (λ (i : LinkId). HasFollowed second config mid after (establishes packet now i a.after)) is_other (other_does config a.after done.shown)))
 
--- the first of these outputs that means something for what is kept
+-- the first of these outputs that settles the kept establishments
 at_item : (now i : ℕ) (outs : List TeiOut) (item out : TeiOut) (s : User) → i < length outs → item ≡ get_or outs i item → item ≡ out → kept_after now (drop i outs) s ≡ kept_after now outs s → kept_after now outs s ≡ kept_after now (out ∷ drop (suc i) outs) s
 at_item now i outs item out s below is_item is same = sym same ∙ ap (λ (l : List TeiOut). kept_after now l s) (drop-cons outs i item below ∙ ap (λ (o : TeiOut). o ∷ drop (suc i) outs) (sym is_item ∙ is))
 
@@ -211,7 +212,7 @@ settles code after config now i outs item out s before last a below is_item is s
 
 -- ---- TEI management.
 
--- the outputs of the terminal have been carried out, and then what is kept
+-- the outputs of the terminal have been carried out, then the kept establishments have been settled
 pub carried : (code after : UserSide) (config : Config) (now : ℕ) (s : User) (step : TerminalStep) (outs : List TeiOut) (sent : Bool) (acts last : Effects) → step.outs ≡ outs → sent ≡ sends_message outs
     → code.config ≡ config → code.discarded ≡ s.discarded → code.terminal ≡ step.now → code.kept ≡ s.kept → ShowReferences code.references (if sent then advanced (pcg32 s.random) else s.random)
     → HaveServed side.User code.served acts (manages side.User config now outs s.served)
@@ -234,12 +235,12 @@ carried code after config now s step outs sent acts last same is_sent configured
     let k : HasFollowed after config acts last (kept_after now step.outs a.after) = subst (λ (o : List TeiOut). HasFollowed after config acts last (kept_after now o a.after)) (sym same) (rest config a.after shown) in
     record { shown = k.shown; given = k.given ∙ ap (λ (e : Effects). and_then e (kept_after now step.outs a.after).effects) managed.given }
 
--- the links as they are before these outputs are carried out
+-- the links before these outputs are carried out
 pub served_before : (code : UserSide) (config : Config) (s : User) (step : TerminalStep) (outs : List TeiOut) → step.outs ≡ outs → ShowUser code config (admitted config step s)
     → ShowServed side.User code.served (record s.served { links = links_with config (tei_given outs) s.served.links })
 served_before code config s step outs same shown = subst (λ (o : List TeiOut). ShowServed side.User code.served (record s.served { links = links_with config (tei_given o) s.served.links })) same shown.served
 
--- the terminal has done its step, which got no TEI
+-- the terminal has taken its step, which obtained no TEI
 pub handled : (code : UserSide) (config : Config) (s : User) (event : TerminalEvent) (phase : Phase) → ShowUser code config s → phase ≡ (terminal_step code.terminal event).now
     → tei_given (terminal_step s.terminal event).outs ≡ None → ShowUser (record code { terminal = phase }) config (admitted config (terminal_step s.terminal event) s)
 handled code config s event phase shown is none = record {
@@ -254,7 +255,7 @@ handled code config s event phase shown is none = record {
 pub outs_of : (code : UserSide) (config : Config) (s : User) (event : TerminalEvent) (outs : List TeiOut) → ShowUser code config s → outs ≡ (terminal_step code.terminal event).outs → (terminal_step s.terminal event).outs ≡ outs
 outs_of code config s event outs shown is = ap (λ (p : Phase). (terminal_step p event).outs) (sym shown.terminal) ∙ sym is
 
--- an event has the reference that is the next
+-- an event carries the next reference
 pub acts_so : (after : UserSide) (config : Config) (now : ℕ) (s : User) (acts : Effects) (event : ℕ → TerminalEvent) (ri : ℕ) → ri ≡ next_reference s.random
     → HasDone after config acts (assigned config now (terminal_step s.terminal (event ri)) s) → HasDone after config acts (terminal_acts config now event s)
 unfolding terminal_acts
@@ -279,7 +280,7 @@ t202_gets_none ri Unassigned = refl
 t202_gets_none ri (Awaiting purpose count old) = asked_or_not (nat_lt count n202) _ _ refl refl
 t202_gets_none ri (Assigned by tei) = refl
 
--- ---- As it is made.
+-- ---- A new side.
 
 pub without_fixed : (served after : LinksAndTimer) (config : Config) (fixed : Option ℕ) → fixed ≡ None → after ≡ served → ShowServed side.User served (record { links = no_links; timers = at_rest config.durations })
     → ShowServed side.User after (record { links = links_of_fixed config fixed; timers = at_rest config.durations })
@@ -300,16 +301,16 @@ faulty after config acts now kind found address id s is named h =
 
 -- ---- A frame.
 
--- a frame is a message
+-- a frame is a TEI message
 pub heard_as_message : {E : Type 0} (result : Result (Unit {0}) E) (old after : UserSide) (acts : Effects) (now : ℕ) (frame : Fields) (test : Bool) (found : Result TeiMessage TeiFault) → test ≡ carries_message frame → test ≡ true → found ≡ message_at frame.info
     → Hears result old after acts (λ s. got_for_message s found) (λ config. message_heard config now found) → Hears result old after acts (λ s. got_for_frame s (Ok frame)) (λ config. frame_heard config now frame)
 heard_as_message result old after acts now frame test found is holds read h =
     subst (λ (b : Bool). Hears result old after acts (λ s. if b then got_for_message s (message_at frame.info) else None) (λ config s. if b then message_heard config now (message_at frame.info) s else data_heard config now frame s)) (sym holds ∙ is)
     (subst (λ (r : Result TeiMessage TeiFault). Hears result old after acts (λ s. got_for_message s r) (λ config. message_heard config now r)) read h)
 
--- ---- A frame that is no message.
+-- ---- A frame that is not a TEI message.
 
--- what was looked at of it, by what the side was made with
+-- the result of the test of the frame, with the side's configuration
 pub record IsTested (code : UserSide) (frame : Fields) (test : Bool) (answer : Bool) : Type 0 where
   pub is : test ≡ for_layer_3 code.config frame
   pub answered : test ≡ answer
@@ -320,7 +321,7 @@ data_as code config now frame s test answer shown t =
     ap (λ (b : Bool). if b then unit_from_group frame.address.sapi frame.info s else or_discarded s (link_of_user now (of_sapi frame.address.sapi frame.address.tei) (Heard frame.control frame.address.role) frame.info s))
     (ap (λ (k : Config). for_layer_3 k frame) (sym shown.configured) ∙ sym t.is ∙ t.answered)
 
--- it is told
+-- the unit data is reported
 pub unit_told : (code : UserSide) (config : Config) (now : ℕ) (frame : Fields) (s : User) (test : Bool) (address : Address) (octets : List ℕ) (acts : Effects) → IsTested code frame test true → address ≡ frame.address → octets ≡ frame.info
     → acts ≡ record no_effects { primitives = Of (of_sapi address.sapi group_tei) (what.UnitUp octets) ∷ [] } → ShowUser code config s → HasDone code config acts (data_heard config now frame s)
 unit_told code config now frame s test address octets acts t is_address is_octets told shown =
@@ -330,7 +331,7 @@ unit_told code config now frame s test address octets acts t is_address is_octet
           ∙ ap (λ (o : List ℕ). record no_effects { primitives = Of (of_sapi frame.address.sapi group_tei) (what.UnitUp o) ∷ [] }) is_octets;
     })
 
--- or heard by a link
+-- or a link processes the frame
 pub data_for_link : (code after : UserSide) (config : Config) (now : ℕ) (frame : Fields) (s : User) (test : Bool) (id : LinkId) (octets : List ℕ) (acts : Effects) → IsTested code frame test false → id ≡ of_sapi frame.address.sapi frame.address.tei → octets ≡ frame.info
     → ShowUser code config s → HasDone after config acts (or_discarded s (link_of_user now id (Heard frame.control frame.address.role) octets s)) → HasDone after config acts (data_heard config now frame s)
 data_for_link code after config now frame s test id octets acts t named is_octets shown h =
@@ -338,13 +339,13 @@ data_for_link code after config now frame s test id octets acts t named is_octet
     (subst (λ (o : List ℕ). HasDone after config acts (or_discarded s (link_of_user now (of_sapi frame.address.sapi frame.address.tei) (Heard frame.control frame.address.role) o s))) is_octets
     (subst (λ (i : LinkId). HasDone after config acts (or_discarded s (link_of_user now i (Heard frame.control frame.address.role) octets s))) named h))
 
--- ---- What is due.
+-- ---- The due timer.
 
 pub reshown_after : (code : UserSide) (links : LinkSet) (timers : Timers) (config : Config) (s : User) (own : Timers) → ShowUser code config s → timers ≡ own → ShowLinks side.User links s.served.links
     → ShowUser (record code { served = record { links = links; timers = timers } }) config (record s { served = record { links = s.served.links; timers = own } })
 reshown_after code links timers config s own shown is l = record { configured = shown.configured; served = record { links = l; timers = is }; terminal = shown.terminal; kept = shown.kept; random = shown.random; discarded = shown.discarded }
 
--- ---- An establishment without TEI.
+-- ---- An establishment without a TEI.
 
 pub wanted : (code after : UserSide) (config : Config) (now : ℕ) (sapi : Sapi) (s : User) (acts : Effects) (test : Bool) → test ≡ is_served code.config sapi → test ≡ true → ShowUser code config s
     → HasDone after config acts (terminal_acts config now event.Want (record s { kept = keeps sapi true s.kept })) → HasGranted after config acts (wants config now sapi s)
@@ -354,7 +355,7 @@ wanted code after config now sapi s acts test is holds shown done = record {
   done = done;
 }
 
--- ---- A request is the one that was looked for.
+-- ---- The request is the one that was looked up.
 
 pub answers_for : (result : Result (Unit {0}) SideFault) (old after : UserSide) (acts : Effects) (now : ℕ) (r q : Request) → r ≡ q
     → Answers result old after acts (message_of q) (λ config. user_requested config q now) → Answers result old after acts (message_of r) (λ config. user_requested config r now)

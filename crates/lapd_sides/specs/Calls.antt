@@ -1,5 +1,6 @@
--- How the calls of a side are stated, a network side's and a user side's alike, whatever side of the definition was shown before.
--- `Show` says how a side in code shows one of the definition, with what it was made.
+-- How the calls of a side are specified, for the network side and the user side alike, whatever
+-- side of the definition the code represented before. `Show` relates a side in code to its
+-- configuration and its side of the definition.
 use Rattle.std.specs.Prelude.{◌≡◌, ℕ, Option, Some, None, Result, Ok, Err, IsSome, Vec, ⊤}
 use Rattle.std.specs.declared.alloc.Global.{Global}
 use Rattle.lapd_timers.specs.declared.timer.Timer.{Timer}
@@ -13,33 +14,33 @@ use Rattle.lapd_sides_links.specs.Expiries.{IsDue}
 use Rattle.lapd_sides_links.specs.Links.{Reaction, Served}
 use Rattle.lapd_sides.specs.Shows.{Step, Outcome}
 
--- ---- What a call has done.
+-- ---- The result of a call.
 
--- a step has been done: the side shows what it leaves, and what it gives is there
+-- a step has been taken: the side represents the state after it, and its effects are in `acts`
 pub record HasDone {C S : Type 0} (Show : C → Config → S → Type 0) (code : C) (config : Config)
     (acts : Effects) (a : Reaction S) : Type 0 where
   pub shown : Show code config a.after
   pub given : acts ≡ a.effects
 
--- A step has been done after others: the side shows what it leaves, and what it gives stands
--- behind what they gave.
+-- A step has been taken after others: the side represents the state after it, and its effects are
+-- appended to theirs.
 pub record HasFollowed {C S : Type 0} (Show : C → Config → S → Type 0) (code : C)
     (config : Config) (before after : Effects) (a : Reaction S) : Type 0 where
   pub shown : Show code config a.after
   pub given : after ≡ and_then before a.effects
 
--- what was asked for has been done, and not refused
+-- a request has been executed, and not refused
 pub record HasGranted {C S : Type 0} (Show : C → Config → S → Type 0) (code : C)
     (config : Config) (acts : Effects) (outcome : Result (Reaction S) SideKind) : Type 0 where
   pub acted : Reaction S
   pub is : outcome ≡ Ok acted
   pub done : HasDone Show code config acts acted
 
--- what the expiry of a timer comes to
+-- the step of a timer's expiry
 abbrev pub Expiry : Type 0 → Type 0
 Expiry S = Config → ℕ → Timer → Option LinkId → S → Reaction S
 
--- the first of its timers that is due has expired
+-- the first due timer has expired
 pub record HasExpired {C S : Type 0} (Show : C → Config → S → Type 0) (served : S → Served)
     (expires : Expiry S) (code : C) (config : Config) (acts : Effects) (now : ℕ) (s : S) :
     Type 0 where
@@ -47,57 +48,57 @@ pub record HasExpired {C S : Type 0} (Show : C → Config → S → Type 0) (ser
   pub due : IsDue now (served s) (Some expiry)
   pub done : HasDone Show code config acts (expires config now expiry.timer expiry.of s)
 
--- ---- How calls are stated.
+-- ---- How calls are specified.
 
--- each that is shown is so
+-- every side that the code represents has this property
 abbrev pub EachShown : {C S : Type 0} → (C → Config → S → Type 0) → C → (S → Type 0) → Type 0
 EachShown {C} {S} Show code IsSo = (config : Config) (s : S) → Show code config s → IsSo s
 
--- a call shows what it showed before
+-- the call represents what it represented before
 abbrev pub ShowsAsBefore : {C S : Type 0} → (C → Config → S → Type 0) → C → C → Type 0
 ShowsAsBefore {C} {S} Show old new =
     (config : Config) (s : S) → Show old config s → Show new config s
 
--- it does this step
+-- the call takes this step
 abbrev pub Does : {C S : Type 0} → (C → Config → S → Type 0) → C → C → Effects → Step S → Type 0
 Does {C} {S} Show old new acts step =
     (config : Config) (s : S) → Show old config s → HasDone Show new config acts (step config s)
 
--- it does it after others, which gave what stood there before
+-- the call takes this step after others, whose effects are in `before`
 abbrev pub Follows : {C S : Type 0} → (C → Config → S → Type 0) → C → C → Effects → Effects
     → Step S → Type 0
 Follows {C} {S} Show old new before after step =
     (config : Config) (s : S) → Show old config s
     → HasFollowed Show new config before after (step config s)
 
--- it finds no memory, which it takes only for the links of a TEI that is given or got: all is as it
--- was, and nothing is given
+-- an allocation failed, which happens only for the links of a TEI that is assigned or obtained: the
+-- side is unchanged and `acts` is empty
 pub record LacksMemory {C S : Type 0} (Show : C → Config → S → Type 0) (old new : C)
     (acts : Effects) (tei : S → Option ℕ) : Type 0 where
   pub only : EachShown Show old (λ s. IsSome (tei s))
   pub unchanged : ShowsAsBefore Show old new
   pub nothing : acts ≡ no_effects
 
--- it hears what comes: it does this step, or finds no memory
+-- the call processes received octets: it takes this step, or an allocation fails
 abbrev pub Hears : {C S E : Type 0} → (C → Config → S → Type 0) → Result ⊤ E → C → C → Effects
     → (S → Option ℕ) → Step S → Type 0
 Hears Show (Ok done) old new acts tei step = Does Show old new acts step
 Hears Show (Err fault) old new acts tei step = LacksMemory Show old new acts tei
 
--- it grants what is asked for
+-- the call executes a request
 abbrev pub Grants : {C S : Type 0} → (C → Config → S → Type 0) → C → C → Effects → Outcome S
     → Type 0
 Grants {C} {S} Show old new acts outcome =
     (config : Config) (s : S) → Show old config s
     → HasGranted Show new config acts (outcome config s)
 
--- or refuses it, for this reason
+-- the call refuses a request, for this reason
 abbrev pub RefusesAs : {C S : Type 0} → (C → Config → S → Type 0) → C → SideKind → Outcome S
     → Type 0
 RefusesAs {C} {S} Show old kind outcome =
     (config : Config) (s : S) → Show old config s → outcome config s ≡ Err kind
 
--- and hands the message back: all is as it was, and nothing is given
+-- the call refuses and returns the message: the side is unchanged and `acts` is empty
 pub record Refuses {C S : Type 0} (Show : C → Config → S → Type 0) (old new : C)
     (acts : Effects) (message : Option (Vec ℕ Global)) (outcome : Outcome S)
     (fault : SideFault) : Type 0 where
@@ -106,21 +107,21 @@ pub record Refuses {C S : Type 0} (Show : C → Config → S → Type 0) (old ne
   pub unchanged : ShowsAsBefore Show old new
   pub nothing : acts ≡ no_effects
 
--- it is answered: what is asked for is granted, or refused
+-- the call answers a request: it executes or refuses it
 abbrev pub Answers : {C S : Type 0} → (C → Config → S → Type 0) → Result ⊤ SideFault → C → C
     → Effects → Option (Vec ℕ Global) → Outcome S → Type 0
 Answers Show (Ok done) old new acts message outcome = Grants Show old new acts outcome
 Answers Show (Err fault) old new acts message outcome =
     Refuses Show old new acts message outcome fault
 
--- the first of its timers that is due expires
+-- the first due timer expires
 abbrev pub Expires : {C S : Type 0} → (C → Config → S → Type 0) → (S → Served) → Expiry S
     → C → C → Effects → ℕ → Type 0
 Expires {C} {S} Show served expires old new acts now =
     (config : Config) (s : S) → Show old config s
     → HasExpired Show served expires new config acts now s
 
--- nothing is due, and it shows what it showed before
+-- nothing is due, and the side represents what it represented before
 abbrev pub Rests : {C S : Type 0} → (C → Config → S → Type 0) → (S → Served) → C → C → ℕ
     → Type 0
 Rests {C} {S} Show served old new now =

@@ -1,4 +1,4 @@
--- A side of either kind. What its calls do is what those of a network side or of a user side do.
+-- A side of either kind. Its calls do the same as those of a network side or a user side.
 use Rattle.std.specs.Prelude.{◌≡◌, ℕ, List, Option, Result, ⊤}
 use Rattle.lapd_timers.specs.Due.{Timers}
 use Rattle.lapd_frame.specs.declared.Side.{Side}
@@ -18,14 +18,14 @@ use Rattle.lapd_sides.specs.Shows.{ShowEnds}
 use Rattle.lapd_sides.specs.ShowsNetwork as network
 use Rattle.lapd_sides.specs.ShowsUser as user
 
--- which of the two it is
+-- the kind of the side
 abbrev pub side_of : EitherSide → Side
 side_of (either.Network s) = side.Network
 side_of (either.User s) = side.User
 
--- ---- What a call does.
+-- ---- The effect of a call.
 
--- octets come, and are heard, or memory is refused
+-- processes received octets, or an allocation fails
 abbrev pub Takes : List ℕ → ℕ → Result ⊤ SideFault → EitherSide → EitherSide → Effects → Type 0
 Takes octets now result (either.Network old) (either.Network new) acts = network.Hears result
     old new acts (λ s. given_for s.assigner octets) (λ config. network_takes config octets now)
@@ -33,7 +33,7 @@ Takes octets now result (either.User old) (either.User new) acts = user.Hears re
     old new acts (λ s. got_for s octets) (λ config. user_takes config octets now)
 Takes octets now result old new acts = ⊥
 
--- something is asked for, and granted or refused
+-- executes or refuses a request
 abbrev pub Answers : Request → ℕ → Result ⊤ SideFault → EitherSide → EitherSide → Effects → Type 0
 Answers request now result (either.Network old) (either.Network new) acts = network.Answers result
     old new acts (message_of request) (λ config. network_requested config request now)
@@ -41,19 +41,19 @@ Answers request now result (either.User old) (either.User new) acts = user.Answe
     old new acts (message_of request) (λ config. user_requested config request now)
 Answers request now result old new acts = ⊥
 
--- the first timer that is due has expired
+-- the first due timer has expired
 abbrev pub Expires : ℕ → EitherSide → EitherSide → Effects → Type 0
 Expires now (either.Network old) (either.Network new) acts = network.Expires old new acts now
 Expires now (either.User old) (either.User new) acts = user.Expires old new acts now
 Expires now old new acts = ⊥
 
--- nothing is due, and it shows what it showed
+-- nothing is due, and the side represents what it represented before
 abbrev pub Rests : ℕ → EitherSide → EitherSide → Type 0
 Rests now (either.Network old) (either.Network new) = network.Rests old new now
 Rests now (either.User old) (either.User new) = user.Rests old new now
 Rests now old new = ⊥
 
--- ---- What is read off it.
+-- ---- Queries.
 
 -- the next moment at which something is due
 abbrev pub HasNextDeadline : EitherSide → Option ℕ → Type 0
@@ -62,7 +62,7 @@ HasNextDeadline (either.Network code) deadline =
 HasNextDeadline (either.User code) deadline =
     user.EachShown code (λ s. IsNextDeadline s.served deadline)
 
--- or the last of all where nothing ever is
+-- the same, or the greatest moment if nothing will be due
 abbrev pub HasQuietUntil : EitherSide → ℕ → Type 0
 HasQuietUntil (either.Network code) moment =
     network.EachShown code (λ s. IsQuietUntil s.served moment)
@@ -82,7 +82,7 @@ HasTimers (either.Network code) of timers =
     network.EachShown code (λ s. timers ≡ of_served s.served of)
 HasTimers (either.User code) of timers = user.EachShown code (λ s. timers ≡ of_served s.served of)
 
--- how many frames it has discarded
+-- the number of discarded frames
 abbrev pub HasDiscarded : EitherSide → ℕ → Type 0
 HasDiscarded (either.Network code) count = network.EachShown code (λ s. count ≡ s.discarded)
 HasDiscarded (either.User code) count = user.EachShown code (λ s. count ≡ s.discarded)

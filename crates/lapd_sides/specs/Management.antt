@@ -1,5 +1,5 @@
--- TEI management within a side: the links come and go with the TEIs, and T201 or T202 runs beside
--- theirs (Q.921 5.3).
+-- TEI management within a side: links are added and removed with the TEIs, and T201 or T202 runs
+-- beside the timers of the links (Q.921 5.3).
 use Rattle.std.specs.Prelude.{ℕ, ◌+◌, ◌-◌, ◌^◌, ◌==◌, ◌&&◌, min, Bool, true, false, List, [], ◌++◌, Option, Some, None}
 use Rattle.lapd_frame.specs.declared.Sapi.{Sapi}
 use Rattle.lapd_frame.specs.declared.Sapi.TheVariants as sapi
@@ -20,7 +20,7 @@ abbrev pub is_ui : Control → Bool
 is_ui (Ui p) = true
 is_ui control = false
 
--- UI to the group TEI, with either P
+-- a UI frame to the group TEI, with either P
 abbrev pub is_unit_to_group : Fields → Bool
 is_unit_to_group frame = is_ui frame.control && (frame.address.tei == group_tei)
 
@@ -32,28 +32,28 @@ is_management other = false
 abbrev pub carries_message : Fields → Bool
 carries_message frame = is_management frame.address.sapi && is_unit_to_group frame
 
--- ---- What the outputs of TEI management come to.
+-- ---- The effects of the outputs of TEI management.
 
--- a TEI that is given or got gets its links
+-- adds the links of a TEI that is assigned or obtained
 abbrev pub links_with : Config → Option ℕ → Links → Links
 links_with config None links = links
 links_with config (Some tei) links = with_tei config tei links
 
--- one that is freed, removed or given up loses them
+-- removes the links of a TEI that is freed or removed
 abbrev pub links_without : Option ℕ → Links → Links
 links_without None links = links
 links_without (Some tei) links = without_tei tei links
 
--- and layer 3 is told of links that go
+-- the releases of removed links that are reported to layer 3
 abbrev pub told_without : Option ℕ → Links → List Primitive
 told_without None links = []
 told_without (Some tei) links = told_of_tei tei links
 
--- The outcome of TEI management is told first, and then what becomes of the links.
+-- The outcome of TEI management is reported first, then the releases of the links.
 abbrev pub with_removals : List Primitive → Effects → Effects
 with_removals removals e = record e { primitives = e.primitives ++ removals }
 
--- A step gives at most one TEI and frees at most one.
+-- A step assigns at most one TEI and frees at most one.
 unfoldable pub manages : Side → Config → ℕ → List TeiOut → Served → Reaction Served
 manages side config now outs s = record {
   after = record {
@@ -65,11 +65,11 @@ manages side config now outs s = record {
       (effects_of_management side outs);
 }
 
--- one frame more is discarded; the count stays at the greatest number of 64 bits
+-- counts one more discarded frame, up to the greatest number of 64 bits
 abbrev pub one_more : ℕ → ℕ
 one_more n = min (n + 1) (2 ^ 64 - 1)
 
--- own receiver busy begins or ends (Q.921 5.6.6)
+-- enters or leaves own receiver busy (Q.921 5.6.6)
 abbrev pub busy_input : Bool → Input
 busy_input true = BusyOn
 busy_input false = BusyOff

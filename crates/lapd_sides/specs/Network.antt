@@ -1,5 +1,5 @@
--- The network side: its links and the assigner of TEIs, and what a frame, a timer or a request
--- comes to.
+-- The network side: its links and the assigner of TEIs, and the effects of a frame, a timer or a
+-- request.
 use Rattle.std.specs.Prelude.{ℕ, ◌==◌, ◌&&◌, nat_lt, if◌then◌else◌, false, List, [], ◌∷◌, length, Option, Some, None, Result, Ok, Err}
 use Rattle.lapd_timers.specs.declared.timer.Timer.{Timer}
 use Rattle.lapd_timers.specs.Due.{at_rest}
@@ -33,13 +33,13 @@ use Rattle.lapd_sides_links.specs.Links.{Links, Reaction, is_served, in_links, l
 use Rattle.lapd_sides.specs.Management.{carries_message, manages, one_more, busy_input}
 use Rattle.lapd_sides_links.specs.Links.{Served}
 
--- with how many frames it has discarded
+-- the state of a network side, with the number of frames that it has discarded
 pub record Network : Type 0 where
   pub served : Served
   pub assigner : AssignerState
   pub discarded : ℕ
 
--- as it is made: the TEIs that are known are held, and have their links
+-- a new network side: the known TEIs are held, and have their links
 abbrev pub new_network : Config → List ℕ → Network
 new_network config known = record {
   served = record {
@@ -54,7 +54,7 @@ new_network config known = record {
 abbrev pub unmoved : Network → Reaction Network
 unmoved s = record { after = s; effects = no_effects }
 
--- a frame is discarded, and counted
+-- discards a frame, and counts it
 abbrev pub discards : Network → Reaction Network
 discards s = record { after = record s { discarded = one_more s.discarded }; effects = no_effects }
 
@@ -72,7 +72,7 @@ assigned config now step s = record {
 unfoldable pub assigner_acts : Config → ℕ → AssignerEvent → Network → Reaction Network
 assigner_acts config now event s = assigned config now (assigner_step s.assigner event) s
 
--- a message that is none is ignored
+-- octets that do not form a TEI message are ignored
 abbrev pub message_heard : Config → ℕ → Result TeiMessage TeiFault → Network → Reaction Network
 message_heard config now (Ok message) s = assigner_acts config now (event.Heard message) s
 message_heard config now (Err fault) s = unmoved s
@@ -95,19 +95,19 @@ unfoldable pub link_of_network : ℕ → LinkId → Input → List ℕ → Netwo
 link_of_network now id input octets s =
     among_links s (in_links id (link_acts side.Network id now input octets) s.served.links)
 
--- what is for no link is discarded
+-- a frame for no link is discarded
 abbrev pub or_discarded : Network → Result (Reaction Network) SideKind → Reaction Network
 or_discarded s (Ok a) = a
 or_discarded s (Err kind) = discards s
 
--- of a link that is not there no timer expires
+-- a link that does not exist has no timer to expire
 abbrev pub or_unmoved : Network → Result (Reaction Network) SideKind → Reaction Network
 or_unmoved s (Ok a) = a
 or_unmoved s (Err kind) = unmoved s
 
--- ---- Octets come from the line.
+-- ---- Octets from the line.
 
--- a frame: a message of TEI management, or a frame for the link that it names
+-- a frame: a TEI message, or a frame for the link that it is addressed to
 abbrev pub frame_heard : Config → ℕ → Fields → Network → Reaction Network
 frame_heard config now frame s =
     if carries_message frame then message_heard config now (message_at frame.info) s
@@ -127,8 +127,8 @@ heard config now (Err fault) s = fault_heard now fault.kind fault.address s
 unfoldable pub network_takes : Config → List ℕ → ℕ → Network → Reaction Network
 network_takes config octets now s = heard config now (frame_at side.User octets) s
 
--- The TEI that is given because of these octets, where one is: its links are added, and nothing
--- else takes memory.
+-- The TEI that is assigned because of these octets, if any: its links are added, which is the only
+-- allocation.
 abbrev pub given_for_message : AssignerState → Result TeiMessage TeiFault → Option ℕ
 given_for_message a (Ok message) = tei_given (assigner_step a (event.Heard message)).outs
 given_for_message a (Err fault) = None
@@ -141,7 +141,7 @@ given_for_frame a (Err fault) = None
 unfoldable pub given_for : AssignerState → List ℕ → Option ℕ
 given_for a octets = given_for_frame a (frame_at side.User octets)
 
--- ---- A timer expires.
+-- ---- Expiry of a timer.
 
 abbrev pub management_expires : Config → ℕ → Timer → Network → Reaction Network
 management_expires config now timer s = assigner_acts config now event.T201 (record s {

@@ -1,4 +1,4 @@
--- How what both sides have shows in code, and how its steps are stated.
+-- How code represents the common part of both sides, and how its steps are specified.
 use Rattle.std.specs.Prelude.{◌≡◌, ℕ, List, Option, Some, None, option_map, Result}
 use Rattle.lapd_frame.specs.declared.Side.{Side}
 use Rattle.lapd_link.specs.Link.{LinkStandsFor}
@@ -22,44 +22,44 @@ pub record ShowServed (side : Side) (code : LinksAndTimer) (s : Served) : Type 0
   pub links : ShowLinks side code.links s.links
   pub timers : code.timers ≡ s.timers
 
--- a step of them has been done: they show what it leaves, and what it gives is there
+-- a step has been taken: the code represents the state after it, and its effects are in `acts`
 pub record HaveServed (side : Side) (code : LinksAndTimer) (acts : Effects)
     (a : Reaction Served) : Type 0 where
   pub shown : ShowServed side code a.after
   pub given : acts ≡ a.effects
 
--- with the links of the TEI that these outputs of TEI management give or get, where they do
+-- adds the links of the TEI that these outputs of TEI management assign or obtain, if any
 abbrev pub with_given_links : Config → List TeiOut → Served → Served
 with_given_links config outs s = record s { links = links_with config (tei_given outs) s.links }
 
--- ---- How calls are stated, whatever was shown before.
+-- ---- How calls are specified, whatever the code represented before.
 
--- what octets, a timer or an event of TEI management come to, on a side that was made with this
+-- a step for octets, a timer or an event of TEI management, on a side with this configuration
 abbrev pub Step : Type 0 → Type 0
 Step S = Config → S → Reaction S
 
--- what a request comes to, which may be refused
+-- a step for a request, which may be refused
 abbrev pub Outcome : Type 0 → Type 0
 Outcome S = Config → S → Result (Reaction S) SideKind
 
--- they become this
+-- they change in this way
 abbrev pub Become : LinksAndTimer → LinksAndTimer → (Served → Served) → Type 0
 Become old new change =
     (side : Side) (s : Served) → ShowServed side old s → ShowServed side new (change s)
 
--- they show what they showed before
+-- they represent what they represented before
 abbrev pub ShowAsBefore : LinksAndTimer → LinksAndTimer → Type 0
 ShowAsBefore old new = (side : Side) (s : Served) → ShowServed side old s → ShowServed side new s
 
--- they do what these outputs are yet to come to, on this side
+-- they carry out the rest of these outputs, on this side
 abbrev pub CarryOut : Side → LinksAndTimer → LinksAndTimer → Effects → ℕ → List TeiOut → Type 0
 CarryOut side old new acts now outs =
     (config : Config) (s : Served) → ShowServed side old (with_given_links config outs s)
     → HaveServed side new acts (manages side config now outs s)
 
--- ---- What is read off a side.
+-- ---- Queries of a side.
 
--- a link stands for an end, or neither is there
+-- a link represents an end, or neither exists
 abbrev pub IsThere : Option Link → Option End → Type 0
 IsThere None None = Unit {0}
 IsThere (Some link) (Some e) = LinkStandsFor link e

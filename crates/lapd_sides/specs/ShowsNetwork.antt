@@ -1,4 +1,4 @@
--- How a network side in code shows that of the definition, and how its calls are stated.
+-- How a network side in code represents that of the definition, and how its calls are specified.
 use Rattle.std.specs.Prelude.{◌≡◌, ℕ, Option, Result, Vec, ⊤}
 use Rattle.std.specs.declared.alloc.Global.{Global}
 use Rattle.lapd_frame.specs.declared.Side.TheVariants as side
@@ -12,14 +12,14 @@ use Rattle.lapd_sides.specs.Calls as calls
 use Rattle.lapd_sides.specs.Network.{Network, network_expires}
 use Rattle.lapd_sides.specs.Shows.{ShowServed, Step, Outcome}
 
--- with what it was made, its links, its assigner, and how many frames it has discarded
+-- its configuration, links, assigner, and number of discarded frames
 pub record ShowNetwork (code : NetSide) (config : Config) (s : Network) : Type 0 where
   pub configured : code.config ≡ config
   pub served : ShowServed side.Network code.served s.served
   pub assigner : code.assigner ≡ s.assigner
   pub discarded : code.discarded ≡ s.discarded
 
--- ---- What a call has done.
+-- ---- The result of a call.
 
 abbrev pub HasDone : NetSide → Config → Effects → Reaction Network → Type 0
 HasDone = calls.HasDone ShowNetwork
@@ -34,7 +34,7 @@ served_of s = s.served
 abbrev pub HasExpired : NetSide → Config → Effects → ℕ → Network → Type 0
 HasExpired = calls.HasExpired ShowNetwork served_of network_expires
 
--- ---- How calls are stated, as those of all sides are.
+-- ---- How calls are specified, as for all sides.
 
 abbrev pub EachShown : NetSide → (Network → Type 0) → Type 0
 EachShown = calls.EachShown ShowNetwork

@@ -1,4 +1,4 @@
--- How a user side in code shows that of the definition, and how its calls are stated.
+-- How a user side in code represents that of the definition, and how its calls are specified.
 use Rattle.std.specs.Prelude.{◌≡◌, ℕ, List, Option, Result, Vec, ⊤}
 use Rattle.std.specs.declared.alloc.Global.{Global}
 use Rattle.rand_pcg.specs.Lcg.{Lcg}
@@ -19,13 +19,13 @@ use Rattle.lapd_sides.specs.Management.{links_with}
 use Rattle.lapd_sides.specs.User.{User, next_reference, advanced, assigned, user_expires}
 use Rattle.lapd_sides.specs.Shows.{ShowServed, Step, Outcome}
 
--- The first reference was read off the generator, and what is left gives those after it.
+-- The next reference has been drawn from the generator, and the rest of the generator follows it.
 pub record ShowReferences (code : References) (random : Lcg) : Type 0 where
   pub next : code.next ≡ next_reference random
   pub rest : code.rest ≡ advanced (pcg32 random)
 
--- with what it was made, its links, its terminal, the establishments that it keeps, its
--- references, and how many frames it has discarded
+-- its configuration, links, terminal, kept establishments, references, and number of discarded
+-- frames
 pub record ShowUser (code : UserSide) (config : Config) (s : User) : Type 0 where
   pub configured : code.config ≡ config
   pub served : ShowServed side.User code.served s.served
@@ -34,7 +34,7 @@ pub record ShowUser (code : UserSide) (config : Config) (s : User) : Type 0 wher
   pub random : ShowReferences code.references s.random
   pub discarded : code.discarded ≡ s.discarded
 
--- ---- What a call has done.
+-- ---- The result of a call.
 
 abbrev pub HasDone : UserSide → Config → Effects → Reaction User → Type 0
 HasDone = calls.HasDone ShowUser
@@ -52,7 +52,7 @@ served_of s = s.served
 abbrev pub HasExpired : UserSide → Config → Effects → ℕ → User → Type 0
 HasExpired = calls.HasExpired ShowUser served_of user_expires
 
--- ---- How calls are stated, as those of all sides are.
+-- ---- How calls are specified, as for all sides.
 
 abbrev pub EachShown : UserSide → (User → Type 0) → Type 0
 EachShown = calls.EachShown ShowUser
@@ -66,14 +66,14 @@ Does = calls.Does ShowUser
 abbrev pub Follows : UserSide → UserSide → Effects → Effects → Step User → Type 0
 Follows = calls.Follows ShowUser
 
--- the terminal has done its step, and the links of a TEI that it got are there
+-- the terminal has taken its step, and the links of a TEI that it obtained have been added
 abbrev pub admitted : Config → TerminalStep → User → User
 admitted config step s = record s {
   served = record s.served { links = links_with config (tei_given step.outs) s.served.links };
   terminal = step.now;
 }
 
--- it does what a step of the terminal with these outputs is yet to come to
+-- the call carries out the rest of a terminal's step with these outputs
 abbrev pub CarriesOut : UserSide → UserSide → Effects → ℕ → List TeiOut → Type 0
 CarriesOut old new acts now outs =
     (config : Config) (s : User) (step : TerminalStep) → step.outs ≡ outs

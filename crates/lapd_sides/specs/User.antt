@@ -1,5 +1,5 @@
--- The user side: a terminal with the links of its own TEI, and what a frame, a timer or a request
--- comes to.
+-- The user side: a terminal with the links of its own TEI, and the effects of a frame, a timer or a
+-- request.
 use Rattle.std.specs.Prelude.{ℕ, ◌&&◌, ◌%◌, ◌^◌, if◌then◌else◌, Bool, true, false, List, [], ◌∷◌, ◌++◌, length, Option, Some, None, Result, Ok, Err}
 use Rattle.rand_pcg.specs.Lcg.{Lcg}
 use Rattle.rand_core.specs.Pcg32Seed.{pcg32_seed}
@@ -42,12 +42,12 @@ use Rattle.lapd_sides_links.specs.Links.{Links, Reaction, of_sapi, is_served, in
 use Rattle.lapd_sides.specs.Management.{carries_message, is_unit_to_group, manages, one_more, busy_input}
 use Rattle.lapd_sides_links.specs.Links.{Served}
 
--- For which SAPIs an establishment is kept until the terminal has a TEI.
+-- The SAPIs for which an establishment is kept until the terminal has a TEI.
 pub record KeptEstablishments : Type 0 where
   pub call : Bool
   pub packet : Bool
 
--- with how many frames it has discarded
+-- the state of a user side, with the number of frames that it has discarded
 pub record User : Type 0 where
   pub served : Served
   pub terminal : Phase
@@ -58,7 +58,7 @@ pub record User : Type 0 where
 abbrev pub nothing_kept : KeptEstablishments
 nothing_kept = record { call = false; packet = false }
 
--- as it is made: with the links of a fixed TEI, or with none
+-- a new user side: with the links of a fixed TEI, or with none
 abbrev pub links_of_fixed : Config → Option ℕ → Links
 links_of_fixed config None = no_links
 links_of_fixed config (Some tei) = with_tei config tei no_links
@@ -75,13 +75,13 @@ new_user config fixed random = record {
 abbrev pub unmoved : User → Reaction User
 unmoved s = record { after = s; effects = no_effects }
 
--- a frame is discarded, and counted
+-- discards a frame, and counts it
 abbrev pub discards : User → Reaction User
 discards s = record { after = record s { discarded = one_more s.discarded }; effects = no_effects }
 
 -- ---- References.
 
--- the generator that a seed gives, as `seed_from_u64` makes it
+-- the generator with this seed, as `seed_from_u64` makes it
 abbrev pub seeded : ℕ → Lcg
 seeded seed = pcg32_of_seed (pcg32_seed 16 seed)
 
@@ -95,7 +95,7 @@ advanced (word, random) = random
 abbrev pub next_reference : Lcg → ℕ
 next_reference random = low_sixteen (pcg32 random)
 
--- it is drawn only where it is sent
+-- a reference is drawn only if it is sent
 abbrev pub sends_message : List TeiOut → Bool
 sends_message [] = false
 sends_message (tei.Send message ∷ outs) = true
@@ -120,17 +120,17 @@ unfoldable pub link_of_user : ℕ → LinkId → Input → List ℕ → User →
 link_of_user now id input octets s =
     among_links s (in_links id (link_acts side.User id now input octets) s.served.links)
 
--- a frame that is for no link is discarded
+-- a frame for no link is discarded
 abbrev pub or_discarded : User → Result (Reaction User) SideKind → Reaction User
 or_discarded s (Ok a) = a
 or_discarded s (Err kind) = discards s
 
--- of a link that is not there no timer expires, and no establishment is done
+-- a link that does not exist has no timer to expire, and cannot be established
 abbrev pub or_unmoved : User → Result (Reaction User) SideKind → Reaction User
 or_unmoved s (Ok a) = a
 or_unmoved s (Err kind) = unmoved s
 
--- ---- TEI management: what its outcomes mean for the establishments that are kept.
+-- ---- TEI management: how its outcomes settle the kept establishments.
 
 -- one step after another
 abbrev pub next : Reaction User → (User → Reaction User) → Reaction User
@@ -139,27 +139,27 @@ next a does = record {
   effects = and_then a.effects (does a.after).effects;
 }
 
--- a kept establishment is done
+-- executes a kept establishment
 abbrev pub establishes : Bool → ℕ → LinkId → User → Reaction User
 establishes true now id s = or_unmoved s (link_of_user now id Establish [] s)
 establishes false now id s = unmoved s
 
--- With a TEI those that are kept are done, SAPI 0 first, and none is kept any more.
+-- With a TEI, the kept establishments are executed, SAPI 0 first; then none is kept.
 abbrev pub establishes_kept : ℕ → ℕ → User → Reaction User
 establishes_kept now own s =
     next (establishes s.kept.call now (of_sapi sapi.Call own) (record s { kept = nothing_kept }))
     (establishes s.kept.packet now (of_sapi sapi.Packet own))
 
--- what layer 3 is told of a SAPI without TEI names the group TEI
+-- a primitive of a SAPI without a TEI names the group TEI
 abbrev pub told_of_group : Sapi → What → List Primitive
 told_of_group sapi w = Of (of_sapi sapi group_tei) w ∷ []
 
--- where its establishment was kept
+-- the same, if its establishment was kept
 abbrev pub told_of_sapi : Bool → Sapi → What → List Primitive
 told_of_sapi true sapi w = told_of_group sapi w
 told_of_sapi false sapi w = []
 
--- Where no TEI was got, each is released.
+-- If no TEI was obtained, each kept establishment is released.
 abbrev pub gives_up_kept : User → Reaction User
 gives_up_kept s = record {
   after = record s { kept = nothing_kept };
@@ -187,7 +187,7 @@ assigned config now step s =
     })
     (kept_after now step.outs)
 
--- an event of the terminal, with the reference that is sent where one is
+-- an event of the terminal, with the reference that it sends, if any
 unfoldable pub terminal_acts : Config → ℕ → (ℕ → TerminalEvent) → User → Reaction User
 terminal_acts config now event s =
     assigned config now (terminal_step s.terminal (event (next_reference s.random))) s
@@ -196,7 +196,7 @@ abbrev pub message_heard : Config → ℕ → Result TeiMessage TeiFault → Use
 message_heard config now (Ok message) s = terminal_acts config now (event.Heard message) s
 message_heard config now (Err fault) s = unmoved s
 
--- ---- Octets come from the line.
+-- ---- Octets from the line.
 
 -- unit data to all terminals, of a SAPI that is served (5.2)
 abbrev pub unit_from_group : Sapi → List ℕ → User → Reaction User
@@ -205,7 +205,8 @@ unit_from_group sapi octets s = record {
   effects = record no_effects { primitives = told_of_group sapi (what.UnitUp octets) };
 }
 
--- a frame that is no message: unit data to all terminals, or a frame for the link that it names
+-- a frame that is not a TEI message: unit data to all terminals, or a frame for the link that it is
+-- addressed to
 abbrev pub for_layer_3 : Config → Fields → Bool
 for_layer_3 config frame = is_served config frame.address.sapi && is_unit_to_group frame
 
@@ -232,8 +233,8 @@ heard config now (Err fault) s = fault_heard now fault.kind fault.address s
 unfoldable pub user_takes : Config → List ℕ → ℕ → User → Reaction User
 user_takes config octets now s = heard config now (frame_at side.Network octets) s
 
--- The TEI that is got because of these octets, where one is: its links are added, and nothing
--- else takes memory.
+-- The TEI that is obtained because of these octets, if any: its links are added, which is the only
+-- allocation.
 abbrev pub got_for_message : User → Result TeiMessage TeiFault → Option ℕ
 got_for_message s (Ok message) =
     tei_given (terminal_step s.terminal (event.Heard message (next_reference s.random))).outs
@@ -247,7 +248,7 @@ got_for_frame s (Err fault) = None
 unfoldable pub got_for : User → List ℕ → Option ℕ
 got_for s octets = got_for_frame s (frame_at side.Network octets)
 
--- ---- A timer expires.
+-- ---- Expiry of a timer.
 
 abbrev pub management_expires : Config → ℕ → Timer → User → Reaction User
 management_expires config now timer s = terminal_acts config now event.T202 (record s {
@@ -259,9 +260,9 @@ user_expires config now timer None s = management_expires config now timer s
 user_expires config now timer (Some id) s = or_unmoved s
     (among_links s (in_links id (link_expires side.User id now timer) s.served.links))
 
--- ---- Requests. Only the SAPI of a name is looked at.
+-- ---- Requests. Only the SAPI of a link id is used.
 
--- for the link of the terminal's own TEI, or what is done where there is none
+-- an input for the link of the terminal's own TEI, or `otherwise` if it has none
 abbrev pub with_tei_or : ℕ → Phase → Sapi → Input → List ℕ → Result (Reaction User) SideKind → User
     → Result (Reaction User) SideKind
 with_tei_or now (Assigned by own) sapi input octets otherwise s =
@@ -279,14 +280,14 @@ keeps sapi.Call on kept = record kept { call = on }
 keeps sapi.Packet on kept = record kept { packet = on }
 keeps sapi.Management on kept = kept
 
--- An establishment without TEI is kept, and a TEI is asked for (5.3.2).
+-- Without a TEI, an establishment is kept, and a TEI is requested (5.3.2).
 abbrev pub wants : Config → ℕ → Sapi → User → Result (Reaction User) SideKind
 wants config now sapi s =
     if is_served config sapi
     then Ok (terminal_acts config now event.Want (record s { kept = keeps sapi true s.kept }))
     else Err NoLink
 
--- A release forgets it, and the terminal goes on asking.
+-- A release forgets it, and the terminal continues to request.
 abbrev pub forgets : Sapi → User → Result (Reaction User) SideKind
 forgets sapi s =
     if is_kept sapi s.kept

@@ -1,4 +1,4 @@
--- Worked dialogues of both sides, by which the definitions are tried.
+-- Worked dialogues of both sides, which test the definitions.
 use Rattle.std.specs.Prelude.{ℕ, zero, suc, true, false, List, [], ◌∷◌, Option, Some, None, Result, Ok, Err}
 use Rattle.rand_pcg.specs.Lcg.{Lcg}
 use Rattle.rand_pcg.specs.Pcg.{pcg32}
@@ -23,8 +23,7 @@ use Rattle.lapd_sides_links.specs.Links.{Linked, Reaction, of_sapi}
 use Rattle.lapd_sides.specs.Network.{Network, network_takes, network_expires, network_requested}
 use Rattle.lapd_sides.specs.User.{User, next_reference, advanced, user_takes, user_expires, user_requested}
 
--- octets come from the line, a timer expires, or something is asked for; at a moment in
--- milliseconds
+-- octets from the line, the expiry of a timer, or a request; at a time in milliseconds
 pub data Happening : Type 0 where
   Comes : (octets : List ℕ) → (now : ℕ) → Happening
   Expires : (timer : Timer) → (of : Option LinkId) → (now : ℕ) → Happening
@@ -40,7 +39,7 @@ user_does config (Comes octets now) s = Ok (user_takes config octets now s)
 user_does config (Expires timer of now) s = Ok (user_expires config now timer of s)
 user_does config (Asked request now) s = user_requested config request now s
 
--- what is left, and what is given; a refusal leaves all as it was
+-- the state after a step, and its effects; a refusal changes nothing
 abbrev pub left_by : {S : Type 0} → S → Result (Reaction S) SideKind → S
 left_by s (Ok a) = a.after
 left_by s (Err kind) = s
@@ -69,7 +68,7 @@ user_gives config (h ∷ hs) s =
     given_by (user_does config h s)
     ∷ user_gives config hs (left_by s (user_does config h s))
 
--- what is looked at of a link: its state, and when its timers end
+-- the queried parts of a link: its state, and the deadlines of its timers
 abbrev pub state_of : Option Linked → Option State
 state_of None = None
 state_of (Some l) = Some l.end.state
@@ -92,7 +91,8 @@ both_sapis = record {
 abbrev pub call_control_alone : Config
 call_control_alone = record both_sapis { sapi16 = false }
 
--- a TEI is asked for; then a DISC comes to each of its links, and one to a TEI that is not there
+-- a TEI is requested; then a DISC is received for each of its links, and one for a TEI without
+-- links
 abbrev pub tei_and_disc : List Happening
 tei_and_disc =
     Comes (0xFC ∷ 0xFF ∷ 0x03 ∷ 0x0F ∷ 0x12 ∷ 0x34 ∷ 0x01 ∷ 0xFF ∷ []) 0
@@ -100,18 +100,18 @@ tei_and_disc =
     ∷ Comes (0x40 ∷ 0x81 ∷ 0x53 ∷ []) 0
     ∷ Comes (0x00 ∷ 0x83 ∷ 0x53 ∷ []) 0 ∷ []
 
--- both links are established, and that of SAPI 16 is released
+-- both links are established, and the link of SAPI 16 is released
 abbrev pub both_established : List Happening
 both_established = Comes (0x00 ∷ 0x81 ∷ 0x7F ∷ []) 0 ∷ Comes (0x40 ∷ 0x81 ∷ 0x7F ∷ []) 0 ∷ []
 
 abbrev pub one_released : List Happening
 one_released = Comes (0x40 ∷ 0x81 ∷ 0x53 ∷ []) 500 ∷ []
 
--- a check that nobody answers
+-- a check that no terminal responds to
 abbrev pub vain_check : List Happening
 vain_check = Asked (request.Check 64) 600 ∷ Expires T201 None 1600 ∷ Expires T201 None 2600 ∷ []
 
--- octets that are no frame for a link that is there, four times, and then a SABME
+-- octets that do not form a frame for an existing link, four times, and then a SABME
 abbrev pub four_and_sabme : List Happening
 four_and_sabme =
     Comes (0x00 ∷ []) 0
@@ -125,7 +125,7 @@ four_and_sabme =
 abbrev pub random : Lcg
 random = record { state = 0; increment = 1 }
 
--- the reference that comes after so many others, and the octets of a Request with it
+-- the generator after this many references, and the octets of an identity request
 abbrev pub after : ℕ → Lcg → Lcg
 after zero g = g
 after (suc n) g = after n (advanced (pcg32 g))
@@ -136,13 +136,13 @@ reference n = next_reference (after n random)
 abbrev pub asking : ℕ → List ℕ
 asking ri = spelling side.User (frame_of_message (tei.request ri))
 
--- it wants to establish, and nobody answers
+-- a request to establish, with no answer from the network side
 abbrev pub vain_want : List Happening
 vain_want =
     Asked (request.Establish (of_sapi Call 0)) 0
     ∷ Expires T202 None 2000 ∷ Expires T202 None 4000 ∷ Expires T202 None 6000 ∷ []
 
--- it wants to establish, and is assigned TEI 64
+-- a request to establish, and the assignment of TEI 64
 abbrev pub want_and_tei : List Happening
 want_and_tei =
     Asked (request.Establish (of_sapi Call 0)) 0

@@ -9,7 +9,8 @@ use lapd_frame::Side;
 use lapd_table::{LinkId, LinkTable};
 use lapd_timers::TimerSet;
 
-/// A network side or a user side, where a program may be either. Its calls are those of [`NetSide`] and [`UserSide`].
+/// A network side or a user side, for programs that can be either. Its calls are those of
+/// [`NetSide`] and [`UserSide`].
 #[derive(Drop)]
 pub enum EitherSide {
     /// The network side.
@@ -21,7 +22,7 @@ pub enum EitherSide {
 impl EitherSide {
     ghost use Rattle.lapd_sides.specs.Either.{side_of, Takes, Answers, Expires, Rests, HasNextDeadline, HasQuietUntil, HasTable, HasTimers, HasDiscarded};
 
-    /// Which of the two it is.
+    /// Whether this is the network side or the user side.
     pub fn side(&self) -> Side
         ensures { result ≡ side_of self.now }
     {
@@ -31,11 +32,11 @@ impl EitherSide {
         }
     }
 
-    /// Octets come from the line at the moment `now`, in milliseconds.
+    /// Processes octets received from the line at the time `now`, in milliseconds.
     ///
     /// # Errors
     ///
-    /// B3 where memory was refused for the links of a TEI. Nothing is changed, and nothing given.
+    /// B3 if the links of a TEI cannot be allocated. The side is unchanged and `acts` is empty.
     pub fn take(&mut self, bytes: &[u8], now: u64, acts: &mut Acts) -> Result<(), SideFault>
         ensures side { side_of self.new ≡ side_of self.old }
         ensures heard { Takes bytes.now now result self.old self.new acts.new }
@@ -47,8 +48,9 @@ impl EitherSide {
         }
     }
 
-    /// Expires the first timer that is due at `now`, in milliseconds. Returns `false` if none is due; call it until then. Before
-    /// you expire timers for a moment, pass in every frame that had arrived by then.
+    /// Expires the first timer that is due at `now`, in milliseconds. Returns `false` if none is
+    /// due; call it until then. Before you expire timers for a moment, pass in every frame that had
+    /// arrived by then.
     pub fn tick(&mut self, now: u64, acts: &mut Acts) -> bool
         ensures side { side_of self.new ≡ side_of self.old }
         ensures due { result ≡ true → Expires now self.old self.new acts.new }
@@ -61,12 +63,12 @@ impl EitherSide {
         }
     }
 
-    /// What is asked for at the moment `now`.
+    /// Executes a request at the time `now`.
     ///
     /// # Errors
     ///
-    /// B1 where the link is not there, and L1 to L5 where it refuses. What was to be sent is handed back. Nothing is
-    /// changed, and nothing given.
+    /// B1 if the link does not exist, and L1 to L5 if it refuses. The message or unit data is
+    /// returned in the error. The side is unchanged and `acts` is empty.
     pub fn request(&mut self, request: Request, now: u64, acts: &mut Acts) -> Result<(), SideFault>
         ensures side { side_of self.new ≡ side_of self.old }
         ensures answers { Answers request now result self.old self.new acts.new }
@@ -77,8 +79,8 @@ impl EitherSide {
         }
     }
 
-    /// The next moment at which [`EitherSide::tick`] has something to do, in milliseconds: before it, it answers `false`.
-    /// `None` where no timer runs.
+    /// The next moment at which [`EitherSide::tick`] has something to do, in milliseconds; before
+    /// it, `tick` returns `false`. `None` if no timer runs.
     pub fn next_deadline(&self) -> Option<u64>
         ensures { HasNextDeadline self.now result }
     {
@@ -88,7 +90,8 @@ impl EitherSide {
         }
     }
 
-    /// The moment of [`EitherSide::next_deadline`], in milliseconds, or `u64::MAX` where no timer runs.
+    /// The moment of [`EitherSide::next_deadline`], in milliseconds, or `u64::MAX` if no timer
+    /// runs.
     pub fn quiet_until(&self) -> u64
         ensures { HasQuietUntil self.now result }
     {
@@ -98,7 +101,7 @@ impl EitherSide {
         }
     }
 
-    /// The links that are there.
+    /// The links of the side.
     pub fn table(&self) -> &LinkTable
         ensures { HasTable self.now result.now }
     {
@@ -108,7 +111,7 @@ impl EitherSide {
         }
     }
 
-    /// The timers of a link that is there; `None` names that of TEI management.
+    /// The timers of an existing link; for `None`, that of TEI management.
     pub fn timers(&self, of: Option<LinkId>) -> Option<&TimerSet>
         ensures { HasTimers self.now of (option_copied result) }
     {
@@ -118,7 +121,7 @@ impl EitherSide {
         }
     }
 
-    /// How many frames [`EitherSide::take`] has discarded since the side was made; it stays at `u64::MAX` once it is there.
+    /// The number of frames that [`EitherSide::take`] has discarded. It stops at `u64::MAX`.
     pub fn discarded(&self) -> u64
         ensures { HasDiscarded self.now result }
     {

@@ -1,4 +1,4 @@
-//! Establishments that wait for a TEI.
+//! Establishments that await a TEI.
 
 ghost use Rattle.std.specs.Prelude.{◌≡◌};
 ghost use Rattle.lapd_sides.specs.User.{nothing_kept, is_kept, keeps};
@@ -6,7 +6,7 @@ ghost use Rattle.lapd_sides.specs.User.{nothing_kept, is_kept, keeps};
 use lapd_frame::Sapi;
 use std::marker::Model;
 
-/// For which SAPIs an establishment is kept until the terminal has a TEI.
+/// The SAPIs for which an establishment is kept until the terminal has a TEI.
 #[derive(Clone, Copy)]
 pub struct KeptEstablishments {
     call: bool,
@@ -24,7 +24,7 @@ impl Model for KeptEstablishments {
 }
 
 impl KeptEstablishments {
-    /// For none.
+    /// No establishment is kept.
     pub fn nothing() -> KeptEstablishments
         ensures { result ≡ nothing_kept }
     {
@@ -34,7 +34,7 @@ impl KeptEstablishments {
         }
     }
 
-    /// Whether one is kept for this SAPI. None ever is for management.
+    /// Whether an establishment is kept for this SAPI. For management it never is.
     pub fn has(&self, sapi: Sapi) -> bool
         ensures { result ≡ is_kept sapi self.now }
     {
@@ -45,7 +45,7 @@ impl KeptEstablishments {
         }
     }
 
-    /// From now on one is kept for this SAPI, or none.
+    /// Keeps or forgets an establishment for this SAPI.
     pub fn set(&mut self, sapi: Sapi, on: bool)
         ensures { self.new ≡ keeps sapi on self.old }
     {

@@ -1,4 +1,4 @@
-//! Laws by which the definitions are tried. They do nothing when they are called.
+//! Laws that test the definitions. Calling them does nothing.
 
 ghost use Rattle.std.specs.Prelude.{◌≡◌, ◌∷◌, ◌++◌, [], None, Some, Ok, Err};
 ghost use Rattle.lapd_frame.specs.declared.Sapi.TheVariants.{Call, Packet};
@@ -14,7 +14,8 @@ ghost use Rattle.lapd_sides.specs.Network.{new_network};
 ghost use Rattle.lapd_sides.specs.User.{new_user};
 ghost use Rattle.lapd_sides.specs.Worked.{network_run, network_gives, user_run, user_gives, state_of, ends_at, asking, reference, both_sapis, call_control_alone, tei_and_disc, both_established, one_released, vain_check, four_and_sabme, random, vain_want, want_and_tei};
 
-/// A network side assigns a TEI, and from then on its two links answer; a DISC for another TEI is discarded.
+/// A network side assigns a TEI, and from then on its two links respond. A DISC for another TEI is
+/// discarded.
 pub fn assignments_make_links()
     ensures { network_gives both_sapis tei_and_disc (new_network both_sapis [])
         ≡ Ok (record {
@@ -26,8 +27,8 @@ pub fn assignments_make_links()
         ∷ Ok (record { frames = []; primitives = [] }) ∷ [] }
 {}
 
-/// Two links are established at moment 0, and the one of SAPI 16 is released at 500: the other stays in state 7, and its T203
-/// still ends at 10,000.
+/// Two links are established at 0 ms, and the link of SAPI 16 is released at 500 ms. The other
+/// stays in state 7, and its T203 still expires at 10,000 ms.
 pub fn releases_leave_other_links()
     ensures gives { network_gives both_sapis (both_established ++ one_released)
         (new_network both_sapis (64 ∷ []))
@@ -52,7 +53,8 @@ pub fn releases_leave_other_links()
         (new_network both_sapis (64 ∷ []))).served.links (of_sapi Call 64)) ≡ Some 10000 }
 {}
 
-/// A check that no terminal answers frees the TEI: the outcome is told first, and then its links, by rising SAPI, are released.
+/// A check without a response frees the TEI: the outcome is reported first, then its links are
+/// released, by ascending SAPI.
 pub fn freed_teis_lose_their_links()
     ensures gives { network_gives both_sapis vain_check
         (network_run both_sapis both_established (new_network both_sapis (64 ∷ [])))
@@ -73,7 +75,8 @@ pub fn freed_teis_lose_their_links()
         (new_network both_sapis (64 ∷ []))).served.links (of_sapi Call 64) ≡ None }
 {}
 
-/// Octets with F1, F2 and F3, and a frame for a TEI that is not there, are discarded and counted; a SABME is answered.
+/// Octets with F1, F2 and F3, and a frame for a TEI without links, are discarded and counted; a
+/// SABME is answered.
 pub fn discarded_frames_are_counted()
     ensures gives { network_gives call_control_alone four_and_sabme
         (new_network call_control_alone (64 ∷ []))
@@ -86,8 +89,8 @@ pub fn discarded_frames_are_counted()
         (new_network call_control_alone (64 ∷ []))).discarded ≡ 4 }
 {}
 
-/// A user side without TEI is asked to establish. It asks for a TEI three times, 2,000 ms apart, each time with a new
-/// reference, and then gives up, and the establishment that was kept is released.
+/// A user side without a TEI is requested to establish. It requests a TEI three times, 2,000 ms
+/// apart, each time with a new reference, and then fails; the kept establishment is released.
 pub fn vain_requests_are_released()
     ensures { user_gives call_control_alone vain_want (new_user call_control_alone None random)
         ≡ Ok (record { frames = asking 0 ∷ []; primitives = [] })
@@ -99,8 +102,8 @@ pub fn vain_requests_are_released()
         }) ∷ [] }
 {}
 
-/// The terminal gets TEI 64 by its first reference: the establishment that was kept is done, T202 is stopped, and T200 of
-/// the new link runs.
+/// The terminal obtains TEI 64 by its first reference: the kept establishment is executed, T202 is
+/// stopped, and T200 of the new link runs.
 pub fn kept_establishments_are_done()
     ensures gives { user_gives call_control_alone want_and_tei
         (new_user call_control_alone None random)

@@ -1,23 +1,25 @@
-//! A whole side of an ISDN D channel interface, after ITU-T Q.921 (09/97): the data links of its TEIs, its TEI management
-//! and their timers.
+//! A whole side of an ISDN D channel interface, after ITU-T Q.921 (09/97): the data links of its
+//! TEIs, its TEI management and their timers.
 //!
-//! [`NetSide`] is the network side, [`UserSide`] a user side, and [`EitherSide`] one or the other. A side has no socket, no
-//! clock and no thread: octets, requests and moments are handed in, and frames and primitives are handed out. Moments are
-//! milliseconds by a clock of the caller's, which goes on and never back. A program does this with it:
+//! [`NetSide`] is the network side, [`UserSide`] a user side, and [`EitherSide`] either of them. A
+//! side has no socket, clock or thread: the caller passes octets, requests and times, and receives
+//! frames and primitives. Times are milliseconds of the caller's clock, which must never go
+//! backwards. A program uses a side like this:
 //!
-//! 1. It makes the side with a [`Config`], and one [`Acts`], which every call empties and then fills.
-//! 2. Octets of the line, between the flags and without the check sequence, go to `take`. It refuses by B3 alone, where the
-//!    links of a TEI find no memory; the frame may be taken again.
-//! 3. What layer 3 wants goes to `request`, as a [`Request`]. A refusal is a [`SideFault`] with the message that was handed in,
-//!    and changes nothing.
-//! 4. After each call that was not refused it sends the octets of `Acts::frames`, 3 to 264 of each, in order, and does what
-//!    `Acts::primitives` tell. A [`Primitive`] prints in words, as `0 64 established`.
-//! 5. Before you expire timers for a moment, pass in every frame that had arrived by then. So it reads the clock and takes a frame
-//!    without waiting, again and again until no frame has arrived; and then it calls `tick` with the moment that was read before
-//!    that last look, until `tick` returns `false`. It does 4 after each `take` and each `true`. A flood must not stop the
-//!    timers, so a program takes at most some thousand frames before it calls `tick`.
-//! 6. It sleeps until `next_deadline`, or until octets or a request come: before that moment `tick` has nothing to do. If it
-//!    is `None`, no timer runs.
+//! 1. Create the side with a [`Config`], and one [`Acts`], which every call empties and then fills.
+//! 2. Pass octets from the line, without flags and check sequence, to `take`. Its only error is B3,
+//!    if the links of a TEI cannot be allocated; the frame may then be passed again.
+//! 3. Pass the requests of layer 3 to `request`, as a [`Request`]. An error is a [`SideFault`],
+//!    which returns the message; the side is unchanged.
+//! 4. After each successful call, send the octets of `Acts::frames`, 3 to 264 each, in order, and
+//!    process `Acts::primitives`. A [`Primitive`] prints in words, as `0 64 established`.
+//! 5. Before you expire timers for a moment, pass in every frame that had arrived by then. To do
+//!    so, read the clock and take a frame without waiting, repeatedly, until no frame has arrived.
+//!    Then call `tick` with the time that was read before that last attempt, until `tick` returns
+//!    `false`. Do step 4 after each `take` and each `true`. A flood of frames must not stop the
+//!    timers, so take at most some thousand frames before you call `tick`.
+//! 6. Sleep until `next_deadline`, or until octets or a request arrive: before that moment `tick`
+//!    has nothing to do. If it is `None`, no timer runs.
 //!
 //! ```text
 //! let mut side = EitherSide::User(UserSide::new(alloc, config, Some(tei))?);
@@ -36,9 +38,10 @@
 //! }
 //! ```
 //!
-//! The contracts say that a side keeps to the standard, over the definitions of specs/. They say nothing of the clock. What two
-//! ends promise each other needs that no T200 expires after its answer has arrived, which step 5 keeps, or while it is on its way:
-//! so T200 is longer than a frame's way there and its answer's way back.
+//! The contracts prove that a side keeps to the standard, as the definitions in specs/ state it.
+//! They do not cover the clock. The guarantees between two ends require that T200 never expires
+//! after its answer has arrived, which step 5 ensures, or while the answer is in transit: so T200
+//! must be longer than the transit times of a frame and its answer together.
 #![tactic(auto)]
 
 mod either_side;

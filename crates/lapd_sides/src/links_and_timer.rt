@@ -1,4 +1,4 @@
-//! What both sides have: their links, and the timer of TEI management.
+//! The common part of both sides: the links, and the timer of TEI management.
 
 ghost use Rattle.std.specs.Prelude.{◌≡◌, ◌≤◌, ◌<◌, ◌+◌, ◌++◌, length, Some, None, OnOk, OnErr, IfOk, IfSome, IsSome};
 ghost use Rattle.std.specs.List.{All, filter_map};
@@ -18,7 +18,7 @@ use lapd_tei::TeiOut;
 use lapd_timers::{Durations, TimerSet};
 use std::alloc::{AllocError, Global};
 
-/// How many outputs one step of TEI management gives at most.
+/// The maximum number of outputs of one step of TEI management.
 pub const MOST_TEI_OUTPUTS: usize = 6;
 
 /// The links of a side with their timers, and the timer of TEI management, T201 or T202.
@@ -29,11 +29,11 @@ pub struct LinksAndTimer {
 }
 
 impl LinksAndTimer {
-    /// No links, and no timer runs.
+    /// Creates a set without links, with no timer running.
     ///
     /// # Errors
     ///
-    /// `AllocError` where memory was refused.
+    /// `AllocError` if an allocation failed.
     pub fn new(alloc: Global, side: Side, durations: Durations) -> Result<LinksAndTimer, AllocError>
         ensures { IfOk result (λ s. ShowServed side s
             (record { links = no_links; timers = at_rest durations })) }
@@ -44,11 +44,11 @@ impl LinksAndTimer {
         })
     }
 
-    /// Adds the links of the TEI that is given by these outputs of TEI management, or got.
+    /// Adds the links of the TEI that these outputs of TEI management assign or obtain, if any.
     ///
     /// # Errors
     ///
-    /// `AllocError` where memory was refused. Nothing is changed.
+    /// `AllocError` if an allocation failed. Nothing is changed.
     pub fn admit(
         &mut self,
         alloc: Global,
@@ -66,8 +66,9 @@ impl LinksAndTimer {
         Ok(())
     }
 
-    /// All else that these outputs of TEI management come to: the messages are sent, the outcomes told, the timer started
-    /// and stopped, and the links of a TEI that is freed or given up go. What it gives goes behind what `acts` has.
+    /// Carries out these outputs of TEI management, except for adding links: sends the messages,
+    /// reports the outcomes, starts and stops the timer, and removes the links of a TEI that is
+    /// freed or removed. The results are appended to `acts`.
     pub fn carry_out(&mut self, side: Side, outs: &[TeiOut], now: u64, acts: &mut Acts)
         requires in_range { All IsInRange outs.now }
         requires at_most { length outs.now ≤ MOST_TEI_OUTPUTS }
@@ -85,14 +86,15 @@ impl LinksAndTimer {
     }
 }
 
-/// A frame carries a message of TEI management: a UI frame of SAPI 63 and the group TEI (Q.921 5.3.6.1).
+/// Whether a frame carries a TEI management message: a UI frame of SAPI 63 and the group TEI (Q.921
+/// 5.3.6.1).
 pub fn carries_message(frame: &Frame<'_>) -> bool
     ensures { result ≡ carries_message frame.now }
 {
     frame.address().sapi == Sapi::Management && is_unit_to_group(frame)
 }
 
-/// A UI frame to the group TEI, with either P.
+/// Whether a frame is a UI frame to the group TEI, with either P.
 pub fn is_unit_to_group(frame: &Frame<'_>) -> bool
     ensures { result ≡ is_unit_to_group frame.now }
 {
@@ -102,14 +104,14 @@ pub fn is_unit_to_group(frame: &Frame<'_>) -> bool
     }
 }
 
-/// How many frames are discarded with one more. The count stays at `u64::MAX` once it is there.
+/// Counts one more discarded frame, up to `u64::MAX`.
 pub fn one_more(count: u64) -> u64
     ensures { result ≡ one_more count }
 {
     count.saturating_add(1)
 }
 
-/// A refusal for this reason, where no octets were handed in.
+/// Builds a refusal for a call that passed no octets.
 pub fn without_message(kind: SideKind) -> SideFault
     ensures { result ≡ without_message kind }
 {
@@ -119,7 +121,7 @@ pub fn without_message(kind: SideKind) -> SideFault
     }
 }
 
-/// The TEI that is given by these outputs, or got.
+/// The TEI that these outputs assign or obtain, if any.
 fn given(outs: &[TeiOut]) -> Option<Tei>
     requires { All IsInRange outs.now }
     ensures value { result ≡ tei_given outs.now }
@@ -133,7 +135,7 @@ fn given(outs: &[TeiOut]) -> Option<Tei>
     None
 }
 
-/// The TEI that is freed by these outputs, or given up.
+/// The TEI that these outputs free or remove, if any.
 fn freed(outs: &[TeiOut]) -> Option<Tei>
     ensures { result ≡ tei_freed outs.now }
 {
@@ -145,7 +147,7 @@ fn freed(outs: &[TeiOut]) -> Option<Tei>
     None
 }
 
-/// Puts the messages that these outputs send behind the others.
+/// Appends the messages that these outputs send.
 fn put_messages(side: Side, outs: &[TeiOut], acts: &mut Acts)
     requires in_range { All IsInRange outs.now }
     requires room { length acts.old.frames + length outs.now ≤ MOST_FRAMES }
@@ -160,7 +162,7 @@ fn put_messages(side: Side, outs: &[TeiOut], acts: &mut Acts)
     }
 }
 
-/// Tells the outcomes among these outputs.
+/// Appends the outcomes among these outputs.
 fn tell_outcomes(outs: &[TeiOut], acts: &mut Acts)
     requires room { length acts.old.primitives + length outs.now ≤ MOST_PRIMITIVES }
     ensures primitives { acts.new.primitives
@@ -175,7 +177,8 @@ fn tell_outcomes(outs: &[TeiOut], acts: &mut Acts)
     }
 }
 
-/// What the layers above are told by an output: an outcome, and neither a message nor a timer.
+/// The primitive of an output for the layers above: that of an outcome; none for a message or a
+/// timer.
 fn outcome_of(out: &TeiOut) -> Option<Primitive>
     ensures { result ≡ outcome_of out.now }
 {
@@ -185,7 +188,7 @@ fn outcome_of(out: &TeiOut) -> Option<Primitive>
     }
 }
 
-/// Starts and stops the timer of TEI management as these outputs say, at the moment `now`.
+/// Starts and stops the timer of TEI management according to these outputs, at the time `now`.
 fn time_management(timers: &mut TimerSet, outs: &[TeiOut], now: u64)
     ensures { timers.new ≡ managed now outs.now timers.old }
 {

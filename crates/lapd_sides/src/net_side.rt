@@ -28,26 +28,27 @@ use std::alloc::{AllocError, Global};
 
 /// The network side of an interface: its links, the assigner of its TEIs, and their timers.
 ///
-/// A call empties the [`Acts`] that it is handed, and puts into them what it gives: the frames that are to be sent, and what
-/// the layers above are told. It has no clock: the moment is handed in, in milliseconds.
+/// Each call empties the [`Acts`] that the caller passes, and fills them with its results: the
+/// frames to send and the primitives for the layers above. The side has no clock: the caller passes
+/// the time, in milliseconds.
 #[derive(Drop)]
 pub struct NetSide {
     alloc: Global,
     config: Config,
     served: LinksAndTimer,
     assigner: Assigner,
-    /// How many frames it has discarded; it stays at `u64::MAX` once it is there.
+    /// The number of discarded frames, up to `u64::MAX`.
     discarded: u64,
 }
 
 impl NetSide {
     ghost use Rattle.lapd_sides.specs.ShowsNetwork.{ShowNetwork, EachShown, Does, Hears, Answers, Expires, Rests};
 
-    /// A network side that holds the TEIs that are known, each 0 to 126: their links are there, in state 4.
+    /// Creates a network side that holds these TEIs, each 0 to 126. Their links exist, in state 4.
     ///
     /// # Errors
     ///
-    /// `AllocError` where memory was refused.
+    /// `AllocError` if an allocation failed.
     pub fn new(alloc: Global, config: Config, known: &[Tei]) -> Result<NetSide, AllocError>
         requires { All (λ tei. tei < 127) known.now }
         ensures { IfOk result (λ side. ShowNetwork side config (new_network config known.now)) }
@@ -64,13 +65,14 @@ impl NetSide {
         })
     }
 
-    /// Octets come from the line at the moment `now`: a frame is heard by the link that it names, or a message by TEI
-    /// management. What is for no link, and octets with one of F1 to F3, are discarded, and counted by
-    /// [`NetSide::discarded`]. It takes memory only where a TEI is assigned, for its links.
+    /// Processes octets received from the line at the time `now`. A frame is passed to the link
+    /// that it is addressed to, and a TEI message to TEI management. A frame for no link, and
+    /// octets with one of the faults F1 to F3, are discarded and counted by [`NetSide::discarded`].
+    /// Allocates only if a TEI is assigned, for its links.
     ///
     /// # Errors
     ///
-    /// B3 where that memory was refused. Nothing is changed, and nothing given.
+    /// B3 if that allocation failed. The side is unchanged and `acts` is empty.
     pub fn take(&mut self, bytes: &[u8], now: u64, acts: &mut Acts) -> Result<(), SideFault>
         ensures heard { Hears result self.old self.new acts.new
             (λ s. given_for s.assigner bytes.now) (λ config. network_takes config bytes.now now) }
@@ -83,7 +85,7 @@ impl NetSide {
         }
     }
 
-    /// Octets of the user side: a frame, or a fault.
+    /// Processes octets of the user side: a frame, or a fault.
     fn hear_octets(&mut self, bytes: &[u8], now: u64, acts: &mut Acts) -> Result<(), AllocError>
         requires empty { acts.old ≡ no_effects }
         ensures { Hears result self.old self.new acts.new
@@ -98,7 +100,7 @@ impl NetSide {
         }
     }
 
-    /// A frame, which is a message of TEI management or is for the link that it names.
+    /// Processes a frame: a TEI message, or a frame for the link that it is addressed to.
     fn hear(&mut self, frame: &Frame<'_>, now: u64, acts: &mut Acts) -> Result<(), AllocError>
         requires fits { length frame.now.info ≤ N201 }
         requires empty { acts.old ≡ no_effects }
@@ -118,7 +120,7 @@ impl NetSide {
         }
     }
 
-    /// A fault of a frame for a link, or of octets for none, which are discarded.
+    /// Processes a fault: of a frame for a link, or of octets for none, which are discarded.
     fn hear_fault(&mut self, fault: &FrameFault, now: u64, acts: &mut Acts)
         requires empty { acts.old ≡ no_effects }
         requires of_link { IfSome fault.now.address (λ address. is_for_link fault.now.kind ≡ true) }
@@ -134,8 +136,8 @@ impl NetSide {
         }
     }
 
-    /// A message of TEI management, for the assigner. The links of a TEI that it assigns are added before anything else is
-    /// done.
+    /// Passes a TEI message to the assigner. The links of a TEI that it assigns are added before
+    /// anything else is changed.
     fn hear_message(
         &mut self,
         message: TeiMessage,
@@ -157,7 +159,7 @@ impl NetSide {
         Ok(())
     }
 
-    /// An event of the assigner by which no TEI is given.
+    /// Passes the assigner an event that assigns no TEI.
     fn manage(&mut self, event: AssignerEvent, now: u64, acts: &mut Acts)
         requires empty { acts.old ≡ no_effects }
         requires gives_none { (a : AssignerState) → tei_given (assigner_step a event).outs ≡ None }
@@ -168,7 +170,7 @@ impl NetSide {
             .carry_out(Side::Network, outs.as_slice(), now, acts);
     }
 
-    /// An event for the link with this name; it is discarded where there is none.
+    /// Passes an event to the link with this id, or discards it if there is none.
     fn act_or_discard(&mut self, id: LinkId, event: Event, octets: &[u8], now: u64, acts: &mut Acts)
         requires empty { acts.old ≡ no_effects }
         requires for_link { IsFor id event }
@@ -182,8 +184,9 @@ impl NetSide {
         }
     }
 
-    /// Expires the first timer that is due at `now`, in milliseconds. Returns `false` if none is due; call it until then. Before
-    /// you expire timers for a moment, pass in every frame that had arrived by then. Does not allocate.
+    /// Expires the first timer that is due at `now`, in milliseconds. Returns `false` if none is
+    /// due; call it until then. Before you expire timers for a moment, pass in every frame that had
+    /// arrived by then. Does not allocate.
     pub fn tick(&mut self, now: u64, acts: &mut Acts) -> bool
         ensures due { result ≡ true → Expires self.old self.new acts.new now }
         ensures none { result ≡ false → Rests self.old self.new now }
@@ -207,23 +210,23 @@ impl NetSide {
         true
     }
 
-    /// The next moment at which [`NetSide::tick`] has something to do, in milliseconds: before it, it answers `false`. `None`
-    /// where no timer runs. It is the same until the next call of `take`, `tick` or `request`, so that a program sleeps until
-    /// then, or until octets come.
+    /// The next moment at which [`NetSide::tick`] has something to do, in milliseconds; before it,
+    /// `tick` returns `false`. `None` if no timer runs. It changes only in `take`, `tick` and
+    /// `request`, so a program can sleep until this moment or until octets arrive.
     pub fn next_deadline(&self) -> Option<u64>
         ensures { EachShown self.now (λ s. IsNextDeadline s.served result) }
     {
         next_deadline(&self.served.timers, &self.served.links)
     }
 
-    /// The moment of [`NetSide::next_deadline`], in milliseconds, or `u64::MAX` where no timer runs.
+    /// The moment of [`NetSide::next_deadline`], in milliseconds, or `u64::MAX` if no timer runs.
     pub fn quiet_until(&self) -> u64
         ensures { EachShown self.now (λ s. IsQuietUntil s.served result) }
     {
         quiet_until(&self.served.timers, &self.served.links)
     }
 
-    /// This timer of the link with this name has expired.
+    /// Expires this timer of the link with this id.
     fn expire(&mut self, id: LinkId, timer: Timer, now: u64, acts: &mut Acts)
         requires empty { acts.old ≡ no_effects }
         requires of_link { IsOfLink timer }
@@ -233,12 +236,12 @@ impl NetSide {
         let _ = self.served.links.expire(&id, timer, now, acts);
     }
 
-    /// What is asked for at the moment `now`. It takes no memory.
+    /// Executes a request at the time `now`. Does not allocate.
     ///
     /// # Errors
     ///
-    /// B1 where the link is not there, and L1 to L5 where it refuses. What was to be sent is handed back. Nothing is
-    /// changed, and nothing given.
+    /// B1 if the link does not exist, and L1 to L5 if it refuses. The message or unit data is
+    /// returned in the error. The side is unchanged and `acts` is empty.
     #[tactic(auto, unfolding(crate::specs::Network::network_requested))]
     pub fn request(&mut self, request: Request, now: u64, acts: &mut Acts) -> Result<(), SideFault>
         ensures { Answers result self.old self.new acts.new (message_of request)
@@ -264,7 +267,7 @@ impl NetSide {
 impl NetSide {
     ghost use Rattle.lapd_sides.specs.ShowsNetwork.{EachShown, ShowsAsBefore, Grants, RefusesAs, Answers};
 
-    /// An event for the link with this name.
+    /// Passes an event to the link with this id.
     fn act(&mut self, id: LinkId, event: Event, now: u64, acts: &mut Acts) -> Result<(), SideFault>
         requires empty { acts.old ≡ no_effects }
         requires for_link { IsFor id event }
@@ -277,7 +280,7 @@ impl NetSide {
         }
     }
 
-    /// Unit data for a link, or for all terminals.
+    /// Sends unit data on a link, or to all terminals.
     fn send_unit(
         &mut self,
         id: LinkId,
@@ -295,7 +298,7 @@ impl NetSide {
         }
     }
 
-    /// These octets as unit data for a link, or for all terminals.
+    /// Sends these octets as unit data on a link, or to all terminals.
     fn put_unit(
         &mut self,
         id: LinkId,
@@ -318,7 +321,7 @@ impl NetSide {
         }
     }
 
-    /// A message for a link.
+    /// Submits a message to a link.
     fn give(
         &mut self,
         id: LinkId,
@@ -333,14 +336,14 @@ impl NetSide {
         self.served.links.give(&id, message, now, acts)
     }
 
-    /// The links that are there.
+    /// The links of the side.
     pub fn table(&self) -> &LinkTable
         ensures { EachShown self.now (λ s. ShowEnds Side.Network result.now s.served.links) }
     {
         &self.served.links.table
     }
 
-    /// The timers of a link that is there; `None` names T201 of TEI management.
+    /// The timers of an existing link; for `None`, T201 of TEI management.
     pub fn timers(&self, of: Option<LinkId>) -> Option<&TimerSet>
         ensures { EachShown self.now (λ s. option_copied result ≡ of_served s.served of) }
     {
@@ -357,8 +360,9 @@ impl NetSide {
         &self.assigner
     }
 
-    /// How many frames [`NetSide::take`] has discarded since the side was made: those with F1 to F3, and those for a link
-    /// that is not there. It stays at `u64::MAX` once it is there. What TEI management ignores is not counted.
+    /// The number of frames that [`NetSide::take`] has discarded: those with F1 to F3, and those
+    /// for a link that does not exist. It stops at `u64::MAX`. Messages that TEI management ignores
+    /// are not counted.
     pub fn discarded(&self) -> u64
         ensures { EachShown self.now (λ s. result ≡ s.discarded) }
     {
@@ -366,7 +370,7 @@ impl NetSide {
     }
 }
 
-/// Puts a frame of unit data to all terminals of a SAPI (Q.921 5.2).
+/// Appends a frame with unit data to all terminals of a SAPI (Q.921 5.2).
 ///
 /// # Errors
 ///

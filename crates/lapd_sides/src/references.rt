@@ -9,20 +9,20 @@ use rand_core::SeedableRng;
 use rand_core::utils::NextWord;
 use rand_pcg::Pcg32;
 
-/// The references that a terminal puts into its messages (Ri, Q.921 5.3.2), 0 to 65,535, one after another. Each is the low
-/// sixteen bits of a word of the generator.
+/// The references that a terminal puts into its TEI messages (Ri, Q.921 5.3.2), 0 to 65,535. Each
+/// is the low sixteen bits of a word of the random number generator.
 #[derive(Drop)]
 pub struct References {
-    /// The one that is sent next.
+    /// The next reference.
     next: u16,
-    /// What gives those after it.
+    /// The generator of the references after it.
     rest: Pcg32,
 }
 
 impl References {
     ghost use Rattle.lapd_sides.specs.ShowsUser.{ShowReferences};
 
-    /// Those of this seed, from the first on.
+    /// Seeds the generator, and draws the first reference.
     pub fn new(seed: u64) -> References
         ensures { ShowReferences result (seeded seed) }
     {
@@ -31,14 +31,14 @@ impl References {
         References { next, rest }
     }
 
-    /// The one that is sent next.
+    /// The next reference.
     pub fn next(&self) -> u16
         ensures { (random : Lcg) → ShowReferences self.now random → result ≡ next_reference random }
     {
         self.next
     }
 
-    /// Where the next one is sent, the one after it is the next now.
+    /// Advances to the following reference if the next one was sent.
     pub fn advance_if(&mut self, sent: bool)
         ensures { (random : Lcg) → ShowReferences self.old random
             → ShowReferences self.new (if sent then advanced (pcg32 random) else random) }

@@ -1,21 +1,23 @@
 use lapd_link::Tei;
 use lapd_table::LinkId;
 
-/// What a side is asked for. A user side looks only at the SAPI of a link's name: the TEI is its own.
+/// A request to a side. A user side uses only the SAPI of the link id: the TEI is its own.
 #[derive(Debug, Drop)]
 pub enum Request {
-    /// The link is to be established (DL-ESTABLISH request).
+    /// Establish the link (DL-ESTABLISH request).
     Establish(LinkId),
-    /// The link is to be released (DL-RELEASE request).
+    /// Release the link (DL-RELEASE request).
     Release(LinkId),
-    /// Unit data is to be sent (DL-UNIT DATA request). On the network side TEI 127 sends it to all terminals.
+    /// Send unit data (DL-UNIT DATA request). On the network side TEI 127 sends it to all
+    /// terminals.
     Unit(LinkId, Vec<u8>),
-    /// A message is to be sent (DL-DATA request).
+    /// Send a message (DL-DATA request).
     Give(LinkId, Vec<u8>),
-    /// This end can take no more messages, or can again (own receiver busy, Q.921 5.6.6).
+    /// Enter (`true`) or leave (`false`) the own receiver busy condition, in which this end accepts
+    /// no more messages (Q.921 5.6.6).
     Busy(LinkId, bool),
-    /// A TEI is to be asked for. A network side does nothing.
+    /// Request a TEI. A network side ignores it.
     AskTei,
-    /// A TEI is to be checked. A user side does nothing.
+    /// Check this TEI. A user side ignores it.
     Check(Tei),
 }

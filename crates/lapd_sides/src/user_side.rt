@@ -35,8 +35,9 @@ use std::alloc::{AllocError, Global};
 
 /// The user side of an interface: a terminal, the links of its TEI, and their timers.
 ///
-/// A call empties the [`Acts`] that it is handed, and puts into them what it gives: the frames that are to be sent, and what
-/// the layers above are told. It has no clock: the moment is handed in, in milliseconds.
+/// Each call empties the [`Acts`] that the caller passes, and fills them with its results: the
+/// frames to send and the primitives for the layers above. The side has no clock: the caller passes
+/// the time, in milliseconds.
 #[derive(Drop)]
 pub struct UserSide {
     alloc: Global,
@@ -45,18 +46,19 @@ pub struct UserSide {
     terminal: Terminal,
     kept: KeptEstablishments,
     references: References,
-    /// How many frames it has discarded; it stays at `u64::MAX` once it is there.
+    /// The number of discarded frames, up to `u64::MAX`.
     discarded: u64,
 }
 
 impl UserSide {
     ghost use Rattle.lapd_sides.specs.ShowsUser.{ShowUser, EachShown, Does, Hears, Answers, Expires, Rests};
 
-    /// A user side with a fixed TEI, 0 to 126, whose links are there, in state 4; or with none, which has no links yet.
+    /// Creates a user side. With a fixed TEI, 0 to 126, its links exist, in state 4; without one it
+    /// has no links yet.
     ///
     /// # Errors
     ///
-    /// `AllocError` where memory was refused.
+    /// `AllocError` if an allocation failed.
     pub fn new(alloc: Global, config: Config, fixed: Option<Tei>) -> Result<UserSide, AllocError>
         requires { IfSome fixed (λ tei. tei < 127) }
         ensures { IfOk result (λ side. ShowUser side config
@@ -77,13 +79,15 @@ impl UserSide {
         })
     }
 
-    /// Octets come from the line at the moment `now`: a frame is heard by the link that it names, a message by TEI
-    /// management, and unit data to all terminals by layer 3. What is for no link, and octets with one of F1 to F3, are
-    /// discarded, and counted by [`UserSide::discarded`]. It takes memory only where the terminal gets a TEI, for its links.
+    /// Processes octets received from the line at the time `now`. A frame is passed to the link
+    /// that it is addressed to, a TEI message to TEI management, and unit data to all terminals to
+    /// layer 3. A frame for no link, and octets with one of the faults F1 to F3, are discarded and
+    /// counted by [`UserSide::discarded`]. Allocates only if the terminal obtains a TEI, for its
+    /// links.
     ///
     /// # Errors
     ///
-    /// B3 where that memory was refused. Nothing is changed, and nothing given.
+    /// B3 if that allocation failed. The side is unchanged and `acts` is empty.
     pub fn take(&mut self, bytes: &[u8], now: u64, acts: &mut Acts) -> Result<(), SideFault>
         ensures heard { Hears result self.old self.new acts.new
             (λ s. got_for s bytes.now) (λ config. user_takes config bytes.now now) }
@@ -96,7 +100,7 @@ impl UserSide {
         }
     }
 
-    /// Octets of the network side: a frame, or a fault.
+    /// Processes octets of the network side: a frame, or a fault.
     fn hear_octets(&mut self, bytes: &[u8], now: u64, acts: &mut Acts) -> Result<(), AllocError>
         requires empty { acts.old ≡ no_effects }
         ensures { Hears result self.old self.new acts.new
@@ -111,7 +115,7 @@ impl UserSide {
         }
     }
 
-    /// A frame, which is a message of TEI management or is none.
+    /// Processes a frame, which may be a TEI message.
     fn hear(&mut self, frame: &Frame<'_>, now: u64, acts: &mut Acts) -> Result<(), AllocError>
         requires empty { acts.old ≡ no_effects }
         requires fits { length frame.now.info ≤ N201 }
@@ -129,7 +133,8 @@ impl UserSide {
         }
     }
 
-    /// A frame that is no message of TEI management: unit data to all terminals, or a frame for the link that it names.
+    /// Processes a frame that is not a TEI message: unit data to all terminals, or a frame for the
+    /// link that it is addressed to.
     fn hear_data(&mut self, frame: &Frame<'_>, now: u64, acts: &mut Acts)
         requires empty { acts.old ≡ no_effects }
         requires fits { length frame.now.info ≤ N201 }
@@ -144,7 +149,7 @@ impl UserSide {
         }
     }
 
-    /// A fault of a frame for a link, or of octets for none, which are discarded.
+    /// Processes a fault: of a frame for a link, or of octets for none, which are discarded.
     fn hear_fault(&mut self, fault: &FrameFault, now: u64, acts: &mut Acts)
         requires empty { acts.old ≡ no_effects }
         requires of_link { IfSome fault.now.address (λ address. is_for_link fault.now.kind ≡ true) }
@@ -160,7 +165,8 @@ impl UserSide {
         }
     }
 
-    /// A message of TEI management, for the terminal. The links of a TEI that it gets are added before anything else is done.
+    /// Passes a TEI message to the terminal. The links of a TEI that it obtains are added before
+    /// anything else is changed.
     fn hear_message(
         &mut self,
         message: TeiMessage,
@@ -182,7 +188,7 @@ impl UserSide {
         Ok(())
     }
 
-    /// An event for the link with this name; it is discarded where there is none.
+    /// Passes an event to the link with this id, or discards it if there is none.
     fn act_or_discard(&mut self, id: LinkId, event: Event, octets: &[u8], now: u64, acts: &mut Acts)
         requires empty { acts.old ≡ no_effects }
         requires for_link { IsFor id event }
@@ -196,8 +202,9 @@ impl UserSide {
         }
     }
 
-    /// Expires the first timer that is due at `now`, in milliseconds. Returns `false` if none is due; call it until then. Before
-    /// you expire timers for a moment, pass in every frame that had arrived by then. Does not allocate.
+    /// Expires the first timer that is due at `now`, in milliseconds. Returns `false` if none is
+    /// due; call it until then. Before you expire timers for a moment, pass in every frame that had
+    /// arrived by then. Does not allocate.
     pub fn tick(&mut self, now: u64, acts: &mut Acts) -> bool
         ensures due { result ≡ true → Expires self.old self.new acts.new now }
         ensures none { result ≡ false → Rests self.old self.new now }
@@ -221,23 +228,23 @@ impl UserSide {
         true
     }
 
-    /// The next moment at which [`UserSide::tick`] has something to do, in milliseconds: before it, it answers `false`. `None`
-    /// where no timer runs. It is the same until the next call of `take`, `tick` or `request`, so that a program sleeps until
-    /// then, or until octets come.
+    /// The next moment at which [`UserSide::tick`] has something to do, in milliseconds; before it,
+    /// `tick` returns `false`. `None` if no timer runs. It changes only in `take`, `tick` and
+    /// `request`, so a program can sleep until this moment or until octets arrive.
     pub fn next_deadline(&self) -> Option<u64>
         ensures { EachShown self.now (λ s. IsNextDeadline s.served result) }
     {
         next_deadline(&self.served.timers, &self.served.links)
     }
 
-    /// The moment of [`UserSide::next_deadline`], in milliseconds, or `u64::MAX` where no timer runs.
+    /// The moment of [`UserSide::next_deadline`], in milliseconds, or `u64::MAX` if no timer runs.
     pub fn quiet_until(&self) -> u64
         ensures { EachShown self.now (λ s. IsQuietUntil s.served result) }
     {
         quiet_until(&self.served.timers, &self.served.links)
     }
 
-    /// This timer of the link with this name has expired.
+    /// Expires this timer of the link with this id.
     fn expire(&mut self, id: LinkId, timer: Timer, now: u64, acts: &mut Acts)
         requires empty { acts.old ≡ no_effects }
         requires of_link { IsOfLink timer }
@@ -247,13 +254,15 @@ impl UserSide {
         let _ = self.served.links.expire(&id, timer, now, acts);
     }
 
-    /// What is asked for at the moment `now`. Of a link's name the SAPI alone is looked at: the TEI is the terminal's own. An
-    /// establishment without TEI is kept until there is one, and a TEI is asked for. It takes no memory.
+    /// Executes a request at the time `now`. Only the SAPI of a link id is used: the TEI is the
+    /// terminal's own. Without a TEI, an establishment is kept until the terminal has one, and a
+    /// TEI is requested. Does not allocate.
     ///
     /// # Errors
     ///
-    /// B1 where the link is not there, and L1 to L5 where it refuses; L1 for a message without TEI. What was to be sent is
-    /// handed back. Nothing is changed, and nothing given.
+    /// B1 if the link does not exist, and L1 to L5 if it refuses; L1 for a message without a TEI.
+    /// The message or unit data is returned in the error. The side is unchanged and `acts` is
+    /// empty.
     #[tactic(auto, unfolding(crate::specs::User::user_requested))]
     pub fn request(&mut self, request: Request, now: u64, acts: &mut Acts) -> Result<(), SideFault>
         ensures { Answers result self.old self.new acts.new (message_of request)
@@ -275,14 +284,14 @@ impl UserSide {
         }
     }
 
-    /// The links that are there.
+    /// The links of the side.
     pub fn table(&self) -> &LinkTable
         ensures { EachShown self.now (λ s. ShowEnds Side.User result.now s.served.links) }
     {
         &self.served.links.table
     }
 
-    /// The timers of a link that is there; `None` names T202 of TEI management.
+    /// The timers of an existing link; for `None`, T202 of TEI management.
     pub fn timers(&self, of: Option<LinkId>) -> Option<&TimerSet>
         ensures { EachShown self.now (λ s. option_copied result ≡ of_served s.served of) }
     {
@@ -292,15 +301,16 @@ impl UserSide {
         }
     }
 
-    /// The terminal.
+    /// The terminal's TEI management.
     pub fn terminal(&self) -> &Terminal
         ensures { EachShown self.now (λ s. result.now ≡ s.terminal) }
     {
         &self.terminal
     }
 
-    /// How many frames [`UserSide::take`] has discarded since the side was made: those with F1 to F3, and those for a link
-    /// that is not there. It stays at `u64::MAX` once it is there. What TEI management ignores is not counted.
+    /// The number of frames that [`UserSide::take`] has discarded: those with F1 to F3, and those
+    /// for a link that does not exist. It stops at `u64::MAX`. Messages that TEI management ignores
+    /// are not counted.
     pub fn discarded(&self) -> u64
         ensures { EachShown self.now (λ s. result ≡ s.discarded) }
     {
@@ -312,7 +322,7 @@ impl UserSide {
 impl UserSide {
     ghost use Rattle.lapd_sides.specs.ShowsUser.{Answers};
 
-    /// The link of this SAPI is to be established; without TEI that is kept.
+    /// Establishes the link of this SAPI; without a TEI, the request is kept.
     fn establish(&mut self, sapi: Sapi, now: u64, acts: &mut Acts) -> Result<(), SideFault>
         requires empty { acts.old ≡ no_effects }
         ensures { Answers result self.old self.new acts.new None
@@ -325,7 +335,7 @@ impl UserSide {
         }
     }
 
-    /// An establishment without TEI, of a SAPI that is served: it is kept, and a TEI is asked for.
+    /// Keeps an establishment without a TEI for its SAPI, if that is served, and requests a TEI.
     fn want(&mut self, sapi: Sapi, now: u64, acts: &mut Acts) -> Result<(), SideFault>
         requires empty { acts.old ≡ no_effects }
         ensures { Answers result self.old self.new acts.new None (λ config. wants config now sapi) }
@@ -339,7 +349,7 @@ impl UserSide {
         Ok(())
     }
 
-    /// The link of this SAPI is to be released; without TEI an establishment that is kept is forgotten.
+    /// Releases the link of this SAPI; without a TEI, forgets a kept establishment.
     fn release(&mut self, sapi: Sapi, now: u64, acts: &mut Acts) -> Result<(), SideFault>
         requires empty { acts.old ≡ no_effects }
         ensures { Answers result self.old self.new acts.new None
@@ -351,7 +361,7 @@ impl UserSide {
         }
     }
 
-    /// An establishment that is kept is forgotten. The terminal goes on asking for a TEI.
+    /// Forgets a kept establishment. The terminal continues to request a TEI.
     fn forget(&mut self, sapi: Sapi, acts: &mut Acts) -> Result<(), SideFault>
         requires empty { acts.old ≡ no_effects }
         ensures { Answers result self.old self.new acts.new None (λ _. forgets sapi) }
@@ -364,7 +374,7 @@ impl UserSide {
         Ok(())
     }
 
-    /// Own receiver busy begins or ends, on the link of this SAPI.
+    /// Sets or clears own receiver busy on the link of this SAPI.
     fn be_busy(
         &mut self,
         sapi: Sapi,
@@ -383,7 +393,7 @@ impl UserSide {
         }
     }
 
-    /// Unit data for the link of this SAPI.
+    /// Sends unit data on the link of this SAPI.
     fn send_unit(
         &mut self,
         sapi: Sapi,
@@ -409,7 +419,7 @@ impl UserSide {
         }
     }
 
-    /// A message of layer 3 for the link of this SAPI.
+    /// Submits a layer 3 message to the link of this SAPI.
     fn give(
         &mut self,
         sapi: Sapi,
@@ -428,7 +438,7 @@ impl UserSide {
         }
     }
 
-    /// An event for the link with this name.
+    /// Passes an event to the link with this id.
     fn act(&mut self, id: LinkId, event: Event, now: u64, acts: &mut Acts) -> Result<(), SideFault>
         requires empty { acts.old ≡ no_effects }
         requires for_link { IsFor id event }
@@ -446,7 +456,7 @@ impl UserSide {
 impl UserSide {
     ghost use Rattle.lapd_sides.specs.ShowsUser.{Does, Follows, CarriesOut};
 
-    /// A TEI is to be asked for.
+    /// Requests a TEI.
     fn ask(&mut self, now: u64, acts: &mut Acts)
         requires { acts.old ≡ no_effects }
         ensures { Does self.old self.new acts.new
@@ -456,7 +466,7 @@ impl UserSide {
         self.manage(event, now, acts);
     }
 
-    /// T202 has expired, and no longer runs.
+    /// Stops T202, which has expired, and processes its expiry.
     fn ask_again(&mut self, now: u64, acts: &mut Acts)
         requires { acts.old ≡ no_effects }
         ensures { Does self.old self.new acts.new
@@ -466,7 +476,7 @@ impl UserSide {
         self.manage(event, now, acts);
     }
 
-    /// An event of the terminal by which no TEI is got.
+    /// Passes the terminal an event by which it obtains no TEI.
     fn manage(&mut self, event: TerminalEvent, now: u64, acts: &mut Acts)
         requires empty { acts.old ≡ no_effects }
         requires gets_none { (phase : Phase) → tei_given (terminal_step phase event).outs ≡ None }
@@ -477,7 +487,8 @@ impl UserSide {
         self.carry_out(outs.as_slice(), now, acts);
     }
 
-    /// What these outputs of the terminal come to: all but the links of a TEI that it got, which are there already.
+    /// Carries out these outputs of the terminal. The links of a TEI that it obtained have already
+    /// been added.
     fn carry_out(&mut self, outs: &[TeiOut], now: u64, acts: &mut Acts)
         requires in_range { All IsInRange outs.now }
         requires at_most { length outs.now ≤ MOST_TEI_OUTPUTS }
@@ -489,8 +500,8 @@ impl UserSide {
         self.settle_kept(outs, now, acts);
     }
 
-    /// What these outputs mean for the establishments that are kept: they are done where a TEI was got, and released where
-    /// none was.
+    /// Settles the kept establishments after these outputs: executes them if a TEI was obtained,
+    /// and releases them if none was.
     fn settle_kept(&mut self, outs: &[TeiOut], now: u64, acts: &mut Acts)
         requires frame_room { length acts.old.frames ≤ MOST_TEI_OUTPUTS + 2 }
         requires primitive_room { length acts.old.primitives ≤ MOST_TEI_OUTPUTS + 2 }
@@ -505,7 +516,7 @@ impl UserSide {
         }
     }
 
-    /// The terminal has got this TEI: what is kept is done, SAPI 0 first.
+    /// Executes the kept establishments with this new TEI, SAPI 0 first.
     fn establish_kept(&mut self, tei: Tei, now: u64, acts: &mut Acts)
         requires frame_room { length acts.old.frames ≤ MOST_TEI_OUTPUTS + 2 }
         requires primitive_room { length acts.old.primitives ≤ MOST_TEI_OUTPUTS + 2 }
@@ -517,7 +528,8 @@ impl UserSide {
         self.establish_if(kept.has(Sapi::Packet), name(Sapi::Packet, tei), now, acts);
     }
 
-    /// The link with this name is to be established, where that was kept. What it gives goes behind what `acts` has.
+    /// Establishes the link with this id if its establishment was kept. The results are appended to
+    /// `acts`.
     fn establish_if(&mut self, kept: bool, id: LinkId, now: u64, acts: &mut Acts)
         requires room { HasRoomFor Establish acts.old }
         ensures done { Follows self.old self.new acts.old acts.new (λ _. establishes kept now id) }
@@ -528,7 +540,7 @@ impl UserSide {
         }
     }
 
-    /// The terminal has got no TEI: what is kept is released, SAPI 0 first.
+    /// Releases the kept establishments, SAPI 0 first, because the terminal obtained no TEI.
     fn give_up_kept(&mut self, acts: &mut Acts)
         requires { length acts.old.primitives ≤ MOST_TEI_OUTPUTS + 2 }
         ensures { Follows self.old self.new acts.old acts.new (λ _. gives_up_kept) }
@@ -559,7 +571,7 @@ fn sends_message(outs: &[TeiOut]) -> bool
     false
 }
 
-/// Tells layer 3 of unit data to all terminals, of this SAPI (Q.921 5.2).
+/// Reports unit data to all terminals, of this SAPI, to layer 3 (Q.921 5.2).
 fn tell_unit(sapi: Sapi, octets: &[u8], acts: &mut Acts)
     requires empty { acts.old ≡ no_effects }
     requires fits { length octets.now ≤ N201 }
@@ -570,7 +582,7 @@ fn tell_unit(sapi: Sapi, octets: &[u8], acts: &mut Acts)
     tell_sapi(sapi, What::UnitUp(Octets::new(octets)), acts);
 }
 
-/// Tells layer 3 that a SAPI without TEI is released, where its establishment was kept.
+/// Reports to layer 3 that a SAPI without a TEI is released, if its establishment was kept.
 fn release_if(kept: bool, sapi: Sapi, acts: &mut Acts)
     requires { length acts.old.primitives < MOST_PRIMITIVES }
     ensures { acts.new ≡ record acts.old {
@@ -582,7 +594,7 @@ fn release_if(kept: bool, sapi: Sapi, acts: &mut Acts)
     }
 }
 
-/// Tells layer 3 of a SAPI without TEI, which is named by the group TEI.
+/// Reports a primitive of a SAPI without a TEI to layer 3; it names the group TEI.
 fn tell_sapi(sapi: Sapi, what: What, acts: &mut Acts)
     requires { length acts.old.primitives < MOST_PRIMITIVES }
     ensures { acts.new ≡ record acts.old {
@@ -592,7 +604,7 @@ fn tell_sapi(sapi: Sapi, what: What, acts: &mut Acts)
     acts.tell(Primitive::Of(name(sapi, Tei::group()), what));
 }
 
-/// The name of a link.
+/// The id of a link.
 fn name(sapi: Sapi, tei: Tei) -> LinkId
     ensures { result ≡ of_sapi sapi tei }
 {

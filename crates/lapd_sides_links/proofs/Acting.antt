@@ -1,4 +1,4 @@
--- What a step of one link makes of all links of a side.
+-- How a step of one link changes the links of a side.
 use Rattle.std.proofs.Common.{◌≡◌, ◌≢◌, ◌≤◌, ℕ, List, ◌∷◌, ◌++◌, [], drop, length, map, Bool, true, false, Option, Some, None, Result, Err, option_map, option_copied, Bor, rules, refl, sym, ap, subst, ◌∙◌, arith}
 use Rattle.std.specs.Prelude.{IsSomeAnd, IfSome, if◌then◌else◌}
 use Rattle.std.proofs.lemmas.List.Elements.{All-head, All-tail}
@@ -37,7 +37,7 @@ use Rattle.lapd_sides_links.specs.TimersAtPlaces.{of_places}
 use Rattle.lapd_sides_links.specs.Shown.{timers_at, made_by, IsLinked, ShowLinks, HaveActed}
 use Rattle.lapd_sides_links.proofs.Dues.{same_past, same_runs}
 
--- ---- No link is there.
+-- ---- The link does not exist.
 
 nothing_linked : (link : Option Link) (t : Option Timers) (l : Option Linked) → link ≡ None → IsLinked link t l → l ≡ None
 nothing_linked None t None e h = refl
@@ -48,7 +48,7 @@ pub no_link : (side : Side) (s : LinkSet) (links : Links) (id : LinkId) (does : 
 unfolding in_links
 no_link side s links id does absent shown = ap (λ (l : Option Linked). where_there id links l does) (nothing_linked (link_at s.table id) (timers_at s.link_timers id) (links id) absent (shown.each id))
 
--- what a link does, its timers changed so before
+-- the step of a link whose timers were changed in this way first
 abbrev does_so : Side → LinkId → ℕ → Input → List ℕ → (Timers → Timers) → Linked → Result (Reaction Linked) LinkFault
 does_so side id now input octets change l = acted side id now octets (change l.timers) (step Tagged input l.end)
 
@@ -70,7 +70,7 @@ pub refuses_expiry : (side : Side) (s : LinkSet) (links : Links) (id : LinkId) (
 unfolding in_links link_acts link_expires
 refuses_expiry side s links id now timer fault r shown = refused_there side links id now (Expiry timer) [] (stopped timer) fault (link_at s.table id) (timers_at s.link_timers id) (links id) r (shown.each id)
 
--- the same, of a link that was found by this name
+-- the same, for a link that was found by this id
 pub refuses_found : (side : Side) (s : LinkSet) (links : Links) (found id : LinkId) (now : ℕ) (input : Input) (octets : List ℕ) (fault : LinkFault) → found ≡ id
     → RefusesAt s.table found input fault → ShowLinks side s links → in_links id (link_acts side id now input octets) links ≡ Err (kind.Link fault)
 refuses_found side s links found id now input octets fault same r shown =
@@ -79,9 +79,9 @@ refuses_found side s links found id now input octets fault same r shown =
 some_is : {A : Type 0} {a b : A} → Some a ≡ Some b → a ≡ b
 some_is h = cc
 
--- ---- The link does its step.
+-- ---- The link takes its step.
 
--- the link of the definition that a link in code shows, with its timers
+-- the link of the definition that a link in code and its timers represent
 record IsShown (link : Link) (t : Option Timers) (l : Option Linked) : Type 0 where
   linked : Linked
   there : l ≡ Some linked
@@ -97,7 +97,7 @@ shown_linked link (Some t) (Some l) h = record { linked = l; there = refl; stand
 true_is_false : true ≡ false → ⊥
 true_is_false h = absurd (cc)
 
--- another link is as it was
+-- another link is unchanged
 other_linked : (old new : LinkSet) (links : Links) (id other : LinkId) (l : Option Linked) (test : Bool) → id_eq other id ≡ test
     → ((test ≡ true) → IsLinked (link_at new.table other) (timers_at new.link_timers other) l)
     → ((other ≢ id) → link_at new.table other ≡ link_at old.table other) → ((other ≢ id) → timers_at new.link_timers other ≡ timers_at old.link_timers other)
@@ -111,11 +111,11 @@ other_linked old new links id other l false is own table link_timers reflexive h
 pub same_effects : (a : Effects) (frames : List (List ℕ)) (primitives : List Primitive) → a.frames ≡ frames → a.primitives ≡ primitives → a ≡ record { frames = frames; primitives = primitives }
 same_effects a frames primitives f p = rw (sym f, sym p) refl
 
--- the id is its own
+-- an id equals itself
 id_eq_self : (a : LinkId) → id_eq a a ≡ true
 id_eq_self a = search (comparing, rules)
 
--- what is made of the outputs of a step is what is sent
+-- the octets that the code makes of the outputs are those that are sent
 same_octets : (setup : Setup) (e : End) (octets : List ℕ) (outs : List Out) → All (λ output. made_frame setup (drop e.first e.given) octets output ≡ sent_frame setup (drop e.first e.given) octets output) outs
     → filter_map (made_by setup e octets) outs ≡ filter_map (sent_by setup e octets) outs
 same_octets setup e octets [] h = refl
@@ -129,7 +129,7 @@ frames_are_sent : (table : LinkTable) (id : LinkId) (link : Link) (e : End) (oct
 frames_are_sent table id link e octets outs has there stands fits =
     subst (λ (setup : Setup). filter_map (made_by setup e octets) outs ≡ filter_map (sent_by setup e octets) outs) (setup_at table id link there) (same_octets (setup_of link) e octets outs (has e stands octets fits))
 
--- All that is left of a step: the table does it, the timers follow, and what it gives is told.
+-- The rest of a step: the table has taken it, the timers follow, and the effects are appended.
 have_done : (side : Side) (old new : LinkSet) (table : LinkTable) (links : Links) (id : LinkId) (now : ℕ) (input : Input) (octets : List ℕ) (change : Timers → Timers) (outs : List Out) (told told_after : Effects)
     → StepsAt old.table table id input outs → new.table ≡ table
     → timers_at new.link_timers id ≡ option_map (timed now outs) (option_map change (timers_at old.link_timers id))
@@ -190,7 +190,7 @@ unfolding link_acts
 have_acted side old new table links id now input octets outs told told_after steps same_table own others frames primitives fits shown =
     have_done side old new table links id now input octets (λ (s : Timers). s) outs told told_after steps same_table (own ∙ ap (option_map (timed now outs)) (unchanged_timers (timers_at old.link_timers id))) others frames primitives fits shown
 
--- the same after an expiry: the timer was stopped before
+-- the same after an expiry: the timer has been stopped first
 pub have_expired : (side : Side) (old new : LinkSet) (table : LinkTable) (links : Links) (id : LinkId) (now : ℕ) (timer : Timer) (middle : Option Timers) (outs : List Out) (told told_after : Effects)
     → StepsAt old.table table id (Expiry timer) outs → new.table ≡ table
     → middle ≡ option_map (stopped timer) (timers_at old.link_timers id) → timers_at new.link_timers id ≡ option_map (timed now outs) middle
@@ -202,7 +202,8 @@ unfolding link_acts link_expires
 have_expired side old new table links id now timer middle outs told told_after steps same_table stop own others frames primitives shown =
     have_done side old new table links id now (Expiry timer) [] (stopped timer) outs told told_after steps same_table (own ∙ ap (option_map (timed now outs)) stop) others frames primitives (omega arith) shown
 
--- What was put down of these outputs is what is made of them, whatever end the link that was found stands for.
+-- The frames that the code wrote for these outputs are those of the definition, whatever end the
+-- found link represents.
 pub frames_put : (table : LinkTable) (id : LinkId) (link found : Link) (e : End) (octets : List ℕ) (outs lent : List Out) (before put after : List (List ℕ))
     → link_at table id ≡ Some link → link_at table id ≡ Some found → setup_of found ≡ setup_for (side_of table) id → LinkStandsFor link e
     → ((e : End) → LinkStandsFor found e → put ≡ before ++ filter_map (made_by (setup_of found) e octets) lent) → lent ≡ outs → after ≡ put
@@ -213,14 +214,14 @@ frames_put table id link found e octets outs lent before put after there value s
     ∙ ap (λ (k : Setup). before ++ filter_map (made_by k e octets) lent) setup
     ∙ ap (λ (o : List Out). before ++ filter_map (made_by (setup_for (side_of table) id) e octets) o) same
 
--- a search that found none
+-- a search without a result
 pub absent_of : (found : Option (Bor Link)) (link : Option Link) → option_copied found ≡ link → found ≡ None → link ≡ None
 absent_of None link e h = sym e
 absent_of (Some k) link e h = absurd (cc)
 
--- ---- A link comes or goes.
+-- ---- A link is added or removed.
 
--- the link of this name is another now, with its timers, and all others are as before
+-- the link with this id is replaced, with its timers, and all others are unchanged
 pub put_in_place : (side : Side) (old new : LinkSet) (links : Links) (id : LinkId) (l : Option Linked) → side_of new.table ≡ side_of old.table
     → IsLinked (link_at new.table id) (timers_at new.link_timers id) l
     → ((other : LinkId) → other ≢ id → link_at new.table other ≡ link_at old.table other)
@@ -233,16 +234,16 @@ put_in_place side old new links id l same own table link_timers shown = record {
       (table other) (link_timers other) (id_eq_self id) (shown.each other);
 }
 
--- a link that was made is the one that is there
+-- a new link is the existing one
 pub now_linked : (found : Option Link) (t : Option Timers) (link : Link) (l : Linked) → found ≡ Some link → t ≡ Some l.timers → LinkStandsFor link l.end → IsLinked found t (Some l)
 now_linked found t link l f time stands = rw (f, time) (stands, refl)
 
 pub none_linked : (found : Option Link) (t : Option Timers) → found ≡ None → IfSome t AreAtRest → IsLinked found t None
 none_linked found t f rest = rw f rest
 
--- ---- The timers of the links that are there.
+-- ---- The timers of the existing links.
 
--- a timer that runs in the place of a link is that link's
+-- a running timer in the slot of a link is that link's
 runs_linked : (found : Option Link) (t : Option Timers) (l : Option Linked) (its : Timers) (timer : Timer) (deadline : ℕ) → IsLinked found t l
     → t ≡ Some its → deadline_of timer its ≡ Some deadline → option_map (λ (x : Linked). x.timers) l ≡ Some its
 runs_linked None t None its timer deadline h is runs =
@@ -282,7 +283,7 @@ pub first_of_all_links : (side : Side) (s : LinkSet) (links : Links) (first : Op
 first_of_all_links side s links first shown h = same_runs (of_places s.link_timers) (of_links links) first (runs_in_links side s links shown)
     (λ of its timer deadline is runs. runs_in_places side s links shown of its is) h
 
--- the timers of a link that is there
+-- the timers of an existing link
 there_timed : (found : Option Link) (link : Link) (t : Option Timers) (l : Option Linked) → found ≡ Some link → IsLinked found t l → t ≡ option_map (λ (x : Linked). x.timers) l
 there_timed None link t l is h = absurd (cc)
 there_timed (Some k) link None None is h = absurd h

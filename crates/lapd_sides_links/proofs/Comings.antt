@@ -1,4 +1,4 @@
--- The links of a TEI come, and go.
+-- The links of a TEI are added and removed.
 use Rattle.std.proofs.Common.{◌≡◌, ℕ, List, ◌++◌, Bool, true, false, Option, Some, None, refl, sym, ap, subst, ◌∙◌}
 use Rattle.std.specs.Prelude.{◌==◌, if◌then◌else◌}
 use Rattle.std.proofs.lemmas.List.{append_assoc}
@@ -18,16 +18,16 @@ use Rattle.lapd_sides_links.specs.Links.{Links, Linked, of_sapi, with_link, with
 use Rattle.lapd_sides_links.specs.TimersAtPlaces.{placed}
 use Rattle.lapd_sides_links.specs.Shown.{timers_at, IsLinked, ShowLinks}
 
--- what is said of links is said of those that are the same, one by one
+-- a statement about links holds for links that are equal one by one
 pub same_links : (side : Side) (s : LinkSet) (these those : Links) → ((id : LinkId) → these id ≡ those id) → ShowLinks side s these → ShowLinks side s those
 same_links side s these those same shown = record {
   of_side = shown.of_side;
   each = λ id. subst (λ (l : Option Linked). IsLinked (link_at s.table id) (timers_at s.link_timers id) l) (same id) (shown.each id);
 }
 
--- ---- They come.
+-- ---- Adding links.
 
--- that of SAPI 0, and then that of SAPI 16
+-- the link of SAPI 0 first, then the link of SAPI 16
 abbrev pub with_call : Config → ℕ → Links → Links
 with_call config tei links = with_link (of_sapi Call tei) (Some (new_linked config.params0 config.durations)) links
 
@@ -52,7 +52,7 @@ both_added side s config tei links on shown = same_links side s (with_both confi
 pub one_added : (side : Side) (s : LinkSet) (config : Config) (tei : ℕ) (links : Links) → config.sapi16 ≡ false → ShowLinks side s (with_call config tei links) → ShowLinks side s (with_tei config tei links)
 one_added side s config tei links off shown = same_links side s (with_call config tei links) (with_tei config tei links) (λ id. one_at config tei links id.sapi id.tei off) shown
 
--- one that was added is taken back
+-- a link that was added is removed again
 back_at : (links : Links) (id name : LinkId) (l : Option Linked) (test : Bool) → id_eq id name ≡ test → links name ≡ None → (if test then None else (if test then l else links id)) ≡ links id
 back_at links id name l true is none = sym (ap links (same_id_eq id name is) ∙ none)
 back_at links id name l false is none = refl
@@ -68,7 +68,7 @@ taken_back side old new links name l absent before shown =
     let none = absent_linked (link_at old.table name) (timers_at old.link_timers name) (links name) absent (before.each name) in
     same_links side new (with_link name None (with_link name l links)) links (λ id. back_at links id name l (id_eq id name) refl none) shown
 
--- ---- They go.
+-- ---- Removing links.
 
 unplaced : (found : Option Link) (l : Option Linked) → IsLinked found None l → l ≡ None
 unplaced None None h = refl
@@ -91,7 +91,7 @@ pub both_gone : (side : Side) (old new : LinkSet) (tei : ℕ) (links : Links) �
     → ShowLinks side new (with_link (of_sapi Packet tei) None (with_link (of_sapi Call tei) None links)) → ShowLinks side new (without_tei tei links)
 both_gone side old new tei links before shown = same_links side new _ (without_tei tei links) (λ id. gone_at side old tei links id.sapi id.tei before) shown
 
--- the first is told, and then the second, which is as it was
+-- the release of the first link is reported, then that of the second, which was unchanged
 pub both_told : (before middle after : List Primitive) (tei : ℕ) (links : Links) → middle ≡ before ++ told_at_removal (of_sapi Call tei) (links (of_sapi Call tei))
     → after ≡ middle ++ told_at_removal (of_sapi Packet tei) (with_link (of_sapi Call tei) None links (of_sapi Packet tei)) → after ≡ before ++ told_of_tei tei links
 unfolding told_of_tei

@@ -1,4 +1,4 @@
--- The timers of links that run, what stands for them in the tournament, and which is due.
+-- The running timers of links, their entries in the tournament, and the timer that is due.
 use Rattle.std.proofs.Common.{◌≡◌, ◌≢◌, ℕ, ◌+◌, ◌<◌, ◌≤◌, List, replicate, Option, Some, None, option_map, inl, inr, refl, sym, ap, subst, ◌∙◌, arith, ◌⊎◌}
 use Rattle.std.specs.Prelude.{slice_get, IfSome, All}
 use Rattle.std.proofs.lemmas.Bool.{cases_lt, cases_eq}
@@ -85,12 +85,12 @@ new_rest s durations Call tei call packet = rest_among durations s.call.items te
 new_rest s durations Packet tei call packet = rest_among durations s.packet.items tei (slice_get s.packet.items tei) packet refl
 new_rest s durations Management tei call packet = tt
 
--- ---- At each place of the tournament.
+-- ---- In each slot of the tournament.
 
 abbrev entry_place_of : LinkId → Option ℕ
 entry_place_of id = entry_place id.sapi id.tei
 
--- the timers of a link run at its place
+-- the timers of a link run in its slot
 record Stands (s : TimerPlaces) (e : RunningTimer) : Type 0 where
   at : ℕ
   there : RunsAt s at e
@@ -112,7 +112,7 @@ entry_behind A (Some f) e h x = record { first = f; there = refl; low = h.1 e x 
 behind_entered : (s : TimerPlaces) (entries : List (Option RunningTimer)) (e : RunningTimer) (x : Stands s e) → AreEntered s entries → IsBehind (entry entries x.at) e
 behind_entered s entries e x h = entry_behind (RunsAt s x.at) (entry entries x.at) e (h x.at) x.there
 
--- the first of all that are entered is the first of all that run
+-- the first of all entries is the first of all running timers
 pub first_of_entries : (s : TimerPlaces) (entries : List (Option RunningTimer)) (first : Option RunningTimer) → AreEntered s entries → IsFirst (IsEntered entries) first → IsFirst (Runs (of_places s)) first
 first_of_entries s entries None h k = λ e x.
     let place = stands s e.of e refl x in
@@ -126,7 +126,7 @@ first_of_entries s entries (Some a) h k = (
       no_later_chained a behind.first e (k.1 behind.first (record { at = place.at; there = behind.there })) behind.low,
 )
 
--- ---- The places of a side, of which one is changed.
+-- ---- The slots of a side when one of them changes.
 
 within_at : (s : TimerPlaces) (sapi : Sapi) (tei : ℕ) (timers : Timers) → placed s (of_sapi sapi tei) ≡ Some timers → tei < 127
 unfolding placed
@@ -205,12 +205,12 @@ resting (Some t) its timer deadline h is runs =
     let same : t ≡ its = cc in
     let k : None ≡ Some deadline = sym (subst AreAtRest same h timer) ∙ runs in absurd (cc)
 
--- none runs, and none is entered
+-- no timer runs, and none is entered
 pub none_entered_yet : (s : TimerPlaces) (entries : List (Option RunningTimer)) → ((id : LinkId) → IfSome (placed s id) AreAtRest) → ((at : ℕ) → entry entries at ≡ None) → AreEntered s entries
 none_entered_yet s entries rest none = λ at. subst (IsFirst (RunsAt s at)) (sym (none at))
     (λ e x. resting (placed s x.id) x.runs.its e.timer e.deadline (rest x.id) (placed_there s at e x) x.runs.until)
 
--- ---- What is due of those that run.
+-- ---- The running timer that is due.
 
 pub none_runs : (now : ℕ) (timers : Option LinkId → Option Timers) → IsFirst (Runs timers) None → IsFirst (IsPast now timers) None
 none_runs now timers h = λ e x. h e x.runs
@@ -231,7 +231,7 @@ sooner_own P (Some a) None c h k is = subst (λ x. IfSome x P) (sym is) h
 sooner_own P (Some a) (Some b) c h k (inl is) = subst (λ x. IfSome x P) (sym is.0) h
 sooner_own P (Some a) (Some b) c h k (inr is) = subst (λ x. IfSome x P) (sym is.0) k
 
--- ---- TEI management beside the links.
+-- ---- TEI management and the links.
 
 runs_over : (A B : Option LinkId → Option Timers) (e : RunningTimer) → ((its : Timers) → A e.of ≡ Some its → deadline_of e.timer its ≡ Some e.deadline → B e.of ≡ Some its) → Runs A e → Runs B e
 runs_over A B e there h = record { its = h.its; there = there h.its h.there h.until; own = h.own; until = h.until }
@@ -283,7 +283,7 @@ first_that_runs s own link first h k sooner = joined _ _ (Runs (of_served s)) ow
     (λ e x. runs_over _ _ e (λ its is until. from_management s e.of its is) x)
     (λ e x. runs_over _ _ e (λ its is until. from_links s e.of its is) x) h k sooner
 
--- the deadline of the first that runs is the next moment at which one is due
+-- the deadline of the first running timer is the next moment at which one is due
 deadline_of_first : (s : Served) (first : Option RunningTimer) → IsFirst (Runs (of_served s)) first → IsNextDeadline s (option_map (λ (e : RunningTimer). e.deadline) first)
 deadline_of_first s None h = λ now e x. h e x.runs
 deadline_of_first s (Some a) h = record {
@@ -292,9 +292,9 @@ deadline_of_first s (Some a) h = record {
   due = (record { runs = h.0; is_past = omega arith }, λ e x. h.1 e x.runs);
 }
 
--- ---- TEI management alone.
+-- ---- TEI management only.
 
--- one of its timers runs
+-- one of these timers runs
 record RunsAs (timers : Timers) (timer : Timer) (e : RunningTimer) : Type 0 where
   is_of : e.of ≡ None
   is_timer : e.timer ≡ timer
@@ -310,7 +310,7 @@ first_of_one timers timer (Some deadline) is = (
       inr (same, inr (ap due.place (sym x.is_timer), tt)),
 )
 
--- one of two
+-- one of the two
 abbrev RunsAsEither : Timers → Timer → Timer → RunningTimer → Type 0
 RunsAsEither timers one other e = RunsAs timers one e ⊎ RunsAs timers other e
 

@@ -1,4 +1,4 @@
--- The links of the TEIs that are held come one TEI after another.
+-- The links of the held TEIs are added one TEI after another.
 use Rattle.std.proofs.Common.{◌≡◌, ℕ, ◌+◌, List, Bool, true, false, Option, Some, None, refl, ap, arith}
 use Rattle.std.specs.Prelude.{◌==◌, ◌&&◌, nat_lt, if◌then◌else◌}
 use Rattle.lapd_frame.specs.declared.Side.{Side}
@@ -19,14 +19,14 @@ last_below t n h = grind arith
 last_same : (t n : ℕ) → (t == n) ≡ true → t ≡ n
 last_same t n h = grind arith
 
--- the links of a TEI that is held
+-- the links of a held TEI
 held_at : (served same : Bool) (t n : ℕ) (held : List Bool) (l : Option Linked) → (t == n) ≡ same → is_held held n ≡ true
     → (if served && same then l else (if served && is_held_below held n t then l else None)) ≡ (if served && is_held_below held (n + 1) t then l else None)
 held_at false same t n held l is h = refl
 held_at true true t n held l is h = rw (last_below t n is, last_same t n is, h) refl
 held_at true false t n held l is h = ap (λ (b : Bool). if b && is_held held t then l else None) (not_last t n is)
 
--- and those of one that is not
+-- the links of a TEI that is not held
 unheld_at : (served same : Bool) (t n : ℕ) (held : List Bool) (l : Option Linked) → (t == n) ≡ same → is_held held n ≡ false
     → (if served && is_held_below held n t then l else None) ≡ (if served && is_held_below held (n + 1) t then l else None)
 unheld_at false same t n held l is h = refl

@@ -15,7 +15,7 @@ use Rattle.lapd_sides_links.specs.Places.{IsSooner, earlier}
 
 -- ---- The order.
 
--- first by a number, and of two with the same by what comes after it
+-- ordered by a number, and if the numbers are equal by what follows
 abbrev Lexicographic : ℕ → ℕ → Type 0 → Type 0
 Lexicographic m n Then = (m < n) ⊎ ((m ≡ n) × Then)
 
@@ -37,7 +37,7 @@ link_chained (Some x) (Some y) (Some z) h k = chained (sapi_value x.sapi) (sapi_
 pub no_later_chained : (a b c : RunningTimer) → IsNoLater a b → IsNoLater b c → IsNoLater a c
 no_later_chained a b c h k = chained a.deadline b.deadline c.deadline _ _ _ (chained (place a.timer) (place b.timer) (place c.timer) _ _ _ (link_chained a.of b.of c.of)) h k
 
--- each comes no later than itself
+-- an expiry is no later than itself
 pub link_no_later_self : (a : Option LinkId) → IsNoLaterLink a a
 link_no_later_self None = tt
 link_no_later_self (Some a) = inr (refl, omega arith)
@@ -45,7 +45,7 @@ link_no_later_self (Some a) = inr (refl, omega arith)
 pub no_later_self : (a : RunningTimer) → IsNoLater a a
 no_later_self a = inr (refl, inr (refl, link_no_later_self a.of))
 
--- of two the one comes no later, or the other
+-- of two expiries one is no later than the other
 either_tail : (m n : ℕ) (Then Else : Type 0) → n ≤ m → Then ⊎ Else → Lexicographic m n Then ⊎ Lexicographic n m Else
 either_tail m n Then Else low rest = elim (cases_lt n m) [
   | inl more ↦ inr (inl more)
@@ -78,7 +78,7 @@ pub earlier_deadline : (a b : RunningTimer) → IsNoLater a b → a.deadline ≤
 earlier_deadline a b (inl less) = omega arith
 earlier_deadline a b (inr same) = omega (arith, same.0)
 
--- ---- The first of some and that of others: the sooner of the two is the first of all.
+-- ---- The earlier one of the first of two groups is the first of all.
 
 pub joined : (A B C : RunningTimer → Type 0) (a b c : Option RunningTimer) → ((e : RunningTimer) → C e → A e ⊎ B e) → ((e : RunningTimer) → A e → C e) → ((e : RunningTimer) → B e → C e)
     → IsFirst A a → IsFirst B b → IsSooner a b c → IsFirst C c
@@ -88,12 +88,12 @@ joined A B C (Some a) None c split left right h k is = subst (IsFirst C) (sym is
 joined A B C (Some a) (Some b) c split left right h k (inl is) = subst (IsFirst C) (sym is.0) (left a h.0, λ e x. elim (split e x) [ inl y ↦ h.1 e y | inr y ↦ no_later_chained a b e is.1 (k.1 e y) ])
 joined A B C (Some a) (Some b) c split left right h k (inr is) = subst (IsFirst C) (sym is.0) (right b k.0, λ e x. elim (split e x) [ inl y ↦ no_later_chained b a e is.1 (h.1 e y) | inr y ↦ k.1 e y ])
 
--- the first of some is that of any that are the same
+-- equal groups have the same first expiry
 pub same_first : (A B : RunningTimer → Type 0) (a : Option RunningTimer) → ((e : RunningTimer) → A e → B e) → ((e : RunningTimer) → B e → A e) → IsFirst A a → IsFirst B a
 same_first A B None there back h = λ e x. h e (back e x)
 same_first A B (Some a) there back h = (there a h.0, λ e x. h.1 e (back e x))
 
--- ---- The sooner of two is there, and its deadline is the earlier.
+-- ---- The earlier of two exists, and its deadline is the earlier one.
 
 pub record HasSooner (a b : Option RunningTimer) : Type 0 where
   pub first : Option RunningTimer
@@ -116,7 +116,7 @@ sooner_deadline (Some a) None c is = ap deadline is
 sooner_deadline (Some a) (Some b) c (inl is) = ap deadline is.0 ∙ ap (λ (d : ℕ). Some d) (omega (arith, earlier_deadline a b is.1))
 sooner_deadline (Some a) (Some b) c (inr is) = ap deadline is.0 ∙ ap (λ (d : ℕ). Some d) (omega (arith, earlier_deadline b a is.1))
 
--- ---- Two of which neither is later are the same.
+-- ---- Two expiries are equal if neither is later.
 
 both_no_later : (m n : ℕ) (Then Else : Type 0) → Lexicographic m n Then → Lexicographic n m Else → (m ≡ n) × (Then × Else)
 both_no_later m n Then Else (inl a) (inl b) = absurd (omega (arith, a, b))

@@ -1,4 +1,4 @@
--- What holds of an answer holds as what follows from it.
+-- A property of a result implies its consequence for the result.
 use Rattle.std.specs.Prelude.{Result, Ok, Err, OnOk, OnErr, IfErr}
 
 pub ok_gives : {A E : Type 0} (result : Result A E) (P Q : Type 0) → (P → Q) → OnOk result P → OnOk result Q

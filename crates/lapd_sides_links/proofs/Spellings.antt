@@ -1,4 +1,4 @@
--- What is written in its place.
+-- Frames that are written in place.
 use Rattle.std.proofs.Common.{◌≡◌, ℕ, List, [], ◌∷◌, ◌++◌, length, map, set, get_or, ap, ◌∙◌}
 use Rattle.std.proofs.lemmas.List.{set_at, get_or_at, map-append}
 use Rattle.arrayvec.specs.ArrayVec.{ArrayVec}
@@ -24,7 +24,7 @@ filled_behind primitives pushed place made filled told frames size push is = ap 
     (ap (λ (l : List Primitive). set l place filled) push
     ∙ (set_at primitives made [] filled place size ∙ ap (λ (p : Primitive). primitives ++ p ∷ []) is))
 
--- and what was pushed stands there
+-- the written frame is the last item
 pub pushed_behind : (primitives pushed : List Primitive) (place : ℕ) (made found told : Primitive)
     → length primitives ≡ place → pushed ≡ primitives ++ made ∷ [] → found ≡ get_or pushed place found → made ≡ told → found ≡ told
 pushed_behind primitives pushed place made found told size push read is =

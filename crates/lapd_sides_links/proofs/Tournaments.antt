@@ -1,4 +1,4 @@
--- At node 1 stands the first of all that are entered, and a node that is won anew leaves the one above it.
+-- Node 1 has the first of all entries, and updating a node leaves only its parent to be updated.
 use Rattle.std.proofs.Common.{◌≡◌, ◌≢◌, ℕ, zero, suc, ◌+◌, ◌*◌, ◌/◌, ◌-◌, ◌<◌, ◌≤◌, List, length, replicate, drop, set, get_or, Option, Some, None, Bool, true, false, not, inl, inr, refl, sym, ap, subst, ◌∙◌, arith, ◌⊎◌}
 use Rattle.std.specs.Prelude.{is_some}
 use Rattle.std.proofs.lemmas.Bool.{cases_lt, cases_eq}
@@ -9,9 +9,9 @@ use Rattle.lapd_sides_links.specs.Places.{IsSooner}
 use Rattle.lapd_sides_links.specs.Tournament.{entry, IsEntered, IsWonAt, IsWonBut, IsAlone, HasTop}
 use Rattle.lapd_sides_links.proofs.Order.{no_later_self, no_later_chained}
 
--- ---- The one of two that goes on.
+-- ---- The winner of two.
 
--- one stands there that comes no later
+-- an expiry that is no later is found
 pub record IsBehind (found : Option RunningTimer) (e : RunningTimer) : Type 0 where
   pub first : RunningTimer
   pub there : found ≡ Some first
@@ -37,7 +37,7 @@ same_sooner : (a b c x y z : Option RunningTimer) → x ≡ a → y ≡ b → z 
 same_sooner a b c x y z p q r h = subst (λ (o : Option RunningTimer). IsSooner x y o) (sym r)
     (subst (λ (o : Option RunningTimer). IsSooner x o c) (sym q) (subst (λ (o : Option RunningTimer). IsSooner o b c) (sym p) h))
 
--- ---- From a node to the first.
+-- ---- From a node to the root.
 
 above : (nodes : List (Option RunningTimer)) (n : ℕ) (e : RunningTimer) → IsWonBut 0 nodes → 2 ≤ n → n < 512 → entry nodes n ≡ Some e → IsBehind (entry nodes (n / 2)) e
 above nodes n e h low high there =
@@ -102,13 +102,13 @@ first_at nodes (Some a) is h = (
 pub first_of_entered : (nodes : List (Option RunningTimer)) (first : Option RunningTimer) → first ≡ entry nodes 1 → IsWonBut 0 nodes → IsFirst (IsEntered (drop 256 nodes)) first
 first_of_entered nodes first is h = first_at nodes first (sym is) h
 
--- ---- A node that is written.
+-- ---- Writing a node.
 
 unchanged_node : (nodes : List (Option RunningTimer)) (at n : ℕ) (first : Option RunningTimer) → n ≢ at → 2 * n ≢ at → 2 * n + 1 ≢ at → IsWonAt nodes n → IsWonAt (set nodes at first) n
 unchanged_node nodes at n first own left right h = same_sooner _ _ _ _ _ _
     (get_or-set_other nodes at (2 * n) first None left) (get_or-set_other nodes at (2 * n + 1) first None right) (get_or-set_other nodes at n first None own) h
 
--- a node that is won anew, with those above it still to come
+-- a node is updated, and the nodes above it are still to be updated
 pub won_anew : (nodes : List (Option RunningTimer)) (at : ℕ) (first : Option RunningTimer) → IsWonBut at nodes → 1 ≤ at → at < 256 → IsSooner (entry nodes (2 * at)) (entry nodes (2 * at + 1)) first
     → IsWonBut (at / 2) (set nodes at first)
 won_anew nodes at first h low high is = record {
@@ -122,7 +122,7 @@ won_anew nodes at first h low high is = record {
   ];
 }
 
--- a node that is read
+-- reading a node
 pub read_entry : (nodes : List (Option RunningTimer)) (n : ℕ) (found : Option RunningTimer) → n < length nodes → found ≡ get_or nodes n found → entry nodes n ≡ found
 read_entry nodes n found within is = sym (get_or_read nodes n found within is None)
 
@@ -138,7 +138,7 @@ either_way (Some a) None c is = is
 either_way (Some a) (Some b) c (inl is) = inr is
 either_way (Some a) (Some b) c (inr is) = inl is
 
--- the one at a node against the one beside it
+-- the expiry at a node compared with its sibling
 pub sooner_of_pair : (nodes : List (Option RunningTimer)) (at : ℕ) (own other first : Option RunningTimer) → length nodes ≡ 512 → at < 512 → 2 ≤ at
     → entry nodes at ≡ own → other ≡ get_or nodes (4 * (at / 2) + 1 - at) other → IsSooner own other first
     → IsSooner (entry nodes (2 * (at / 2))) (entry nodes (2 * (at / 2) + 1)) first
@@ -154,7 +154,7 @@ sooner_of_pair nodes at own other first size high low there beside is =
           same_sooner other own first _ _ first (ap (entry nodes) before ∙ reads) (sym (ap (entry nodes) odd) ∙ there) refl (either_way own other first is)
     ]
 
--- one that stays as it is
+-- a node that does not change
 pub won_before : (nodes : List (Option RunningTimer)) (at : ℕ) (first : Option RunningTimer) → IsWonBut at nodes → IsSooner (entry nodes (2 * at)) (entry nodes (2 * at + 1)) first
     → entry nodes at ≡ first → IsWonBut 0 nodes
 won_before nodes at first h is same = record {
@@ -165,7 +165,7 @@ won_before nodes at first h is same = record {
   ];
 }
 
--- a place that is written, with those above it still to come
+-- a slot is written, and the nodes above it are still to be updated
 pub place_written : (nodes : List (Option RunningTimer)) (at : ℕ) (expiry : Option RunningTimer) → IsWonBut (at / 2) nodes → 256 ≤ at → IsWonBut (at / 2) (set nodes at expiry)
 place_written nodes at expiry h low = record {
   size = length-set nodes at expiry ∙ h.size;
@@ -182,7 +182,7 @@ won_but nodes open_node h = record {
 pub place_entered : (nodes : List (Option RunningTimer)) (at : ℕ) (expiry : Option RunningTimer) → IsWonBut 0 nodes → 256 ≤ at → IsWonBut (at / 2) (set nodes at expiry)
 place_entered nodes at expiry h low = place_written nodes at expiry (won_but nodes (at / 2) h) low
 
--- ---- One place alone.
+-- ---- A single occupied slot.
 
 pub size_of : (nodes : List (Option RunningTimer)) (top : ℕ) → HasTop top nodes → length nodes ≡ 512
 size_of nodes top (inl x) = x.1.size
@@ -212,7 +212,7 @@ pub first_of_all : (nodes : List (Option RunningTimer)) (top : ℕ) (first : Opt
 first_of_all nodes top first is (inl x) = first_of_entered nodes first (sym is ∙ ap (entry nodes) x.0) x.1
 first_of_all nodes top first is (inr x) = first_alone nodes top first is x
 
--- that place is written
+-- the slot is written
 alone_again : (nodes : List (Option RunningTimer)) (place : ℕ) (expiry : Option RunningTimer) → IsAlone place nodes → IsAlone place (set nodes place expiry)
 alone_again nodes place expiry h = record {
   low = h.low;
@@ -222,7 +222,7 @@ alone_again nodes place expiry h = record {
   won = place_written nodes place expiry h.won h.low;
 }
 
--- where no place has an expiry, any may have the first
+-- if no slot has an expiry, the first expiry can be in any
 none_if : (nodes : List (Option RunningTimer)) (n : ℕ) (found : Option RunningTimer) → ((e : RunningTimer) → IsEntered (drop 256 nodes) e → ⊥) → 256 ≤ n → entry nodes n ≡ found → found ≡ None
 none_if nodes n None none low is = refl
 none_if nodes n (Some e) none low is = absurd (none e (at_a_place nodes n e low is))
@@ -262,7 +262,7 @@ none_first Among None is p q h = h
 none_first Among (Some a) true p q h = let k : true ≡ false = p in absurd (cc)
 none_first Among (Some a) false p q h = let k : false ≡ true = q in absurd (cc)
 
--- ---- As it is made.
+-- ---- The new tournament.
 
 pub none_at : (nodes : List (Option RunningTimer)) (n : ℕ) → nodes ≡ replicate 512 None → entry nodes n ≡ None
 none_at nodes n all = elim (cases_lt n 512) [
@@ -279,7 +279,7 @@ new_tournament nodes all = record {
 pub none_entered : (nodes : List (Option RunningTimer)) → nodes ≡ replicate 512 None → (at : ℕ) → entry (drop 256 nodes) at ≡ None
 none_entered nodes all at = get_or-drop 256 nodes at None ∙ none_at nodes (256 + at) all
 
--- ---- What is entered at a place.
+-- ---- Entering an expiry.
 
 pub own_entry : (nodes settled : List (Option RunningTimer)) (place : ℕ) (expiry : Option RunningTimer) → place < 256 → length nodes ≡ 512
     → ((n : ℕ) → 256 ≤ n → entry settled n ≡ entry (set nodes (256 + place) expiry) n) → entry (drop 256 settled) place ≡ expiry

@@ -1,5 +1,6 @@
--- What a side gives for an event, and what the outputs of one step of a link or of TEI management come to: the frames that
--- are sent, as octets, what the layers above are told, and which timers run until when (Q.921 4.1, 5.9).
+-- The effects of an event on a side, made from the outputs of a step of a link or of TEI
+-- management: the frames to send, as octets, the primitives for the layers above, and the running
+-- timers with their deadlines (Q.921 4.1, 5.9).
 use Rattle.std.specs.Prelude.{ℕ, ◌≤◌, List, [], ◌∷◌, ◌++◌, length, map, drop, Option, Some, None, option_map}
 use Rattle.std.specs.List.{filter_map}
 use Rattle.lapd_timers.specs.declared.timer.Timer.{Timer}
@@ -22,19 +23,19 @@ use Rattle.lapd_sides_links.specs.declared.primitive.Primitive.TheVariants.{Of, 
 use Rattle.lapd_sides_links.specs.declared.primitive.What.{What}
 use Rattle.lapd_sides_links.specs.declared.primitive.What.TheVariants as what
 
--- the octets of the frames that are sent, and what the layers above are told, each in order
+-- the octets of the frames to send, and the primitives for the layers above, each in order
 pub record Effects : Type 0 where
   pub frames : List (List ℕ)
   pub primitives : List Primitive
 
--- a frame has two octets of address and one of control field at least (Q.921 2.2)
+-- a frame has at least two octets of address and one of control field (Q.921 2.2)
 abbrev pub HasLeastOctets : List ℕ → Type 0
 HasLeastOctets octets = 3 ≤ length octets
 
 abbrev pub no_effects : Effects
 no_effects = record { frames = []; primitives = [] }
 
--- those of one step, and then those of another
+-- the effects of one step, followed by those of another
 abbrev pub and_then : Effects → Effects → Effects
 and_then first second = record {
   frames = first.frames ++ second.frames;
@@ -43,7 +44,7 @@ and_then first second = record {
 
 -- ---- The timers.
 
--- a timer is started anew, or stopped
+-- starts a timer, or restarts it, or stops it
 abbrev pub started : ℕ → Timer → Timers → Timers
 started now timer s = with_deadline timer (Some (deadline_from now (length_of timer s.durations))) s
 
@@ -52,7 +53,8 @@ stopped timer s = with_deadline timer None s
 
 -- ---- The outputs of a link.
 
--- What layer 3 or management is told by an output; `octets` are the information of the frame just heard.
+-- The primitive of an output for layer 3 or management; `octets` are the information of the
+-- received frame.
 abbrev pub what_of : List ℕ → Out → Option What
 what_of octets out.Up = Some (what.Up octets)
 what_of octets out.UnitUp = Some (what.UnitUp octets)
@@ -65,20 +67,20 @@ what_of octets (out.Dropped n) = Some (what.Dropped n)
 what_of octets (out.Report letter) = Some (what.Report letter)
 what_of octets other = None
 
--- The octets that an output of such a link puts on the line, after a step that ended in `e`, and none of an output that is
--- not sent; `octets` are the unit data handed in.
+-- The octets of the frame that an output sends, after a step that ended in `e`; `None` if it sends
+-- none. `octets` are the unit data to send.
 abbrev pub sent_by : Setup → End → List ℕ → Out → Option (List ℕ)
 sent_by setup e octets output = option_map (spelling setup.side)
     (sent_frame setup (drop e.first e.given) octets output)
 
--- of all of them, in order
+-- the effects of all outputs of a step, in order
 abbrev pub effects_of_link : Side → LinkId → End → List ℕ → List Out → Effects
 effects_of_link side id e octets outs = record {
   frames = filter_map (sent_by (setup_for side id) e octets) outs;
   primitives = map (Of id) (filter_map (what_of octets) outs);
 }
 
--- the timers that they start and stop, in order
+-- applies the timer starts and stops of the outputs, in order
 abbrev pub timed_by : ℕ → Out → Timers → Timers
 timed_by now (out.Start timer) s = started now timer s
 timed_by now (out.Stop timer) s = stopped timer s
@@ -90,12 +92,12 @@ timed now (output ∷ outs) s = timed now outs (timed_by now output s)
 
 -- ---- The outputs of TEI management.
 
--- the octets of a message that is sent (Q.921 5.3.6.1)
+-- the octets of the message that an output sends (Q.921 5.3.6.1)
 abbrev pub message_sent : Side → TeiOut → Option (List ℕ)
 message_sent side (tei.Send message) = Some (spelling side (frame_of_message message))
 message_sent side other = None
 
--- an outcome: neither a message nor a timer
+-- the primitive of an outcome: neither a message nor a timer
 abbrev pub outcome_of : TeiOut → Option Primitive
 outcome_of (tei.Send message) = None
 outcome_of (tei.Start timer) = None

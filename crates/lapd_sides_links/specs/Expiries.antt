@@ -1,5 +1,6 @@
--- Which timer of a side is due: of those that run with a deadline that is past, the one with the least deadline; of several
--- with the same, the first of T200, T201, T202, T203, then the one of the lowest SAPI, then of the lowest TEI (Q.921 5.9).
+-- The timer of a side that is due: of the running timers whose deadline has been reached, the one
+-- with the earliest deadline; if several share it, the first of T200, T201, T202, T203, then the
+-- one with the lowest SAPI, then with the lowest TEI (Q.921 5.9).
 use Rattle.std.specs.Prelude.{◌≡◌, ℕ, ◌<◌, ◌≤◌, Option, Some, None, option_map, ◌⊎◌, ⊤}
 use Rattle.lapd_timers.specs.declared.timer.Timer.{Timer}
 use Rattle.lapd_timers.specs.Due.{Timers, deadline_of, place}
@@ -9,14 +10,14 @@ use Rattle.lapd_sides_links.specs.declared.running_timer.RunningTimer.{RunningTi
 use Rattle.lapd_sides_links.specs.Links.{Links, Linked, IsOfLink}
 use Rattle.lapd_sides_links.specs.Links.{Served}
 
--- ---- The timers that run. They are named by the link that they are of, or by none where they are TEI management's.
+-- ---- The running timers. Each is named by its link, or by `None` for TEI management.
 
--- a link has T200 and T203, and TEI management any
+-- a link has T200 and T203; TEI management may have any timer
 abbrev pub IsTimerOf : Option LinkId → Timer → Type 0
 IsTimerOf None timer = ⊤
 IsTimerOf (Some id) timer = IsOfLink timer
 
--- a timer runs with this deadline, where these are the timers that there are
+-- among these timers, one runs with this deadline
 pub record Runs (timers : Option LinkId → Option Timers) (e : RunningTimer) : Type 0 where
   pub its : Timers
   pub there : timers e.of ≡ Some its
@@ -28,65 +29,67 @@ pub record IsPast (now : ℕ) (timers : Option LinkId → Option Timers) (e : Ru
   pub runs : Runs timers e
   pub is_past : e.deadline ≤ now
 
--- those of the links that are there
+-- the timers of the existing links
 abbrev pub of_links : Links → Option LinkId → Option Timers
 of_links links None = None
 of_links links (Some id) = option_map (λ (l : Linked). l.timers) (links id)
 
--- those of TEI management
+-- the timers of TEI management
 abbrev pub of_management : Timers → Option LinkId → Option Timers
 of_management timers None = Some timers
 of_management timers (Some id) = None
 
--- those of both
+-- the timers of the links and of TEI management
 abbrev pub of_served : Served → Option LinkId → Option Timers
 of_served s None = Some s.timers
 of_served s (Some id) = of_links s.links (Some id)
 
--- ---- Which comes first.
+-- ---- The order of expiries.
 
--- the order of links: by SAPI, then by TEI; TEI management, whose timers links do not have, before them
+-- the order of links: by SAPI, then by TEI; TEI management is first (a link never has its
+-- timers)
 abbrev pub IsNoLaterLink : Option LinkId → Option LinkId → Type 0
 IsNoLaterLink None b = ⊤
 IsNoLaterLink (Some a) None = ⊥
 IsNoLaterLink (Some a) (Some b) = (sapi_value a.sapi < sapi_value b.sapi)
     ⊎ ((sapi_value a.sapi ≡ sapi_value b.sapi) × (a.tei ≤ b.tei))
 
--- by deadline, then by timer, then by link
+-- the order of expiries: by deadline, then by timer, then by link
 abbrev pub IsNoLater : RunningTimer → RunningTimer → Type 0
 IsNoLater a b = (a.deadline < b.deadline) ⊎ ((a.deadline ≡ b.deadline)
     × ((place a.timer < place b.timer) ⊎ ((place a.timer ≡ place b.timer)
     × IsNoLaterLink a.of b.of)))
 
--- the first of some of them, or none where there are none
+-- the first of some timers, or `None` if there are none
 abbrev pub IsFirst : (RunningTimer → Type 0) → Option RunningTimer → Type 0
 IsFirst Among None = (e : RunningTimer) → Among e → ⊥
 IsFirst Among (Some e) = Among e × ((other : RunningTimer) → Among other → IsNoLater e other)
 
--- what is due now on a side
+-- the timer of a side that is due now
 abbrev pub IsDue : ℕ → Served → Option RunningTimer → Type 0
 IsDue now s = IsFirst (IsPast now (of_served s))
 
--- before this moment nothing is due on a side
+-- nothing is due on a side before this moment
 abbrev pub IsQuietBefore : Served → ℕ → Type 0
 IsQuietBefore s moment = (now : ℕ) → now < moment → IsDue now s None
 
--- before this moment nothing is due on a side, and at it something is
+-- nothing is due on a side before this moment, and something is due at it
 pub record IsNextMoment (s : Served) (moment : ℕ) : Type 0 where
   pub before : IsQuietBefore s moment
   pub expiry : RunningTimer
   pub due : IsDue moment s (Some expiry)
 
--- the next moment at which something is due, or none where nothing ever is, as long as no timer is started
+-- the next moment at which something is due; `None` if nothing will be due unless a timer is
+-- started
 abbrev pub IsNextDeadline : Served → Option ℕ → Type 0
 IsNextDeadline s None = (now : ℕ) → IsDue now s None
 IsNextDeadline s (Some moment) = IsNextMoment s moment
 
--- a moment that may be none as a number: the greatest where there is none
+-- an optional moment as a number: the greatest number if there is none
 abbrev pub or_last : Option ℕ → ℕ
 or_last None = 18446744073709551615
 or_last (Some moment) = moment
 
--- so the next moment at which something is due
+-- the next moment at which something is due, as such a number
 abbrev pub IsQuietUntil : Served → ℕ → Type 0
 IsQuietUntil s moment = (next : Option ℕ) × IsNextDeadline s next × (moment ≡ or_last next)

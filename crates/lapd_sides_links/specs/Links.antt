@@ -1,4 +1,5 @@
--- The links of a side, each with its timers, and what one step of one of them comes to. The step itself is the state table's.
+-- The links of a side, each with its timers, and the effect of one step of a link. The step itself
+-- is that of the state table.
 use Rattle.std.specs.Prelude.{ℕ, ◌==◌, ◌&&◌, nat_lt, if◌then◌else◌, Bool, true, false, List, [], ◌∷◌, ◌++◌, Option, Some, None, Result, Ok, Err, ⊤}
 use Rattle.lapd_timers.specs.declared.timer.Timer.{Timer}
 use Rattle.lapd_timers.specs.declared.timer.Timer.TheVariants.{T200, T201, T202, T203}
@@ -33,26 +34,27 @@ pub record Linked : Type 0 where
   pub end : End
   pub timers : Timers
 
--- the links that are there, by their names
+-- the existing links, by their ids
 abbrev pub Links : Type 0
 Links = LinkId → Option Linked
 
--- what both sides have: their links, and the timer of TEI management
+-- the common part of both sides: their links, and the timers of TEI management
 pub record Served : Type 0 where
   pub links : Links
   pub timers : Timers
 
--- what a step leaves, and what it gives
+-- the state after a step, and its effects
 pub record Reaction (S : Type 0) : Type 0 where
   pub after : S
   pub effects : Effects
 
--- ---- Names.
+-- ---- Ids.
 
 abbrev pub of_sapi : Sapi → ℕ → LinkId
 of_sapi sapi tei = record { sapi = sapi; tei = tei }
 
--- call control is served, and packet communication where it is configured; management has no links (Q.921 Table 2)
+-- call control is served, and packet communication if it is enabled; management has no links (Q.921
+-- Table 2)
 abbrev pub is_served : Config → Sapi → Bool
 is_served config Call = true
 is_served config Packet = config.sapi16
@@ -64,8 +66,8 @@ parameters_for config sapi = config.params0
 
 -- ---- One step of one link.
 
--- What the state table makes of an input: `octets` are the information of the frame that was heard, or the unit data that is
--- to be sent.
+-- The result of the state table for an input, with its effects. `octets` are the information of the
+-- received frame, or the unit data to send.
 abbrev pub acted : Side → LinkId → ℕ → List ℕ → Timers → Result StepState LinkFault
     → Result (Reaction Linked) LinkFault
 acted side id now octets timers (Ok s) =
@@ -94,9 +96,9 @@ unfoldable pub link_expires : Side → LinkId → ℕ → Timer → Linked
     → Result (Reaction Linked) LinkFault
 link_expires side id now timer l = link_acts side id now (Expiry timer) [] (expired timer l)
 
--- ---- Among the other links.
+-- ---- One link among the others.
 
--- one link is changed, and all others keep what they are
+-- sets one link, and leaves all others unchanged
 abbrev pub with_link : LinkId → Option Linked → Links → Links
 with_link id l links = λ other. if id_eq other id then l else links other
 
@@ -108,7 +110,7 @@ in_place id links (Ok a) = Ok (record {
 })
 in_place id links (Err fault) = Err (Link fault)
 
--- a link does what it does, where it is there
+-- a step of a link, if the link exists
 abbrev pub where_there : LinkId → Links → Option Linked
     → (Linked → Result (Reaction Linked) LinkFault) → Result (Reaction Links) SideKind
 where_there id links None does = Err NoLink
@@ -118,13 +120,13 @@ unfoldable pub in_links : LinkId → (Linked → Result (Reaction Linked) LinkFa
     → Result (Reaction Links) SideKind
 in_links id does links = where_there id links (links id) does
 
--- ---- Links come and go with their TEI (Q.921 5.3).
+-- ---- Links are added and removed with their TEI (Q.921 5.3).
 
--- in state 4 as new, with no timer running
+-- a new link, in state 4, with no timer running
 abbrev pub new_linked : Parameters → Lengths → Linked
 new_linked parameters lengths = record { end = new_end parameters; timers = at_rest lengths }
 
--- the links of a TEI: of SAPI 0, and of SAPI 16 where it is served
+-- the links of a TEI: of SAPI 0, and of SAPI 16 if it is served
 abbrev pub is_link_of : Config → ℕ → LinkId → Bool
 is_link_of config tei id = is_served config id.sapi && (id.tei == tei)
 
@@ -135,8 +137,8 @@ with_tei config tei links = λ id. if is_link_of config tei id
 unfoldable pub without_tei : ℕ → Links → Links
 without_tei tei links = λ id. if id.tei == tei then None else links id
 
--- What layer 3 is told of a link that goes: it is released, as was asked for where that was asked for; nothing where it was
--- released before.
+-- The release that is reported to layer 3 when a link is removed: a confirm if a release was
+-- requested; nothing if the link was released before.
 abbrev pub release_at_removal : State → Bool → Option What
 release_at_removal state.TeiAssigned release_pending = None
 release_at_removal state.AwaitingEstablishment true = Some what.ReleaseConfirm
@@ -154,7 +156,7 @@ told_at_removal id None = []
 told_at_removal id (Some l) = primitives_of id
     (release_at_removal l.end.state l.end.release_pending)
 
--- of both links of a TEI, by rising SAPI
+-- the releases of both links of a TEI, by ascending SAPI
 unfoldable pub told_of_tei : ℕ → Links → List Primitive
 told_of_tei tei links = told_at_removal (of_sapi Call tei) (links (of_sapi Call tei))
     ++ told_at_removal (of_sapi Packet tei) (links (of_sapi Packet tei))
@@ -163,7 +165,7 @@ told_of_tei tei links = told_at_removal (of_sapi Call tei) (links (of_sapi Call 
 abbrev pub no_links : Links
 no_links = λ id. None
 
--- those of the TEIs below n that are held
+-- the TEIs below n that are held
 abbrev pub is_held_below : List Bool → ℕ → ℕ → Bool
 is_held_below held n tei = nat_lt tei n && is_held held tei
 
@@ -171,6 +173,6 @@ unfoldable pub links_below : Config → List Bool → ℕ → Links
 links_below config held n = λ id. if is_served config id.sapi && is_held_below held n id.tei
     then Some (new_linked (parameters_for config id.sapi) config.durations) else None
 
--- those of all TEIs that are held; the group TEI has none
+-- the links of all held TEIs; the group TEI has none
 abbrev pub links_of_held : Config → List Bool → Links
 links_of_held config held = links_below config held group_tei

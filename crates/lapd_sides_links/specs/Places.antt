@@ -1,4 +1,4 @@
--- Where the timers of links stand, and which of two expiries comes first.
+-- The slots of the links' timers, and the order of two expiries.
 use Rattle.std.specs.Prelude.{◌≡◌, ℕ, min, List, length, Option, Some, None, ◌⊎◌}
 use Rattle.lapd_timers.specs.declared.timer.Timer.{Timer}
 use Rattle.lapd_timers.specs.Due.{Timers, deadline_of}
@@ -7,7 +7,7 @@ use Rattle.lapd_sides_links.specs.declared.running_timer.RunningTimer.{RunningTi
 use Rattle.lapd_sides_links.specs.Links.{IsOfLink}
 use Rattle.lapd_sides_links.specs.Expiries.{IsNoLater}
 
--- a place for each TEI of 0 to 126 (Q.921 3.3.4), in SAPI 0 and in SAPI 16
+-- a slot for each TEI of 0 to 126 (Q.921 3.3.4), in SAPI 0 and in SAPI 16
 pub record HasPlaces (call packet : List Timers) : Type 0 where
   pub call_places : length call ≡ 127
   pub packet_places : length packet ≡ 127
@@ -16,13 +16,13 @@ pub record HasPlaces (call packet : List Timers) : Type 0 where
 abbrev pub AreAtRest : Timers → Type 0
 AreAtRest timers = (timer : Timer) → deadline_of timer timers ≡ None
 
--- ---- The timers that run.
+-- ---- The running timers.
 
 -- the expiry of a timer of a link
 abbrev pub expiry_at : LinkId → Timer → ℕ → RunningTimer
 expiry_at id timer deadline = record { deadline = deadline; timer = timer; of = Some id }
 
--- and of one of TEI management
+-- the expiry of a timer of TEI management
 abbrev pub own_expiry_at : Timer → ℕ → RunningTimer
 own_expiry_at timer deadline = record { deadline = deadline; timer = timer; of = None }
 
@@ -32,13 +32,13 @@ pub record RunsFor (id : LinkId) (timers : Timers) (e : RunningTimer) : Type 0 w
   pub own : IsOfLink e.timer
   pub until : deadline_of e.timer timers ≡ Some e.deadline
 
--- of two, the one that comes first
+-- the earlier one of two optional expiries
 abbrev pub IsSooner : Option RunningTimer → Option RunningTimer → Option RunningTimer → Type 0
 IsSooner None b c = c ≡ b
 IsSooner (Some a) None c = c ≡ Some a
 IsSooner (Some a) (Some b) c = ((c ≡ Some a) × IsNoLater a b) ⊎ ((c ≡ Some b) × IsNoLater b a)
 
--- of two moments, the one that is earlier
+-- the earlier one of two optional moments
 abbrev pub earlier : Option ℕ → Option ℕ → Option ℕ
 earlier None b = b
 earlier (Some a) None = Some a

@@ -1,4 +1,4 @@
--- How the links of a side in code show those of the definition.
+-- How the links of a side in code represent those of the definition.
 use Rattle.std.specs.Prelude.{◌≡◌, ℕ, List, drop, Option, Some, None, option_map, IfSome, Result, Ok, Err}
 use Rattle.lapd_timers.specs.Due.{Timers}
 use Rattle.lapd_frame.specs.declared.Side.{Side}
@@ -18,27 +18,29 @@ use Rattle.lapd_sides_links.specs.Links.{Links, Linked, Reaction}
 use Rattle.lapd_sides_links.specs.Places.{AreAtRest}
 use Rattle.lapd_sides_links.specs.TimersAtPlaces.{placed}
 
--- the timers at the place of a link, be it there or not
+-- the timers in the slot of a link, whether or not the link exists
 abbrev pub timers_at : TimerPlaces → LinkId → Option Timers
 timers_at s id = placed s id
 
--- the octets that are made of an output of this link, after a step that ended in `e`
+-- the octets of the frame that the code makes of an output of this link, after a step that ended in
+-- `e`
 abbrev pub made_by : Setup → End → List ℕ → Out → Option (List ℕ)
 made_by setup e octets output = option_map (spelling setup.side)
     (made_frame setup (drop e.first e.given) octets output)
 
--- a link with its timers; or no link, and no timer that runs in its place
+-- a link with its timers; or no link, and no timer running in its slot
 abbrev pub IsLinked : Option Link → Option Timers → Option Linked → Type 0
 IsLinked None timers None = IfSome timers AreAtRest
 IsLinked (Some link) (Some timers) (Some l) = LinkStandsFor link l.end × (timers ≡ l.timers)
 IsLinked link timers l = ⊥
 
--- The links that are there stand for those of the definition, and so do their timers.
+-- The existing links represent those of the definition, and so do their timers.
 pub record ShowLinks (side : Side) (s : LinkSet) (links : Links) : Type 0 where
   pub of_side : side_of s.table ≡ side
   pub each : (id : LinkId) → IsLinked (link_at s.table id) (timers_at s.link_timers id) (links id)
 
--- A step has been done: it came to this, the links show what it leaves, and what it gives stands behind what was there.
+-- A step has been taken: it succeeded, the links represent the state after it, and its effects are
+-- appended to the earlier ones.
 pub record HaveActed (side : Side) (s : LinkSet) (before after : Effects)
     (outcome : Result (Reaction Links) SideKind) : Type 0 where
   pub acted : Reaction Links
@@ -46,26 +48,26 @@ pub record HaveActed (side : Side) (s : LinkSet) (before after : Effects)
   pub shown : ShowLinks side s acted.after
   pub given : after ≡ and_then before acted.effects
 
--- ---- What a call does, whatever links it finds.
+-- ---- The effect of a call, whatever links it finds.
 
--- the step of links is done
+-- the call takes this step of the links
 abbrev pub Does : LinkSet → LinkSet → Effects → Effects
     → (Side → Links → Result (Reaction Links) SideKind) → Type 0
 Does old new before after step =
     (side : Side) (links : Links) → ShowLinks side old links
     → HaveActed side new before after (step side links)
 
--- the step of links is refused, for this reason
+-- the step of the links is refused, for this reason
 abbrev pub RefusesAs : LinkSet → (Side → Links → Result (Reaction Links) SideKind) → SideKind
     → Type 0
 RefusesAs old step kind = (side : Side) (links : Links) → ShowLinks side old links
     → step side links ≡ Err kind
 
--- it comes to these links
+-- the links change in this way
 abbrev pub Becomes : LinkSet → LinkSet → (Links → Links) → Type 0
 Becomes old new change = (side : Side) (links : Links) → ShowLinks side old links
     → ShowLinks side new (change links)
 
--- the links are as they were
+-- the links are unchanged
 abbrev pub ShowsAsBefore : LinkSet → LinkSet → Type 0
 ShowsAsBefore old new = Becomes old new (λ links. links)

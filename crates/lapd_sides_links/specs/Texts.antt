@@ -1,4 +1,4 @@
--- What a side tells the layers above it, and why it refuses, in words.
+-- The printed form of primitives and of refusals.
 use Rattle.std.specs.Prelude.{ℕ, List, [], ◌∷◌, ◌++◌, codes}
 use Rattle.std.specs.Fmt.{decimal}
 use Rattle.hex.specs.Hex.{encode_lower}
@@ -17,7 +17,7 @@ use Rattle.lapd_sides_links.specs.declared.primitive.What.TheVariants as what
 use Rattle.lapd_sides_links.specs.declared.side_fault.SideKind.{SideKind}
 use Rattle.lapd_sides_links.specs.declared.side_fault.SideKind.TheVariants as kind
 
--- the link that something is told of: its SAPI and its TEI, and a space behind each
+-- the link that a primitive is about: its SAPI and its TEI, each followed by a space
 abbrev pub id_text : LinkId → List ℕ
 id_text id = decimal (sapi_value id.sapi) ++ 32 ∷ decimal id.tei ++ 32 ∷ []
 
@@ -26,7 +26,7 @@ abbrev pub digits_text : List ℕ → List ℕ
 digits_text [] = []
 digits_text (octet ∷ octets) = 32 ∷ encode_lower (octet ∷ octets)
 
--- the word by which layer 3 or management is told of an output, none where it is not
+-- the word that reports an output to layer 3 or management; empty if it is not reported
 abbrev pub told_word : Out → List ℕ
 told_word out.Up = codes "data"
 told_word out.UnitUp = codes "unit"
@@ -39,7 +39,7 @@ told_word (out.Dropped n) = codes "dropped"
 told_word (out.Report letter) = codes "report"
 told_word other = []
 
--- what is told of a link: the word of its output
+-- the first word of a link's primitive: that of its output
 abbrev pub what_word : What → List ℕ
 what_word (what.Up octets) = told_word out.Up
 what_word (what.UnitUp octets) = told_word out.UnitUp
@@ -51,7 +51,7 @@ what_word (what.Acknowledged n) = told_word (out.Acknowledged n)
 what_word (what.Dropped n) = told_word (out.Dropped n)
 what_word (what.Report letter) = told_word (out.Report letter)
 
--- and what stands behind it
+-- the rest of a link's primitive
 abbrev pub what_rest : What → List ℕ
 what_rest (what.Up octets) = digits_text octets
 what_rest (what.UnitUp octets) = digits_text octets
@@ -63,7 +63,7 @@ what_rest other = []
 abbrev pub what_text : What → List ℕ
 what_text w = what_word w ++ what_rest w
 
--- what became of a TEI; messages and timers are not told
+-- an outcome of TEI management; messages and timers are not printed
 abbrev pub outcome_text : TeiOut → List ℕ
 outcome_text (tei.Given tei) = codes "tei given " ++ decimal tei
 outcome_text (tei.Got tei) = codes "tei got " ++ decimal tei

@@ -1,4 +1,4 @@
--- The timers that stand at the places of links.
+-- The timers in the slots of the links.
 use Rattle.std.specs.Prelude.{◌≡◌, ℕ, ◌+◌, List, Option, Some, None, slice_get}
 use Rattle.lapd_timers.specs.Due.{Timers}
 use Rattle.lapd_frame.specs.declared.Sapi.{Sapi}
@@ -10,7 +10,7 @@ use Rattle.lapd_sides_links.specs.Expiries.{Runs, IsFirst}
 use Rattle.lapd_sides_links.specs.Places.{RunsFor}
 use Rattle.lapd_sides_links.specs.Tournament.{entry}
 
--- those at the place of a link, be it there or not; management has no links
+-- the timers in the slot of a link, whether or not the link exists; management has no links
 abbrev pub timers_among : List Timers → List Timers → Sapi → ℕ → Option Timers
 timers_among call packet Call tei = slice_get call tei
 timers_among call packet Packet tei = slice_get packet tei
@@ -19,31 +19,31 @@ timers_among call packet Management tei = None
 unfoldable pub placed : TimerPlaces → LinkId → Option Timers
 placed s id = timers_among s.call.items s.packet.items id.sapi id.tei
 
--- of all places, as the timers of links
+-- all slots, as the timers of links
 abbrev pub of_places : TimerPlaces → Option LinkId → Option Timers
 of_places s None = None
 of_places s (Some id) = placed s id
 
--- ---- The tournament of the timers at these places.
+-- ---- The tournament of these timers.
 
--- where the expiry of a link stands in it: by TEI those of SAPI 0, and behind them those of SAPI 16
+-- the tournament slot of a link: first those of SAPI 0 by TEI, then those of SAPI 16
 abbrev pub entry_place : Sapi → ℕ → Option ℕ
 entry_place Call tei = Some tei
 entry_place Packet tei = Some (128 + tei)
 entry_place Management tei = None
 
--- a timer of a link that stands there runs
+-- a timer of the link with this tournament slot runs
 pub record RunsAt (s : TimerPlaces) (at : ℕ) (e : RunningTimer) : Type 0 where
   pub id : LinkId
   pub is_of : e.of ≡ Some id
   pub stands : entry_place id.sapi id.tei ≡ Some at
   pub runs : Runs (of_places s) e
 
--- at each of its places stands the first of T200 and T203 of the link there
+-- each tournament slot has the first of T200 and T203 of its link
 abbrev pub AreEntered : TimerPlaces → List (Option RunningTimer) → Type 0
 AreEntered s entries = (at : ℕ) → IsFirst (RunsAt s at) (entry entries at)
 
--- the timer of this link that expires first, where there is a place for its timers
+-- a running timer of this link, if the link has a slot
 abbrev pub RunsForPlaced : LinkId → Option Timers → RunningTimer → Type 0
 RunsForPlaced id None e = ⊥
 RunsForPlaced id (Some timers) e = RunsFor id timers e

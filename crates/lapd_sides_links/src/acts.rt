@@ -16,17 +16,18 @@ use lapd_tei::TeiMessage;
 use std::alloc::{AllocError, Global};
 use std::marker::Model;
 
-/// How many primitives one step of a link gives at most.
+/// The maximum number of primitives of one step of a link.
 pub const MOST_TOLD: usize = 6;
 
-/// How many frames there is room for: those of one step of a link. Where a TEI is got, two links establish, with seven outputs
-/// each at most.
+/// The room for frames: enough for one step of a link, and for the two links that establish when a
+/// TEI is assigned, with at most seven outputs each.
 pub const MOST_FRAMES: usize = MOST_OUTPUTS;
 
-/// How many primitives there is room for: those of one step of each of two links, and of TEI management.
+/// The room for primitives: enough for one step of each of two links, and of TEI management.
 pub const MOST_PRIMITIVES: usize = 20;
 
-/// What a call of a side gives: the frames that are to be sent, as octets, and what the layers above are told, each in order.
+/// The result of a call of a side: the frames to send, as octets, and the primitives for the layers
+/// above, each in order.
 #[derive(Drop)]
 pub struct Acts {
     frames: Vec<ArrayVec<u8, MOST_OCTETS>>,
@@ -53,11 +54,11 @@ impl Model for Acts {
 }
 
 impl Acts {
-    /// No frames and no primitives, with room for as many as a call of a side may give.
+    /// Creates empty acts with room for the results of any call of a side.
     ///
     /// # Errors
     ///
-    /// `AllocError` where memory was refused.
+    /// `AllocError` if an allocation failed.
     pub fn new(alloc: Global) -> Result<Acts, AllocError>
         ensures { IfOk result (λ acts. acts ≡ no_effects) }
     {
@@ -67,7 +68,7 @@ impl Acts {
         })
     }
 
-    /// The frames that are to be sent, as octets, in order. Each has 3 to 264 of them.
+    /// The frames to send, as octets, in order. Each has 3 to 264 octets.
     pub fn frames(&self) -> &[ArrayVec<u8, MOST_OCTETS>]
         ensures frames { map (λ f. f.items) result.now ≡ self.now.frames }
         ensures least { All (λ f. HasLeastOctets f.items) result.now }
@@ -75,14 +76,14 @@ impl Acts {
         self.frames.as_slice()
     }
 
-    /// What the layers above are told, in order.
+    /// The primitives for the layers above, in order.
     pub fn primitives(&self) -> &[Primitive]
         ensures { result.now ≡ self.now.primitives }
     {
         self.primitives.as_slice()
     }
 
-    /// Forgets all.
+    /// Removes all frames and primitives.
     pub fn clear(&mut self)
         ensures { self.new ≡ no_effects }
     {
@@ -90,7 +91,7 @@ impl Acts {
         self.primitives.clear();
     }
 
-    /// Lets the first frame go.
+    /// Removes the first frame.
     pub fn remove_frame(&mut self)
         requires { 0 < length self.old.frames }
         ensures { self.new ≡ record self.old { frames = drop 1 self.old.frames } }
@@ -98,7 +99,7 @@ impl Acts {
         remove_first(&mut self.frames);
     }
 
-    /// Lets the first primitive go.
+    /// Removes the first primitive.
     pub fn remove_primitive(&mut self)
         requires { 0 < length self.old.primitives }
         ensures { self.new ≡ record self.old { primitives = drop 1 self.old.primitives } }
@@ -106,11 +107,11 @@ impl Acts {
         remove_first(&mut self.primitives);
     }
 
-    /// Moves all behind these frames and these primitives.
+    /// Moves everything to the ends of these lists.
     ///
     /// # Errors
     ///
-    /// `AllocError` where memory was refused. Nothing is moved.
+    /// `AllocError` if an allocation failed. Nothing is moved.
     pub(crate) fn move_behind(
         &mut self,
         frames: &mut Vec<ArrayVec<u8, MOST_OCTETS>>,
@@ -133,7 +134,7 @@ impl Acts {
         Ok(())
     }
 
-    /// Puts the octets of a frame behind the others, as this side sends it.
+    /// Appends the octets of a frame, as this side sends it.
     pub fn put(&mut self, from: Side, frame: &Frame<'_>)
         requires { length self.old.frames < MOST_FRAMES }
         ensures { self.new ≡ record self.old {
@@ -141,13 +142,13 @@ impl Acts {
               ∷ [];
         } }
     {
-        // It is written in its place: one that is made first is copied there with all its room.
+        // The frame is written in place: otherwise its whole buffer would be copied.
         let place = self.frames.len();
         self.frames.push_reserved(ArrayVec::new());
         write_over(frame, from, &mut self.frames[place]);
     }
 
-    /// Puts the octets of a message of TEI management behind the others, as this side sends it.
+    /// Appends the octets of a TEI management message, as this side sends it.
     pub fn put_message(&mut self, from: Side, message: &TeiMessage)
         requires room { length self.old.frames < MOST_FRAMES }
         requires in_range { message.now.ai ≤ 127 }
@@ -163,8 +164,9 @@ impl Acts {
         self.frames.push_reserved(spelled);
     }
 
-    /// Puts a message of the link with this name, which goes up, behind the others.
-    // It is copied to its place: octets that are made first are copied twice, with all their room.
+    /// Appends a received message of the link with this id, for layer 3.
+    // The octets are copied once, into their place: otherwise the whole buffer would be copied
+    // twice.
     #[inline(always)]
     pub(crate) fn tell_up(&mut self, of: LinkId, octets: &[u8])
         requires fits { length octets.now ≤ N201 }
@@ -179,8 +181,8 @@ impl Acts {
         fill_up(&mut self.primitives[place], &of, octets);
     }
 
-    /// Puts a primitive behind the others.
-    // In place, a primitive without octets is written without room for them.
+    /// Appends a primitive.
+    // Inlined, so that a primitive without octets is written without copying the room for them.
     #[inline(always)]
     pub fn tell(&mut self, primitive: Primitive)
         requires { length self.old.primitives < MOST_PRIMITIVES }
@@ -193,7 +195,7 @@ impl Acts {
     }
 }
 
-/// Puts these octets into a message that goes up and has none.
+/// Fills these octets into a message primitive that has none.
 #[inline(always)]
 fn fill_up(primitive: &mut Primitive, of: &LinkId, octets: &[u8])
     requires empty { primitive.old ≡ Of of.now (Up []) }
@@ -206,7 +208,7 @@ fn fill_up(primitive: &mut Primitive, of: &LinkId, octets: &[u8])
     }
 }
 
-/// Lets the first of these go. The last one is not moved out for it.
+/// Removes the first item. The only item is dropped in place, not moved out.
 #[inline(always)]
 pub(crate) fn remove_first<T: Drop>(items: &mut Vec<T>)
     requires { 0 < length items.old.items }
@@ -220,7 +222,8 @@ pub(crate) fn remove_first<T: Drop>(items: &mut Vec<T>)
     }
 }
 
-/// Lets the first of several go, and moves the others. It is rare, and in place it would take room and registers of its callers.
+/// Removes the first of several items and moves the others. If inlined, this rare case
+/// would cost its callers stack and registers.
 #[inline(never)]
 fn remove_of_several<T: Drop>(items: &mut Vec<T>)
     requires { 0 < length items.old.items }

@@ -8,8 +8,8 @@ use lapd_frame::MOST_OCTETS;
 use std::alloc::{AllocError, Global};
 use std::marker::Model;
 
-/// What several calls of a side gave, for a program that goes on before it has fetched all: the frames that are to be sent and
-/// what the layers above are told, each in order.
+/// The frames and primitives of several calls of a side, each in order, for a program that
+/// continues before it has fetched all of them.
 #[derive(Drop)]
 pub struct Backlog {
     frames: Vec<ArrayVec<u8, MOST_OCTETS>>,
@@ -29,7 +29,7 @@ impl Model for Backlog {
 }
 
 impl Backlog {
-    /// No frames and no primitives. It takes no memory.
+    /// Creates an empty backlog. Does not allocate.
     pub fn new(alloc: Global) -> Backlog
         ensures { result ≡ no_effects }
     {
@@ -39,12 +39,12 @@ impl Backlog {
         }
     }
 
-    /// Moves what a call gave behind the others.
+    /// Moves the results of a call to the end of the backlog.
     ///
     /// # Errors
     ///
-    /// `AllocError` where memory was refused. Nothing is moved.
-    // It is rare, and in place it would take room and registers of its callers.
+    /// `AllocError` if an allocation failed. Nothing is moved.
+    // A rare case; inlined, it would cost its callers stack and registers.
     #[inline(never)]
     pub fn append(&mut self, acts: &mut Acts) -> Result<(), AllocError>
         ensures moved { OnOk result (self.new ≡ and_then self.old acts.old) }
@@ -55,21 +55,21 @@ impl Backlog {
         acts.move_behind(&mut self.frames, &mut self.primitives)
     }
 
-    /// The frames, as octets, in order.
+    /// The frames to send, as octets, in order.
     pub fn frames(&self) -> &[ArrayVec<u8, MOST_OCTETS>]
         ensures { map (λ f. f.items) result.now ≡ self.now.frames }
     {
         self.frames.as_slice()
     }
 
-    /// What the layers above are told, in order.
+    /// The primitives for the layers above, in order.
     pub fn primitives(&self) -> &[Primitive]
         ensures { result.now ≡ self.now.primitives }
     {
         self.primitives.as_slice()
     }
 
-    /// Lets the first frame go.
+    /// Removes the first frame.
     pub fn remove_frame(&mut self)
         requires { 0 < length self.old.frames }
         ensures { self.new ≡ record self.old { frames = drop 1 self.old.frames } }
@@ -77,7 +77,7 @@ impl Backlog {
         remove_first(&mut self.frames);
     }
 
-    /// Lets the first primitive go.
+    /// Removes the first primitive.
     pub fn remove_primitive(&mut self)
         requires { 0 < length self.old.primitives }
         ensures { self.new ≡ record self.old { primitives = drop 1 self.old.primitives } }

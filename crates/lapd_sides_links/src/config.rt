@@ -8,24 +8,27 @@ use lapd_link::{Params, Sapi, Tei};
 use lapd_table::LinkId;
 use lapd_timers::Durations;
 
-/// What a side is made with.
+/// The configuration of a side.
 #[derive(Clone, Copy, Debug, PartialEq, Eq)]
 pub struct Config {
-    /// Whether SAPI 16, packet communication, is served beside SAPI 0, call control.
+    /// Whether to serve SAPI 16 (packet communication) as well as SAPI 0 (call control).
     pub sapi16: bool,
-    /// What the links of SAPI 0 are made with.
+    /// The parameters of the links of SAPI 0.
     pub params0: Params,
-    /// What those of SAPI 16 are made with.
+    /// The parameters of the links of SAPI 16.
     pub params16: Params,
-    /// How long the timers run.
+    /// The durations of the timers.
     pub durations: Durations,
-    /// Where a user side's references begin. Two sides of one bus are to have two seeds.
+    /// The seed of a user side's references (Ri, Q.921 5.3.2). Terminals on one bus must have
+    /// different seeds: with the same seed, two terminals draw the same Ri and can be assigned one
+    /// TEI. Draw it from the system (as by `getrandom`), not from the time or a constant.
     pub seed: u64,
 }
 
 impl Config {
-    /// What Q.921 5.9 gives basic access: call control alone, with [`Params::basic`] and [`Durations::standard`]; those of SAPI 16
-    /// are there for who serves it. `seed` is where a user side's references begin.
+    /// The values of Q.921 5.9 for basic access, with call control only: [`Params::basic`] and
+    /// [`Durations::standard`]. The parameters of SAPI 16 are set too, for a caller that enables
+    /// it. `seed` is [`Config::seed`].
     pub fn basic(seed: u64) -> Config
         ensures { result ≡ record {
           sapi16 = false;
@@ -44,7 +47,8 @@ impl Config {
         }
     }
 
-    /// What Q.921 5.9 gives primary rate: call control alone, with [`Params::primary`] and [`Durations::standard`].
+    /// The values of Q.921 5.9 for primary rate, with call control only: [`Params::primary`] and
+    /// [`Durations::standard`]. `seed` is [`Config::seed`].
     pub fn primary(seed: u64) -> Config
         ensures { result ≡ record {
           sapi16 = false;
@@ -61,7 +65,8 @@ impl Config {
         }
     }
 
-    /// Whether a SAPI has links: call control does, and packet communication where it is configured; management does not.
+    /// Whether a SAPI has links. Call control does, and packet communication if it is enabled;
+    /// management does not.
     pub fn serves(&self, sapi: Sapi) -> bool
         ensures { result ≡ is_served self.now sapi }
     {
@@ -72,7 +77,7 @@ impl Config {
         }
     }
 
-    /// Whether a name is that of all terminals, of a SAPI that is served.
+    /// Whether this id is the group TEI in a SAPI that is served.
     pub fn serves_group(&self, id: &LinkId) -> bool
         ensures { result ≡ is_served self.now id.now.sapi && (id.now.tei == group_tei) }
     {

@@ -1,4 +1,4 @@
-//! Which timer of a side is due, and when the next one is.
+//! Finds the timer of a side that is due, and the next deadline.
 
 ghost use Rattle.std.specs.Prelude.{◌≡◌, IfSome, option_map};
 ghost use Rattle.lapd_frame.specs.declared.Side.{Side};
@@ -12,8 +12,8 @@ use crate::link_set::LinkSet;
 use crate::running_timer::sooner;
 use lapd_timers::{Timer, TimerSet};
 
-/// The timer of a side that is due at the moment `now`, where one is: of TEI management, whose timers are handed in, or of
-/// a link. The links stay as they are.
+/// The first timer of a side that is due at the time `now`: one of these TEI management timers or
+/// of a link. The links are unchanged.
 pub fn due(management: &TimerSet, links: &mut LinkSet, now: u64) -> Option<RunningTimer>
     ensures due { (side : Side) (shown : Links) → ShowLinks side links.old shown
         → IsDue now (record { links = shown; timers = management.now }) result }
@@ -26,8 +26,8 @@ pub fn due(management: &TimerSet, links: &mut LinkSet, now: u64) -> Option<Runni
     sooner(own, of_link)
 }
 
-/// The next moment at which a timer of a side is due, in milliseconds: one of TEI management, whose timers are handed in,
-/// or one of a link. `None` where none runs.
+/// The next deadline of a side, in milliseconds, of these TEI management timers and those of the
+/// links; `None` if no timer runs.
 #[inline(always)]
 pub fn next_deadline(management: &TimerSet, links: &LinkSet) -> Option<u64>
     ensures { (side : Side) (shown : Links) → ShowLinks side links.now shown
@@ -36,7 +36,7 @@ pub fn next_deadline(management: &TimerSet, links: &LinkSet) -> Option<u64>
     earlier(least_deadline(management), deadline_of(links.first()))
 }
 
-/// The moment of [`next_deadline`], in milliseconds, or `u64::MAX` where no timer runs.
+/// The moment of [`next_deadline`], in milliseconds, or `u64::MAX` if no timer runs.
 #[inline(always)]
 pub fn quiet_until(management: &TimerSet, links: &LinkSet) -> u64
     ensures { (side : Side) (shown : Links) → ShowLinks side links.now shown
@@ -48,7 +48,6 @@ pub fn quiet_until(management: &TimerSet, links: &LinkSet) -> u64
     }
 }
 
-/// The deadline of a timer that may run.
 #[inline(always)]
 fn deadline_of(expiry: Option<RunningTimer>) -> Option<u64>
     ensures { result ≡ option_map (λ e. e.deadline) expiry }
@@ -59,7 +58,7 @@ fn deadline_of(expiry: Option<RunningTimer>) -> Option<u64>
     }
 }
 
-/// The least deadline of these timers that run.
+/// The earliest deadline of the running timers.
 #[inline(always)]
 fn least_deadline(timers: &TimerSet) -> Option<u64>
     ensures { result ≡ earlier (earlier timers.now.t200 timers.now.t201)
@@ -71,7 +70,7 @@ fn least_deadline(timers: &TimerSet) -> Option<u64>
     )
 }
 
-/// The earlier of two moments that may be there.
+/// The earlier of two optional moments.
 #[inline(always)]
 fn earlier(one: Option<u64>, other: Option<u64>) -> Option<u64>
     ensures { result ≡ earlier one other }
@@ -83,7 +82,7 @@ fn earlier(one: Option<u64>, other: Option<u64>) -> Option<u64>
     }
 }
 
-/// The timer of TEI management that is due.
+/// The first timer of TEI management that is due.
 fn due_of_management(timers: &TimerSet, now: u64) -> Option<RunningTimer>
     ensures first { IsFirst (IsPast now (of_management timers.now)) result }
     ensures own { IfSome result (λ e. IsTimerOf e.of e.timer) }

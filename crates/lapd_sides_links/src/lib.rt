@@ -1,7 +1,8 @@
-//! The data links of one side of an ISDN D channel interface, each with its timers (Q.921 clause 5): which are there, what a
-//! step of one of them gives, and which timer is due.
+//! The data links of one side of an ISDN D channel interface, each with its timers (Q.921 clause
+//! 5).
 //!
-//! [`LinkSet`] is the links of a side: begin there. [`Acts`] takes what a call of a side gives.
+//! Begin with [`LinkSet`], the links of a side. [`Acts`] collects the frames and primitives of a
+//! call.
 #![tactic(auto)]
 
 mod acts;

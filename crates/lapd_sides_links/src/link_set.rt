@@ -37,18 +37,19 @@ use std::alloc::{AllocError, Global};
 pub struct LinkSet {
     pub table: LinkTable,
     link_timers: LinkTimers,
-    /// What the last step of a link gave: lent to each step, as new ones would be filled each time.
+    /// The outputs of the last step of a link. They are reused, because new ones would have to be
+    /// filled for each step.
     outs: Outs,
 }
 
 impl LinkSet {
     ghost use Rattle.lapd_sides_links.specs.Shown.{timers_at, made_by, ShowLinks, Does, RefusesAs, Becomes, ShowsAsBefore};
 
-    /// No links, with room for the timers of all that may come. That room is taken here.
+    /// Creates a set without links, and allocates room for the timers of all links that can exist.
     ///
     /// # Errors
     ///
-    /// `AllocError` where memory was refused.
+    /// `AllocError` if an allocation failed.
     pub fn new(alloc: Global, side: Side) -> Result<LinkSet, AllocError>
         ensures { IfOk result (λ s. ShowLinks side s no_links) }
     {
@@ -59,11 +60,12 @@ impl LinkSet {
         })
     }
 
-    /// Adds a link in state 4, of SAPI 0 or 16 and a TEI of 0 to 126, with no timer running. None may be there.
+    /// Adds a link in state 4, of SAPI 0 or 16 and TEI 0 to 126, with no timer running. The link
+    /// must not exist yet.
     ///
     /// # Errors
     ///
-    /// `AllocError` where memory was refused. Nothing is changed.
+    /// `AllocError` if an allocation failed. Nothing is changed.
     fn add(
         &mut self,
         alloc: Global,
@@ -86,11 +88,11 @@ impl LinkSet {
         Ok(())
     }
 
-    /// Adds the links of a TEI, which has none: of SAPI 0, and of SAPI 16 where it is served.
+    /// Adds the links of a TEI that has none: of SAPI 0, and of SAPI 16 if it is served.
     ///
     /// # Errors
     ///
-    /// `AllocError` where memory was refused. Nothing is changed.
+    /// `AllocError` if an allocation failed. Nothing is changed.
     pub fn add_tei(&mut self, alloc: Global, config: &Config, tei: Tei) -> Result<(), AllocError>
         requires tei { tei < 127 }
         ensures ok { OnOk result (Becomes self.old self.new (with_tei config.now tei)) }
@@ -108,11 +110,11 @@ impl LinkSet {
         Ok(())
     }
 
-    /// Adds the links of the TEIs that are held, where no links are there.
+    /// Adds the links of all held TEIs to an empty set.
     ///
     /// # Errors
     ///
-    /// `AllocError` where memory was refused. Some may have been added.
+    /// `AllocError` if an allocation failed. Some links may have been added.
     pub fn add_held(
         &mut self,
         alloc: Global,
@@ -131,7 +133,7 @@ impl LinkSet {
         Ok(())
     }
 
-    /// Takes the links of a TEI out, and tells what becomes of them, by rising SAPI.
+    /// Removes the links of a TEI, and reports their release, by ascending SAPI.
     pub fn remove_tei(&mut self, tei: Tei, acts: &mut Acts)
         requires room { length acts.old.primitives + 2 ≤ MOST_PRIMITIVES }
         ensures shown { Becomes self.old self.new (without_tei tei) }
@@ -144,7 +146,7 @@ impl LinkSet {
         self.remove_and_tell(&name(Sapi::Packet, tei), acts);
     }
 
-    /// Takes the link with this name out, and tells what becomes of it.
+    /// Removes the link with this id, and reports its release.
     fn remove_and_tell(&mut self, id: &LinkId, acts: &mut Acts)
         requires room { length acts.old.primitives < MOST_PRIMITIVES }
         ensures shown { Becomes self.old self.new (with_link id.now None) }
@@ -159,7 +161,7 @@ impl LinkSet {
         self.remove(id);
     }
 
-    /// Takes the link with this name out, and stops its timers.
+    /// Removes the link with this id, and stops its timers.
     fn remove(&mut self, id: &LinkId)
         ensures { Becomes self.old self.new (with_link id.now None) }
     {
@@ -167,7 +169,7 @@ impl LinkSet {
         self.link_timers.stop_all(id);
     }
 
-    /// The timers of the link with this name; `None` where it is not there.
+    /// The timers of the link with this id; `None` if the link does not exist.
     pub fn timers(&self, id: &LinkId) -> Option<&TimerSet>
         ensures { (side : Side) (links : Links) → ShowLinks side self.now links
             → option_copied result ≡ of_links links (Some id.now) }
@@ -178,7 +180,7 @@ impl LinkSet {
         }
     }
 
-    /// The first of the timers of links that run.
+    /// The timer that expires first, of all running timers of links.
     #[inline(always)]
     pub fn first(&self) -> Option<RunningTimer>
         ensures { (side : Side) (links : Links) → ShowLinks side self.now links
@@ -187,7 +189,7 @@ impl LinkSet {
         self.link_timers.first()
     }
 
-    /// The first of the timers of links that are due at the moment `now`.
+    /// The timer that expires first, if it is due at the time `now`.
     pub fn due(&self, now: u64) -> Option<RunningTimer>
         ensures first { (side : Side) (links : Links) → ShowLinks side self.now links
             → IsFirst (IsPast now (of_links links)) result }
@@ -196,7 +198,7 @@ impl LinkSet {
         self.link_timers.due(now)
     }
 
-    /// What the step of a link gives, by its outputs: its frames and primitives, and its timers.
+    /// Carries out the outputs of a link's step: its frames, primitives and timers.
     fn carry_out(&mut self, key: &LinkKey, octets: &[u8], now: u64, acts: &mut Acts)
         requires key { IsKey self.old.table key.now }
         requires fits { length octets.now ≤ N201 }
@@ -227,12 +229,12 @@ impl LinkSet {
         self.link_timers.apply_outputs(key.id(), outs, now);
     }
 
-    /// An event for the link with this name, at the moment `now`; `octets` are the information of the frame that is heard,
-    /// or the unit data that is to be sent. What it gives goes behind what `acts` has.
+    /// Processes an event in the link with this id, at the time `now`. `octets` are the information
+    /// of the received frame, or the unit data to send. The results are appended to `acts`.
     ///
     /// # Errors
     ///
-    /// B1 where the link is not there, and L1 to L5 where it refuses. Nothing is changed.
+    /// B1 if the link does not exist, and L1 to L5 if it refuses. Nothing is changed.
     pub fn act(
         &mut self,
         id: &LinkId,
@@ -260,7 +262,7 @@ impl LinkSet {
         }
     }
 
-    /// The same, of a link that was found.
+    /// Like `act`, for a link that has been found.
     fn act_at(
         &mut self,
         key: &LinkKey,
@@ -292,11 +294,12 @@ impl LinkSet {
         }
     }
 
-    /// Unit data for the link with this name, at the moment `now`. What it gives goes behind what `acts` has.
+    /// Sends unit data on the link with this id, at the time `now`. The results are appended to
+    /// `acts`.
     ///
     /// # Errors
     ///
-    /// B1 where the link is not there, and L3 for more than 260 octets. Nothing is changed.
+    /// B1 if the link does not exist, and L3 for more than 260 octets. Nothing is changed.
     pub fn send_unit(
         &mut self,
         id: &LinkId,
@@ -323,11 +326,13 @@ impl LinkSet {
         self.act_at(&key, Event::Unit(octets.len()), octets, now, acts)
     }
 
-    /// A message of layer 3 for the link with this name, at the moment `now`. What it gives goes behind what `acts` has.
+    /// Submits a layer 3 message to the link with this id, at the time `now`. The results are
+    /// appended to `acts`.
     ///
     /// # Errors
     ///
-    /// B1 where the link is not there, and L1 to L5 where it refuses. The message is handed back, and nothing is changed.
+    /// B1 if the link does not exist, and L1 to L5 if it refuses. The message is returned in the
+    /// error, and nothing is changed.
     pub fn give(
         &mut self,
         id: &LinkId,
@@ -357,12 +362,12 @@ impl LinkSet {
         }
     }
 
-    /// T200 or T203 of the link with this name has expired, at the moment `now`, and no longer runs. What comes of it goes
-    /// behind what `acts` has.
+    /// Stops the expired timer T200 or T203 of the link with this id, and processes its expiry, at
+    /// the time `now`. The results are appended to `acts`.
     ///
     /// # Errors
     ///
-    /// B1 where the link is not there. Nothing is changed.
+    /// B1 if the link does not exist. Nothing is changed.
     pub fn expire(
         &mut self,
         id: &LinkId,
@@ -393,7 +398,7 @@ impl LinkSet {
     }
 }
 
-/// What a link hears of its timer.
+/// The event that reports this timer's expiry to its link.
 fn expiry_of<'a>(timer: Timer) -> Event<'a>
     requires { IsOfLink timer }
     ensures input { input_of result ≡ input.Expiry timer }
@@ -406,7 +411,7 @@ fn expiry_of<'a>(timer: Timer) -> Event<'a>
     }
 }
 
-/// A TEI of one terminal.
+/// The TEI of a single terminal.
 fn own_tei(tei: u8) -> Tei
     requires { tei < 127 }
     ensures { result ≡ tei }
@@ -417,14 +422,14 @@ fn own_tei(tei: u8) -> Tei
     }
 }
 
-/// The name of a link.
+/// The id of a link.
 fn name(sapi: Sapi, tei: Tei) -> LinkId
     ensures { result ≡ of_sapi sapi tei }
 {
     LinkId { sapi, tei }
 }
 
-/// Tells what becomes of a link that goes.
+/// Reports the release of a link that is removed.
 fn tell_removal(id: &LinkId, link: &Link, acts: &mut Acts)
     requires room { length acts.old.primitives < MOST_PRIMITIVES }
     ensures told { (e : End) → LinkStandsFor link.now e
@@ -438,7 +443,7 @@ fn tell_removal(id: &LinkId, link: &Link, acts: &mut Acts)
     }
 }
 
-/// What layer 3 is told of a link that goes in the state with this number.
+/// The release that is reported to layer 3 if a link is removed in the state with this number.
 fn release_at_removal(state: u8, release_pending: bool) -> Option<What>
     ensures { (s : State) → state ≡ state_number s → result ≡ release_at_removal s release_pending }
 {

@@ -20,11 +20,12 @@ use lapd_timers::{Durations, Timer, TimerSet};
 use std::alloc::{AllocError, Global};
 use std::marker::Model;
 
-/// The timers of the links of a side, each at the place of its link. The first of all that run is always known.
+/// The timers of the links of a side, in a slot for each link. Finds the timer that expires first
+/// without a search.
 #[derive(Drop)]
 pub struct LinkTimers {
     places: TimerPlaces,
-    /// At the place of each link, the first of its timers that run.
+    /// For each link's slot, the link's earliest running timer.
     expiries: Tournament,
 }
 
@@ -40,11 +41,12 @@ impl Model for LinkTimers {
 }
 
 impl LinkTimers {
-    /// No timer runs. The room for all is taken here. How long they run is said for each link by [`LinkTimers::reset`].
+    /// Creates the timers, with none running, and allocates room for all links.
+    /// [`LinkTimers::reset`] sets the durations of each link.
     ///
     /// # Errors
     ///
-    /// `AllocError` where memory was refused.
+    /// `AllocError` if an allocation failed.
     pub fn new(alloc: Global) -> Result<LinkTimers, AllocError>
         ensures { IfOk result (λ s. (id : LinkId) → IfSome (placed s id) AreAtRest) }
     {
@@ -54,7 +56,7 @@ impl LinkTimers {
         })
     }
 
-    /// No timer of one link runs any more, and from now on they run so long when they are started.
+    /// Stops all timers of one link and sets their durations.
     pub fn reset(&mut self, id: &LinkId, durations: Durations)
         ensures own { id.now.sapi ≢ Sapi.Management → id.now.tei < 127
             → placed self.new id.now ≡ Some (at_rest durations) }
@@ -76,14 +78,14 @@ impl LinkTimers {
         enter(&mut self.expiries, id, self.places.get(id));
     }
 
-    /// Those of the link with this name; none where there is no place for them.
+    /// The timers of the link with this id; `None` if it cannot have any.
     pub fn get(&self, id: &LinkId) -> Option<&TimerSet>
         ensures { option_copied result ≡ placed self.now id.now }
     {
         self.places.get(id)
     }
 
-    /// Starts and stops those of one link as these outputs say.
+    /// Starts and stops the timers of one link according to these outputs.
     pub fn apply_outputs(&mut self, id: &LinkId, outs: &[Out], now: u64)
         ensures own { placed self.new id.now
             ≡ option_map (timed now outs.now) (placed self.old id.now) }
@@ -105,7 +107,7 @@ impl LinkTimers {
         enter(&mut self.expiries, id, self.places.get(id));
     }
 
-    /// The first of the timers of links that run.
+    /// The timer that expires first, of all running timers of links.
     #[inline(always)]
     pub fn first(&self) -> Option<RunningTimer>
         ensures { IsFirst (Runs (of_places self.now)) result }
@@ -113,7 +115,7 @@ impl LinkTimers {
         self.expiries.first()
     }
 
-    /// The first of the timers of links that are due at the moment `now`.
+    /// The timer that expires first, if it is due at the time `now`.
     pub fn due(&self, now: u64) -> Option<RunningTimer>
         ensures { IsFirst (IsPast now (of_places self.now)) result }
     {
@@ -126,7 +128,7 @@ impl LinkTimers {
     }
 }
 
-/// Lets the first of these timers of one link that run stand at its place, where it has one.
+/// Enters the link's earliest running timer, if any, into the tournament, if the link has a slot.
 fn enter(expiries: &mut Tournament, id: &LinkId, timers: Option<&TimerSet>)
     ensures own { (at : ℕ) → entry_place id.now.sapi id.now.tei ≡ Some at
         → IsFirst (RunsForPlaced id.now (option_copied timers.entry)) (entry expiries.new at) }
@@ -139,7 +141,8 @@ fn enter(expiries: &mut Tournament, id: &LinkId, timers: Option<&TimerSet>)
     }
 }
 
-/// Where the expiry of the link with this name stands: those of SAPI 0 by TEI, and behind them those of SAPI 16.
+/// The tournament slot of the link with this id: first those of SAPI 0 by TEI, then those of SAPI
+/// 16.
 #[inline(always)]
 fn entry_place(id: &LinkId) -> Option<usize>
     ensures place { result ≡ entry_place id.now.sapi id.now.tei }
@@ -154,7 +157,7 @@ fn entry_place(id: &LinkId) -> Option<usize>
     }
 }
 
-/// The first of the timers of one link that run; none where there is no place for them.
+/// The earliest running timer of one link; `None` if none runs or the link has no slot.
 #[inline(always)]
 fn first_of_link(id: &LinkId, timers: Option<&TimerSet>) -> Option<RunningTimer>
     ensures { IsFirst (RunsForPlaced id.now (option_copied timers.entry)) result }
@@ -168,7 +171,7 @@ fn first_of_link(id: &LinkId, timers: Option<&TimerSet>) -> Option<RunningTimer>
     )
 }
 
-/// The expiry of a timer of one link, where it runs.
+/// A timer of one link with its deadline, if it runs.
 #[inline(always)]
 fn expiry(id: &LinkId, timer: Timer, timers: &TimerSet) -> Option<RunningTimer>
     ensures { result ≡ option_map (expiry_at id.now timer) (deadline_of timer timers.now) }

@@ -6,8 +6,8 @@ use lapd_frame::N201;
 use std::fmt;
 use std::marker::Model;
 
-/// The octets of a message or of unit data that goes up to layer 3, at most 260 (N201, Q.921 5.9.3). They print
-/// as hexadecimal digits in lower case.
+/// The octets of a received message or unit data for layer 3, at most 260 (N201, Q.921 5.9.3). They
+/// print as lower case hexadecimal digits.
 #[derive(Debug, Drop)]
 pub struct Octets {
     octets: ArrayVec<u8, N201>,
@@ -22,7 +22,7 @@ impl Model for Octets {
 }
 
 impl Octets {
-    /// These octets, at most 260.
+    /// Copies these octets, at most 260.
     #[inline(always)]
     pub fn new(octets: &[u8]) -> Octets
         requires { length octets.now ≤ N201 }
@@ -35,7 +35,6 @@ impl Octets {
         Octets { octets: copy }
     }
 
-    /// No octets yet.
     #[inline(always)]
     pub(crate) fn none() -> Octets
         ensures { result ≡ [] }
@@ -45,7 +44,7 @@ impl Octets {
         }
     }
 
-    /// These octets in place of none, at most 260.
+    /// Sets the octets, at most 260, of an empty value.
     #[inline(always)]
     pub(crate) fn fill(&mut self, octets: &[u8])
         requires none { self.old ≡ [] }

@@ -1,4 +1,4 @@
-//! What a side tells the layers above it.
+//! The primitives that a side reports to the layers above it.
 
 ghost use Rattle.std.specs.Prelude.{◌≡◌, Some};
 ghost use Rattle.lapd_sides_links.specs.Texts.{primitive_text, told_word, what_text, what_word};
@@ -9,42 +9,43 @@ use lapd_table::LinkId;
 use lapd_tei::TeiOut;
 use std::fmt;
 
-/// What layer 3 or management is told of a link (Q.921 4.1). It prints as the programs `net` and `user` print it, as in
-/// `established` and `data 0801`.
+/// A primitive of a link for layer 3 or management (Q.921 4.1). It prints as the programs `net` and
+/// `user` print it, as in `established` and `data 0801`.
 #[derive(Debug, Drop)]
 pub enum What {
-    /// A message of the peer came (DL-DATA indication).
+    /// A message was received from the peer (DL-DATA indication).
     Up(Octets),
-    /// Unit data of the peer came (DL-UNIT DATA indication).
+    /// Unit data was received from the peer (DL-UNIT DATA indication).
     UnitUp(Octets),
     /// The link is established (DL-ESTABLISH indication).
     Established,
-    /// The link is established as was asked for (DL-ESTABLISH confirm).
+    /// The link is established, as requested (DL-ESTABLISH confirm).
     Confirmed,
     /// The link is released (DL-RELEASE indication).
     Released,
-    /// The link is released as was asked for (DL-RELEASE confirm).
+    /// The link is released, as requested (DL-RELEASE confirm).
     ReleaseConfirm,
-    /// So many messages were acknowledged, at least one.
+    /// The peer acknowledged this number of messages, at least one.
     Acknowledged(u16),
-    /// So many messages were dropped, at least one.
+    /// This number of messages was dropped, at least one.
     Dropped(u16),
     /// An error is reported (MDL-ERROR indication, Q.921 Appendix II).
     Report(Letter),
 }
 
-/// What a side tells the layers above it. It prints as the programs `net` and `user` print it, as in `0 64 established` and
-/// `tei given 64`.
+/// A primitive for the layers above. It prints as the programs `net` and `user` print it, as in
+/// `0 64 established` and `tei given 64`.
 #[derive(Debug, Drop)]
 pub enum Primitive {
-    /// Of the link with this name. Unit data to the group, and what is told of a SAPI while there is no TEI, name TEI 127.
+    /// A primitive of the link with this id. The TEI is 127 for unit data to the group, and for a
+    /// SAPI while the terminal has no TEI.
     Of(LinkId, What),
     /// An outcome of TEI management: never a message, nor the start or stop of a timer.
     Management(TeiOut),
 }
 
 impl What {
-    /// The word that it begins with where it is printed, as in `established` and `data`.
+    /// The first word of the printed form, as in `established` and `data`.
     pub fn word(&self) -> &'static str
         ensures { result.now ≡ what_word self.now }
     {
@@ -62,7 +63,8 @@ impl What {
     }
 }
 
-/// The word by which layer 3 or management is told of an output, as in `established`; empty where they are not told.
+/// The word that reports this output to layer 3 or management, as in `established`; empty if it is
+/// not reported.
 #[inline(always)]
 pub fn told_word(output: &Out) -> &'static str
     ensures { result.now ≡ told_word output.now }

@@ -1,4 +1,4 @@
-//! A timer that runs until its deadline, and which of several comes first.
+//! A running timer with its deadline, and the order in which timers expire.
 
 ghost use Rattle.std.specs.Prelude.{◌≡◌, MatchBool};
 ghost use Rattle.lapd_timers.specs.Due.{place};
@@ -8,18 +8,18 @@ ghost use Rattle.lapd_sides_links.specs.Places.{IsSooner};
 use lapd_table::LinkId;
 use lapd_timers::Timer;
 
-/// A timer of a link or of TEI management that runs, with its deadline.
+/// A running timer of a link or of TEI management, with its deadline.
 #[derive(Clone, Copy)]
 pub struct RunningTimer {
     /// The moment at which it expires, in milliseconds.
     pub deadline: u64,
-    /// Which timer: T200 or T203 of a link.
+    /// The timer; for a link T200 or T203.
     pub timer: Timer,
-    /// The link whose timer it is; `None` for TEI management.
+    /// The link that the timer belongs to; `None` for TEI management.
     pub of: Option<LinkId>,
 }
 
-/// The one that comes first, of two that may be there.
+/// The one of two optional timers that expires first.
 #[inline(always)]
 pub fn sooner(one: Option<RunningTimer>, other: Option<RunningTimer>) -> Option<RunningTimer>
     ensures { IsSooner one other result }
@@ -37,7 +37,7 @@ pub fn sooner(one: Option<RunningTimer>, other: Option<RunningTimer>) -> Option<
     }
 }
 
-/// Whether the one comes first: by deadline, then by timer, then by link.
+/// Whether the first expires before the other: by deadline, then by timer, then by link.
 #[inline(always)]
 pub fn is_no_later(one: &RunningTimer, other: &RunningTimer) -> bool
     ensures { MatchBool result (IsNoLater one.now other.now) (IsNoLater other.now one.now) }
@@ -59,7 +59,8 @@ pub fn is_no_later(one: &RunningTimer, other: &RunningTimer) -> bool
     is_no_later_link(one.of, other.of)
 }
 
-/// Whether the one link comes first: by SAPI, then by TEI. TEI management comes before all of them.
+/// Whether the first link precedes the other: by SAPI, then by TEI. TEI management precedes all
+/// links.
 #[inline(always)]
 fn is_no_later_link(one: Option<LinkId>, other: Option<LinkId>) -> bool
     ensures { MatchBool result (IsNoLaterLink one other) (IsNoLaterLink other one) }
@@ -81,7 +82,7 @@ fn is_no_later_link(one: Option<LinkId>, other: Option<LinkId>) -> bool
     one.tei.value() <= other.tei.value()
 }
 
-/// The place of a timer in the order T200, T201, T202, T203.
+/// The rank of a timer in the order T200, T201, T202, T203.
 #[inline(always)]
 fn place(timer: Timer) -> u8
     ensures { result ≡ place timer }

@@ -1,4 +1,4 @@
-//! Why a side refuses.
+//! Why a side refuses a call.
 
 ghost use Rattle.std.specs.Prelude.{◌≡◌, Some};
 ghost use Rattle.lapd_sides_links.specs.Texts.{kind_text};
@@ -7,23 +7,23 @@ use lapd_link::LinkFault;
 use std::error::Error;
 use std::fmt;
 
-/// Why a side refuses. It is unchanged.
+/// Why a side refuses a call. The side is unchanged.
 #[derive(Clone, Copy, Debug, PartialEq, Eq)]
 pub enum SideKind {
-    /// B1: no link has this name.
+    /// B1: no link has this id.
     NoLink,
-    /// B3: no memory was found for a link that is to be added.
+    /// B3: a link to be added could not be allocated.
     Memory,
     /// L1 to L5: the link refuses.
     Link(LinkFault),
 }
 
-/// A refusal, with the message or unit data that was handed in, as it came.
+/// A refusal, with the message or unit data that the caller passed, unchanged.
 #[derive(Debug, Drop)]
 pub struct SideFault {
-    /// Why.
+    /// The reason.
     pub kind: SideKind,
-    /// The octets of a message or of unit data; `None` where neither was handed in.
+    /// The octets of the message or unit data; `None` if the call passed neither.
     pub message: Option<Vec<u8>>,
 }
 
@@ -52,7 +52,7 @@ impl fmt::Display for SideFault {
 
 impl Error for SideFault {}
 
-/// A refusal that hands the message back.
+/// Builds a refusal that returns the message.
 pub fn refused(kind: SideKind, message: Vec<u8>) -> SideFault
     ensures kind { result.kind ≡ kind }
     ensures message { result.message ≡ Some message }

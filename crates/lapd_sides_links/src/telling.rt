@@ -1,4 +1,4 @@
-//! What the outputs of a link's step come to: frames, primitives and timers.
+//! Turns the outputs of a link's step into frames, primitives and timers.
 
 ghost use Rattle.std.specs.Prelude.{◌≡◌, ◌≤◌, ◌<◌, ◌+◌, ◌++◌, ◌∷◌, [], false, length, map, ℕ, List, None};
 ghost use Rattle.std.specs.List.{filter_map};
@@ -16,8 +16,8 @@ use lapd_link::{Link, Out};
 use lapd_table::LinkId;
 use lapd_timers::TimerSet;
 
-/// Puts the frames of these outputs of a link behind the others, after the step that gave them. `octets` are the unit data
-/// handed in.
+/// Appends the frames of these outputs of a link, after the step that made them. `octets` are the
+/// unit data to send.
 pub fn put_frames(link: &Link, octets: &[u8], outs: &[Out], acts: &mut Acts)
     requires room { length acts.old.frames + length outs.now ≤ MOST_FRAMES }
     ensures frames { (e : End) → LinkStandsFor link.now e → acts.new.frames
@@ -32,8 +32,8 @@ pub fn put_frames(link: &Link, octets: &[u8], outs: &[Out], acts: &mut Acts)
     }
 }
 
-/// Tells what these outputs are for the layers above, of the link with this name. `octets` are the information of the frame
-/// just heard, at most 260.
+/// Appends the primitives of these outputs, for the link with this id. `octets` are the information
+/// of the received frame, at most 260.
 pub fn tell_all(id: &LinkId, octets: &[u8], outs: &[Out], acts: &mut Acts)
     requires fits { length octets.now ≤ N201 }
     requires room { length acts.old.primitives + told_count outs.now ≤ MOST_PRIMITIVES }
@@ -50,7 +50,8 @@ pub fn tell_all(id: &LinkId, octets: &[u8], outs: &[Out], acts: &mut Acts)
     }
 }
 
-/// Whether an output is for the layers above: of most it is found out at once that they are not.
+/// Whether an output has a primitive for the layers above. This test quickly rules out most
+/// outputs.
 #[inline(always)]
 fn is_told(out: &Out) -> bool
     ensures told { result ≡ is_told out.now }
@@ -62,8 +63,9 @@ fn is_told(out: &Out) -> bool
     )
 }
 
-/// Tells what this output is for the layers above, of the link with this name.
-// Each kind is made in its place: one that is made first is copied with the room for octets, also where it has none.
+/// Appends the primitive of this output, if any, for the link with this id.
+// Each kind is built in place: otherwise it would be copied with its room for octets, even if it
+// has none.
 fn tell(id: &LinkId, octets: &[u8], out: &Out, acts: &mut Acts)
     requires fits { length octets.now ≤ N201 }
     requires room { length acts.old.primitives < MOST_PRIMITIVES }
@@ -86,7 +88,7 @@ fn tell(id: &LinkId, octets: &[u8], out: &Out, acts: &mut Acts)
     }
 }
 
-/// Starts and stops the timers as these outputs say, at the moment `now`.
+/// Starts and stops the timers according to these outputs, at the time `now`.
 pub fn apply_outputs(timers: &mut TimerSet, outs: &[Out], now: u64)
     ensures { timers.new ≡ timed now outs.now timers.old }
 {

@@ -1,4 +1,4 @@
-//! Where the timers of the links of a side stand.
+//! Storage for the timers of the links of a side.
 
 ghost use Rattle.std.specs.Prelude.{◌≡◌, ◌≢◌, ◌<◌, Some, option_map, option_copied, IfOk, IfSome};
 ghost use Rattle.lapd_timers.specs.Due.{at_rest};
@@ -12,7 +12,8 @@ use lapd_table::LinkId;
 use lapd_timers::{Durations, Timer, TimerSet};
 use std::alloc::{AllocError, Global};
 
-/// A place for the timers of each link of SAPI 0 and of SAPI 16, by TEI, be the link there or not.
+/// A slot for the timers of each link of SAPI 0 and SAPI 16, by TEI, whether or not the link
+/// exists.
 #[derive(Drop)]
 pub struct TimerPlaces {
     call: Vec<TimerSet>,
@@ -24,11 +25,12 @@ pub struct TimerPlaces {
 impl TimerPlaces {
     ghost use Rattle.lapd_sides_links.specs.TimersAtPlaces.{placed};
 
-    /// No timer runs. The room for all is taken here. How long they run is said for each link by [`TimerPlaces::reset`].
+    /// Creates the slots, with no timer running, and allocates room for all links.
+    /// [`TimerPlaces::reset`] sets the durations of each link.
     ///
     /// # Errors
     ///
-    /// `AllocError` where memory was refused.
+    /// `AllocError` if an allocation failed.
     pub fn new(alloc: Global) -> Result<TimerPlaces, AllocError>
         ensures { IfOk result (λ s. (id : LinkId) → IfSome (placed s id) AreAtRest) }
     {
@@ -39,7 +41,7 @@ impl TimerPlaces {
         })
     }
 
-    /// No timer of one link runs any more.
+    /// Stops all timers of one link and sets their durations.
     pub fn reset(&mut self, id: &LinkId, durations: Durations)
         ensures own { id.now.sapi ≢ Sapi.Management → id.now.tei < 127
             → placed self.new id.now ≡ Some (at_rest durations) }
@@ -71,7 +73,7 @@ impl TimerPlaces {
         }
     }
 
-    /// Those of the link with this name; none where there is no place for them.
+    /// The timers of the link with this id; `None` if it cannot have any.
     pub fn get(&self, id: &LinkId) -> Option<&TimerSet>
         ensures { option_copied result ≡ placed self.now id.now }
     {
@@ -83,7 +85,7 @@ impl TimerPlaces {
         }
     }
 
-    /// Starts and stops those of one link as these outputs say.
+    /// Starts and stops the timers of one link according to these outputs.
     pub fn apply_outputs(&mut self, id: &LinkId, outs: &[Out], now: u64)
         ensures own { placed self.new id.now ≡ option_map (timed now outs.now)
             (placed self.old id.now) }
@@ -117,7 +119,7 @@ impl TimerPlaces {
     }
 }
 
-/// No timer of a link runs, and they take this long.
+/// Stops all timers and sets their durations.
 fn reset(timers: &mut TimerSet, durations: Durations)
     ensures { timers.new ≡ at_rest durations }
 {

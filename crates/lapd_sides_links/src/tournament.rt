@@ -1,4 +1,4 @@
-//! Which of the timers of links expires first.
+//! Finds the timer of the links that expires first.
 
 ghost use Rattle.std.specs.Prelude.{◌≡◌, ◌≢◌, ◌≤◌, ◌<◌, ◌*◌, ℕ, ◌/◌, None, IfOk, true};
 ghost use Rattle.lapd_sides_links.specs.Expiries.{IsFirst};
@@ -10,21 +10,22 @@ use crate::running_timer::is_no_later;
 use std::alloc::{AllocError, Global};
 use std::marker::Model;
 
-/// How many places there are.
+/// The number of slots.
 pub const PLACES: usize = 256;
 
-/// The node above all others.
+/// The root node.
 const FIRST: usize = 1;
 
-/// A tournament of expiries, one or none at each of 256 places: of two the one that comes first goes on, up to the first of all. A
-/// change of one place is told to the eight above it alone, and to none as long as all others are empty.
+/// A tournament of expiries, with at most one in each of 256 slots: of each pair the earlier one
+/// advances, up to the root. A change of one slot updates only the eight nodes above it. No node is
+/// updated while all other slots are empty.
 #[derive(Drop)]
 pub struct Tournament {
-    /// Under node n stand 2n and 2n + 1, down to 256 to 511, the places.
+    /// Node n has the children 2n and 2n + 1. Nodes 256 to 511 are the slots.
     nodes: Vec<Option<RunningTimer>>,
-    /// The first of all.
+    /// The first expiry of all.
     first: Option<RunningTimer>,
-    /// Where it stands: at node 1, or at the one place that is not empty.
+    /// The node of the first expiry: node 1, or the only slot that is not empty.
     top: usize,
 }
 
@@ -41,11 +42,11 @@ impl Model for Tournament {
 }
 
 impl Tournament {
-    /// No expiry at any place.
+    /// Creates a tournament with all slots empty.
     ///
     /// # Errors
     ///
-    /// `AllocError` where memory was refused.
+    /// `AllocError` if an allocation failed.
     pub fn new(alloc: Global) -> Result<Tournament, AllocError>
         ensures { IfOk result (λ t. (at : ℕ) → entry t at ≡ None) }
     {
@@ -56,14 +57,14 @@ impl Tournament {
         })
     }
 
-    /// The first of all.
+    /// The first expiry of all slots.
     pub fn first(&self) -> Option<RunningTimer>
         ensures { IsFirst (IsEntered self.now) result }
     {
         self.first
     }
 
-    /// Puts an expiry, or none, at a place, for what was there.
+    /// Sets or clears the expiry of a slot.
     pub fn enter(&mut self, place: usize, expiry: Option<RunningTimer>)
         requires { place < PLACES }
         ensures own { entry self.new place ≡ expiry }
@@ -93,7 +94,8 @@ impl Tournament {
     }
 }
 
-/// Lets the nodes above the one place that is not empty be won too, where the first of all stands there.
+/// Updates the nodes above the only slot that is not empty, if the first expiry was taken from
+/// there.
 #[inline(always)]
 fn win_all(nodes: &mut [Option<RunningTimer>], top: usize)
     requires { HasTop top nodes.old }
@@ -105,8 +107,8 @@ fn win_all(nodes: &mut [Option<RunningTimer>], top: usize)
     }
 }
 
-/// Lets the nodes above the one place that is not empty be won too.
-// It is rare, and `settle` stands in place where it is called.
+/// Updates the nodes above the only slot that is not empty.
+// Not inlined: the case is rare, and `settle` would be inlined here.
 #[inline(never)]
 fn win_above(nodes: &mut [Option<RunningTimer>], place: usize)
     requires { IsAlone place nodes.old }
@@ -117,7 +119,7 @@ fn win_above(nodes: &mut [Option<RunningTimer>], place: usize)
     settle(nodes, place, alone);
 }
 
-/// Lets the nodes above a place, at which this expiry or none was entered, be won anew, from below, up to one that stays as it is.
+/// Updates the nodes above a slot whose entry has changed, upwards, until one does not change.
 #[inline(always)]
 fn settle(nodes: &mut [Option<RunningTimer>], place: usize, entered: Option<RunningTimer>)
     requires open { IsWonBut (place / 2) nodes.old }
@@ -131,7 +133,7 @@ fn settle(nodes: &mut [Option<RunningTimer>], place: usize, entered: Option<Runn
     let mut first = entered;
     while at > 1 {
         let above = at / 2;
-        // Of 2n and 2n + 1 the other one.
+        // The sibling: the other one of 2n and 2n + 1.
         let beside = 4 * above + 1 - at;
         first = sooner_beside(first, &nodes[beside]);
         if is_same(&nodes[above], &first) {
@@ -142,7 +144,7 @@ fn settle(nodes: &mut [Option<RunningTimer>], place: usize, entered: Option<Runn
     }
 }
 
-/// The one that comes first, of two that may be there. Of the other no more is read than has to be.
+/// The earlier of two optional expiries. It reads no more of the second than it needs.
 #[inline(always)]
 fn sooner_beside(first: Option<RunningTimer>, other: &Option<RunningTimer>) -> Option<RunningTimer>
     ensures { IsSooner first other.now result }
@@ -160,7 +162,7 @@ fn sooner_beside(first: Option<RunningTimer>, other: &Option<RunningTimer>) -> O
     }
 }
 
-/// Whether two expiries that may be there are the same.
+/// Whether two optional expiries are equal.
 #[inline(always)]
 fn is_same(one: &Option<RunningTimer>, other: &Option<RunningTimer>) -> bool
     ensures { result ≡ true → one.now ≡ other.now }

@@ -1,11 +1,12 @@
-//! A bus of terminals and an assigner, led by words.
+//! A bus of terminals and an assigner, driven by words.
 
 use crate::stage::Stage;
 use crate::text::{Text, number_of, numbers_of, split};
 use lapd_tei::{Bus, BusMove, Tei};
 use std::alloc::{AllocError, Global};
 
-/// The move that these words name: what is done, then the message, the terminal and the reference that it has.
+/// The move that these words describe: its name, then the message, the terminal and the reference
+/// that it uses.
 fn move_of(words: &str) -> Option<BusMove> {
     let (word, behind) = split(words, " ");
     let [first, second, third, _] = numbers_of(behind);
@@ -18,7 +19,8 @@ fn move_of(words: &str) -> Option<BusMove> {
     }
 }
 
-/// The move of this name that has no reference, of the message, the terminal or the TEI of this number.
+/// The move with this name that has no reference, with the index of a message or terminal, or a
+/// TEI.
 fn move_at(word: &str, place: usize) -> Option<BusMove> {
     match word {
         "drop" => Some(BusMove::Drop(place)),
@@ -31,7 +33,7 @@ fn move_at(word: &str, place: usize) -> Option<BusMove> {
     }
 }
 
-/// The moves that these words name.
+/// The moves that these words describe.
 fn moves_of(alloc: Global, words: &str) -> Vec<BusMove> {
     let mut moves = Vec::new(alloc);
     for word in words.split(", ") {
@@ -42,7 +44,7 @@ fn moves_of(alloc: Global, words: &str) -> Vec<BusMove> {
     moves
 }
 
-/// Makes the move that these words name, and writes its outputs, or why it is refused.
+/// Makes the move that these words describe, and writes its outputs, or why it is refused.
 fn put_move(bus: &mut Bus, words: &str, text: &mut Text) {
     match move_of(words) {
         Some(m) => match bus.apply(m) {
@@ -53,7 +55,7 @@ fn put_move(bus: &mut Bus, words: &str, text: &mut Text) {
     }
 }
 
-/// Makes the moves that these words name in one run, and writes how many are refused.
+/// Makes the moves that these words describe in one run, and writes how many are refused.
 fn put_run(alloc: Global, bus: &mut Bus, words: &str, text: &mut Text) {
     match bus.run(moves_of(alloc, words).as_slice()) {
         Ok(refused) => text.tell("refused ", &refused),
@@ -62,7 +64,7 @@ fn put_run(alloc: Global, bus: &mut Bus, words: &str, text: &mut Text) {
 }
 
 impl Text {
-    /// Puts a bus behind: its first two terminals, and its assigner.
+    /// Appends a bus: its first two terminals, and its assigner.
     fn bus(&mut self, bus: &Bus) {
         for place in 0..2 {
             if let Some(terminal) = bus.terminal(place) {
@@ -73,7 +75,7 @@ impl Text {
     }
 }
 
-/// Makes a move of a bus, or several in a run, or writes what it shows.
+/// Makes a move of a bus, or several in a run, or writes its state.
 fn step(alloc: Global, bus: &mut Bus, words: &str, text: &mut Text) {
     let (word, behind) = split(words, " ");
     match word {
@@ -84,7 +86,7 @@ fn step(alloc: Global, bus: &mut Bus, words: &str, text: &mut Text) {
 }
 
 impl Stage {
-    /// A bus begins with so many terminals, or does a step.
+    /// Creates a bus with this many terminals, or runs a step.
     pub(crate) fn step_of_bus(&mut self, words: &str, text: &mut Text) {
         if let Some(count) = words.strip_prefix("begin ") {
             if self.begin_bus(number_of(count) as usize).is_err() {

@@ -1,14 +1,14 @@
-//! All that readers show, as one number, so that "unchanged" can be looked at without memory.
+//! A digest of all query results, so that "unchanged" can be checked without allocating.
 
 use lapd_link::{IQueue, Link, Timer, Window};
 use lapd_sides::{Assigner, EitherSide, LinkId, Sapi, Tei, Terminal, TimerSet};
 use lapd_table::LinkTable;
 use lapd_tei::Bus;
 
-/// How many places there are for links: those of SAPI 0, then those of SAPI 16, by rising TEI.
+/// The number of link indexes: those of SAPI 0, then those of SAPI 16, by ascending TEI.
 pub(crate) const PLACES: usize = 256;
 
-/// The link that stands at a place.
+/// The id of the link at an index.
 pub(crate) fn id_at(place: usize) -> LinkId {
     let sapi = if place < 128 {
         Sapi::Call
@@ -19,12 +19,12 @@ pub(crate) fn id_at(place: usize) -> LinkId {
     LinkId { sapi, tei }
 }
 
-/// One number more (the hash FNV-1a, by words).
+/// Adds one number (the hash FNV-1a, by words).
 fn with(all: u64, number: u64) -> u64 {
     (all ^ number).wrapping_mul(0x0000_0100_0000_01b3)
 }
 
-/// All that the readers of a side show.
+/// Adds all query results of a side.
 pub(crate) fn with_side(all: u64, side: &EitherSide) -> u64 {
     let mut all = with_timers(with(all, side.discarded()), side.timers(None));
     all = match side {
@@ -37,7 +37,7 @@ pub(crate) fn with_side(all: u64, side: &EitherSide) -> u64 {
     all
 }
 
-/// All that is seen of the link at a place, and of its timers; 0 where it is not there.
+/// The digest of the link at an index and its timers; 0 if the link does not exist.
 pub(crate) fn at_place(side: &EitherSide, place: usize) -> u64 {
     match side.table().link(id_at(place)) {
         Some(link) => with_timers(of_link(link), side.timers(Some(id_at(place)))),
@@ -45,7 +45,7 @@ pub(crate) fn at_place(side: &EitherSide, place: usize) -> u64 {
     }
 }
 
-/// All links of a table.
+/// Adds all links of a table.
 pub(crate) fn with_table(all: u64, table: &LinkTable) -> u64 {
     let mut all = all;
     for place in 0..PLACES {
@@ -56,7 +56,7 @@ pub(crate) fn with_table(all: u64, table: &LinkTable) -> u64 {
     all
 }
 
-/// A bus of two terminals.
+/// Adds a bus of two terminals.
 pub(crate) fn with_bus(all: u64, bus: &Bus) -> u64 {
     let all = with_terminal(all, bus.terminal(0));
     let all = with_terminal(all, bus.terminal(1));
@@ -101,7 +101,7 @@ fn with_timers(all: u64, timers: Option<&TimerSet>) -> u64 {
     all
 }
 
-/// All that the readers of a link show.
+/// The digest of all query results of a link.
 pub(crate) fn of_link(link: &Link) -> u64 {
     let all = with(0, u64::from(link.state()));
     let all = with(all, u64::from(link.rc()));

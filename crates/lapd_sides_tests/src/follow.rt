@@ -1,5 +1,5 @@
-//! Two sides beside a pair of links: 10,000 drawn moves, and at each the side gives, as text, what the pair's end gave: frames,
-//! primitives, or a refusal.
+//! Compares two sides with a pair of links over 10,000 random moves. After each move the side must
+//! produce the same text as the end of the pair: frames, primitives, or a refusal.
 
 use crate::digest::{id_at, of_link};
 use crate::talk::{Talk, params};
@@ -12,12 +12,13 @@ use rand_pcg::Pcg32;
 use std::alloc::{AllocError, Global};
 use std::test::Fail;
 
-/// How many moves are drawn.
+/// The number of moves.
 const MOVES: u64 = 10_000;
 
-/// The pair and the two sides, the network side first; what draws moves, and how many messages were given; the clock of both
-/// sides, what a side is called with, what the pair gave, and what a side is to give then; and how many moves were made, refused
-/// by the links, and not made.
+/// The pair and the two sides, the network side first; the generator of moves, and the number of
+/// messages submitted; the time of both sides, the call of a side, the outputs of the pair, and the
+/// expected result of the side; and the numbers of moves that were made, refused by the links, and
+/// skipped.
 #[derive(Drop)]
 struct Follow {
     alloc: Global,
@@ -34,7 +35,7 @@ struct Follow {
     left_out: u32,
 }
 
-/// The message that came last to an end of the pair.
+/// The last message that an end of the pair received.
 fn last_message(pair: &Pair, side: Side) -> &[u8] {
     match pair.received(side).last() {
         Some(message) => message.octets.as_slice(),
@@ -42,7 +43,7 @@ fn last_message(pair: &Pair, side: Side) -> &[u8] {
     }
 }
 
-/// The unit data that came last to an end of the pair.
+/// The last unit data that an end of the pair received.
 fn last_unit(pair: &Pair, side: Side) -> &[u8] {
     match pair.units(side).last() {
         Some(unit) => unit.as_slice(),
@@ -50,7 +51,7 @@ fn last_unit(pair: &Pair, side: Side) -> &[u8] {
     }
 }
 
-/// The octets that a move has.
+/// The octets of a move, if any.
 fn octets_in(deed: &Move) -> Option<&[u8]> {
     match deed {
         Move::Give(_, octets) | Move::Unit(_, octets) => Some(octets.as_slice()),
@@ -58,7 +59,7 @@ fn octets_in(deed: &Move) -> Option<&[u8]> {
     }
 }
 
-/// The frame that comes to a side next.
+/// The next frame that arrives at a side.
 fn coming(pair: &Pair, to: Side) -> &[u8] {
     match pair.line(to).first() {
         Some(frame) => frame.as_slice(),
@@ -66,7 +67,7 @@ fn coming(pair: &Pair, to: Side) -> &[u8] {
     }
 }
 
-/// What a side is called with for a move, or nothing where a frame is lost.
+/// The call of a side for a move; empty if a frame is lost.
 fn word_of(deed: &Move) -> &'static str {
     match deed {
         Move::Give(..) => " give 0 64 ",
@@ -82,7 +83,8 @@ fn word_of(deed: &Move) -> &'static str {
 }
 
 impl Text {
-    /// Puts behind what an end of the pair gave: the frames on the line behind as many as `before`, and what its outputs tell.
+    /// Appends the expected result: the frames that the end of the pair put on the line after the
+    /// first `before` frames, and its primitives.
     fn given(&mut self, pair: &Pair, side: Side, before: usize, outs: &[Out]) {
         for frame in pair.line(side.other()).get(before..).unwrap_or(&[]) {
             self.hex(frame.as_slice());
@@ -93,7 +95,7 @@ impl Text {
         }
     }
 
-    /// Puts behind what an output of an end tells, if it tells something. Octets are those that came last.
+    /// Appends the primitive of an output of an end, if it has one, with the last received octets.
     fn tell_of(&mut self, pair: &Pair, side: Side, out: &Out) {
         match out {
             Out::Up => self.data("0 64 data ", last_message(pair, side)),
@@ -107,7 +109,7 @@ impl Text {
         }
     }
 
-    /// Puts octets behind.
+    /// Appends octets.
     fn data(&mut self, word: &str, octets: &[u8]) {
         self.put(word);
         self.hex(octets);
@@ -116,12 +118,13 @@ impl Text {
 }
 
 impl Follow {
-    /// A number below this one.
+    /// A random number below this one.
     fn below(&mut self, limit: u32) -> u32 {
         self.random.next_u32().checked_rem(limit).unwrap_or(0)
     }
 
-    /// A move of one of the sides; `None` where there is no memory. The octets of a message are its number.
+    /// Draws a move of one of the sides; `None` if an allocation fails. The octets of a message are
+    /// its number.
     fn draw(&mut self) -> Option<Move> {
         let side = if self.below(2) == 0 {
             Side::User
@@ -150,13 +153,14 @@ impl Follow {
         }
     }
 
-    /// A side begins.
+    /// Creates a side.
     fn begin(&mut self, words: &str) -> Result<(), AllocError> {
         self.talks.push(Talk::of(self.alloc, words)?)?;
         Ok(())
     }
 
-    /// Writes what a side is called with for a move, if it is, with the octets of the move, or those of the frame that comes.
+    /// Writes the call of a side for a move, if there is one, with the octets of the move or of the
+    /// frame that arrives.
     fn put_call(&mut self, deed: &Move) {
         self.call.clear();
         let word = word_of(deed);
@@ -171,8 +175,8 @@ impl Follow {
         }
     }
 
-    /// Makes a move with the pair, and writes what it gives: whether there is memory. With what the pair refuses by P1 to P3 no
-    /// side is called.
+    /// Makes a move with the pair, and writes the expected result. Returns `false` if an allocation
+    /// failed. If the pair refuses with P1 to P3, no side is called.
     fn is_made(&mut self, deed: &Move) -> bool {
         self.wanted.clear();
         let before = self.pair.line(deed.side().other()).len();
@@ -196,7 +200,7 @@ impl Follow {
         }
     }
 
-    /// Whether a side gives what is wanted, where it is called.
+    /// Whether a side has the expected result, if it is called.
     fn is_given(&mut self, side: Side) -> bool {
         let place = match side {
             Side::Network => 0,
@@ -212,7 +216,8 @@ impl Follow {
         text.is(self.wanted.as_str())
     }
 
-    /// Draws a move, and makes it with the pair, and then with the side whose it is: whether that gives the same.
+    /// Draws a move, and makes it with the pair and then with the side that it concerns. Returns
+    /// whether both have the same result.
     fn turn(&mut self) -> bool {
         match self.draw() {
             Some(deed) => {
@@ -223,7 +228,7 @@ impl Follow {
         }
     }
 
-    /// Whether the link of a side shows what the link of the pair does.
+    /// Whether the link of a side has the same state as the link of the pair.
     fn is_alike(&self, place: usize, side: Side) -> bool {
         match self.talks.get(place) {
             Some(talk) => match talk.side.table().link(id_at(64)) {
@@ -234,7 +239,7 @@ impl Follow {
         }
     }
 
-    /// Whether enough happened.
+    /// Whether enough moves of each kind happened.
     fn is_lively(&self) -> bool {
         self.made > 5_000
             && self.refused > 100
@@ -243,7 +248,8 @@ impl Follow {
             && self.pair.received(Side::User).len() > 250
     }
 
-    /// Draws all moves, and makes each a millisecond after the one before. Fails at the first that is not followed.
+    /// Draws all moves and makes them, one millisecond apart. Fails at the first with a different
+    /// result.
     fn run(&mut self) -> Result<(), Fail> {
         self.begin("net 64 fast")?;
         self.begin("user 64 fast")?;
@@ -260,7 +266,7 @@ impl Follow {
         }
     }
 
-    /// Fails, with the last call, and what it was to give.
+    /// Fails, and reports the last call and its expected result.
     fn failed(&self) -> Result<(), Fail> {
         let call = self.call.as_str();
         let wanted = self.wanted.as_str();

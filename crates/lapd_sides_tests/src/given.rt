@@ -1,4 +1,4 @@
-//! TEIs that are given: none that is held, kept beside the assigner in a set of its own.
+//! Checks that no held TEI is assigned again, with a separate set of the held TEIs.
 
 use crate::talk::Talk;
 use crate::text::Text;
@@ -8,13 +8,13 @@ use lapd_tei::{Assigner, AssignerEvent, Tei, TeiKind, TeiMessage, TeiOut};
 use rand_core::{Rng, SeedableRng};
 use rand_pcg::Pcg32;
 
-/// How many events are drawn.
+/// The number of random events.
 const EVENTS: u32 = 50_000;
 
-/// How many TEIs can be given: 64 to 126.
+/// The number of TEIs that can be assigned: 64 to 126.
 const TEIS: u32 = 63;
 
-/// Which of these TEIs are held: a bit for each, from 64 on.
+/// A set of held TEIs, with one bit for each, from 64 on.
 #[derive(Clone, Copy)]
 struct Held {
     marks: u64,
@@ -31,8 +31,8 @@ impl Held {
         (64..127).contains(&tei) && self.marks & mark_of(tei) != 0
     }
 
-    /// Whether a message may go out for a Request with this reference: an assignment of what is not held, and is then, or a
-    /// denial where all are held.
+    /// Whether this message may answer a request with this reference: an assignment of a TEI that
+    /// is not held, which is then held, or a denial if all are held.
     fn allows(&mut self, message: &TeiMessage, ri: u16) -> bool {
         match message.kind {
             TeiKind::Assigned => {
@@ -45,7 +45,7 @@ impl Held {
         }
     }
 
-    /// Whether an output of an assigner may come, for a Request with this reference.
+    /// Whether an assigner may have this output for a request with this reference.
     fn allows_out(&mut self, out: &TeiOut, ri: u16) -> bool {
         match out {
             TeiOut::Send(message) => self.allows(message, ri),
@@ -60,7 +60,7 @@ impl Held {
         }
     }
 
-    /// Whether an assigner holds just these.
+    /// Whether an assigner holds exactly these TEIs.
     fn are_of(&self, assigner: &Assigner) -> bool {
         let mut all = true;
         for number in 0..128 {
@@ -72,7 +72,7 @@ impl Held {
     }
 }
 
-/// An event of an assigner, with this reference. Responses are mostly of the TEI under check.
+/// A random event of an assigner, with this reference. Most responses are for the TEI under check.
 fn event(random: &mut Pcg32, assigner: &Assigner, ri: u16) -> AssignerEvent {
     let any = Tei::new((random.next_u32() & 0x7f) as u8).unwrap_or(Tei::group());
     let kind = match random.next_u32() & 0x07 {
@@ -92,7 +92,7 @@ fn event(random: &mut Pcg32, assigner: &Assigner, ri: u16) -> AssignerEvent {
     AssignerEvent::Heard(TeiMessage { ri, kind, ai })
 }
 
-/// Whether an assigner does for a drawn event what the TEIs that are held allow.
+/// Whether an assigner's outputs for a random event agree with the held TEIs.
 fn is_allowed(assigner: &mut Assigner, held: &mut Held, random: &mut Pcg32) -> bool {
     let ri = (random.next_u32() & 0xffff) as u16;
     let event = event(random, assigner, ri);
@@ -103,7 +103,8 @@ fn is_allowed(assigner: &mut Assigner, held: &mut Held, random: &mut Pcg32) -> b
     all && held.are_of(assigner)
 }
 
-/// Draws events for an assigner, and writes whether they give nothing that is held, and how many TEIs are held at most.
+/// Passes random events to an assigner. Writes the maximum number of held TEIs, or a failure if the
+/// assigner's outputs or its held TEIs are wrong.
 pub(crate) fn put_drawn(text: &mut Text) {
     let mut random = Pcg32::seed_from_u64(921);
     let mut assigner = Assigner::new(&[]);
@@ -118,7 +119,7 @@ pub(crate) fn put_drawn(text: &mut Text) {
     text.tell("most ", &most);
 }
 
-/// The message that is the only frame that is given.
+/// The message in the only frame of `acts`.
 fn answer_of(acts: &Acts) -> Option<TeiMessage> {
     let [frame] = acts.frames() else {
         return None;
@@ -127,8 +128,8 @@ fn answer_of(acts: &Acts) -> Option<TeiMessage> {
 }
 
 impl Talk {
-    /// A Request for each TEI that can be given comes, and one more: writes what each is answered, until one gives what is
-    /// held.
+    /// Passes the side a request for each TEI that can be assigned, and one more. Writes each
+    /// answer, up to the first that assigns a held TEI.
     pub(crate) fn requests(&mut self, text: &mut Text) {
         let mut held = Held { marks: 0 };
         for ri in 0..64 {
@@ -138,8 +139,8 @@ impl Talk {
         }
     }
 
-    /// A Request with this reference comes. Whether its answer may be is answered, and its Ai written, or all of it where it
-    /// denies.
+    /// Passes the side a request with this reference. Returns whether the answer is allowed, and
+    /// writes the assigned TEI, or the whole answer if it is a denial.
     fn answers(&mut self, ri: u16, held: &mut Held, text: &mut Text) -> bool {
         let [high, low] = ri.to_be_bytes();
         let request = [0xfc, 0xff, 0x03, 0x0f, high, low, 0x01, 0xff];

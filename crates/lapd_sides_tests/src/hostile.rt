@@ -1,5 +1,5 @@
-//! Hostile octets: whatever comes to a side, it gives nothing but frames, discards what is for nobody, and leaves all other links
-//! as they are.
+//! Hostile octets: whatever a side receives, it sends only valid frames, discards frames that are
+//! for no link, and leaves all other links unchanged.
 
 mod discards;
 mod drawn;
@@ -11,7 +11,8 @@ use crate::talk::octets_of;
 use std::alloc::Global;
 use std::test::Fail;
 
-/// Octets that have come, from either side: frames of links and of TEI management, and what is no frame.
+/// Octets of received frames, from either side: frames of links and of TEI management, and octets
+/// that do not form a valid frame.
 const COME: &str = "\
 00817f
 008153
@@ -54,25 +55,25 @@ fcff030f56780581
 feff030f00000681
 ";
 
-/// How many strings are drawn for a side, and how many for each that is made.
+/// The number of random strings for a configuration, and the number for each new side.
 const STRINGS: u32 = 100_000;
 
 const STRINGS_OF_SIDE: u32 = 1_000;
 
-/// Octets that have come.
+/// The received octets, returned by reference.
 fn come() -> &'static str {
     COME
 }
 
 impl Watch {
-    /// Each front of these octets comes, the shortest first.
+    /// Passes each prefix of these octets, the shortest first.
     fn hear_fronts(&mut self, octets: &[u8]) {
         for len in 0..=octets.len() {
             self.hear(octets.get(..len).unwrap_or(&[]));
         }
     }
 
-    /// A new side is watched, and each front of the octets comes that are written in hexadecimal.
+    /// Watches a new side, and passes each prefix of the octets that are written in hexadecimal.
     fn hear_line(&mut self, links: &str, state: u8, line: &str) {
         self.begin(links, state);
         match octets_of(self.alloc, line) {
@@ -81,7 +82,8 @@ impl Watch {
         }
     }
 
-    /// No octets come, each octet alone, and each two; and behind each octet of SAPI 0 and the TEI of the link each two.
+    /// Passes no octets, each single octet, each pair of octets, and each pair after the address of
+    /// the link (SAPI 0 and TEI 64, as a command and as a response).
     fn hear_two_octets(&mut self) {
         self.hear(&[]);
         for first in 0..=u8::MAX {
@@ -94,8 +96,9 @@ impl Watch {
         }
     }
 
-    /// Strings come that are counted through: each octets of `COME` and each front of them to a new side each, and then all
-    /// others to one, and strings of all lengths that begin as frames do.
+    /// Passes enumerated strings: the octets of each line of `COME` and each prefix of them to a
+    /// new side; then to one more side the strings of `hear_two_octets`, and strings of all lengths
+    /// that begin like frames.
     fn hear_all(&mut self, links: &str, state: u8) {
         for line in come().lines() {
             self.hear_line(links, state, line);
@@ -107,7 +110,7 @@ impl Watch {
         }
     }
 
-    /// Strings come that are drawn, to new sides whose link is led to state 4 and 7 in turn, again and again.
+    /// Passes random strings to new sides whose link is set to state 4 and state 7 alternately.
     fn hear_drawn(&mut self, links: &str) {
         let mut draws = Draws::new(921);
         for number in 0..STRINGS {
@@ -122,7 +125,7 @@ impl Watch {
         }
     }
 
-    /// All strings come to the side that these words name.
+    /// Passes all strings to the side that these words describe.
     fn hear_everything(&mut self, links: &str) {
         self.hear_all(links, 4);
         self.hear_all(links, 7);
@@ -130,14 +133,14 @@ impl Watch {
     }
 }
 
-/// All strings come to the side that these words name. Fails where all is not well.
+/// Passes all strings to the side that these words describe. Fails if any check failed.
 fn strings_come(alloc: Global, links: &str) -> Result<(), Fail> {
     let mut watch = Watch::new(alloc)?;
     watch.hear_everything(links);
     watch.end()
 }
 
-/// It has a link for TEI 64 and each SAPI.
+/// The side has a link for TEI 64 and each SAPI.
 #[test]
 fn strings_come_to_a_network_side(rt: HostRuntime) -> Result<(), Fail> {
     strings_come(rt.alloc(), "net 64 packets")
@@ -148,7 +151,7 @@ fn strings_come_to_a_user_side(rt: HostRuntime) -> Result<(), Fail> {
     strings_come(rt.alloc(), "user 64 packets")
 }
 
-/// It has a link for every TEI and SAPI.
+/// The side has a link for every TEI and SAPI.
 #[test]
 fn strings_come_to_a_side_of_all_links(rt: HostRuntime) -> Result<(), Fail> {
     strings_come(rt.alloc(), "net all packets")

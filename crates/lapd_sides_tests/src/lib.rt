@@ -1,9 +1,10 @@
-//! Tests of whole sides on their public calls, and of what they stand on: dialogues octet by octet, requests that are refused,
-//! 10,000 drawn moves beside a pair of links, and hostile octets; a table of links; timers and TEI management.
+//! Tests of whole sides through their public calls, and of the parts below them: dialogues octet by
+//! octet, refused requests, 10,000 random moves compared with a pair of links, hostile octets, a
+//! table of links, timers, and TEI management.
 //!
-//! They stand apart so that each crate is proved once. What a contract says is not tested again. A row shows that the
-//! definitions say what is meant, that a call can succeed, and what is printed. A test that fails says the row, the line, and
-//! what came instead.
+//! They are a crate of their own so that each crate is proved once. They do not repeat contracts. A
+//! row shows that the definitions mean what is intended, that a call can succeed, and what is
+//! printed. A failed test reports the row, the line, and the actual result.
 #![tactic(auto)]
 
 #[cfg(test)]

@@ -1,4 +1,4 @@
-//! The rows, by their subjects.
+//! The rows, by subject.
 
 mod buses;
 mod management;
@@ -6,7 +6,7 @@ mod readers;
 mod sides;
 mod tables;
 
-/// Subjects that are led where memory may be refused.
+/// Subjects that run while allocations may fail.
 pub(crate) const NETWORK_SIDES: u32 = 0;
 
 pub(crate) const USER_SIDES: u32 = 1;
@@ -15,10 +15,11 @@ pub(crate) const BUSES: u32 = 2;
 
 pub(crate) const LINKS: u32 = 3;
 
-/// How many subjects there are.
+/// The number of subjects.
 pub(crate) const SUBJECTS: u32 = 9;
 
-/// The rows of a subject. They are lent, as a constant is written out in each function that names it.
+/// The rows of a subject. They are returned by reference, because a constant would be copied into
+/// each function that names it.
 pub(crate) fn rows_of(subject: u32) -> &'static str {
     match subject {
         NETWORK_SIDES => sides::NETWORK,

@@ -1,4 +1,4 @@
-//! What readers show, and what outputs tell, as text.
+//! Writes query results and outputs as text.
 
 use crate::talk::link_of;
 use crate::text::Text;
@@ -21,7 +21,7 @@ pub(crate) fn name_of(kind: TeiKind) -> &'static str {
 }
 
 impl Text {
-    /// Puts a side behind, or its link that these words name.
+    /// Appends a side, or the link of it that these words name.
     pub(crate) fn readers(&mut self, side: &EitherSide, words: &str) {
         match link_of(words) {
             Some(id) => self.link_of_side(side, &id),
@@ -29,7 +29,8 @@ impl Text {
         }
     }
 
-    /// Puts a side behind: its kind, how many frames it discarded, its next moment, and TEI management.
+    /// Appends a side: its kind, its number of discarded frames, its next moment, and its TEI
+    /// management.
     fn side(&mut self, side: &EitherSide) {
         self.tell("", &side.side());
         self.tell("discarded ", &side.discarded());
@@ -41,13 +42,13 @@ impl Text {
         }
     }
 
-    /// Puts a link of a side behind, and its timers.
+    /// Appends a link of a side, and its timers.
     fn link_of_side(&mut self, side: &EitherSide, id: &LinkId) {
         self.link(side.table().link(*id));
         self.timers(side.timers(Some(*id)));
     }
 
-    /// Puts a link behind: its state, and how many messages wait and are sent.
+    /// Appends a link: its state, and the numbers of its waiting and sent messages.
     pub(crate) fn link(&mut self, link: Option<&Link>) {
         match link {
             Some(link) => {
@@ -59,7 +60,7 @@ impl Text {
         }
     }
 
-    /// Puts behind which timers run, and until when.
+    /// Appends the running timers with their deadlines.
     pub(crate) fn timers(&mut self, timers: Option<&TimerSet>) {
         let Some(timers) = timers else {
             return;
@@ -72,7 +73,7 @@ impl Text {
         }
     }
 
-    /// Puts an assigner behind: the TEI under check, and those that are held.
+    /// Appends an assigner: the TEI under check, and the held TEIs.
     pub(crate) fn assigner(&mut self, assigner: &Assigner) {
         self.told("checks ", assigner.check());
         self.put("holds");
@@ -86,7 +87,7 @@ impl Text {
         self.put(";");
     }
 
-    /// Puts a terminal behind: its state, its TEI, how often it asked, and its reference.
+    /// Appends a terminal: its state, TEI, number of requests, and reference.
     pub(crate) fn terminal(&mut self, terminal: &Terminal) {
         self.tell("state ", &terminal.state());
         self.told("TEI ", terminal.tei());
@@ -94,14 +95,14 @@ impl Text {
         self.told("reference ", terminal.reference());
     }
 
-    /// Puts a message of TEI management behind: its kind, Ri and Ai.
+    /// Appends a TEI management message: its kind, Ri and Ai.
     pub(crate) fn message(&mut self, message: &TeiMessage) {
         self.put(name_of(message.kind));
         self.shown(" ", &message.ri);
         self.tell(" ", &message.ai);
     }
 
-    /// Puts outputs of TEI management behind.
+    /// Appends outputs of TEI management.
     pub(crate) fn tei_outs(&mut self, outs: &[TeiOut]) {
         for out in outs {
             self.tei_out(out);
@@ -123,7 +124,7 @@ impl Text {
         }
     }
 
-    /// Puts an output of a link behind that is no frame and has no octets.
+    /// Appends an output of a link that is not a frame and has no octets.
     pub(crate) fn out(&mut self, out: &Out) {
         match out {
             Out::Established => self.put("established;"),

@@ -1,11 +1,13 @@
-//! All that rows of text lead: a side, a table of links, a bus, timers, a terminal, and an assigner.
+//! Runs rows of text on a side, a table of links, a bus, timers, a terminal, and an assigner.
 //!
-//! A row is some lines. The first names it. Each other line is a step, and behind `: ` stands what it comes to. The first word
-//! of a step says what it leads; what none of them leads is a call of the side.
+//! A row is several lines. The first names it. Each other line is a step, followed by `: ` and the
+//! expected result. The first word of a step selects the object; any other word is a call of the
+//! side.
 //!
-//! No test can refuse an allocation itself: `tools/refuse-memory` refuses each of a run in turn, and a test prints where it
-//! met it (docs/DEVELOPING.md). A step that finds no memory gives nothing and leaves all that readers show as it was, and
-//! made again it comes to what it comes to where none is refused.
+//! A test cannot make an allocation fail: `tools/refuse-memory` fails each allocation of a run in
+//! turn, and a test prints the step that failed (docs/DEVELOPING.md). A step whose allocation fails
+//! has no result and changes nothing that can be queried. Repeated, it has the result that it has
+//! without the failure.
 
 use crate::digest::{with_bus, with_side, with_table};
 use crate::given::put_drawn;
@@ -20,7 +22,7 @@ use lapd_timers::{Durations, TimerSet};
 use std::alloc::{AllocError, Global};
 use std::test::Fail;
 
-/// What rows lead.
+/// The objects that rows run on.
 #[derive(Drop)]
 pub(crate) struct Stage {
     pub(crate) alloc: Global,
@@ -32,7 +34,7 @@ pub(crate) struct Stage {
     assigner: Assigner,
 }
 
-/// The name of the row, what the last step came to, and the last step to which memory was refused.
+/// The name of the row, the result of the last step, and the last step whose allocation failed.
 #[derive(Drop)]
 struct Notes {
     row: Text,
@@ -41,7 +43,7 @@ struct Notes {
 }
 
 impl Stage {
-    /// Nothing happened.
+    /// Creates the objects in their initial state.
     fn new(alloc: Global) -> Stage {
         Stage {
             alloc,
@@ -54,7 +56,7 @@ impl Stage {
         }
     }
 
-    /// All that the readers show of what takes memory.
+    /// The digest of all objects that allocate.
     fn digest(&self) -> u64 {
         let mut all = with_table(0, &self.table);
         if let Some(talk) = self.talks.first() {
@@ -66,7 +68,7 @@ impl Stage {
         all
     }
 
-    /// Does a step, and writes what it comes to.
+    /// Runs a step, and writes its result.
     fn step(&mut self, words: &str, text: &mut Text) {
         let (word, behind) = split(words, " ");
         match word {
@@ -82,7 +84,7 @@ impl Stage {
         }
     }
 
-    /// The side begins that these words name.
+    /// Creates the side that these words describe.
     fn begin(&mut self, words: &str, text: &mut Text) {
         if self.renew(words).is_err() {
             text.put("no memory");
@@ -96,7 +98,7 @@ impl Stage {
         Ok(())
     }
 
-    /// Does a step of the side.
+    /// Runs a step of the side.
     fn step_of_side(&mut self, words: &str, text: &mut Text) {
         match self.talks.first_mut() {
             Some(talk) => talk.step(words, text),
@@ -104,7 +106,8 @@ impl Stage {
         }
     }
 
-    /// Does a step, at the second try where the first finds no memory, gives nothing and changes nothing, which is noted.
+    /// Runs a step. If its allocation fails and nothing has changed, notes the step and runs it
+    /// again.
     fn does(&mut self, words: &str, notes: &mut Notes) {
         let before = self.digest();
         notes.came.clear();
@@ -121,14 +124,14 @@ impl Stage {
         }
     }
 
-    /// Whether the step of a line comes to what the line says.
+    /// Whether the step of a line has the expected result.
     fn is_right(&mut self, line: &str, notes: &mut Notes) -> bool {
         let (words, wanted) = split(line, ": ");
         self.does(words, notes);
         notes.came.is(wanted)
     }
 
-    /// Leads through rows. Fails at the first line that is wrong.
+    /// Runs rows. Fails at the first line with another result.
     fn lead(&mut self, rows: &str, notes: &mut Notes) -> Result<(), Fail> {
         for line in rows.lines() {
             if line.starts_with("#") {
@@ -143,7 +146,6 @@ impl Stage {
 }
 
 impl Notes {
-    /// Nothing is noted.
     fn new() -> Notes {
         Notes {
             row: Text::new(),
@@ -152,7 +154,7 @@ impl Notes {
         }
     }
 
-    /// Fails: this line is wrong.
+    /// Fails and reports this line.
     fn fail(&self, line: &str) -> Result<(), Fail> {
         let row = self.row.as_str();
         let came = self.came.as_str();
@@ -160,13 +162,13 @@ impl Notes {
     }
 }
 
-/// Leads through the rows of a subject.
+/// Runs the rows of a subject.
 fn lead(alloc: Global, subject: u32, notes: &mut Notes) -> Result<(), Fail> {
     let mut stage = Stage::new(alloc);
     stage.lead(rows_of(subject), notes)
 }
 
-/// Leads through the rows of a subject, and prints where memory was refused.
+/// Runs the rows of a subject, and prints the step whose allocation failed, if any.
 fn lead_and_tell(rt: &HostRuntime, subject: u32) -> Result<(), Fail> {
     let mut notes = Notes::new();
     lead(rt.alloc(), subject, &mut notes)?;

@@ -1,4 +1,4 @@
-//! A table of the network side's links, led by words.
+//! A table of the network side's links, driven by words.
 
 ghost use Rattle.std.specs.Prelude.{◌≢◌, ◌<◌, IsTrue};
 
@@ -10,7 +10,7 @@ use lapd_link::{Event, Link, Out, Params};
 use lapd_table::{LinkId, LinkTable, TableFault};
 use std::alloc::Global;
 
-/// Whether a link can have this id: it is not for management, nor for the group.
+/// Whether a link can have this id: neither management nor the group TEI.
 fn is_of_link(id: LinkId) -> bool
     ensures { IsTrue result → (id.sapi ≢ Sapi.Management) × (id.tei < 127) }
 {
@@ -21,7 +21,7 @@ fn is_of_link(id: LinkId) -> bool
 }
 
 impl Text {
-    /// Puts what a link gave behind: its frames as octets, and other outputs by their names.
+    /// Appends the outputs of a link: frames as octets, other outputs by name.
     fn outs(&mut self, link: Option<&Link>, outs: &[Out]) {
         let Some(link) = link else {
             return self.put("no link");
@@ -34,7 +34,7 @@ impl Text {
         }
     }
 
-    /// Puts the octets of a frame behind.
+    /// Appends the octets of a frame.
     fn frame(&mut self, frame: &Frame<'_>) {
         let mut room = [0; MOST_OCTETS];
         let len = lapd_frame::write(frame, Side::Network, &mut room);
@@ -43,7 +43,7 @@ impl Text {
     }
 }
 
-/// Writes what a link comes to that is added, with the parameters of primary rate access.
+/// Adds a link with the parameters of primary rate access, and writes the result.
 fn put_added(alloc: Global, table: &mut LinkTable, id: &LinkId, text: &mut Text) {
     if !is_of_link(*id) {
         return text.put("no link has this id");
@@ -57,7 +57,7 @@ fn put_added(alloc: Global, table: &mut LinkTable, id: &LinkId, text: &mut Text)
     }
 }
 
-/// Writes whether a link is taken out.
+/// Removes a link, and writes whether it existed.
 fn put_removed(table: &mut LinkTable, id: &LinkId, text: &mut Text) {
     match table.remove(*id) {
         Some(_) => text.put("done"),
@@ -65,7 +65,8 @@ fn put_removed(table: &mut LinkTable, id: &LinkId, text: &mut Text) {
     }
 }
 
-/// Octets come: the link that they are for, and what it does, are written, or why there is none.
+/// Passes octets to the table. Writes the link that they are for and its outputs, or why there is
+/// no such link.
 fn put_heard(table: &mut LinkTable, octets: &[u8], text: &mut Text) {
     match table.dispatch(octets) {
         Ok((id, outs)) => {
@@ -76,7 +77,7 @@ fn put_heard(table: &mut LinkTable, octets: &[u8], text: &mut Text) {
     }
 }
 
-/// Writes the links that are there, in their order.
+/// Writes the existing links, in order.
 fn put_links(table: &LinkTable, text: &mut Text) {
     match table.ids() {
         Ok(ids) => {
@@ -88,7 +89,7 @@ fn put_links(table: &LinkTable, text: &mut Text) {
     }
 }
 
-/// A link is asked to be established: what it does is written.
+/// Requests a link to establish, and writes its outputs.
 fn put_establishment(table: &mut LinkTable, id: &LinkId, text: &mut Text) {
     if table.link(*id).is_none() {
         return text.put("no link");
@@ -99,7 +100,7 @@ fn put_establishment(table: &mut LinkTable, id: &LinkId, text: &mut Text) {
     }
 }
 
-/// A message is given: that it is taken is written, or why it is handed back.
+/// Submits a message, and writes whether it is accepted or why it is returned.
 fn put_given(table: &mut LinkTable, id: &LinkId, message: Vec<u8>, text: &mut Text) {
     if table.link(*id).is_none() {
         return text.put("no link");
@@ -111,7 +112,7 @@ fn put_given(table: &mut LinkTable, id: &LinkId, message: Vec<u8>, text: &mut Te
 }
 
 impl Stage {
-    /// A table begins, octets of the user side come to it, or the links that are there are written.
+    /// Creates a table, passes it octets of the user side, or writes the existing links.
     pub(crate) fn step_of_table(&mut self, words: &str, text: &mut Text) {
         let (word, behind) = split(words, " ");
         match word {
@@ -126,7 +127,7 @@ impl Stage {
         }
     }
 
-    /// A link is added or taken out, asked to be established, given a message, or shown.
+    /// Adds, removes, establishes or shows a link, or submits a message to it.
     fn step_of_link(&mut self, word: &str, id: &LinkId, digits: &str, text: &mut Text) {
         match word {
             "add" => put_added(self.alloc, &mut self.table, id, text),

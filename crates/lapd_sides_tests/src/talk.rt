@@ -1,4 +1,4 @@
-//! A side, its calls, and what they give, as text.
+//! A side and its calls, with their results as text.
 
 ghost use Rattle.std.specs.Prelude.{◌≡◌, ◌<◌, IfOk};
 ghost use Rattle.std.specs.List.{All};
@@ -10,7 +10,7 @@ use lapd_sides::{
 };
 use std::alloc::{AllocError, Global};
 
-/// A side, and what its last call gave.
+/// A side, and the results of its last call.
 #[derive(Drop)]
 pub(crate) struct Talk {
     alloc: Global,
@@ -18,13 +18,15 @@ pub(crate) struct Talk {
     pub(crate) acts: Acts,
 }
 
-/// A window of 7, a frame sent 3 times, and 64 messages; what basic access has, should a number be out of range.
+/// A window of 7, N200 = 3, and a queue of 64 messages; the values of basic access if a number were
+/// out of range.
 pub(crate) fn params() -> Params {
     Params::new(7, 3, 64).unwrap_or(Params::basic(Sapi::Call))
 }
 
-/// What a side is made with that these words name: basic access, by the standard durations, and with the seed 921. It serves
-/// SAPI 16 too, or is fast, as beside a pair: T200 runs a millisecond then, and T203 an hour.
+/// The configuration that these words describe: basic access, standard durations, and the seed 921.
+/// `packets` serves SAPI 16 too. `fast`, for the comparison with a pair, sets T200 to a millisecond
+/// and T203 to an hour.
 fn config_of(words: &str) -> Config {
     let mut config = Config {
         sapi16: words.contains("packets"),
@@ -39,7 +41,7 @@ fn config_of(words: &str) -> Config {
     config
 }
 
-/// The TEI of this number, of a terminal.
+/// The TEI with this number, 0 to 126.
 pub(crate) fn tei(number: u8) -> Tei
     requires { number < 127 }
     ensures { result ≡ number }
@@ -58,7 +60,7 @@ fn every_tei(alloc: Global) -> Result<Vec<Tei>, AllocError>
     Ok(known)
 }
 
-/// A network side that knows of all TEIs, of TEI 64, named twice, or of none.
+/// A network side that knows all TEIs, TEI 64 (passed twice), or none.
 fn network_side(alloc: Global, words: &str) -> Result<NetSide, AllocError> {
     let config = config_of(words);
     if words.contains("all") {
@@ -70,7 +72,7 @@ fn network_side(alloc: Global, words: &str) -> Result<NetSide, AllocError> {
     }
 }
 
-/// A user side that has TEI 64, or none.
+/// A user side with TEI 64, or without a TEI.
 fn user_side(alloc: Global, words: &str) -> Result<UserSide, AllocError> {
     let fixed = if words.contains("64") {
         Some(tei(64))
@@ -80,7 +82,7 @@ fn user_side(alloc: Global, words: &str) -> Result<UserSide, AllocError> {
     UserSide::new(alloc, config_of(words), fixed)
 }
 
-/// The side that these words name.
+/// The side that these words describe.
 fn side_of(alloc: Global, words: &str) -> Result<EitherSide, AllocError> {
     if words.starts_with("net") {
         Ok(EitherSide::Network(network_side(alloc, words)?))
@@ -89,7 +91,8 @@ fn side_of(alloc: Global, words: &str) -> Result<EitherSide, AllocError> {
     }
 }
 
-/// The link of the SAPI and the TEI that stand at the front of these words; `None` where there is no such SAPI or TEI.
+/// The link of the SAPI and TEI at the beginning of these words; `None` if the SAPI or TEI is not
+/// valid.
 pub(crate) fn link_of(words: &str) -> Option<LinkId> {
     let [sapi, tei, _, _] = numbers_of(words);
     match (Sapi::new((sapi & 0xff) as u8), Tei::new((tei & 0xff) as u8)) {
@@ -98,7 +101,8 @@ pub(crate) fn link_of(words: &str) -> Option<LinkId> {
     }
 }
 
-/// The octets that are written in hexadecimal digits, or so many octets aa, as `[261]`. `None` also where there is no memory.
+/// The octets that are written in hexadecimal digits, or a number of octets `aa`, as in `[261]`.
+/// `None` also if an allocation fails.
 pub(crate) fn octets_of(alloc: Global, digits: &str) -> Option<Vec<u8>> {
     match digits.strip_prefix("[") {
         Some(count) => run_of(alloc, number_of(split(count, "]").0) as usize),
@@ -106,7 +110,7 @@ pub(crate) fn octets_of(alloc: Global, digits: &str) -> Option<Vec<u8>> {
     }
 }
 
-/// So many octets aa.
+/// This number of octets `aa`.
 fn run_of(alloc: Global, count: usize) -> Option<Vec<u8>> {
     let mut octets = Vec::new(alloc);
     match octets.resize(count, 0xaa) {
@@ -115,12 +119,13 @@ fn run_of(alloc: Global, count: usize) -> Option<Vec<u8>> {
     }
 }
 
-/// What stands behind the link at the front of these words.
+/// The words after the link at the beginning of these words.
 pub(crate) fn behind_link(words: &str) -> &str {
     split(split(words, " ").1, " ").1
 }
 
-/// The request that a word names, and behind it a link and octets, where it has some; `None` also where there is no memory.
+/// The request that a word names, with the link and octets after it, if any; `None` also if an
+/// allocation fails.
 fn request_of(alloc: Global, word: &str, behind: &str) -> Option<Request> {
     let id = link_of(behind).unwrap_or(LinkId {
         sapi: Sapi::Call,
@@ -140,14 +145,15 @@ fn request_of(alloc: Global, word: &str, behind: &str) -> Option<Request> {
 }
 
 impl Talk {
-    /// The side that these words name.
+    /// Creates the side that these words describe.
     pub(crate) fn of(alloc: Global, words: &str) -> Result<Talk, AllocError> {
         let acts = Acts::new(alloc)?;
         let side = side_of(alloc, words)?;
         Ok(Talk { alloc, side, acts })
     }
 
-    /// A call, what the side shows of itself or of a link, whether its next moment is exact, or Requests for all TEIs.
+    /// Runs a step of the side: a call, a query of the side or of a link, a check that the next
+    /// moment is exact, or requests for all TEIs.
     pub(crate) fn step(&mut self, words: &str, text: &mut Text) {
         let (word, behind) = split(words, " ");
         match word {
@@ -158,8 +164,8 @@ impl Talk {
         }
     }
 
-    /// Makes the call that these words write, a moment, what is done, and with what, and writes what it gives, or `none` where
-    /// nothing is due.
+    /// Makes the call that these words describe (a time, the call, and its arguments), and writes
+    /// its result, or `none` if nothing is due.
     pub(crate) fn call(&mut self, words: &str, text: &mut Text) {
         let (now, rest) = split(words, " ");
         let (word, behind) = split(rest, " ");
@@ -175,7 +181,8 @@ impl Talk {
         text.acts(&self.acts);
     }
 
-    /// Octets come. A refusal is written, or that there is no memory for the call, and then nothing of the call before.
+    /// Passes octets to the side. Writes a refusal. If the octets cannot be allocated, says so, and
+    /// discards the results of the call before.
     fn take(&mut self, digits: &str, now: u64, text: &mut Text) {
         match octets_of(self.alloc, digits) {
             Some(octets) => text.end(&self.side.take(octets.as_slice(), now, &mut self.acts)),
@@ -186,7 +193,7 @@ impl Talk {
         }
     }
 
-    /// Something is asked for. A refusal is written.
+    /// Makes a request, and writes a refusal.
     fn ask(&mut self, word: &str, behind: &str, now: u64, text: &mut Text) {
         match request_of(self.alloc, word, behind) {
             Some(request) => text.end(&self.side.request(request, now, &mut self.acts)),
@@ -197,7 +204,8 @@ impl Talk {
         }
     }
 
-    /// Whether nothing is due a millisecond before the next moment, and something at it; where there is none, nothing ever is.
+    /// Whether nothing is due a millisecond before the next moment, and something is due at it. If
+    /// there is no next moment, nothing must ever be due.
     fn is_exact(&mut self) -> bool {
         let acts = &mut self.acts;
         match self.side.next_deadline() {
@@ -210,7 +218,7 @@ impl Talk {
 }
 
 impl Text {
-    /// Puts what a call gave behind: each frame and each primitive, with `;` behind it.
+    /// Appends the results of a call: each frame and each primitive, followed by `;`.
     fn acts(&mut self, acts: &Acts) {
         for frame in acts.frames() {
             self.octets(frame.as_slice());
@@ -221,7 +229,7 @@ impl Text {
         }
     }
 
-    /// Puts a refusal behind, where there is one, and the message that is handed back.
+    /// Appends a refusal, if any, and the message that it returns.
     fn end(&mut self, done: &Result<(), SideFault>) {
         if let Err(fault) = done {
             match &fault.message {

@@ -1,4 +1,4 @@
-//! Timers and TEI management (Q.921 5.3), led by words.
+//! Timers and TEI management (Q.921 5.3), driven by words.
 
 use crate::shows::name_of;
 use crate::talk::{octets_of, tei};
@@ -8,7 +8,7 @@ use lapd_tei::{Assigner, AssignerEvent, Tei, TeiKind, TeiMessage, Terminal, Term
 use lapd_timers::{Durations, Timer, TimerSet};
 use std::alloc::Global;
 
-/// The timer of this name.
+/// The timer with this name.
 fn timer_of(name: &str) -> Option<Timer> {
     match name {
         "T200" => Some(Timer::T200),
@@ -19,7 +19,8 @@ fn timer_of(name: &str) -> Option<Timer> {
     }
 }
 
-/// Makes timers anew, starts or stops one of them, or writes the timer that is due, or which durations are taken.
+/// Resets the timers, starts or stops one of them, or writes the due timer, or which durations are
+/// accepted.
 pub(crate) fn step_of_timers(timers: &mut TimerSet, words: &str, text: &mut Text) {
     let (word, behind) = split(words, " ");
     match word {
@@ -30,7 +31,7 @@ pub(crate) fn step_of_timers(timers: &mut TimerSet, words: &str, text: &mut Text
     }
 }
 
-/// Starts or stops a timer, and writes which run then.
+/// Starts or stops a timer, and writes which timers run then.
 fn put_timed(timers: &mut TimerSet, word: &str, behind: &str, text: &mut Text) {
     let (name, now) = split(behind, " ");
     match timer_of(name) {
@@ -41,7 +42,7 @@ fn put_timed(timers: &mut TimerSet, word: &str, behind: &str, text: &mut Text) {
     text.timers(Some(timers));
 }
 
-/// Writes the durations that are made of these numbers.
+/// Writes the durations with these values.
 fn put_durations(words: &str, text: &mut Text) {
     let [t200, t201, t202, t203] = numbers_of(words);
     match Durations::new(t200, t201, t202, t203) {
@@ -55,7 +56,7 @@ fn put_durations(words: &str, text: &mut Text) {
     }
 }
 
-/// The kind of this name.
+/// The kind with this name.
 fn kind_of(name: &str) -> Option<TeiKind> {
     for number in 1..8 {
         match TeiKind::new(number) {
@@ -66,7 +67,7 @@ fn kind_of(name: &str) -> Option<TeiKind> {
     None
 }
 
-/// The message that these words write: its kind, Ri and Ai.
+/// The message that these words describe: its kind, Ri and Ai.
 fn message_of(words: &str) -> Option<TeiMessage> {
     let (name, behind) = split(words, " ");
     let [ri, ai, _, _] = numbers_of(behind);
@@ -77,8 +78,8 @@ fn message_of(words: &str) -> Option<TeiMessage> {
     })
 }
 
-/// Writes what is read from the information of a frame; or the octets in which a side sends a message, and what is read from
-/// them again.
+/// Writes the message that is read from the information of a frame; or the octets of a message that
+/// a side sends, and the message that is read from them.
 pub(crate) fn step_of_messages(alloc: Global, words: &str, text: &mut Text) {
     let (word, behind) = split(words, " ");
     match word {
@@ -109,12 +110,13 @@ fn put_sent(words: &str, from: Side, text: &mut Text) {
     }
 }
 
-/// The reference that a word writes, or 0.
+/// The reference in a word, or 0.
 fn reference_of(word: &str) -> u16 {
     word.parse::<u16>().unwrap_or(0)
 }
 
-/// The event of a terminal that these words name. What is answered to a message that is heard has the reference 7.
+/// The event of a terminal that these words describe. A response to a received message has the
+/// reference 7.
 fn terminal_event(words: &str) -> Option<TerminalEvent> {
     let (word, behind) = split(words, " ");
     match word {
@@ -126,7 +128,8 @@ fn terminal_event(words: &str) -> Option<TerminalEvent> {
     }
 }
 
-/// A terminal begins, with TEI 64 or with none, or an event comes to it. Its outputs are written, and what it shows then.
+/// Creates a terminal, with TEI 64 or without a TEI, or passes it an event. Writes its outputs and
+/// its state.
 pub(crate) fn step_of_terminal(terminal: &mut Terminal, words: &str, text: &mut Text) {
     match words {
         "begins" => *terminal = Terminal::new(None),
@@ -139,7 +142,7 @@ pub(crate) fn step_of_terminal(terminal: &mut Terminal, words: &str, text: &mut 
     text.terminal(terminal);
 }
 
-/// An assigner that knows of these TEIs.
+/// An assigner that knows these TEIs.
 fn begun(known: &str) -> Assigner {
     match known {
         "64" => Assigner::new(&[tei(64)]),
@@ -148,7 +151,7 @@ fn begun(known: &str) -> Assigner {
     }
 }
 
-/// The event of an assigner that these words name.
+/// The event of an assigner that these words describe.
 fn assigner_event(words: &str) -> Option<AssignerEvent> {
     let (word, behind) = split(words, " ");
     match word {
@@ -158,7 +161,8 @@ fn assigner_event(words: &str) -> Option<AssignerEvent> {
     }
 }
 
-/// An assigner begins that knows of some TEIs, or an event comes to it. Its outputs are written, and what it shows then.
+/// Creates an assigner that knows some TEIs, or passes it an event. Writes its outputs and its
+/// state.
 pub(crate) fn step_of_assigner(assigner: &mut Assigner, words: &str, text: &mut Text) {
     if let Some(known) = words.strip_prefix("begins") {
         *assigner = begun(known.trim_start());

@@ -18,7 +18,7 @@ use Rattle.lapd_table.specs.LinkTable.{link_at, IsUnchanged, StepsAt, RefusesAt,
 use Rattle.lapd_table.specs.Alone.{Octets, Asked, heard, end_by, outs_by, after, Ends, ends_after, sent_at, sent_for, IsEndOf, ShowsEnds, Follows}
 use Rattle.lapd_table.proofs.Ids.{same_id_eq, id_eq_self, bool_cases}
 
--- ---- The end that a link stands for.
+-- ---- The end that a link represents.
 
 end_there : (link : Link) (o : Option End) → IsEndOf (Some link) o → (e : End) × (o ≡ Some e) × LinkStandsFor link e
 end_there link None h = absurd h
@@ -28,10 +28,10 @@ no_end : (o : Option End) → IsEndOf None o → o ≡ None
 no_end None h = refl
 no_end (Some e) h = absurd h
 
--- ---- One named input.
+-- ---- One addressed input.
 
 module _ (old new : LinkTable) (id : LinkId) (input : Input) (ends : Ends) (shown : ShowsEnds old ends) where
-  -- what is shown of the others and of the one that is named, by the test
+  -- what holds for the other links and for the addressed one, by the equality test
   by_test : (end : Option End) → IsEndOf (link_at new id) end → ((other : LinkId) → id_eq other id ≡ false → IsEndOf (link_at new other) (ends other))
       → option_map (after input) (ends id) ≡ end → ShowsEnds new (ends_after (Some (id, input)) ends)
   by_test end mine others is other = elim (bool_cases (id_eq other id)) [
@@ -103,7 +103,7 @@ module _ (old new : LinkTable) (id : LinkId) (input : Input) (ends : Ends) (show
           by true = ap (λ o. sent_at o input) none_here
           by false = refl
 
--- ---- The four ways in which a call ends.
+-- ---- The four outcomes of a call.
 
 pub stepped : (old new : LinkTable) (id : LinkId) (input : Input) (outs : List Out) → StepsAt old new id input outs → Follows old new (Asked id input) id outs
 stepped old new id input outs steps = record {
@@ -117,7 +117,7 @@ refused old new id input fault refuses unchanged = record {
   sent = λ ends shown. refused_sent old new id input ends shown unchanged fault refuses;
 }
 
--- what octets name, once it is known what they are
+-- the link that octets address, once their meaning is known
 as_named : (old new : LinkTable) (octets : List ℕ) (id : LinkId) (outs : List Out) (what : Option (LinkId × Input)) → heard (arrives old octets) ≡ what
     → ((ends : Ends) → ShowsEnds old ends → ShowsEnds new (ends_after what ends)) → ((ends : Ends) → ShowsEnds old ends → sent_for id what ends ≡ outs) → Follows old new (Octets octets) id outs
 as_named old new octets id outs what is now goes = record {

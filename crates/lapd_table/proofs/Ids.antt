@@ -1,4 +1,4 @@
--- The order of SAPI and TEI tells all apart.
+-- The order of SAPI and TEI distinguishes all ids.
 use Rattle.std.proofs.Common.{◌≡◌, ◌⊎◌, ℕ, Bool, true, false, ◌&&◌, refl, inl, inr, arith, rules}
 use Rattle.std.proofs.lemmas.Bool.{eqb-true, eq-eqb, and_from}
 use Rattle.std.specs.Prelude.{◌==◌}
@@ -71,7 +71,7 @@ id_cases a b = elim (bool_cases (is_eq (id_cmp a b))) [
   | inr h ↦ inr h
 ]
 
--- ---- The same for the test.
+-- ---- The same for the equality test.
 
 and_both : (x y : Bool) → (x && y) ≡ true → (x ≡ true) × (y ≡ true)
 and_both true y h = (refl, h)

@@ -1,4 +1,4 @@
--- What a change of the slab and of the map makes of the index, and of the link that is found by it.
+-- How a change of the slab and the map affects the index and the link that is found by it.
 use Rattle.std.proofs.Common.{◌≡◌, ◌≢◌, ℕ, true, false, Option, Some, None, refl, sym, ap, ◌∙◌, inl, inr}
 use Rattle.std.specs.Prelude.{option_map, option_and_then}
 use Rattle.std.specs.Ordering.{is_eq}
@@ -23,12 +23,12 @@ Keys = tree.BTreeMap LinkId ℕ
 abbrev pub found_in : Links → Keys → LinkId → Option Link
 found_in links keys id = option_and_then (slab.get links) (key_of keys id)
 
--- every SAPI and TEI has the key that it had, but this one
+-- every SAPI and TEI except this one has the same key as before
 pub record Keeps (old new : Keys) (id : LinkId) (slot : Option ℕ) : Type 0 where
   pub there : key_of new id ≡ slot
   pub others : (other : LinkId) → other ≢ id → key_of new other ≡ key_of old other
 
--- what is found now
+-- the link that is found now
 pub record Finds (old_links : Links) (old_keys : Keys) (links : Links) (keys : Keys) (id : LinkId) (slot : Option Link) : Type 0 where
   pub there : found_in links keys id ≡ slot
   pub others : (other : LinkId) → other ≢ id → found_in links keys other ≡ found_in old_links old_keys other
@@ -59,16 +59,16 @@ keeps_of_updates old new id slot updates = record {
 -- ---- The index.
 
 module _ (side : Side) (links : Links) (keys : Keys) (index : IsIndex side links keys) where
-  -- an entry names a link
+  -- an entry names an existing link
   pub linked : (id : LinkId) (key : ℕ) → key_of keys id ≡ Some key → (link : Link) × (slab.get links key ≡ Some link) × (setup_of link ≡ setup_for side id)
   linked id key there = some_of_map _ _ (index.names id key there)
 
-  -- two entries with the same key are one
+  -- two entries with the same key are equal
   pub named_once : (id other : LinkId) (key : ℕ) → key_of keys id ≡ Some key → key_of keys other ≡ Some key → id ≡ other
   named_once id other key there again =
       id_of_setup_for side id other (some_inj _ _ (sym (index.names id key there) ∙ index.names other key again))
 
-  -- what is found is of this side, and of just that SAPI and TEI
+  -- a found link is of this side and of exactly that SAPI and TEI
   pub found_setup : (id : LinkId) (link : Link) → found_in links keys id ≡ Some link → setup_of link ≡ setup_for side id
   found_setup id link = by (key_of keys id) refl
     where
@@ -83,7 +83,7 @@ module _ (side : Side) (links : Links) (keys : Keys) (index : IsIndex side links
     pub other_key : (other : LinkId) (at : ℕ) → other ≢ id → key_of keys other ≡ Some at → at ≢ key
     other_key other at differs again same = differs (named_once other id key (again ∙ ap Some same) there)
 
-    -- ---- a link takes a step: its slot alone is written, and it stays of the same side, SAPI and TEI
+    -- ---- a link takes a step: only its slot is written, and its side, SAPI and TEI are unchanged
 
     module _ (links' : Links) (link : Link) (updates : slab.Updates links links' key (Some link)) (setup : setup_of link ≡ setup_for side id) where
       pub stepped_names : (other : LinkId) (at : ℕ) → key_of keys other ≡ Some at → option_map setup_of (slab.get links' at) ≡ Some (setup_for side other)
@@ -115,7 +115,7 @@ module _ (side : Side) (links : Links) (keys : Keys) (index : IsIndex side links
         others = λ other differs. stepped_other other differs (key_of keys other) refl;
       }
 
-    -- ---- a link is taken out, and so is its entry
+    -- ---- a link is removed, and so is its entry
 
     module _ (links' : Links) (keys' : Keys) (updates : slab.Updates links links' key None) (keeps : Keeps keys keys' id None) where
       not_removed : (other : LinkId) (at : ℕ) → key_of keys' other ≡ Some at → (other ≢ id) × (key_of keys other ≡ Some at)
@@ -153,11 +153,11 @@ module _ (side : Side) (links : Links) (keys : Keys) (index : IsIndex side links
         others = λ other differs. ap (option_and_then (slab.get links')) (keeps.others other differs) ∙ removed_other other differs (key_of keys other) refl;
       }
 
-  -- ---- a link is added under a key that was vacant, with an entry
+  -- ---- a link is added under a vacant key, with an entry
 
   module _ (id : LinkId) (absent : key_of keys id ≡ None) (key : ℕ) (vacant : slab.get links key ≡ None) (links' : Links) (keys' : Keys) (link : Link)
       (updates : slab.Updates links links' key (Some link)) (keeps : Keeps keys keys' id (Some key)) (setup : setup_of link ≡ setup_for side id) where
-    -- an entry that was there names another key
+    -- an earlier entry names another key
     taken : (other : LinkId) (at : ℕ) → key_of keys other ≡ Some at → at ≢ key
     taken other at again same =
         let l = linked other at again in
@@ -199,7 +199,7 @@ module _ (side : Side) (links : Links) (keys : Keys) (index : IsIndex side links
       others = λ other differs. ap (option_and_then (slab.get links')) (keeps.others other differs) ∙ added_other other (key_of keys other) refl;
     }
 
-  -- ---- nothing that is found has changed
+  -- ---- no link that can be found has changed
 
   module _ (links' : Links) (keys' : Keys) (same_links : slab.SameValues links links') (same_keys : (id : LinkId) → key_of keys' id ≡ key_of keys id) where
     pub same_index : IsIndex side links' keys'
@@ -215,7 +215,7 @@ module _ (side : Side) (links : Links) (keys : Keys) (index : IsIndex side links
     pub same_found : (id : LinkId) → found_in links' keys' id ≡ found_in links keys id
     same_found id = ap (option_and_then (slab.get links')) (same_keys id) ∙ same_at (key_of keys id)
 
--- a link that was put in and taken out again leaves all as it was
+-- adding a link and removing it again changes nothing
 pub taken_out_again : (links put back : Links) (key : ℕ) (link : Link) → slab.get links key ≡ None → slab.Updates links put key (Some link) → slab.Updates put back key None → slab.SameValues links back
 taken_out_again links put back key link vacant in_it out_of_it at = elim (cases_eq at key) [
   | inl same ↦ ap (slab.get back) same ∙ out_of_it.changed ∙ sym vacant ∙ ap (slab.get links) (sym same)

@@ -1,4 +1,4 @@
--- A link in a table goes its way as it does alone.
+-- A link in a table behaves as it does alone.
 use Rattle.std.proofs.Common.{◌≡◌, List, [], ◌∷◌, ◌++◌, Bool, true, false, Option, Some, None, refl, sym, ap, ◌∙◌}
 use Rattle.std.specs.Prelude.{if◌then◌else◌, option_map}
 use Rattle.lapd_frame.specs.declared.Side.{Side}
@@ -10,9 +10,9 @@ use Rattle.lapd_table.specs.LinkId.{id_eq}
 use Rattle.lapd_table.specs.Alone.{Arrival, Ends, named, part_of, if_for, after, sent, after_all, sent_by_all, ends_after, sent_at, sent_for, table_step, table_run, run_sends, IsAsAlone}
 use Rattle.lapd_table.proofs.Ids.{same_id_eq}
 
--- ---- One input, whatever is named by it, and what follows.
+-- ---- One input, for this link or another, and the inputs after it.
 
--- the end of this link after it
+-- the end of this link after the input
 abbrev end_then : Bool → Input → End → End
 end_then mine input e = if mine then after input e else e
 
@@ -24,7 +24,7 @@ after_part : (mine : Bool) (input : Input) (rest : List Input) (e : End) → aft
 after_part true input rest e = refl
 after_part false input rest e = refl
 
--- what is sent for this link by it
+-- the outputs of this link for the input
 abbrev sent_then : Bool → Input → End → List Out
 sent_then mine input e = if mine then sent input e else []
 

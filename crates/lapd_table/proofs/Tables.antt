@@ -1,4 +1,4 @@
--- What a step of a link makes of its table.
+-- How a step of a link changes its table.
 use Rattle.std.proofs.Common.{◌≡◌, ℕ, List, [], true, false, Option, Some, None, Result, Ok, Err, IsSome, IfSome, IfOk, IfErr, OnOk, OnErr, Bor, option_copied, Contains, ◌↔◌, refl, sym, ap, subst, ◌∙◌, inl, inr, eq-eqb}
 use Rattle.std.specs.Prelude.{◌==◌, option_and_then, is_some, IsSomeAnd}
 use Rattle.std.proofs.lemmas.Bool.{and_from, cases_eq}
@@ -76,7 +76,7 @@ pub setup_at : (table : LinkTable) (id : LinkId) (link : Link) → link_at table
 unfolding link_at side_of
 setup_at table id link h = found_setup table.side table.links table.keys table.index id link h
 
--- ---- Tables that find something else.
+-- ---- Tables in which another link is found.
 
 pub changed : (old new : LinkTable) (id : LinkId) (slot : Option Link) → new.side ≡ old.side → Finds old.links old.keys new.links new.keys id slot → Changes old new id slot
 unfolding link_at side_of
@@ -128,7 +128,7 @@ module _ (old : LinkTable) (id : LinkId) (key : ℕ) (there : key_of old.keys id
         let P : Option Link → Type 0 = λ o. IsSomeAnd o (λ link. Refuses link input fault) in
         subst P (sym before_at) refuses
 
--- after a refusal the link is as it was, and so is the table
+-- after a refusal the link and the table are unchanged
 module _ (old : LinkTable) (id : LinkId) (key : ℕ) (there : key_of old.keys id ≡ Some key) (before : Link) (was : slab.get old.links key ≡ Some before) (after : Link) (same : after ≡ before) where
   rewritten : slab.SameValues old.links (slab.with_value old.links key after)
   rewritten at =
@@ -161,7 +161,7 @@ is_for_link_there link side id event.BusyOn setup is_for = tt
 is_for_link_there link side id event.BusyOff setup is_for = tt
 is_for_link_there link side id (event.Unit len) setup is_for = tt
 
--- a link that is there stands for some end, and so refuses nothing that no end refuses
+-- an existing link represents some end, so it refuses only what some end refuses
 never_refuses : (link : Link) (input : Input) (fault : LinkFault) → ((e : End) → refused input e ≡ None) → Refuses link input fault → ⊥
 never_refuses link input fault none refuses =
     let e = end_of link.machine in
@@ -194,7 +194,7 @@ pub not_dispatched : (result : Result LinkId TableFault) (old : LinkTable) (octe
 not_dispatched (Ok done) old octets id input arrived h = tt
 not_dispatched (Err fault) old octets id input arrived h = subst (IsForNoLink old octets) (sym h.0) (id, input, arrived, h.1)
 
--- ---- Whether a link is there, by its entry.
+-- ---- Whether a link exists, by its entry.
 
 pub key_is_there : (table : LinkTable) (id : LinkId) → is_some (key_of table.keys id) ≡ true → IsSome (link_at table id)
 key_is_there table id = by (key_of table.keys id) refl
@@ -211,13 +211,13 @@ pub no_key : (o : Option ℕ) → is_some o ≡ false → o ≡ None
 no_key None h = refl
 no_key (Some key) h = absurd (cc)
 
--- ---- A link is added.
+-- ---- Adding a link.
 
 setup_in : (table : LinkTable) (link : Link) → (setup_of link).side ≡ side_of table → setup_of link ≡ setup_for table.side (id_of_setup (setup_of link))
 unfolding side_of
 setup_in table link side = ap (λ s. setup_for s (id_of_setup (setup_of link))) side
 
--- the slab has room, and the link stands in it under a key that was vacant
+-- the slab has room, and the link is stored under a vacant key
 module _ (old : LinkTable) (link : Link) (side : (setup_of link).side ≡ side_of old) (id : LinkId) (its : id ≡ id_of_setup (setup_of link)) (absent : key_of old.keys id ≡ None)
     (roomy : Links) (kept : slab.SameValues old.links roomy) (key : ℕ) (vacant : slab.get roomy key ≡ None) (links : Links) (put : slab.Updates roomy links key (Some link)) where
   setup : setup_of link ≡ setup_for old.side id
@@ -226,7 +226,7 @@ module _ (old : LinkTable) (link : Link) (side : (setup_of link).side ≡ side_o
   roomy_index : IsIndex old.side roomy old.keys
   roomy_index = same_index old.side old.links old.keys old.index roomy old.keys kept (λ at. refl)
 
-  -- and its entry in the map
+  -- the entry of the link is in the map
   module _ (keys : Keys) (named : tree.Updates id_cmp old.keys keys id (Some key)) where
     keeps : Keeps old.keys keys id (Some key)
     keeps = keeps_of_updates old.keys keys id (Some key) named
@@ -246,7 +246,7 @@ module _ (old : LinkTable) (link : Link) (side : (setup_of link).side ≡ side_o
         let Here : LinkId → Type 0 = λ i. Changes old new i (Some link) in
         subst Here its (changed old new id (Some link) same_side now)
 
-  -- the map found no memory, and the link is taken out again
+  -- the map could not allocate, and the link is removed again
   module _ (back : Links) (out : slab.Updates links back key None) (keys : Keys) (same : keys.entries ≡ old.keys.entries) where
     as_before_links : slab.SameValues old.links back
     as_before_links at = taken_out_again roomy links back key link vacant put out at ∙ kept at
@@ -262,12 +262,12 @@ module _ (old : LinkTable) (link : Link) (side : (setup_of link).side ≡ side_o
         unchanged old new same_side (λ i. ap (λ l. found_in l new.keys i) same_links ∙ ap (λ k. found_in back k i) same_keys
         ∙ same_found old.side old.links old.keys old.index back keys as_before_links as_before_keys i)
 
--- memory for the slab alone was sought
+-- only the slab tried to allocate
 pub with_room : (old new : LinkTable) → new.side ≡ old.side → slab.SameValues old.links new.links → new.keys ≡ old.keys → IsUnchanged old new
 with_room old new side kept keys =
     unchanged old new side (same_found old.side old.links old.keys old.index new.links new.keys kept (λ at. ap (λ k. key_of k at) keys))
 
--- ---- A link is taken out.
+-- ---- Removing a link.
 
 module _ (old : LinkTable) (id : LinkId) (keys : Keys) (unnamed : tree.Updates id_cmp old.keys keys id None) where
   gone : Keeps old.keys keys id None
@@ -283,7 +283,7 @@ module _ (old : LinkTable) (id : LinkId) (keys : Keys) (unnamed : tree.Updates i
       let now : Finds old.links old.keys new.links new.keys id None = rw (same_links, same_keys) finds in
       changed old new id None same_side now
 
-  -- none was there
+  -- no such link existed
   pub without_any : (new : LinkTable) → new.side ≡ old.side → new.links ≡ old.links → new.keys ≡ keys → Changes old new id None
   without_any new same_side same_links same_keys =
       let finds : Finds old.links old.keys old.links keys id None = record {
@@ -302,13 +302,13 @@ pub side_is : (table : LinkTable) (side : Side) → table.side ≡ side → side
 unfolding side_of
 side_is table side h = h
 
--- ---- What is lent of a table.
+-- ---- Lent parts of a table.
 
 pub setup_of_lent : (table : LinkTable) (id : LinkId) (lent : Option (Bor Link)) → option_copied lent ≡ link_at table id → IfSome lent (λ link. setup_of link.now ≡ setup_for (side_of table) id)
 setup_of_lent table id None h = tt
 setup_of_lent table id (Some link) h = setup_at table id link.now (sym h)
 
--- ---- Octets that are read.
+-- ---- Reading octets.
 
 pub arrived : (table : LinkTable) (octets : List ℕ) (from : Side) (result : Result Fields FrameFault) → from ≡ other_side table.side → result ≡ frame_at from octets → arrives table octets ≡ heard_by result
 unfolding side_of
@@ -316,7 +316,7 @@ arrived table octets from result same exact = sym (ap heard_by exact ∙ ap (λ 
 
 -- ---- The ids.
 
--- the keys of the map, in order, are those of the links that are there
+-- the keys of the map, in order, are the ids of the existing links
 pub ids_there : (table : LinkTable) (keys : List LinkId) → ((id : LinkId) → is_some (key_of table.keys id) ≡ is_member (eq_by_cmp id_cmp) keys id)
     → (id : LinkId) → Contains keys id ↔ IsSome (link_at table id)
 ids_there table keys has id = (
@@ -328,7 +328,8 @@ pub on_ok_all : {A E : Type 0} (r : Result A E) (P Q : A → Type 0) → ((a : A
 on_ok_all (Ok a) P Q f h = f a h
 on_ok_all (Err e) P Q f h = tt
 
--- octets with a fault that carries an address are for that link, and those with one that carries none are for none
+-- octets with a fault that has an address are for that link; those with a fault that has none are
+-- for no link
 pub arrived_fault : (table : LinkTable) (octets : List ℕ) (from : Side) (fault : FrameFault) → from ≡ other_side table.side → Err fault ≡ frame_at from octets
     → (address : Option Address) → fault.address ≡ address → arrives table octets ≡ fault_for address fault.kind
 arrived_fault table octets from fault same exact address its = arrived table octets from (Err fault) same exact ∙ ap (λ a. fault_for a fault.kind) its

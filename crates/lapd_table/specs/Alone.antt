@@ -1,5 +1,5 @@
--- A table as the ends of its links, and a link alone: after any list of inputs the link in the table is what it is alone
--- after its part of them, and what is sent for it is the same.
+-- Compares a table, as the ends of its links, with a link alone. After any list of inputs, a link
+-- in the table is the same as a link alone after its part of them, and sends the same.
 use Rattle.std.specs.Prelude.{◌≡◌, ℕ, List, [], ◌∷◌, ◌++◌, if◌then◌else◌, Option, Some, None, option_map, Result, Ok, Err}
 use Rattle.lapd_mod128.specs.Counting.{Tagged}
 use Rattle.lapd_frame.specs.declared.Side.{Side}
@@ -20,34 +20,34 @@ use Rattle.lapd_table.specs.Octets.{addressed}
 
 -- ---- Inputs.
 
--- what comes to a table: octets from the line, or a request or an expired timer of one link
+-- an arrival at a table: octets from the line, or a request or an expired timer of one link
 pub data Arrival : Type 0 where
   Octets : (octets : List ℕ) → Arrival
   Asked : (id : LinkId) → (input : Input) → Arrival
 
--- the link that octets of this side are for, with what it hears; none where they are discarded
+-- the link that received octets are for, with its input; `None` if they are discarded
 abbrev pub heard : Result (LinkId × Input) FaultKind → Option (LinkId × Input)
 heard (Ok named) = Some named
 heard (Err kind) = None
 
--- the link that it names, with its input
+-- the link that an arrival is for, with its input
 abbrev pub named : Side → Arrival → Option (LinkId × Input)
 named side (Octets octets) = heard (addressed (other_side side) octets)
 named side (Asked id input) = Some (id, input)
 
--- put before these where it is for this link
+-- prepends an input if it is for this link
 abbrev pub if_for : LinkId → Option (LinkId × Input) → List Input → List Input
 if_for id None inputs = inputs
 if_for id (Some (other, input)) inputs = if id_eq id other then input ∷ inputs else inputs
 
--- the part of a list that names one link
+-- the inputs of a list that are for this link
 abbrev pub part_of : Side → LinkId → List Arrival → List Input
 part_of side id [] = []
 part_of side id (arrival ∷ arrivals) = if_for id (named side arrival) (part_of side id arrivals)
 
 -- ---- A link alone.
 
--- the end after a step, and what is sent for it; a refused input changes nothing
+-- the end after a step, and its outputs; a refused input changes nothing
 abbrev pub end_by : End → Result StepState LinkFault → End
 end_by e (Ok s) = s.end
 end_by e (Err fault) = e
@@ -76,13 +76,13 @@ sent_by_all (input ∷ inputs) e = sent input e ++ sent_by_all inputs (after inp
 abbrev pub Ends : Type 0
 Ends = LinkId → Option End
 
--- the end that is named takes a step, and all others stay
+-- the addressed end takes a step, and all others are unchanged
 abbrev pub ends_after : Option (LinkId × Input) → Ends → Ends
 ends_after None ends other = ends other
 ends_after (Some (id, input)) ends other = if id_eq other id
     then option_map (after input) (ends other) else ends other
 
--- what is sent for one link by an input, be it its own or another's
+-- the outputs of a link with this end, for an input of its own
 abbrev pub sent_at : Option End → Input → List Out
 sent_at None input = []
 sent_at (Some e) input = sent input e
@@ -98,7 +98,7 @@ abbrev pub table_run : Side → List Arrival → Ends → Ends
 table_run side [] ends = ends
 table_run side (arrival ∷ arrivals) ends = table_run side arrivals (table_step side arrival ends)
 
--- all that a run sends for one link
+-- all outputs of a run for one link
 abbrev pub run_sends : LinkId → Side → List Arrival → Ends → List Out
 run_sends id side [] ends = []
 run_sends id side (arrival ∷ arrivals) ends = sent_for id (named side arrival) ends
@@ -106,15 +106,15 @@ run_sends id side (arrival ∷ arrivals) ends = sent_for id (named side arrival)
 
 -- ---- The law.
 
--- of a link that is in the table at first
+-- for a link that is in the table at the start
 pub record IsAsAlone (side : Side) (arrivals : List Arrival) (ends : Ends) (id : LinkId) (e : End) :
     Type 0 where
   pub end : table_run side arrivals ends id ≡ Some (after_all (part_of side id arrivals) e)
   pub sent : run_sends id side arrivals ends ≡ sent_by_all (part_of side id arrivals) e
 
--- ---- What a table in code shows, and how its calls are steps.
+-- ---- The ends that a table in code represents, and its calls as steps.
 
--- this link stands for this end, or neither is there
+-- this link represents this end, or neither exists
 abbrev pub IsEndOf : Option Link → Option End → Type 0
 IsEndOf None None = Unit {0}
 IsEndOf (Some link) (Some e) = LinkStandsFor link e
@@ -123,8 +123,8 @@ IsEndOf link e = ⊥
 abbrev pub ShowsEnds : LinkTable → Ends → Type 0
 ShowsEnds table ends = (id : LinkId) → IsEndOf (link_at table id) (ends id)
 
--- Whatever ends the table showed, it shows now those after one step, and these outputs are sent for the link of this SAPI
--- and TEI.
+-- Whatever ends the table represented before, it now represents those after one step, and these
+-- outputs are sent for the link with this SAPI and TEI.
 pub record Follows (old new : LinkTable) (arrival : Arrival) (id : LinkId) (outs : List Out) :
     Type 0 where
   pub ends : (ends : Ends) → ShowsEnds old ends

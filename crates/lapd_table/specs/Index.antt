@@ -1,4 +1,4 @@
--- The links of a table, in a slab, and the map that names the key of each.
+-- The links of a table, in a slab, and the map that holds the slab key of each.
 use Rattle.std.specs.Prelude.{◌≡◌, ℕ, Option, Some, option_map}
 use Rattle.std.specs.BTreeMap as tree
 use Rattle.slab.specs.Slab as slab
@@ -12,7 +12,8 @@ use Rattle.lapd_table.specs.LinkId.{id_cmp, id_of_setup, setup_for}
 abbrev pub key_of : tree.BTreeMap LinkId ℕ → LinkId → Option ℕ
 key_of keys id = tree.get id_cmp keys id
 
--- Each entry names a link of this side, of just its SAPI and TEI; and each link is named, once, by the entry of its own.
+-- Each map entry names a link of this side with exactly the entry's SAPI and TEI. Each link has
+-- exactly one entry, under its own id.
 pub record IsIndex (side : Side) (links : slab.Slab Link) (keys : tree.BTreeMap LinkId ℕ) :
     Type 0 where
   pub names : (id : LinkId) (key : ℕ) → key_of keys id ≡ Some key

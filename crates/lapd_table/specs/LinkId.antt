@@ -1,4 +1,4 @@
--- Which link (Q.921 3.4.1): its SAPI and its TEI, and their order.
+-- The id of a link (Q.921 3.4.1): its SAPI and its TEI, and the order of ids.
 use Rattle.std.specs.Prelude.{ℕ, ◌+◌, ◌*◌, Bool, ◌==◌, List, ◌++◌, codes}
 use Rattle.std.specs.Fmt.{decimal}
 use Rattle.std.specs.declared.cmp.Ordering.{Ordering}
@@ -15,11 +15,11 @@ use Rattle.lapd_table.specs.declared.link_id.LinkId.{LinkId}
 abbrev pub id_of_address : Address → LinkId
 id_of_address a = record { sapi = a.sapi; tei = a.tei }
 
--- a link that is made so
+-- the id of a link with this setup
 abbrev pub id_of_setup : Setup → LinkId
 id_of_setup setup = record { sapi = setup.sapi; tei = setup.tei }
 
--- how the link of this side with this SAPI and TEI is made
+-- the setup of the link of this side with this SAPI and TEI
 abbrev pub setup_for : Side → LinkId → Setup
 setup_for side id = record { side = side; sapi = id.sapi; tei = id.tei }
 
@@ -31,7 +31,7 @@ id_eq = eq_of_both (on (λ id. sapi_value id.sapi) ◌==◌) (on (λ id. id.tei)
 abbrev pub id_cmp : LinkId → LinkId → Ordering
 id_cmp = then_cmp (on (λ id. sapi_value id.sapi) nat_cmp) (on (λ id. id.tei) nat_cmp)
 
--- its place in that order, as one number, where the TEI has seven bits
+-- the rank in that order, as one number; the TEI has seven bits
 abbrev pub sapi_place : Sapi → ℕ
 sapi_place Call = 0
 sapi_place Packet = 1
@@ -40,6 +40,6 @@ sapi_place Management = 2
 abbrev pub place_of : LinkId → ℕ
 place_of id = sapi_place id.sapi * 256 + id.tei
 
--- as it is printed
+-- the printed form
 abbrev pub id_text : LinkId → List ℕ
 id_text id = codes "SAPI " ++ (decimal (sapi_value id.sapi) ++ (codes " TEI " ++ decimal id.tei))

@@ -1,4 +1,4 @@
--- What a table shows, and how its calls are stated. A table is a map from SAPI and TEI to a link.
+-- A table as a map from SAPI and TEI to a link, by which its calls are specified.
 use Rattle.std.specs.Prelude.{◌≡◌, ◌≢◌, ℕ, List, Option, Some, None, Result, Ok, Err, IsSome, IsSomeAnd, option_and_then, true, ⊤}
 use Rattle.slab.specs.Slab as slab
 use Rattle.lapd_frame.specs.declared.Side.{Side}
@@ -21,21 +21,21 @@ use Rattle.lapd_table.specs.LinkId.{id_of_address}
 use Rattle.lapd_table.specs.Index.{key_of}
 use Rattle.lapd_table.specs.Octets.{addressed}
 
--- the side whose links these are
+-- the side that the links belong to
 unfoldable pub side_of : LinkTable → Side
 side_of table = table.side
 
--- the link of this SAPI and TEI, where it is there
+-- the link with this SAPI and TEI, if it exists
 unfoldable pub link_at : LinkTable → LinkId → Option Link
 link_at table id = option_and_then (slab.get table.links) (key_of table.keys id)
 
--- the key names a link that is there
+-- the key names an existing link
 unfoldable pub IsKey : LinkTable → LinkKey → Type 0
 IsKey table key = key_of table.keys key.id ≡ Some key.place
 
 -- ---- How the table changes.
 
--- There is this now at one SAPI and TEI, and at every other what was there.
+-- One SAPI and TEI now has this link or none, and every other is unchanged.
 pub record Changes (old new : LinkTable) (id : LinkId) (slot : Option Link) : Type 0 where
   pub side : side_of new ≡ side_of old
   pub there : link_at new id ≡ slot
@@ -47,7 +47,7 @@ pub record IsUnchanged (old new : LinkTable) : Type 0 where
 
 -- ---- The step of one link.
 
--- The link that is there does its own step, with these outputs in order, and no other link changes.
+-- The existing link takes its own step, with these outputs in order, and no other link changes.
 pub record StepsAt (old new : LinkTable) (id : LinkId) (input : Input) (outs : List Out) :
     Type 0 where
   pub before : Link
@@ -56,11 +56,12 @@ pub record StepsAt (old new : LinkTable) (id : LinkId) (input : Input) (outs : L
   pub steps : Steps before after input outs
   pub changes : Changes old new id (Some after)
 
--- the link that is there refuses
+-- the existing link refuses
 abbrev pub RefusesAt : LinkTable → LinkId → Input → LinkFault → Type 0
 RefusesAt table id input fault = IsSomeAnd (link_at table id) (λ link. Refuses link input fault)
 
--- the event is for the link of this SAPI and TEI: a frame with its address, or a fault that is one of a link (F4 to F7)
+-- the event is for the link with this SAPI and TEI: a frame with its address, or a fault that
+-- concerns a link (F4 to F7)
 abbrev pub IsFor : LinkId → Event → Type 0
 IsFor id (event.Heard frame) = id_of_address frame.now.address ≡ id
 IsFor id (event.Fault kind) = is_for_link kind ≡ true
@@ -68,18 +69,19 @@ IsFor id other = ⊤
 
 -- ---- Octets from the line.
 
--- what octets from the other side are to a table: the link that they are for with what it hears, or why they are for none
+-- what octets from the other side mean for a table: the link that they are for, with its input, or
+-- why they are for none
 abbrev pub arrives : LinkTable → List ℕ → Result (LinkId × Input) FaultKind
 arrives table octets = addressed (other_side (side_of table)) octets
 
--- they are for this link, which does its step
+-- the octets are for this link, which takes its step
 pub record HasDispatched (old new : LinkTable) (octets : List ℕ) (id : LinkId) (outs : List Out) :
     Type 0 where
   pub input : Input
   pub arrived : arrives old octets ≡ Ok (id, input)
   pub steps : StepsAt old new id input outs
 
--- they are for a link that is not there, or for none
+-- the octets are for a link that does not exist, or for none
 abbrev pub IsForNoLink : LinkTable → List ℕ → TableFault → Type 0
 IsForNoLink table octets NoLink = (id : LinkId) × (input : Input)
     × (arrives table octets ≡ Ok (id, input)) × (link_at table id ≡ None)
@@ -87,9 +89,10 @@ IsForNoLink table octets (Discarded kind) = arrives table octets ≡ Err kind
 IsForNoLink table octets AlreadyThere = ⊥
 IsForNoLink table octets Memory = ⊥
 
--- ---- A link that is added.
+-- ---- Adding a link.
 
--- why a link of this SAPI and TEI is not added: one is there already; or memory was refused, where none was there
+-- why a link with this SAPI and TEI is not added: one already exists; or none did, and an
+-- allocation failed
 abbrev pub IsNotAdded : LinkTable → LinkId → TableFault → Type 0
 IsNotAdded table id AlreadyThere = IsSome (link_at table id)
 IsNotAdded table id Memory = link_at table id ≡ None

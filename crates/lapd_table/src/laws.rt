@@ -1,4 +1,4 @@
-//! The laws of a table. They do nothing when they are called.
+//! Laws of a table. Calling them does nothing.
 
 ghost use Rattle.std.specs.Prelude.{◌≡◌, ℕ, List, [], Some};
 ghost use Rattle.lapd_frame.specs.declared.Side.{Side};
@@ -12,15 +12,17 @@ ghost use Rattle.lapd_table.specs.declared.table_fault.TableFault.{TableFault};
 ghost use Rattle.lapd_table.specs.LinkTable.{IsUnchanged, StepsAt, RefusesAt, HasDispatched, IsForNoLink};
 ghost use Rattle.lapd_table.specs.Alone.{Arrival, Octets, Asked, Ends, IsAsAlone, Follows};
 
-/// A link in a table, after any list of inputs, is the link alone after its part of them, and what is sent for it is the
-/// same: over the ends of the state table, whatever octets, requests and expired timers come, in any order.
+/// After any list of inputs, a link in a table is in the same state as a link alone that received
+/// its part of them, and sends the same. Received octets, requests and timer expiries may arrive in
+/// any order.
 pub fn link_is_as_it_is_alone()
     ensures { (side : Side) (arrivals : List Arrival) (ends : Ends) (id : LinkId) (e : End)
         → ends id ≡ Some e → IsAsAlone side arrivals ends id e }
 {}
 
-/// The calls of a table are steps of that definition: whatever ends its links stand for, after `dispatch`, `handle` and
-/// `give` they stand for the ends after one step, with the outputs that were told, and after a refusal with none.
+/// `dispatch`, `handle` and `give` are steps of that definition. If the links of a table represent
+/// some ends, then after a call they represent the ends after one step, with the outputs that the
+/// call returned. After a refused call they are unchanged, and nothing is sent.
 pub fn calls_are_steps()
     ensures dispatched { (old new : LinkTable) (octets : List ℕ) (id : LinkId) (outs : List Out)
         → HasDispatched old new octets id outs → Follows old new (Octets octets) id outs }

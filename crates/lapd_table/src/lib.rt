@@ -1,9 +1,10 @@
-//! Several data links of one side of the user-network interface, each under its SAPI and TEI, after ITU-T Q.921 (09/97),
-//! 3.3 and 3.4.
+//! Several data links of one side of the user-network interface, each under its SAPI and TEI, after
+//! ITU-T Q.921 (09/97), 3.3 and 3.4.
 //!
-//! [`LinkTable`] holds the links: begin there. [`LinkTable::dispatch`] takes the octets of a frame, finds the link that its
-//! address names, and does that link's own step. [`LinkTable::handle`] and [`LinkTable::give`] hand an event or a message to
-//! the link of a [`LinkId`]. No call lends a link for writing, so no link can be exchanged for another.
+//! Begin with [`LinkTable`], which holds the links. [`LinkTable::dispatch`] finds the link that a
+//! received frame is addressed to, and processes the frame in it. [`LinkTable::handle`] and
+//! [`LinkTable::give`] pass an event or a message to the link of a [`LinkId`]. No call lends a link
+//! mutably, so no link can be exchanged for another.
 #![tactic(auto)]
 
 mod laws;

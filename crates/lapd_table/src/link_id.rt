@@ -11,19 +11,17 @@ use lapd_link::Link;
 use std::cmp::Ordering;
 use std::fmt;
 
-/// Which link of a table: its service access point and terminal endpoint (Q.921 3.4.1). The order is that of the SAPI's
-/// number, then of the TEI's.
+/// Identifies a link of a table: its service access point and terminal endpoint (Q.921 3.4.1). Ids
+/// are ordered by SAPI number, then TEI.
 #[derive(Clone, Copy, Debug)]
 pub struct LinkId {
-    // In this order of the two a comparison reads both at once.
-    /// The terminal endpoint.
+    // In this field order a comparison reads both at once.
     pub tei: Tei,
-    /// The service access point.
     pub sapi: Sapi,
 }
 
 impl LinkId {
-    /// The link that frames with this address are for.
+    /// The id of the link that frames with this address are for.
     pub fn of_address(address: &Address) -> LinkId
         ensures { result ≡ id_of_address address.now }
     {
@@ -33,8 +31,8 @@ impl LinkId {
         }
     }
 
-    /// The address of the link's frames of this role (Q.921 3.3). A frame without information can be made of it and needs
-    /// no link.
+    /// The address of the link's frames with this role (Q.921 3.3). This is all that a frame
+    /// without information needs; no link is required.
     pub fn address(&self, role: Role) -> Address
         ensures { result ≡ record { sapi = self.now.sapi; tei = self.now.tei; role = role } }
     {
@@ -45,7 +43,7 @@ impl LinkId {
         }
     }
 
-    /// Where this link stands in a table.
+    /// The id of this link in a table.
     pub fn of_link(link: &Link) -> LinkId
         ensures { result ≡ id_of_setup (setup_of link.now) }
     {
@@ -55,7 +53,7 @@ impl LinkId {
         }
     }
 
-    /// Its place in the order, as one number: a comparison is then one of two numbers.
+    /// The rank in the order of ids as one number, so that a comparison takes one test.
     #[inline(always)]
     fn place(self) -> u16
         ensures value { result ≡ place_of self }
@@ -107,7 +105,7 @@ impl Ord for LinkId {
     fn cmp(&self, other: &LinkId) -> Ordering {
         let place = self.place();
         let others = other.place();
-        // In this order of tests a search in a map goes on with one test a key.
+        // With this order of tests, a map search needs one test per key.
         if place > others {
             Ordering::Greater
         } else if place == others {

@@ -2,8 +2,9 @@ ghost use Rattle.std.specs.Prelude.{◌≡◌};
 
 use crate::LinkId;
 
-/// A link that is there: its SAPI and TEI, and where it stands in its table. [`LinkTable::find`](crate::LinkTable::find) gives
-/// it, and it serves until that link is removed. So a program that does several things with one link finds it once.
+/// The key of an existing link: its SAPI, TEI and slot in the table.
+/// [`LinkTable::find`](crate::LinkTable::find) returns it, and it is valid until that link is
+/// removed. A program that uses a link several times needs to find it only once.
 #[derive(Clone, Copy)]
 pub struct LinkKey {
     pub(crate) id: LinkId,

@@ -22,7 +22,7 @@ pub struct LinkTable {
     alloc: Global,
     side: Side,
     links: Slab<Link>,
-    /// Under which key of the slab each link stands.
+    /// The slab key of each link.
     keys: BTreeMap<LinkId, usize>,
     ghost index: { IsIndex side links keys } by { Prim.hlevel props },
 }
@@ -31,7 +31,8 @@ impl LinkTable {
     ghost use Rattle.lapd_table.specs.declared.link_id.LinkId.{LinkId};
     ghost use Rattle.lapd_table.specs.LinkTable.{side_of, link_at, Changes, IsUnchanged, StepsAt, RefusesAt, IsFor, IsKey, HasDispatched, IsForNoLink, IsNotAdded};
 
-    /// A table without links, for those of this side. It takes no memory; the links that are added take it from `alloc`.
+    /// Creates an empty table for links of this side. It allocates nothing until a link is added;
+    /// `alloc` is used then.
     pub fn new(alloc: Global, side: Side) -> LinkTable
         ensures empty { (id : LinkId) → link_at result id ≡ None }
         ensures side { side_of result ≡ side }
@@ -44,7 +45,7 @@ impl LinkTable {
         }
     }
 
-    /// Whose links these are.
+    /// The side of the interface that the links belong to.
     #[tactic(auto, unfolding(crate::specs::LinkTable::side_of))]
     pub fn side(&self) -> Side
         ensures { result ≡ side_of self.now }
@@ -52,12 +53,12 @@ impl LinkTable {
         self.side
     }
 
-    /// Adds a link, which is of the table's side ([`LinkTable::side`]).
+    /// Adds a link. The link must belong to the table's side ([`LinkTable::side`]).
     ///
     /// # Errors
     ///
-    /// B2 where a link of its SAPI and TEI is there, and else B3 where memory was refused. The link is handed back, and
-    /// the table is unchanged.
+    /// B2 if a link with this SAPI and TEI exists, otherwise B3 if an allocation failed. The link
+    /// is returned in the error, and the table is unchanged.
     pub fn add(&mut self, link: Link) -> Result<(), (TableFault, Link)>
         requires side { (setup_of link).side ≡ side_of self.old }
         ensures new { OnOk result (link_at self.old (id_of_setup (setup_of link)) ≡ None) }
@@ -82,7 +83,7 @@ impl LinkTable {
         }
     }
 
-    /// Takes a link out of the table. It takes no memory.
+    /// Removes a link from the table and returns it. Does not allocate.
     pub fn remove(&mut self, id: LinkId) -> Option<Link>
         ensures value { result ≡ link_at self.old id }
         ensures changes { Changes self.old self.new id None }
@@ -93,7 +94,7 @@ impl LinkTable {
         }
     }
 
-    /// The link of this SAPI and TEI.
+    /// The link with this SAPI and TEI, if it exists.
     pub fn link(&self, id: LinkId) -> Option<&Link>
         ensures value { option_copied result ≡ link_at self.now id }
         ensures setup { IfSome result (λ link. setup_of link.now
@@ -105,7 +106,7 @@ impl LinkTable {
         }
     }
 
-    /// Where the link of this SAPI and TEI stands.
+    /// Finds the link with this SAPI and TEI, and returns its key.
     pub fn find(&self, id: &LinkId) -> Option<LinkKey>
         ensures found { IfSome result (λ key. (key.id ≡ id.now) × IsKey self.now key) }
         ensures none { result ≡ None → link_at self.now id.now ≡ None }
@@ -128,11 +129,11 @@ impl LinkTable {
         &self.links[key.place]
     }
 
-    /// Which links are there, by rising SAPI, then TEI.
+    /// The ids of all links, by ascending SAPI, then TEI.
     ///
     /// # Errors
     ///
-    /// `AllocError` where memory was refused.
+    /// `AllocError` if the list cannot be allocated.
     pub fn ids(&self) -> Result<Vec<LinkId>, AllocError>
         ensures rising { IfOk result (λ ids. IsStrictlySortedBy id_cmp ids.items) }
         ensures all { IfOk result (λ ids. (id : LinkId) → Contains ids.items id
@@ -141,14 +142,14 @@ impl LinkTable {
         self.keys.keys().copied().collect(self.alloc)
     }
 
-    /// Octets that came from the other side: the link that they are for does its own step, as [`Link::handle`] does it. It
-    /// takes no memory. Octets with one of F4 to F7 are for the link whose address they carry, as a fault. Where speed
-    /// matters, lend the outputs: [`LinkTable::dispatch_into`].
+    /// Processes received octets in the link that they are addressed to, as [`Link::handle`] does.
+    /// Does not allocate. Octets with one of the faults F4 to F7 are reported, as a fault, to the
+    /// link whose address they carry. For speed, pass the outputs to [`LinkTable::dispatch_into`].
     ///
     /// # Errors
     ///
-    /// B4 for octets with one of F1 to F3, which are for no link, and B1 where the link is not there. The table is
-    /// unchanged.
+    /// B4 if the octets have one of the faults F1 to F3, so that they are for no link. B1 if the
+    /// link does not exist. The table is unchanged.
     pub fn dispatch(&mut self, bytes: &[u8]) -> Result<(LinkId, Outs), TableFault>
         ensures ok { IfOk result (λ done. HasDispatched self.old self.new bytes.now done.0
             done.1.items) }
@@ -160,7 +161,7 @@ impl LinkTable {
         Ok((id, outs))
     }
 
-    /// As [`LinkTable::dispatch`], into outputs that the caller lends, which are emptied first.
+    /// Like [`LinkTable::dispatch`], but writes to the caller's outputs, which are emptied first.
     ///
     /// # Errors
     ///
@@ -187,7 +188,8 @@ impl LinkTable {
         }
     }
 
-    /// A frame or a fault for the link of this SAPI and TEI, where it is there. No link refuses one.
+    /// Passes a frame or a fault to the link with this SAPI and TEI, if it exists. No link refuses
+    /// one.
     fn hear(&mut self, id: LinkId, event: Event, outs: &mut Outs) -> Result<LinkId, TableFault>
         requires for_link { IsFor id event }
         requires heard { (e : End) → refused (input_of event) e ≡ None }
@@ -208,7 +210,7 @@ impl LinkTable {
         }
     }
 
-    /// As [`LinkTable::handle_into`], for the link that stands under this key of the slab.
+    /// Like [`LinkTable::handle_into`], for the link with this slab key.
     fn handle_under(
         &mut self,
         key: usize,
@@ -229,11 +231,11 @@ impl LinkTable {
         self.links[key].handle_into(event, outs)
     }
 
-    /// An event for a link that is there, which does its own step. It takes no memory. Where speed matters, lend the
-    /// outputs: [`LinkTable::handle_into`].
+    /// Processes an event in an existing link. Does not allocate. For speed, pass the outputs to
+    /// [`LinkTable::handle_into`].
     ///
-    /// That the link is there is the caller's condition ([`LinkTable::link`]), and so is that the event is for it, as
-    /// [`Link::handle`] says.
+    /// The caller ensures that the link exists ([`LinkTable::link`]) and that the event is for it,
+    /// as in [`Link::handle`].
     ///
     /// # Errors
     ///
@@ -251,7 +253,7 @@ impl LinkTable {
         Ok(outs)
     }
 
-    /// As [`LinkTable::handle`], into outputs that the caller lends, which are emptied first.
+    /// Like [`LinkTable::handle`], but writes to the caller's outputs, which are emptied first.
     ///
     /// # Errors
     ///
@@ -274,7 +276,7 @@ impl LinkTable {
         self.handle_under(key, id, event, outs)
     }
 
-    /// As [`LinkTable::handle_into`], for the link with this key.
+    /// Like [`LinkTable::handle_into`], for the link with this key.
     ///
     /// # Errors
     ///
@@ -298,14 +300,14 @@ impl LinkTable {
         self.handle_under(key.place, key.id, event, outs)
     }
 
-    /// A message of layer 3 for a link that is there, which does its own step. It takes no memory. Where speed matters, lend
-    /// the outputs: [`LinkTable::give_into`].
+    /// Submits a layer 3 message to an existing link. Does not allocate. For speed, pass the
+    /// outputs to [`LinkTable::give_into`].
     ///
-    /// That the link is there is the caller's condition ([`LinkTable::link`]).
+    /// The caller ensures that the link exists ([`LinkTable::link`]).
     ///
     /// # Errors
     ///
-    /// As [`Link::give`]. The message is handed back, and the table is unchanged.
+    /// As [`Link::give`]. The message is returned in the error, and the table is unchanged.
     pub fn give(&mut self, id: LinkId, message: Vec<u8>) -> Result<Outs, Refused>
         requires { IsSome (link_at self.old id) }
         ensures ok { IfOk result (λ outs. StepsAt self.old self.new id
@@ -320,7 +322,7 @@ impl LinkTable {
         Ok(outs)
     }
 
-    /// As [`LinkTable::give`], into outputs that the caller lends, which are emptied first.
+    /// Like [`LinkTable::give`], but writes to the caller's outputs, which are emptied first.
     ///
     /// # Errors
     ///
@@ -344,11 +346,11 @@ impl LinkTable {
         self.give_under(key, id, message, outs)
     }
 
-    /// As [`LinkTable::give_into`], for the link with this key.
+    /// Like [`LinkTable::give_into`], for the link with this key.
     ///
     /// # Errors
     ///
-    /// As [`Link::give`]. The message is handed back, and the table is unchanged.
+    /// As [`Link::give`]. The message is returned in the error, and the table is unchanged.
     pub fn give_at(
         &mut self,
         key: &LinkKey,
@@ -369,7 +371,7 @@ impl LinkTable {
         self.give_under(key.place, key.id, message, outs)
     }
 
-    /// As [`LinkTable::give_into`], for the link that stands under this key of the slab.
+    /// Like [`LinkTable::give_into`], for the link with this slab key.
     fn give_under(
         &mut self,
         key: usize,

@@ -1,4 +1,4 @@
--- What the assigner does keeps what the bus keeps.
+-- The steps of the assigner preserve the invariants of the bus.
 use Rattle.std.proofs.Common.{◌≡◌, ◌≢◌, ℕ, ◌+◌, ◌<◌, ◌≤◌, zero, suc, Bool, true, false, List, [], ◌∷◌, map, set, drop, length, get_or, slice_get, Option, Some, None, inl, inr, ◌⊎◌, refl, sym, ap, subst, ◌∙◌, arith}
 use Rattle.std.proofs.Math.Numerals.{add-one}
 use Rattle.std.proofs.lemmas.Bool.{cases_eq, cond_both}
@@ -36,7 +36,7 @@ at_front [] (suc n) b rest q = absurd cc
 at_front (x ∷ held) zero b rest q = (omega arith, cc, cc)
 at_front (x ∷ held) (suc n) b rest q = let k : (n < length held) × (get_or held n false ≡ b) × (drop (suc n) held ≡ rest) = at_front held n b rest q in (omega (arith, k.0), k.1, k.2)
 
--- this TEI is not held, and is not below the other number
+-- this TEI is not held, and is at least `least`
 pub record IsFree (held : List Bool) (least tei : ℕ) : Type 0 where
   pub within : tei < length held
   pub free : is_held held tei ≡ false
@@ -55,12 +55,12 @@ free_from held n (false ∷ rest) tei q found = let k : (n < length held) × (ge
 abbrev pub AssignsNothing : TeiMessage → Type 0
 AssignsNothing m = assigned_by m.kind m.ai ≡ None
 
--- A step that assigns no TEI: of those that were held it gives up only what it frees.
+-- a step that assigns no TEI; it gives up only the TEIs that it frees
 pub record AssignsNone (a : AssignerState) (done : AssignerStep) : Type 0 where
   pub stays : (n : ℕ) → is_held a.held n ≡ true → AllByRecursion (λ k. n ≢ k) (freed done.outs) → is_held done.now.held n ≡ true
   pub none : All AssignsNothing (sent done.outs)
 
--- a step that assigns one, which was not held
+-- a step that assigns a TEI, which was not held
 pub record AssignsOne (a : AssignerState) (done : AssignerStep) : Type 0 where
   pub ri : ℕ
   pub tei : ℕ
@@ -130,7 +130,7 @@ assigner_assigns a (event.Heard m) = heard a m.kind m.ri m.ai
 assigner_assigns a (event.Check tei) = inl (begun a tei a.check)
 assigner_assigns a event.T201 = inl (timed a a.check)
 
--- ---- What is held stays held, until it is freed.
+-- ---- A held TEI stays held until it is freed.
 
 abbrev StaysHeld : AssignerState → AssignerStep → Type 0
 StaysHeld a done = (n : ℕ) → is_held a.held n ≡ true → AllByRecursion (λ k. n ≢ k) (freed done.outs) → is_held done.now.held n ≡ true
@@ -141,7 +141,7 @@ stays_held a done either = elim either [
   | inr h ↦ subst (StaysHeld a) (sym h.is) (λ n is unfreed. held_and_one a.held h.tei n h.free.within is)
 ]
 
--- what stands in a list where all are so
+-- an element of a list has the property that all elements have
 pub all_at : {X : Type 0} (P : X → Type 0) (xs : List X) (i : ℕ) (x : X) → All P xs → slice_get xs i ≡ Some x → P x
 all_at P xs i x all there = subst P (get_or_from_slice_get xs i x x there) (All-get_or P xs i x (slice_get_within xs i x there) all)
 
@@ -201,7 +201,7 @@ none_fits owner kind.CheckResponse ri ai none = tt
 none_fits owner kind.Remove ri ai none = tt
 none_fits owner kind.Verify ri ai none = tt
 
--- a TEI has this owner now
+-- changes the owner of a TEI to this one
 abbrev pub owned_by : (ℕ → Option Owner) → ℕ → Owner → ℕ → Option Owner
 owned_by owner tei o n = if n == tei then Some o else owner n
 
@@ -211,7 +211,7 @@ in_use_is_held held (Some m) n tei known q from free e =
     let same : m ≡ tei = cc in
     let bad : true ≡ false = sym (subst (λ k. 64 ≤ k → is_held held k ≡ true) same known from) ∙ free in absurd cc
 
--- a TEI that was nobody's is assigned
+-- a TEI without an owner is assigned
 one_owned : (b : BusState) (ri tei : ℕ) → IsFree b.assigner.held 64 tei → KnowsInUse b.assigner.held b → Owned b → Owned (assigner_did b (serves ri (Some tei) b.assigner)).now
 one_owned b ri tei free known h =
     let later : ℕ → Option Owner = owned_by h.owner tei (Reference ri) in

@@ -1,5 +1,5 @@
--- Tests by which it is computed that a run meets the premises: where one says yes, it is so. They say no where a terminal asks by
--- its own last reference, which it may.
+-- Tests that compute whether a run meets the premises. If a test returns true, the premise holds. A
+-- test returns false if a terminal requests by its own last reference, which the premise permits.
 use Rattle.std.proofs.Common.{◌≡◌, ◌≢◌, ℕ, Bool, true, false, List, [], ◌∷◌, Option, Some, None, subst}
 use Rattle.std.proofs.lemmas.Bool.{eq-eqb, and_parts}
 use Rattle.std.proofs.lemmas.List.Elements.{All-from_recursion}
@@ -51,7 +51,7 @@ nobodys b n test =
           (λ f. it_is_another (assigned_by f.message.kind f.message.ai) n) b.down both.1);
     }
 
--- no terminal at all has the reference
+-- no terminal has the reference
 abbrev pub is_no_ones : BusState → ℕ → Bool
 is_no_ones b r = every (λ t. not (is_it (reference_of t) r)) b.terminals
 

@@ -1,4 +1,4 @@
--- The ways in which a move of a bus may go. What holds of each of them holds of every move.
+-- The kinds of moves of a bus. A property of each kind holds for every move.
 use Rattle.std.proofs.Common.{◌≡◌, ℕ, Bool, true, false, [], slice_get, Option, Some, None, refl}
 use Rattle.std.specs.Prelude.{slice_index_or}
 use Rattle.std.specs.List.{remove}
@@ -17,12 +17,12 @@ use Rattle.lapd_tei.specs.Assigner.{assigner_step}
 use Rattle.lapd_tei.specs.Bus.{BusState, BusStep, Broadcast, terminal_did, assigner_did, terminal_has, t202_expires, t201_expires, terminal_hears, hears, with_mark, drops_down, drops_up, network_hears, without_up, moved, done}
 use Rattle.lapd_tei.specs.Service.{place_of_move}
 
--- a terminal's event that is no message
+-- an event of a terminal that is not a message
 abbrev pub HearsNothing : TerminalEvent → Type 0
 HearsNothing (event.Heard m ri) = ⊥
 HearsNothing other = Unit {0}
 
--- a message on its way down is lost
+-- a message from the network side in transit is lost
 abbrev pub without_down : BusState → ℕ → BusState
 without_down b i = record { terminals = b.terminals; assigner = b.assigner; down = remove b.down i; up = b.up }
 

@@ -1,4 +1,5 @@
--- Each event of a bus in service keeps what the bus keeps, so no two terminals hold the same TEI.
+-- Each event of a bus in service preserves the invariants of the bus, so no two terminals hold the
+-- same TEI.
 use Rattle.std.proofs.Common.{◌≡◌, ◌≢◌, ℕ, zero, suc, true, List, [], ◌∷◌, ◌++◌, map, take, drop, get_or, slice_get, replicate, Option, Some, None, inl, inr, refl, sym, ap, subst, ◌∙◌}
 use Rattle.std.proofs.lemmas.List.Elements.{All-nil, All-set, All-append, All-take, All-drop, All-replicate}
 use Rattle.std.specs.List.{All, AllByRecursion, remove}
@@ -49,7 +50,7 @@ marked_known b i t f flies h = record {
   assignments = All-set (λ g. IsKnown b.assigner.held (assigned_by g.message.kind g.message.ai)) b.down i (heard_by t f) (heard_is_known b i f flies h) h.assignments;
 }
 
--- messages on their way up are not looked at
+-- messages from terminals in transit do not matter
 up_known : (b : BusState) (i : ℕ) (done : AssignerStep) → KnowsInUse done.now.held (assigner_did b done).now → KnowsInUse done.now.held (assigner_did (without_up b i) done).now
 up_known b i done h = record { terminals = h.terminals; assignments = h.assignments }
 
@@ -146,7 +147,7 @@ joined_none b t h = record {
 another_tei : (o : Option ℕ) (n tei : ℕ) → o ≡ Some n → o ≢ Some tei → n ≢ tei
 another_tei o n tei q other e = other (q ∙ ap Some e)
 
--- a fixed TEI that was nobody's is of this place now
+-- a fixed TEI that was unused now belongs to this index
 joined_fixed : (b : BusState) (t tei : ℕ) → IsNobodys b tei → Owned b → Owned (joined_by b t (Some tei))
 joined_fixed b t tei free h =
     let later : ℕ → Option Owner = owned_by h.owner tei (Place t) in
@@ -242,7 +243,7 @@ held_until_freed b (Want t ri) tei is knows unfreed = terminal_way b (HeldAfter 
 held_until_freed b (Join t fixed) tei is knows unfreed = is
 held_until_freed b (Restart known) tei is knows unfreed = knows
 
--- ---- The moves of a bus are events, and references that differ in the whole run are nobody else's.
+-- ---- The moves of a bus are events, and references that all differ are no other terminal's.
 
 pub moves_are_events : (b : BusState) (ms : List BusMove) → after_events b (map Move ms) ≡ run b ms
 moves_are_events b [] = refl

@@ -1,9 +1,11 @@
--- What every event of a bus keeps, from which it follows that no two terminals hold the same TEI.
+-- The invariants that every event of a bus preserves. They imply that no two terminals hold the
+-- same TEI.
 --
--- A claim is a TEI with what it is held by: the reference by which a terminal got it, or by which an assignment on its way
--- brings it; or the place of a terminal whose TEI is fixed. Claims on one TEI are of one owner, and a reference is of one
--- terminal at most, at its place. A new claim comes only on a TEI that the assigner does not hold, on which there is none,
--- since it holds those in use (`KnowsInUse`).
+-- A claim is a TEI together with its owner. The owner is the reference by which a terminal obtained
+-- the TEI or an assignment in transit carries it, or the index of a terminal with a fixed TEI. All
+-- claims on a TEI have the same owner, and a reference belongs to at most one terminal. A new claim
+-- is made only on a TEI that the assigner does not hold. No claim on it exists, because the
+-- assigner holds the TEIs in use (`KnowsInUse`).
 use Rattle.std.proofs.Common.{◌≡◌, ◌≢◌, ℕ, zero, suc, List, [], ◌∷◌, ◌++◌, set, slice_get, Option, Some, None, inl, inr, ◌⊎◌, refl, ap, subst}
 use Rattle.std.proofs.lemmas.Bool.{eq-eqb, ne_eqb}
 use Rattle.std.specs.Prelude.{◌==◌, if◌then◌else◌}

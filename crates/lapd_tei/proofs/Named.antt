@@ -1,4 +1,4 @@
--- One terminal's TEI is not the group TEI.
+-- A terminal's TEI is not the group TEI.
 use Rattle.std.proofs.Common.{◌≡◌, ℕ, ◌<◌, true, ap, arith}
 use Rattle.std.proofs.lemmas.Bool.{ne_eqb}
 use Rattle.std.specs.Prelude.{◌==◌, not}

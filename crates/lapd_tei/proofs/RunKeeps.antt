@@ -1,4 +1,4 @@
--- A run of the code is one of the definition, and the laws hold at each of its moves.
+-- A run of the code is a run of the definition, and the laws hold at each of its moves.
 use Rattle.std.proofs.Common.{◌≡◌, ℕ, ◌+◌, ◌<◌, ◌≤◌, zero, suc, List, [], ◌∷◌, ◌++◌, map, take, drop, length, get_or, slice_get, Some, Ok, Err, refl, sym, ap, subst, ◌∙◌, append_assoc, take-append-drop, arith}
 use Rattle.std.proofs.Math.Numerals.{add-one}
 use Rattle.std.proofs.lemmas.List.{map-append}
@@ -25,7 +25,7 @@ throughout_front : (P : BusState → BusEvent → Type 0) (b : BusState) (es fs 
 throughout_front P b [] fs h = tt
 throughout_front P b (e ∷ es) fs h = (h.0, throughout_front P (event_step b e).now es fs h.1)
 
--- ---- As the code runs them.
+-- ---- Runs of the code.
 
 one_more_suc : (ms : List BusMove) (n : ℕ) (m : BusMove) → slice_get ms n ≡ Some m → take (suc n) ms ≡ take n ms ++ m ∷ []
 one_more_suc [] n m there = absurd cc
@@ -39,7 +39,7 @@ refusals_append : (b : BusState) (ms ns : List BusMove) → refusals b (ms ++ ns
 refusals_append b [] ns = omega arith
 refusals_append b (m ∷ ms) ns = let e : refusals (moved b m).now (ms ++ ns) ≡ refusals (moved b m).now ms + refusals (run (moved b m).now ms) ns = refusals_append (moved b m).now ms ns in omega arith
 
--- the moves before this place are made, and the refused ones counted
+-- the moves before this index are made, and the refused ones counted
 pub record RunSoFar (b now : BusState) (ms : List BusMove) (n refused : ℕ) : Type 0 where
   pub so_far : now ≡ run b (take n ms)
   pub counted : refused ≡ refusals b (take n ms)
@@ -77,7 +77,7 @@ more_refused b now next ms n refused after m fault within is h step stays same =
       fits = omega (arith, h.fits);
     }
 
--- the law of a bus in service, at this place of the moves of a bus that earlier events left
+-- the law of a bus in service, at this index of the moves of a bus that earlier events produced
 pub in_order_at : (terminals : ℕ) (known : List ℕ) (before : List BusEvent) (ms : List BusMove) (n : ℕ) (old now : BusState)
     → old ≡ after_events (in_service terminals known) before → now ≡ run old (take n ms)
     → MeetsInService (in_service terminals known) (before ++ map Move ms) → IsInOrder now
@@ -95,7 +95,7 @@ in_order_at terminals known before ms n old now was is met =
       keeping = record { freeing = front _ met.keeping.freeing; restarting = front _ met.keeping.restarting; joining = front _ met.keeping.joining };
     }))
 
--- the law of the TEIs, where the references of the whole run differ
+-- the law of the TEIs, if the references of the whole run differ
 pub single_at : (terminals : ℕ) (before ms : List BusMove) (n : ℕ) (old now : BusState) → old ≡ run (new_bus terminals) before → now ≡ run old (take n ms)
     → MeetsPremises terminals (before ++ ms) → Single now
 single_at terminals before ms n old now was is met =

@@ -1,4 +1,4 @@
--- What a terminal does keeps what the bus keeps.
+-- The steps of a terminal preserve the invariants of the bus.
 use Rattle.std.proofs.Common.{◌≡◌, ◌≢◌, ℕ, Bool, true, List, [], ◌∷◌, ◌++◌, set, slice_get, Option, Some, None, inl, inr, refl, sym, ap, subst, ◌∙◌}
 use Rattle.std.proofs.lemmas.Bool.{cases_eq, eqb-true, cond_both, and_parts}
 use Rattle.std.specs.Prelude.{◌==◌, ◌&&◌, not, nat_lt, if◌then◌else◌}
@@ -19,21 +19,21 @@ use Rattle.lapd_tei.proofs.KeptByBus.{Owner, Reference, Sits, FitsKind, Fits, Ow
 
 -- ---- Its claim.
 
--- the references that a terminal at this place has asked by are its own now
+-- the references that a terminal at this index requested by now belong to it
 abbrev pub noting : (ℕ → Option ℕ) → ℕ → List ℕ → ℕ → Option ℕ
 noting place_of i [] k = place_of k
 noting place_of i (r ∷ rs) k = if k == r then Some i else noting place_of i rs k
 
--- a message that is heard fits its owner
+-- a received message agrees with the owners
 abbrev pub HearsFitting : (ℕ → Option Owner) → TerminalEvent → Type 0
 HearsFitting owner (event.Heard m ri) = Fits owner m
 HearsFitting owner other = Unit {0}
 
--- the terminal after a step is seated, with the references that it asked by noted
+-- the terminal after a step is seated, and the references that it requested by are noted
 abbrev pub SitsAfter : (ℕ → Option Owner) → (ℕ → Option ℕ) → ℕ → TerminalStep → Type 0
 SitsAfter owner place_of i done = Sits owner (noting place_of i (references (sent done.outs))) i done.now
 
--- the assignment that a terminal takes has the reference that is its own
+-- the assignment that a terminal accepts has its own reference
 takes_own : (owner : ℕ → Option Owner) (place_of : ℕ → Option ℕ) (i ri its ai : ℕ) → ((its == ri) && is_automatic ai) ≡ true
     → place_of ri ≡ Some i → owner ai ≡ Some (Reference its) → Sits owner place_of i (Assigned (Some ri) ai)
 takes_own owner place_of i ri its ai test h fits = (subst (λ r. owner ai ≡ Some (Reference r)) (eqb-true its ri (and_parts (its == ri) (is_automatic ai) test).0) fits, h)
@@ -80,7 +80,7 @@ terminal_own owner place_of i (Assigned by tei) (event.Heard m ri) h fits = assi
 terminal_own owner place_of i (Assigned by tei) (event.T202 ri) h fits = h
 terminal_own owner place_of i (Assigned by tei) event.Leave h fits = tt
 
--- the place of another terminal's reference stays, as it was not asked by
+-- another terminal's reference keeps its index, as this terminal did not request by it
 noting_same : (b : BusState) (place_of : ℕ → Option ℕ) (i : ℕ) (rs : List ℕ) (k j : ℕ) (t : Phase) → slice_get b.terminals j ≡ Some t → reference_of t ≡ Some k
     → AllByRecursion (IsNoOthers b (Some i)) rs → place_of k ≡ Some j → noting place_of i rs k ≡ Some j
 noting_same b place_of i [] k j t there its own some = some
@@ -89,7 +89,7 @@ noting_same b place_of i (r ∷ rs) k j t there its own some = elim (cases_eq k 
   | inr other ↦ pick_no k r (Some i) (noting place_of i rs k) other ∙ noting_same b place_of i rs k j t there its own.1 some
 ]
 
--- the others stay where they are
+-- the other terminals keep their owners
 others_own : (b : BusState) (owner : ℕ → Option Owner) (place_of : ℕ → Option ℕ) (i : ℕ) (rs : List ℕ) (j : ℕ) (t : Phase) → slice_get b.terminals j ≡ Some t
     → AllByRecursion (IsNoOthers b (Some i)) rs → Sits owner place_of j t → Sits owner (noting place_of i rs) j t
 others_own b owner place_of i rs j Unassigned there own h = h
@@ -106,7 +106,7 @@ seated_after b owner place_of i rs now seated own new j t there = elim (get_afte
   | inr old ↦ others_own b owner place_of i rs j t old own (seated j t old)
 ]
 
--- the bus after a step of the terminal at place i, which heard what fits
+-- the bus after a step of the terminal at index i, which received a fitting message
 pub terminal_owned : (b : BusState) (i : ℕ) (phase : Phase) (e : TerminalEvent) → slice_get b.terminals i ≡ Some phase
     → (h : Owned b) → HearsFitting h.owner e → AllByRecursion (IsNoOthers b (Some i)) (references (sent (terminal_step phase e).outs))
     → Owned (terminal_did b i (terminal_step phase e)).now
@@ -120,7 +120,7 @@ terminal_owned b i phase e there h fits own = record {
 
 -- ---- Its TEI is known.
 
--- an assignment that is heard is known
+-- a received assignment is known
 abbrev pub HearsKnown : List Bool → TerminalEvent → Type 0
 HearsKnown held (event.Heard m ri) = IsKnown held (assigned_by m.kind m.ai)
 HearsKnown held other = Unit {0}
@@ -165,7 +165,8 @@ terminal_known held (Assigned by tei) event.Leave h fits = tt
 
 -- ---- Its reference.
 
--- it is another one, if that was so before and this one was not asked by
+-- a terminal's reference differs from this one after a step, if it differed before and the step did
+-- not request by it
 abbrev pub IsAnotherAfter : ℕ → TerminalStep → Type 0
 IsAnotherAfter r done = AllByRecursion (λ s. r ≢ s) (references (sent done.outs)) → reference_of done.now ≢ Some r
 
@@ -214,7 +215,8 @@ terminal_another r (Assigned by tei) event.Leave h = λ asked. none_is_no r None
 abbrev pub IsNew : BusState → ℕ → Type 0
 IsNew b r = (i : ℕ) (t : Phase) → slice_get b.terminals i ≡ Some t → reference_of t ≢ Some r
 
--- those to come are new after a step of the terminal at place i, as they were before it, and differ from what it asked by
+-- references of later requests are new after a step of the terminal at index i, if they were new
+-- before it and differ from the references that it requested by
 pub terminal_new : (b : BusState) (i : ℕ) (phase : Phase) (e : TerminalEvent) (rest : List ℕ) → slice_get b.terminals i ≡ Some phase
     → AllByRecursion (IsNew b) (references (sent (terminal_step phase e).outs) ++ rest) → Differ (references (sent (terminal_step phase e).outs) ++ rest)
     → AllByRecursion (IsNew (terminal_did b i (terminal_step phase e)).now) rest

@@ -1,4 +1,4 @@
--- The premises of the law can be met, and none can go.
+-- The premises of the law can be met, and none can be dropped.
 use Rattle.std.proofs.Common.{◌≡◌, ◌≢◌, ℕ, ◌<◌, true, List, [], ◌∷◌, Some, None, refl, arith}
 use Rattle.lapd_tei.specs.declared.phase.Phase.{Phase}
 use Rattle.lapd_tei.specs.declared.phase.Phase.TheVariants.{Assigned}
@@ -31,7 +31,7 @@ holders_are_needed = two_hold (run (new_bus 2) freed_while_held) (Assigned (Some
 pub assignments_are_needed : Single (run (new_bus 2) freed_on_its_way) → ⊥
 assignments_are_needed = two_hold (run (new_bus 2) freed_on_its_way) (Assigned (Some 1) 64) (Assigned (Some 2) 64) 64 refl refl refl
 
--- ---- Of a bus in service.
+-- ---- For a bus in service.
 
 met_by : (known : List ℕ) (events : List BusEvent) → throughout asks (in_service 2 known) events ≡ true → throughout frees (in_service 2 known) events ≡ true
     → throughout restarts (in_service 2 known) events ≡ true → throughout joins (in_service 2 known) events ≡ true → MeetsInService (in_service 2 known) events

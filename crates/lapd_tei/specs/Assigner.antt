@@ -1,4 +1,5 @@
--- The TEI management of the network side, which assigns TEIs (Q.921 5.3.2 to 5.3.5), a row an equation.
+-- The TEI management of the network side, which assigns TEIs (Q.921 5.3.2 to 5.3.5): one equation
+-- for each row of its table.
 use Rattle.std.specs.Prelude.{ℕ, ◌+◌, ◌<◌, ◌==◌, nat_lt, if◌then◌else◌, Bool, true, false, List, [], ◌∷◌, drop, set, replicate, slice_index_or, Option, Some, None}
 use Rattle.lapd_timers.specs.declared.timer.Timer.TheVariants.{T201}
 use Rattle.lapd_tei.specs.declared.kind.TeiKind.{TeiKind}
@@ -15,7 +16,7 @@ use Rattle.lapd_tei.specs.declared.assigner.AssignerEvent.TheVariants as event
 use Rattle.lapd_tei.specs.Message.{group_tei}
 use Rattle.lapd_tei.specs.Out.{assigned, denied, check_request, remove}
 
--- which of the TEIs 0 to 126 are held, and the check that runs
+-- the held TEIs of 0 to 126, and the check in progress
 pub record AssignerState : Type 0 where
   pub held : List Bool
   pub check : Option Check
@@ -28,11 +29,11 @@ pub record AssignerStep : Type 0 where
 abbrev pub stays : AssignerState → AssignerStep
 stays a = record { now = a; outs = [] }
 
--- no TEI is held, and no check runs
+-- no TEI is held, and no check is in progress
 abbrev pub nothing_held : AssignerState
 nothing_held = record { held = replicate 127 false; check = None }
 
--- these TEIs are held, and no check runs
+-- the held TEIs, with these added
 abbrev pub holding : List Bool → List ℕ → List Bool
 holding held [] = held
 holding held (tei ∷ teis) = holding (set held tei true) teis
@@ -43,7 +44,7 @@ known_held teis = record { held = holding (replicate 127 false) teis; check = No
 abbrev pub is_held : List Bool → ℕ → Bool
 is_held held tei = slice_index_or held tei false
 
--- the least TEI of those that the network assigns, 64 to 126, that is not held
+-- the lowest TEI, from this one on, that is not held
 abbrev pub first_free : ℕ → List Bool → Option ℕ
 first_free tei [] = None
 first_free tei (true ∷ held) = first_free (tei + 1) held
@@ -52,7 +53,7 @@ first_free tei (false ∷ held) = Some tei
 abbrev pub least_free : List Bool → Option ℕ
 least_free held = first_free 64 (drop 64 held)
 
--- a request is served: the TEI is held and assigned, or denied where none is left (5.3.2)
+-- serves a request: assigns and holds the TEI, or denies if none is left (5.3.2)
 abbrev pub serves : ℕ → Option ℕ → AssignerState → AssignerStep
 serves ri (Some tei) a = record {
   now = record { held = set a.held tei true; check = a.check };
@@ -64,7 +65,7 @@ serves ri None a = record { now = a; outs = Send (denied ri) ∷ [] }
 abbrev pub checking : ℕ → Round → Responses → Check
 checking tei nth count = record { tei = tei; round = nth; responses = count }
 
--- a check begins, where none runs (5.3.3, 5.3.5); the group is not checked
+-- starts a check if none is in progress (5.3.3, 5.3.5); the group TEI is never checked
 abbrev pub begins_check : ℕ → Option Check → AssignerState → AssignerStep
 begins_check tei None a =
     if nat_lt tei group_tei then record {
@@ -77,7 +78,7 @@ begins_check tei None a =
     else stays a
 begins_check tei (Some check) a = stays a
 
--- a response is counted, up to two
+-- counts one more response, up to two
 abbrev pub one_more : Responses → Responses
 one_more responses.Nobody = responses.One
 one_more responses.One = responses.Several
@@ -95,7 +96,7 @@ counts_response tei (Some check) a =
     }
     else stays a
 
--- the check ends, and its TEI stays held, or is freed
+-- ends the check; the TEI stays held or not, as `held` says
 abbrev pub without_check : AssignerState → List TeiOut → AssignerStep
 without_check a outs = record { now = record { held = a.held; check = None }; outs = outs }
 
@@ -105,8 +106,8 @@ freed_by_check tei a outs = record {
   outs = outs;
 }
 
--- T201 expires: without a response the terminals are asked once more, and then the TEI is free; one response says that it is
--- in use; two that it is assigned more than once, and it is removed (5.3.3.2)
+-- T201 expires. Without a response: the check requests responses once more, then frees the TEI. One
+-- response: the TEI is in use. Two: it is assigned more than once, and is removed (5.3.3.2).
 abbrev pub round_ends : ℕ → Round → Responses → AssignerState → AssignerStep
 round_ends tei round.First responses.Nobody a =
     record {
@@ -126,7 +127,7 @@ abbrev pub timer_ends : Option Check → AssignerState → AssignerStep
 timer_ends None a = stays a
 timer_ends (Some check) a = round_ends check.tei check.round check.responses a
 
--- requests, responses to checks and verifications are for the network side
+-- the network side processes requests, check responses and verifications
 abbrev pub assigner_hears : TeiKind → ℕ → ℕ → AssignerState → AssignerStep
 assigner_hears kind.Request ri ai a = serves ri (least_free a.held) a
 assigner_hears kind.CheckResponse ri ai a = counts_response ai a.check a
@@ -144,7 +145,7 @@ abbrev pub checked : Option Check → Option ℕ
 checked None = None
 checked (Some check) = Some check.tei
 
--- the group is not checked
+-- the group TEI is never checked
 abbrev pub ChecksOne : Option Check → Type 0
 ChecksOne None = Unit {0}
 ChecksOne (Some check) = check.tei < 127

@@ -1,7 +1,8 @@
--- A bus: terminals without a fixed TEI, the assigner of the network side, and the messages on their way between them
--- (Q.921 5.3). A message of the network side stays on its way until it is dropped, and each terminal hears it once at most,
--- at any moment; one of a terminal leaves when it is heard or dropped. So messages are lost, come to several terminals and
--- overtake each other.
+-- A bus: terminals without a fixed TEI, the assigner of the network side, and the messages in
+-- transit between them (Q.921 5.3). A message from the network side stays in transit until it is
+-- dropped; each terminal may receive it once, at any moment. A message from a terminal is removed
+-- when it is received or dropped. So messages can be lost, reach several terminals, and overtake
+-- each other.
 use Rattle.std.specs.Prelude.{ℕ, ◌+◌, Bool, true, false, List, [], ◌∷◌, ◌++◌, length, map, set, replicate, slice_get, slice_index_or, codes, Option, Some, None, Result, Ok, Err}
 use Rattle.std.specs.List.{remove}
 use Rattle.lapd_tei.specs.declared.message.TeiMessage.{TeiMessage}
@@ -21,7 +22,7 @@ use Rattle.lapd_tei.specs.Out.{sent}
 use Rattle.lapd_tei.specs.Terminal.{TerminalStep, terminal_step}
 use Rattle.lapd_tei.specs.Assigner.{AssignerState, AssignerStep, assigner_step, nothing_held}
 
--- a message of the network side on its way, and which terminals have heard it
+-- a message from the network side in transit, and which terminals have received it
 pub record Broadcast : Type 0 where
   pub message : TeiMessage
   pub heard : List Bool
@@ -37,7 +38,7 @@ pub record BusStep : Type 0 where
   pub now : BusState
   pub outs : List TeiOut
 
--- so many terminals, all without a TEI, and nothing held
+-- this many terminals without a TEI, and no TEI held
 abbrev pub new_bus : ℕ → BusState
 new_bus terminals = record {
   terminals = replicate terminals Unassigned;
@@ -46,11 +47,11 @@ new_bus terminals = record {
   up = [];
 }
 
--- a message that is broadcast now: nobody has heard it
+-- a new broadcast, which no terminal has received
 abbrev pub broadcast : ℕ → TeiMessage → Broadcast
 broadcast terminals m = record { message = m; heard = replicate terminals false }
 
--- what a terminal at this place did: its messages go up, behind the others
+-- applies the step of the terminal at this index, and appends its messages to those in transit
 abbrev pub terminal_did : BusState → ℕ → TerminalStep → BusStep
 terminal_did b t done = record {
   now = record {
@@ -62,7 +63,7 @@ terminal_did b t done = record {
   outs = done.outs;
 }
 
--- what the assigner did: its messages go down
+-- applies the step of the assigner, and appends its messages to those in transit
 abbrev pub assigner_did : BusState → AssignerStep → BusStep
 assigner_did b done = record {
   now = record {
@@ -74,7 +75,7 @@ assigner_did b done = record {
   outs = done.outs;
 }
 
--- an event of the terminal at this place, where there is one
+-- an event of the terminal at this index, if it exists
 abbrev pub terminal_has : BusState → ℕ → Option Phase → TerminalEvent → Result BusStep BusFault
 terminal_has b t None e = Err NothingThere
 terminal_has b t (Some phase) e = Ok (terminal_did b t (terminal_step phase e))
@@ -99,7 +100,7 @@ t201_expires b (Some check) = Ok (assigner_did b (assigner_step b.assigner assig
 abbrev pub expire_t201 : BusState → Result BusStep BusFault
 expire_t201 b = t201_expires b b.assigner.check
 
--- the terminal has heard this message now
+-- marks the message as received by this terminal
 abbrev pub heard_by : ℕ → Broadcast → Broadcast
 heard_by t f = record { message = f.message; heard = set f.heard t true }
 
@@ -116,7 +117,7 @@ hears b i t ri f phase true = Err HeardBefore
 hears b i t ri f phase false = Ok (terminal_did (with_mark b i t f) t
     (terminal_step phase (event.Heard f.message ri)))
 
--- the terminal hears a message, where both are there and it did not hear it before
+-- the terminal receives the message, if both exist and it did not receive it before
 abbrev pub terminal_hears : BusState → ℕ → ℕ → ℕ → Option Broadcast → Option Phase
     → Result BusStep BusFault
 terminal_hears b i t ri (Some f) (Some phase) =
@@ -126,7 +127,7 @@ terminal_hears b i t ri f phase = Err NothingThere
 abbrev pub hear : BusState → ℕ → ℕ → ℕ → Result BusStep BusFault
 hear b i t ri = terminal_hears b i t ri (slice_get b.down i) (slice_get b.terminals t)
 
--- a message is dropped, where it is there
+-- drops a message, if it exists
 abbrev pub drops_down : BusState → ℕ → Option Broadcast → Result BusStep BusFault
 drops_down b i None = Err NothingThere
 drops_down b i (Some f) =
@@ -158,7 +159,7 @@ drops_up b i (Some m) = Ok (record { now = without_up b i; outs = [] })
 abbrev pub drop_up : BusState → ℕ → Result BusStep BusFault
 drop_up b i = drops_up b i (slice_get b.up i)
 
--- the assigner hears a message, which leaves
+-- the assigner receives a message, which is removed
 abbrev pub network_hears : BusState → ℕ → Option TeiMessage → Result BusStep BusFault
 network_hears b i None = Err NothingThere
 network_hears b i (Some m) = Ok (assigner_did (without_up b i)
@@ -171,7 +172,7 @@ hear_up b i = network_hears b i (slice_get b.up i)
 abbrev pub to_assigner : BusState → AssignerEvent → BusStep
 to_assigner b e = assigner_did b (assigner_step b.assigner e)
 
--- One move: the bus after it with the outputs of its row, or the reason why it is refused.
+-- One move: the bus after it and the outputs, or the reason why it is refused.
 abbrev pub bus_step : BusState → BusMove → Result BusStep BusFault
 bus_step b (move.Ask t ri) = to_terminal b t (event.Ask ri)
 bus_step b (move.T202 t ri) = expire_t202 b t ri
@@ -191,7 +192,7 @@ done b (Err fault) = record { now = b; outs = [] }
 abbrev pub moved : BusState → BusMove → BusStep
 moved b m = done b (bus_step b m)
 
--- a list of moves, one after another, and how many of them are refused
+-- a list of moves in order, and how many of them are refused
 abbrev pub run : BusState → List BusMove → BusState
 run b [] = b
 run b (m ∷ ms) = run (moved b m).now ms

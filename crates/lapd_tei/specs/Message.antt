@@ -1,4 +1,5 @@
--- TEI messages (Q.921 5.3.6, Table 8): their octets, and the first fault of octets that are none.
+-- TEI messages (Q.921 5.3.6, Table 8): their octets, and the first fault of octets that do not form
+-- one.
 use Rattle.std.specs.Prelude.{◌≡◌, ℕ, ◌+◌, ◌*◌, ◌/◌, ◌%◌, ◌≤◌, ◌<◌, ◌==◌, ◌&&◌, ◌||◌, not, if◌then◌else◌, Bool, true, false, List, [], ◌∷◌, codes, Option, Some, None, Result, Ok, Err}
 use Rattle.lapd_frame.specs.declared.Sapi.TheVariants.{Management}
 use Rattle.lapd_frame.specs.declared.Role.TheVariants.{Command}
@@ -34,15 +35,16 @@ kind_at n =
     if n == 5 then Some CheckResponse else (if n == 6 then Some Remove else (
     if n == 7 then Some Verify else None))))))
 
--- whether the action indicator may be the group TEI (5.3.6.5, Table 8): an assigned TEI, the TEI of a response to a check
--- and one that is to be verified are those of one terminal
+-- Whether the action indicator may be the group TEI (5.3.6.5, Table 8). An assignment, a check
+-- response and a verification each name a single terminal.
 abbrev pub may_name_the_group : TeiKind → Bool
 may_name_the_group Assigned = false
 may_name_the_group CheckResponse = false
 may_name_the_group Verify = false
 may_name_the_group kind = true
 
--- the five octets: the management entity, Ri high and low, the message type, and Ai with its extension bit set (5.3.6)
+-- the five octets: the management entity, Ri high and low, the message type, and Ai with its
+-- extension bit set (5.3.6)
 abbrev pub message_octets : TeiMessage → List ℕ
 message_octets m = management_entity ∷ (m.ri / 256) ∷ (m.ri % 256) ∷ kind_number m.kind
     ∷ (m.ai * 2 + 1) ∷ []
@@ -50,13 +52,13 @@ message_octets m = management_entity ∷ (m.ri / 256) ∷ (m.ri % 256) ∷ kind_
 abbrev pub permits : TeiKind → ℕ → Bool
 permits kind ai = may_name_the_group kind || not (ai == group_tei)
 
--- these parts are a message
+-- the values of a valid message
 pub record IsMessage (m : TeiMessage) : Type 0 where
   pub ri : m.ri < 65536
   pub ai : m.ai ≤ 127
   pub named : permits m.kind m.ai ≡ true
 
--- the message that five octets are, or the first of the faults M1 to M4 of octets that are none
+-- the message that five octets form, or the first of the faults M1 to M4
 abbrev pub with_ai : ℕ → TeiKind → ℕ → Result TeiMessage TeiFault
 with_ai ri kind last = if (last % 2 == 1) && permits kind (last / 2)
     then Ok (record { ri = ri; kind = kind; ai = last / 2 }) else Err BadAi

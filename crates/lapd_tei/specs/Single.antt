@@ -1,5 +1,5 @@
--- When no two terminals of a bus hold the same TEI (Q.921 5.3.1): the claim, and the two premises over the run that leads
--- there.
+-- When no two terminals of a bus hold the same TEI (Q.921 5.3.1): the claim, and the two premises
+-- on the run that leads there.
 use Rattle.std.specs.Prelude.{◌≡◌, ◌≢◌, ℕ, List, [], ◌∷◌, ◌++◌, slice_get, Option, Some, None}
 use Rattle.std.specs.List.{All, AllByRecursion}
 use Rattle.lapd_tei.specs.declared.message.TeiMessage.{TeiMessage}
@@ -13,7 +13,7 @@ use Rattle.lapd_tei.specs.Out.{sent}
 use Rattle.lapd_tei.specs.Terminal.{tei_of}
 use Rattle.lapd_tei.specs.Bus.{BusState, new_bus, moved}
 
--- the terminal at this place holds this TEI
+-- the terminal at this index holds this TEI
 pub record Holds (b : BusState) (place n : ℕ) : Type 0 where
   pub terminal : Phase
   pub there : slice_get b.terminals place ≡ Some terminal
@@ -34,17 +34,17 @@ abbrev pub references : List TeiMessage → List ℕ
 references [] = []
 references (m ∷ ms) = requested_by m.kind m.ri ++ references ms
 
--- the references of the requests that are sent in a run, in order
+-- the references of the requests that a run sends, in order
 abbrev pub asked : BusState → List BusMove → List ℕ
 asked b [] = []
 asked b (m ∷ ms) = references (sent (moved b m).outs) ++ asked (moved b m).now ms
 
--- no two of these are the same
+-- no two of these are equal
 abbrev pub Differ : List ℕ → Type 0
 Differ [] = Unit {0}
 Differ (r ∷ rs) = AllByRecursion (λ s. s ≢ r) rs × Differ rs
 
--- ---- The second premise: a TEI is freed only while no terminal holds it and no assignment of it is on its way.
+-- ---- The second premise: a TEI is freed only while it is neither held nor being assigned.
 
 -- the TEIs that these outputs free
 abbrev pub freed : List TeiOut → List ℕ
@@ -67,7 +67,7 @@ FreesNobodys b [] = Unit {0}
 FreesNobodys b (m ∷ ms) = AllByRecursion (IsNobodys b) (freed (moved b m).outs)
     × FreesNobodys (moved b m).now ms
 
--- both, over these moves from a new bus of so many terminals on
+-- both premises, for these moves from a new bus of this many terminals
 pub record MeetsPremises (terminals : ℕ) (moves : List BusMove) : Type 0 where
   pub references : Differ (asked (new_bus terminals) moves)
   pub freeing : FreesNobodys (new_bus terminals) moves

@@ -1,4 +1,4 @@
--- The TEI management of a terminal (Q.921 5.3.2 to 5.3.4), a row an equation.
+-- The TEI management of a terminal (Q.921 5.3.2 to 5.3.4): one equation for each row of its table.
 use Rattle.std.specs.Prelude.{ℕ, ◌+◌, ◌<◌, ◌≤◌, true, ◌==◌, ◌&&◌, ◌||◌, not, nat_lt, nat_le, if◌then◌else◌, Bool, false, List, [], ◌∷◌, Option, Some, None}
 use Rattle.lapd_timers.specs.declared.timer.Timer.TheVariants.{T202}
 use Rattle.lapd_tei.specs.declared.kind.TeiKind.{TeiKind}
@@ -22,7 +22,7 @@ pub record TerminalStep : Type 0 where
 abbrev pub goes_to : Phase → List TeiOut → TerminalStep
 goes_to phase outs = record { now = phase; outs = outs }
 
--- N202, how often a TEI is asked for at most (5.9.4)
+-- N202, the maximum number of requests for a TEI (5.9.4)
 abbrev pub n202 : ℕ
 n202 = 3
 
@@ -34,32 +34,32 @@ is_automatic tei = nat_le 64 tei && nat_le tei 126
 abbrev pub names : ℕ → ℕ → Bool
 names ai tei = (ai == tei) || (ai == group_tei)
 
--- the reference by which a terminal got its TEI; a fixed TEI was got by none
+-- whether the terminal obtained its TEI by this reference; a fixed TEI has none
 abbrev pub is_got_by : Option ℕ → ℕ → Bool
 is_got_by None ri = false
 is_got_by (Some own) ri = own == ri
 
--- a TEI is asked for, the first time (5.3.2)
+-- requests a TEI for the first time (5.3.2)
 abbrev pub asks : Purpose → ℕ → TerminalStep
 asks purpose ri = goes_to (Awaiting purpose 1 ri) (Send (request ri) ∷ Start T202 ∷ [])
 
--- T202 expires: the TEI is asked for again with a new reference, N202 times in all (5.3.2.1)
+-- T202 expires: requests the TEI again with a new reference, N202 times in all (5.3.2.1)
 abbrev pub asks_again : Purpose → ℕ → ℕ → ℕ → TerminalStep
 asks_again purpose count ri new =
     if nat_lt count n202 then goes_to (Awaiting purpose (count + 1) new)
     (Send (request new) ∷ Start T202 ∷ [])
     else goes_to Unassigned (Failed ∷ [])
 
--- While a TEI is awaited: an assignment with the outstanding reference gives it (5.3.2). A denial and all else change
--- nothing.
+-- While a TEI is awaited: an assignment with the outstanding reference is accepted (5.3.2). A
+-- denial and all other messages are ignored.
 abbrev pub awaiting_hears : Purpose → ℕ → ℕ → TeiKind → ℕ → ℕ → TerminalStep
 awaiting_hears purpose count ri kind.Assigned its ai =
     if (its == ri) && is_automatic ai then goes_to (Assigned (Some ri) ai) (Stop T202 ∷ Got ai ∷ [])
     else goes_to (Awaiting purpose count ri) []
 awaiting_hears purpose count ri other its ai = goes_to (Awaiting purpose count ri) []
 
--- With a TEI: it is given up where it is assigned to another (5.3.4), a check is answered (5.3.3), and a removal obeyed
--- (5.3.4).
+-- With a TEI: removed if the TEI is assigned to another terminal (5.3.4), a check request is
+-- answered (5.3.3), and Identity remove is obeyed (5.3.4).
 abbrev pub assigned_hears : Option ℕ → ℕ → TeiKind → ℕ → ℕ → ℕ → TerminalStep
 assigned_hears by tei kind.Assigned its ai new =
     if (ai == tei) && not (is_got_by by its) then goes_to Unassigned (Gone tei ∷ [])
@@ -71,7 +71,7 @@ assigned_hears by tei kind.Remove its ai new =
     if names ai tei then goes_to Unassigned (Gone tei ∷ []) else goes_to (Assigned by tei) []
 assigned_hears by tei other its ai new = goes_to (Assigned by tei) []
 
--- One step. The reference of each event is a fresh one, for the message that may be sent.
+-- One step. The reference of each event is a fresh one, for the message that it may send.
 abbrev pub terminal_step : Phase → TerminalEvent → TerminalStep
 terminal_step Unassigned (event.Ask ri) = asks Assignment ri
 terminal_step Unassigned (event.Want ri) = asks Establishment ri
@@ -85,8 +85,8 @@ terminal_step (Awaiting purpose count ri) event.Leave = goes_to Unassigned (Stop
 terminal_step (Assigned by tei) event.Leave = goes_to Unassigned (Gone tei ∷ [])
 terminal_step phase other = goes_to phase []
 
--- What is read off a terminal: the number of its state, its TEI, how often it asked, and its last reference, outstanding or
--- the one it got its TEI by.
+-- Queries of a terminal: the number of its state, its TEI, the number of its
+-- requests, and its last reference, outstanding or of the request that obtained its TEI.
 abbrev pub state_number : Phase → ℕ
 state_number Unassigned = 1
 state_number (Awaiting Assignment count ri) = 2
@@ -113,12 +113,12 @@ is_awaiting Unassigned = false
 is_awaiting (Awaiting purpose count ri) = true
 is_awaiting (Assigned by tei) = false
 
--- as it is made: with a fixed TEI, or with none
+-- a new terminal, with or without a fixed TEI
 abbrev pub new_terminal : Option ℕ → Phase
 new_terminal None = Unassigned
 new_terminal (Some tei) = Assigned None tei
 
--- a TEI is one of a terminal, not the group TEI
+-- a TEI is 0 to 126, not the group TEI
 abbrev pub IsTerminal : Phase → Type 0
 IsTerminal Unassigned = Unit {0}
 IsTerminal (Awaiting purpose count ri) = (1 ≤ count) × (count ≤ n202)

@@ -12,18 +12,19 @@ use lapd_frame::Tei;
 use lapd_timers::Timer;
 use std::marker::Model;
 
-/// What happens to an assigner.
+/// An event that the assigner processes.
 #[derive(Clone, Copy, Debug, PartialEq, Eq)]
 pub enum AssignerEvent {
-    /// A message of a terminal was heard.
+    /// A message from a terminal was received.
     Heard(TeiMessage),
-    /// The TEI is to be checked.
+    /// Start a check of this TEI.
     Check(Tei),
     /// T201 expires.
     T201,
 }
 
-/// The TEI management of the network side (Q.921 5.3): the TEIs that are held, and the check that runs.
+/// The TEI management of the network side (Q.921 5.3): the held TEIs, which were assigned or known
+/// from the start, and the check in progress.
 #[derive(Clone, Copy, PartialEq, Eq)]
 pub struct Assigner {
     held: [bool; 127],
@@ -44,7 +45,8 @@ impl Model for Assigner {
 
 #[tactic(auto, using(crate::proofs::Holding::one_more_held, crate::proofs::Named::one_is_named))]
 impl Assigner {
-    /// An assigner that holds these TEIs, each 0 to 126. One that is named twice counts once. No check runs.
+    /// Creates an assigner that holds these TEIs, each 0 to 126, with no check in progress.
+    /// Duplicates are harmless.
     pub fn new(known: &[Tei]) -> Assigner
         requires { All (λ tei. tei < 127) known.now }
         ensures { result ≡ known_held known.now }
@@ -66,7 +68,7 @@ impl Assigner {
         }
     }
 
-    /// The TEI under check.
+    /// The TEI under check, if a check is in progress.
     pub fn check(&self) -> Option<Tei>
         ensures { result ≡ checked self.now.check }
     {
@@ -76,8 +78,8 @@ impl Assigner {
         }
     }
 
-    /// What is to be done for an event, in order. It takes no memory. What the rows do not name changes nothing and gives
-    /// nothing.
+    /// Processes an event and returns the resulting outputs, in order. Does not allocate. An event
+    /// that does not apply in the current state is ignored.
     pub fn handle(&mut self, event: AssignerEvent) -> TeiOuts
         ensures now { self.new ≡ (assigner_step self.old event).now }
         ensures outs { result.items ≡ (assigner_step self.old event).outs }
@@ -95,7 +97,8 @@ impl Assigner {
         }
     }
 
-    /// A request with this reference: the least free TEI is held and assigned, or the request denied (Q.921 5.3.2).
+    /// Serves a request with this reference: assigns the lowest free TEI, or denies the request if
+    /// none is left (Q.921 5.3.2).
     fn serve(&mut self, ri: u16) -> TeiOuts
         ensures now { self.new ≡ (serves ri (least_free self.old.held) self.old).now }
         ensures outs { result.items ≡ (serves ri (least_free self.old.held) self.old).outs }
@@ -110,7 +113,8 @@ impl Assigner {
         }
     }
 
-    /// A check of the TEI begins, where none runs (Q.921 5.3.3, 5.3.5). The group is not checked.
+    /// Starts a check of the TEI if none is in progress (Q.921 5.3.3, 5.3.5). The group TEI is
+    /// never checked.
     fn begin_check(&mut self, tei: u8) -> TeiOuts
         ensures now { self.new ≡ (begins_check tei self.old.check self.old).now }
         ensures outs { result.items ≡ (begins_check tei self.old.check self.old).outs }
@@ -129,7 +133,7 @@ impl Assigner {
         }
     }
 
-    /// A response to the check, where it is for the TEI under check.
+    /// Counts a check response if it names the TEI under check.
     fn count_response(&mut self, tei: u8) -> TeiOuts
         ensures now { self.new ≡ (counts_response tei self.old.check self.old).now }
         ensures outs { result.items ≡ (counts_response tei self.old.check self.old).outs }
@@ -145,7 +149,7 @@ impl Assigner {
         }
     }
 
-    /// T201 expires (Q.921 5.3.3.2).
+    /// Ends a round of the check because T201 expired (Q.921 5.3.3.2).
     fn end_round(&mut self) -> TeiOuts
         ensures now { self.new ≡ (timer_ends self.old.check self.old).now }
         ensures outs { result.items ≡ (timer_ends self.old.check self.old).outs }
@@ -189,7 +193,7 @@ impl Assigner {
         }
     }
 
-    /// The TEI is no longer held, and its check ends.
+    /// Frees the TEI and ends its check.
     fn free(&mut self, tei: Tei)
         requires { tei < 127 }
         ensures { self.new ≡ record { held = set self.old.held tei false; check = None } }
@@ -199,7 +203,7 @@ impl Assigner {
     }
 }
 
-/// The least TEI of 64 to 126 that is not held.
+/// The lowest TEI of 64 to 126 that is not held.
 #[tactic(auto, using(crate::proofs::Holding::passed_over, crate::proofs::Holding::found, crate::proofs::Holding::none_left))]
 fn least_free(held: &[bool; 127]) -> Option<Tei>
     ensures least { result ≡ least_free held.now }
@@ -213,7 +217,7 @@ fn least_free(held: &[bool; 127]) -> Option<Tei>
     None
 }
 
-/// A message is sent with this reference, about this TEI.
+/// Builds the output that sends a message with this reference about this TEI.
 fn message(ri: u16, kind: TeiKind, tei: Tei) -> TeiOut
     ensures { result ≡ Send (record { ri = ri; kind = kind; ai = tei }) }
 {
@@ -221,7 +225,7 @@ fn message(ri: u16, kind: TeiKind, tei: Tei) -> TeiOut
     TeiOut::Send(TeiMessage { ri, kind, ai })
 }
 
-/// Terminals with this TEI are asked to answer, and T201 is started (Q.921 5.3.3.2).
+/// Sends a check request for the TEI and starts T201 (Q.921 5.3.3.2).
 fn ask(tei: Tei) -> TeiOuts
     ensures in_range { All IsInRange result.items }
     ensures outs { result.items ≡ Send (check_request tei) ∷ Start T201 ∷ [] }
@@ -232,7 +236,7 @@ fn ask(tei: Tei) -> TeiOuts
     )
 }
 
-/// One response more, up to two.
+/// Counts one more response, up to `Several`.
 fn one_more(responses: Responses) -> Responses
     ensures { result ≡ one_more responses }
 {

@@ -5,7 +5,7 @@ use crate::TeiMessage;
 use std::alloc::{AllocError, Global};
 use std::marker::Model;
 
-/// A message of the network side on its way, and which terminals have heard it.
+/// A message from the network side in transit, and which terminals have received it.
 #[derive(Drop)]
 pub struct Broadcast {
     message: TeiMessage,
@@ -21,7 +21,7 @@ impl Model for Broadcast {
 }
 
 impl Broadcast {
-    /// A message to so many terminals, which none of them has heard.
+    /// Creates a broadcast to this many terminals that none has received yet.
     pub fn new(
         alloc: Global,
         terminals: usize,
@@ -33,14 +33,13 @@ impl Broadcast {
         Ok(Broadcast { message, heard })
     }
 
-    /// The message.
     pub fn message(&self) -> TeiMessage
         ensures { result ≡ self.now.message }
     {
         self.message
     }
 
-    /// Whether the terminal at this place has heard it.
+    /// Whether the terminal at this index has received it.
     pub fn is_heard_by(&self, t: usize) -> bool
         ensures { result ≡ slice_index_or self.now.heard t false }
     {
@@ -50,7 +49,7 @@ impl Broadcast {
         }
     }
 
-    /// The terminal at this place has heard it now.
+    /// Records that the terminal at this index has received it.
     pub fn mark(&mut self, t: usize)
         ensures { self.new ≡ heard_by t self.old }
     {

@@ -16,7 +16,8 @@ use std::alloc::{AllocError, Global};
 use std::collections::VecDeque;
 use std::marker::Model;
 
-/// Several terminals without a fixed TEI, the assigner of the network side, and the messages on their way between them.
+/// Several terminals without a fixed TEI, the assigner of the network side, and the messages in
+/// transit between them.
 #[derive(Drop)]
 pub struct Bus {
     alloc: Global,
@@ -40,11 +41,12 @@ impl Model for Bus {
 }
 
 impl Bus {
-    /// A bus of so many terminals, all without a TEI. No TEI is held, and no message is on its way.
+    /// Creates a bus of this many terminals without a TEI. No TEI is held and no message is in
+    /// transit.
     ///
     /// # Errors
     ///
-    /// `AllocError` where memory for the terminals was refused.
+    /// `AllocError` if the terminals cannot be allocated.
     pub fn new(alloc: Global, terminals: usize) -> Result<Bus, AllocError>
         ensures { IfOk result (λ bus. bus ≡ new_bus terminals) }
     {
@@ -59,7 +61,7 @@ impl Bus {
         })
     }
 
-    /// The terminal at this place, counted from 0.
+    /// The terminal at this index, from 0.
     pub fn terminal(&self, t: usize) -> Option<&Terminal>
         ensures { option_copied result ≡ slice_get self.now.terminals t }
     {
@@ -73,12 +75,14 @@ impl Bus {
         &self.assigner
     }
 
-    /// Makes one move, and tells the outputs of the terminal or assigner concerned, in order.
+    /// Makes one move and returns the outputs of the terminal or assigner that it concerns, in
+    /// order.
     ///
     /// # Errors
     ///
-    /// U1 where the message or terminal is not there or the timer does not run, U2 where the terminal has heard the message
-    /// before, and only else U3 where memory was refused. The bus is unchanged.
+    /// U1 if the message or terminal does not exist or the timer does not run. U2 if the terminal
+    /// has received the message before. Otherwise U3 if an allocation failed. On error the bus is
+    /// unchanged.
     pub fn apply(&mut self, m: BusMove) -> Result<TeiOuts, BusFault>
         ensures done { IfOk result (λ outs. bus_step self.old m
             ≡ Ok (record { now = self.new; outs = outs.items })) }
@@ -100,16 +104,21 @@ impl Bus {
         }
     }
 
-    /// Makes the moves in turn. Those that are refused by U1 and U2 are passed over, and counted.
+    /// Makes the moves in order, and returns how many were refused with U1 or U2 and skipped.
     ///
-    /// No two terminals hold the same TEI then, and the assigner holds those of 64 to 126 that a terminal holds, where the bus
-    /// came from one in service by events, these moves among them, in which no terminal asked by another's last reference and
-    /// no TEI in use was lost. No two hold the same where it came from a new bus by moves, these among them, in which each
-    /// reference was used once and a TEI was freed only while no terminal held it and no assignment of it was on its way.
+    /// Afterwards no two terminals hold the same TEI, under either of two conditions on the whole
+    /// history of the bus, these moves included:
+    ///
+    /// - It began in service (`in_service`), and since then no terminal requested a TEI by another
+    ///   terminal's last reference, and no TEI in use was lost. In this case the assigner also
+    ///   holds each TEI of 64 to 126 that a terminal holds.
+    /// - It began as a new bus, and since then each reference was used once, and a TEI was freed
+    ///   only while no terminal held it and no assignment of it was in transit.
     ///
     /// # Errors
     ///
-    /// The place of the move, counted from 0, at which memory was refused (U3). What was done before stands.
+    /// The index, from 0, of the move at which an allocation failed (U3). The moves before it
+    /// remain done.
     pub fn run(&mut self, moves: &[BusMove]) -> Result<u64, usize>
         ensures done { IfOk result (λ refused. (self.new ≡ run self.old moves.now)
             × (refused ≡ refusals self.old moves.now)) }
@@ -118,7 +127,7 @@ impl Bus {
         ensures stopped { IfErr result (λ place. (m : BusMove) → slice_get moves.now place ≡ Some m
             → IsOk (bus_step self.new m)) }
 
-        // The law of the TEIs.
+        // No two terminals hold the same TEI.
         ensures single { (terminals : ℕ) (before : List BusMove)
             → self.old ≡ run (new_bus terminals) before
             → MeetsPremises terminals (before ++ moves.now) → Single self.new }
@@ -139,7 +148,7 @@ impl Bus {
         Ok(refused)
     }
 
-    /// An event of a terminal.
+    /// Passes an event to a terminal.
     fn to_terminal(&mut self, t: usize, event: TerminalEvent) -> Result<TeiOuts, BusFault>
         ensures done { IfOk result (λ outs. to_terminal self.old t event
             ≡ Ok (record { now = self.new; outs = outs.items })) }
@@ -160,7 +169,7 @@ impl Bus {
         Ok(outs)
     }
 
-    /// The messages among these outputs of a terminal are on their way.
+    /// Puts the messages among these outputs of a terminal in transit.
     fn put_up(&mut self, outs: &TeiOuts) -> Result<(), BusFault>
         ensures done { OnOk result
             (self.new ≡ record self.old { up = self.old.up ++ sent outs.now.items }) }
@@ -173,7 +182,7 @@ impl Bus {
         }
     }
 
-    /// T202 of a terminal expires. It runs in states 2 and 3.
+    /// Expires T202 of a terminal, which runs in states 2 and 3.
     fn expire_t202(&mut self, t: usize, ri: u16) -> Result<TeiOuts, BusFault>
         ensures done { IfOk result (λ outs. expire_t202 self.old t ri
             ≡ Ok (record { now = self.new; outs = outs.items })) }
@@ -190,7 +199,7 @@ impl Bus {
         }
     }
 
-    /// A terminal hears a message of the network side.
+    /// Delivers a message from the network side to a terminal.
     fn hear(&mut self, i: usize, t: usize, ri: u16) -> Result<TeiOuts, BusFault>
         ensures done { IfOk result (λ outs. hear self.old i t ri
             ≡ Ok (record { now = self.new; outs = outs.items })) }
@@ -213,7 +222,7 @@ impl Bus {
         Ok(outs)
     }
 
-    /// A message of the network side is lost.
+    /// Loses a message from the network side.
     fn drop_down(&mut self, i: usize) -> Result<TeiOuts, BusFault>
         ensures done { IfOk result (λ outs. drop_down self.old i
             ≡ Ok (record { now = self.new; outs = outs.items })) }
@@ -227,7 +236,7 @@ impl Bus {
         }
     }
 
-    /// A message of a terminal is lost.
+    /// Loses a message from a terminal.
     fn drop_up(&mut self, i: usize) -> Result<TeiOuts, BusFault>
         ensures done { IfOk result (λ outs. drop_up self.old i
             ≡ Ok (record { now = self.new; outs = outs.items })) }
@@ -241,7 +250,7 @@ impl Bus {
         }
     }
 
-    /// The assigner hears a message of a terminal.
+    /// Delivers a message from a terminal to the assigner.
     fn hear_up(&mut self, i: usize) -> Result<TeiOuts, BusFault>
         ensures done { IfOk result (λ outs. hear_up self.old i
             ≡ Ok (record { now = self.new; outs = outs.items })) }
@@ -259,7 +268,7 @@ impl Bus {
         Ok(outs)
     }
 
-    /// T201 expires. It runs during a check.
+    /// Expires T201, which runs during a check.
     fn expire_t201(&mut self) -> Result<TeiOuts, BusFault>
         ensures done { IfOk result (λ outs. expire_t201 self.old
             ≡ Ok (record { now = self.new; outs = outs.items })) }
@@ -274,7 +283,7 @@ impl Bus {
         }
     }
 
-    /// An event of the assigner.
+    /// Passes an event to the assigner.
     fn to_assigner(&mut self, event: AssignerEvent) -> Result<TeiOuts, BusFault>
         ensures done { IfOk result (λ outs. to_assigner self.old event ≡ record {
           now = self.new;
@@ -291,7 +300,7 @@ impl Bus {
         Ok(outs)
     }
 
-    /// The messages among these outputs of the assigner are on their way to every terminal.
+    /// Puts the messages among these outputs of the assigner in transit to every terminal.
     fn put_down(&mut self, outs: &TeiOuts) -> Result<(), BusFault>
         ensures done { OnOk result
             (self.new ≡ record self.old {
@@ -312,7 +321,7 @@ impl Bus {
     }
 }
 
-/// These messages, to so many terminals, of which none has heard them.
+/// Creates broadcasts of these messages to this many terminals; no terminal has received them yet.
 fn broadcasts(
     alloc: Global,
     terminals: usize,
@@ -327,7 +336,7 @@ fn broadcasts(
     Ok(all)
 }
 
-/// Puts these messages behind the others, or none of them where memory is refused.
+/// Appends these messages, or none of them if an allocation fails.
 fn put_behind(up: &mut VecDeque<TeiMessage>, messages: &[TeiMessage]) -> Result<(), AllocError>
     ensures done { OnOk result (up.new.items ≡ up.old.items ++ messages.now) }
     ensures unchanged { OnErr result (up.new.items ≡ up.old.items) }

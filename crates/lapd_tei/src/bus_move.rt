@@ -4,47 +4,48 @@ ghost use Rattle.lapd_tei.specs.Bus.{bus_fault_name};
 use lapd_frame::Tei;
 use thiserror::Error;
 
-/// What may happen on a bus. Terminals and messages count from 0, messages in the order of sending among those on their way
-/// in that direction. Each reference is a fresh one, for the message that may be sent.
+/// A move on a bus. Terminals and messages are numbered from 0; messages in the order of sending,
+/// among those in transit in the same direction. Each reference is a fresh one, for the message
+/// that the move may send.
 #[derive(Clone, Copy)]
 pub enum BusMove {
-    /// The terminal asks for a TEI, by this reference.
+    /// The terminal requests a TEI by this reference.
     Ask(usize, u16),
     /// T202 of the terminal expires.
     T202(usize, u16),
-    /// The message of the network side at the first place is heard by the terminal at the second, which may answer by this
-    /// reference.
+    /// The terminal (second field) receives the message from the network side (first field). A
+    /// response uses this reference.
     Hear(usize, usize, u16),
-    /// The message of the network side is lost to all that have not heard it.
+    /// The message from the network side is lost to every terminal that has not received it.
     Drop(usize),
-    /// The message of a terminal is heard by the network side.
+    /// The network side receives the message from a terminal.
     HearUp(usize),
-    /// The message of a terminal is lost.
+    /// The message from a terminal is lost.
     DropUp(usize),
     /// The network side checks the TEI.
     Check(Tei),
     /// T201 of the network side expires.
     T201,
-    /// The terminal leaves, and gives up its TEI without a word.
+    /// The terminal leaves, and releases its TEI without sending a message.
     Leave(usize),
 }
 
 /// Why a move is refused. The bus is unchanged.
 #[derive(Clone, Copy, Debug, PartialEq, Eq, Error)]
 pub enum BusFault {
-    /// U1: no such message or terminal, or the timer does not run.
+    /// U1: the message or terminal does not exist, or the timer does not run.
     #[error("U1 NothingThere")]
     NothingThere,
-    /// U2: the terminal has heard this message before.
+    /// U2: the terminal has received this message before.
     #[error("U2 HeardBefore")]
     HeardBefore,
-    /// U3: memory was refused.
+    /// U3: an allocation failed.
     #[error("U3 Memory")]
     Memory,
 }
 
 impl BusFault {
-    /// Its number and name, as in `U1 NothingThere`.
+    /// The number and name, as in `U1 NothingThere`.
     pub fn name(self) -> &'static str
         ensures { result.now ≡ bus_fault_name self }
     {

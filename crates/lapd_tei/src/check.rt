@@ -1,6 +1,6 @@
 use lapd_frame::Tei;
 
-/// How often terminals were asked in a check (Q.921 5.3.3.2).
+/// How often a check requested responses (Q.921 5.3.3.2).
 #[derive(Clone, Copy, PartialEq, Eq)]
 pub enum Round {
     /// Once.
@@ -9,7 +9,7 @@ pub enum Round {
     Second,
 }
 
-/// How many terminals answered in a check.
+/// How many responses a check received.
 #[derive(Clone, Copy, PartialEq, Eq)]
 pub enum Responses {
     /// None.
@@ -20,13 +20,13 @@ pub enum Responses {
     Several,
 }
 
-/// A check of a TEI that runs (Q.921 5.3.3).
+/// A check of a TEI in progress (Q.921 5.3.3).
 #[derive(Clone, Copy, PartialEq, Eq)]
 pub struct Check {
     /// The TEI under check, 0 to 126.
     pub tei: Tei,
-    /// How often terminals were asked.
+    /// How often responses were requested.
     pub round: Round,
-    /// How many answered.
+    /// How many responses were received.
     pub responses: Responses,
 }

@@ -3,10 +3,10 @@ ghost use Rattle.lapd_tei.specs.Message.{tei_fault_name};
 
 use thiserror::Error;
 
-/// Why octets are no TEI message. A message with a fault is ignored.
+/// Why octets do not form a TEI message. A message with a fault is ignored.
 #[derive(Clone, Copy, Debug, PartialEq, Eq, Error)]
 pub enum TeiFault {
-    /// M1: the first octet is not the management entity, or there is none (Q.921 5.3.6.2).
+    /// M1: the first octet is not the management entity, or is missing (Q.921 5.3.6.2).
     #[error("M1 NotManagement")]
     NotManagement,
     /// M2: not five octets.
@@ -15,14 +15,14 @@ pub enum TeiFault {
     /// M3: no message type has this number (Q.921 Table 8).
     #[error("M3 BadKind")]
     BadKind,
-    /// M4: the extension bit of the action indicator is 0, or the group TEI stands where one terminal is meant
-    /// (Q.921 5.3.6.5).
+    /// M4: the extension bit of the action indicator is 0, or the action indicator is the group TEI
+    /// where a single terminal must be named (Q.921 5.3.6.5).
     #[error("M4 BadAi")]
     BadAi,
 }
 
 impl TeiFault {
-    /// Its number and name, as in `M1 NotManagement`.
+    /// The number and name, as in `M1 NotManagement`.
     pub fn name(self) -> &'static str
         ensures { result.now ≡ tei_fault_name self }
     {

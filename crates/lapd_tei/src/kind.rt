@@ -1,28 +1,28 @@
 ghost use Rattle.std.specs.Prelude.{◌≡◌};
 ghost use Rattle.lapd_tei.specs.Message.{kind_number, kind_at, may_name_the_group};
 
-/// What a TEI message is for (Q.921 5.3.6.4, Table 8).
+/// The type of a TEI message (Q.921 5.3.6.4, Table 8).
 #[derive(Clone, Copy, Debug, Default, PartialEq, Eq)]
 pub enum TeiKind {
-    /// Identity request: a terminal asks for a TEI.
+    /// Identity request: a terminal requests a TEI.
     #[default]
     Request,
     /// Identity assigned.
     Assigned,
     /// Identity denied.
     Denied,
-    /// Identity check request: terminals with this TEI are asked to answer.
+    /// Identity check request: terminals with this TEI must respond.
     CheckRequest,
     /// Identity check response.
     CheckResponse,
-    /// Identity remove: terminals with this TEI give it up.
+    /// Identity remove: terminals with this TEI must remove it.
     Remove,
-    /// Identity verify: a terminal asks for a check of its TEI.
+    /// Identity verify: a terminal requests a check of its TEI.
     Verify,
 }
 
 impl TeiKind {
-    /// The kind of this message type, `None` where there is none.
+    /// The kind with this message type, or `None` if the number is not 1 to 7.
     pub fn new(number: u8) -> Option<TeiKind>
         ensures { result ≡ kind_at number }
     {
@@ -38,7 +38,7 @@ impl TeiKind {
         }
     }
 
-    /// Its message type, 1 to 7.
+    /// The message type, 1 to 7.
     pub fn number(self) -> u8
         ensures { result ≡ kind_number self }
     {
@@ -53,7 +53,7 @@ impl TeiKind {
         }
     }
 
-    /// Whether its action indicator may be the group TEI.
+    /// Whether the action indicator may be the group TEI.
     pub fn may_name_the_group(self) -> bool
         ensures { result ≡ may_name_the_group self }
     {

@@ -1,4 +1,4 @@
-//! Laws by which the definitions are tried. They do nothing when they are called.
+//! Laws that test the definitions. Calling them does nothing.
 
 ghost use Rattle.std.specs.Prelude.{ℕ, List, ◌≡◌, ◌≢◌, ◌++◌, [], ◌∷◌, true, map, Ok, Err, Some};
 ghost use Rattle.std.specs.List.{AllByRecursion};
@@ -19,8 +19,8 @@ ghost use Rattle.lapd_tei.specs.Single.{Single, MeetsPremises, freed};
 ghost use Rattle.lapd_tei.specs.Service.{BusEvent, Move, in_service, event_step, after_events, HoldsInUse, IsInOrder, KnowsAnew, AsksByItsOwn, FreesNobodysTei, RestartsKnowing, JoinsByItsOwn, LosesNone, MeetsInService, AreNotEnough};
 ghost use Rattle.lapd_tei.specs.declared.bus_move.BusMove.{BusMove};
 
-/// Two terminals ask for a TEI; each hears the assignment that is for it, and the other does not take it. A check that no
-/// terminal answers frees the TEI. A terminal that nobody answers asks three times, and gives up.
+/// Two terminals request TEIs, and each accepts only the assignment with its own reference. A check
+/// without a response frees the TEI. A terminal without an answer requests three times, then fails.
 pub fn moves_are_computed()
     ensures asked { results (new_bus 2) two_ask ≡ Ok
         (out.Send (request 0x1234) ∷ out.Start timer.T202 ∷ [])
@@ -43,8 +43,9 @@ pub fn moves_are_computed()
     ensures refused { refusals (new_bus 2) (two_ask ++ three_times) ≡ 5 }
 {}
 
-/// An assigner gives the least free TEI, and denies where 64 to 126 are held. A check that one terminal answers says that the
-/// TEI is in use, and one that two answer or more removes it twice. Octets are those of the standard's Table 8.
+/// An assigner assigns the lowest free TEI, and denies requests when 64 to 126 are all held. One
+/// response to a check reports the TEI in use; two or more make the assigner send Identity remove
+/// twice. The octets match Table 8 of Q.921.
 pub fn assigner_is_computed()
     ensures given { answers nothing_held (event.Heard (request 0x1234) ∷ event.Heard (request 1)
         ∷ []) ≡ (out.Send (assigned 0x1234 64) ∷ out.Given 64 ∷ [])
@@ -76,35 +77,36 @@ pub fn assigner_is_computed()
         ≡ 0xFE ∷ 0xFF ∷ 0x03 ∷ 0x0F ∷ 0x00 ∷ 0x00 ∷ 0x06 ∷ 0x81 ∷ [] }
 {}
 
-/// The law of the TEIs, over the definitions: after every run from a new bus no two terminals hold the same TEI, where the
-/// references of the requests differ and a TEI is freed only while no terminal holds it and no assignment of it is on its
-/// way. It holds for lost, repeated and overtaking messages, timers that expire at any moment, and terminals that leave and
-/// ask again.
+/// After every run from a new bus no two terminals hold the same TEI, if the references of all
+/// requests differ and a TEI is freed only while no terminal holds it and no assignment of it is in
+/// transit. Messages may be lost, repeated or reordered, timers may expire at any moment, and
+/// terminals may leave and request again.
 pub fn terminals_are_single()
     ensures { (terminals : ℕ) (moves : List BusMove) → MeetsPremises terminals moves
         → Single (run (new_bus terminals) moves) }
 {}
 
-/// Both premises are met by a run in which a TEI comes to another terminal after it was freed.
+/// A run in which a freed TEI is assigned to another terminal meets both premises.
 pub fn premises_can_be_met()
     ensures met { MeetsPremises 2 got_by_another }
     ensures got { (run (new_bus 2) got_by_another).terminals
         ≡ Unassigned ∷ Assigned (Some 3) 64 ∷ [] }
 {}
 
-/// Neither premise can go: where two requests have one reference, where a check frees a TEI that a terminal holds, and where
-/// one frees a TEI whose assignment is on its way, two terminals come to hold the same TEI.
+/// Neither premise can be dropped. Two terminals end up with the same TEI if two requests share a
+/// reference, if a check frees a TEI that a terminal holds, or if it frees one whose assignment is
+/// in transit.
 pub fn premises_are_needed()
     ensures references { Single (run (new_bus 2) one_reference) → ⊥ }
     ensures holders { Single (run (new_bus 2) freed_while_held) → ⊥ }
     ensures assignments { Single (run (new_bus 2) freed_on_its_way) → ⊥ }
 {}
 
-/// The law of the TEIs on a bus in service, over the definitions: at every moment no two terminals hold the same TEI, and the
-/// network side holds each TEI of 64 to 126 that a terminal holds or an assignment on its way brings. It holds of every list
-/// of events in which a terminal asks by a reference that is not another terminal's last one, and no TEI in use is lost
-/// (`held`: the second alone is enough for the TEIs to be held). What the network side holds it gives up only by a check
-/// that frees it, or where it begins anew without it (`until`).
+/// On a bus in service no two terminals ever hold the same TEI. The network side holds each TEI of
+/// 64 to 126 that a terminal holds or an assignment in transit carries. The premises: no terminal
+/// requests by another terminal's last reference, and no TEI in use is lost. For `held` the second
+/// premise is enough. By `until`, the network side gives up a TEI only if a check frees it, or if
+/// it restarts without it.
 pub fn service_is_in_order()
     ensures in_order { (terminals : ℕ) (known : List ℕ) (events : List BusEvent)
         → MeetsInService (in_service terminals known) events
@@ -118,8 +120,9 @@ pub fn service_is_in_order()
         → is_held (event_step b event).now.assigner.held tei ≡ true }
 {}
 
-/// A bus is one in service, and its moves are events of it. Where references differ in the whole run, none is another
-/// terminal's last one: so the law of a bus in service says more than that of a new bus.
+/// A new bus is a bus in service, and its moves are events of it. If references differ in the whole
+/// run, none is another terminal's last one. So the law of a bus in service implies that of a new
+/// bus.
 pub fn moves_are_events()
     ensures first { (terminals : ℕ) → in_service terminals [] ≡ new_bus terminals }
     ensures moves { (b : BusState) (moves : List BusMove) → after_events b (map Move moves)
@@ -128,9 +131,10 @@ pub fn moves_are_events()
         → MeetsInService (in_service terminals []) (map Move moves) }
 {}
 
-/// The premises of a bus in service are met by a run with a known TEI, a fixed one, a terminal that wants a link, a network
-/// side that begins anew, a TEI that is freed, and a reference by which a second terminal asks; and by one in which requests
-/// and assignments by a reference are on their way when it is used again.
+/// The premises of a bus in service can be met. One run has a known TEI, a fixed TEI, a terminal
+/// that requests a link, a restart of the network side, a freed TEI, and a reference that a second
+/// terminal uses again. In the other, a reference is used again while requests and assignments with
+/// it are in transit.
 pub fn service_premises_can_be_met()
     ensures met { MeetsInService (in_service 2 (64 ∷ [])) reference_again }
     ensures got { (after_events (in_service 2 (64 ∷ [])) reference_again).terminals
@@ -140,10 +144,11 @@ pub fn service_premises_can_be_met()
         ≡ Assigned (Some 7) 66 ∷ Unassigned ∷ [] }
 {}
 
-/// None of them can go: where the three others hold, two terminals come to hold the same TEI if one asks by the reference of the
-/// other, outstanding or by which it has got its TEI; if a check frees a TEI that is held, or assigned on its way; if the
-/// network side begins anew and does not know one; and if a terminal comes with a fixed TEI that is held, or assigned on its
-/// way, or not known.
+/// None of the four premises can be dropped. With the other three met, two terminals end up with
+/// the same TEI in each of these cases: one requests by the other's reference, outstanding or the
+/// one that it was assigned by; a check frees a TEI that is held or whose assignment is in transit;
+/// the network side restarts without knowing such a TEI; a terminal joins with a fixed TEI that is
+/// held, whose assignment is in transit, or that the network side does not know.
 pub fn service_premises_are_needed()
     ensures outstanding { AreNotEnough FreesNobodysTei RestartsKnowing JoinsByItsOwn
         reference_outstanding }

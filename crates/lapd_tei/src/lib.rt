@@ -1,11 +1,16 @@
-//! The management of terminal endpoint identifiers (TEIs) of the ISDN D channel, after ITU-T Q.921 (09/97), clause 5.3:
-//! its messages, a terminal, the assigner of the network side, and a bus of terminals in memory.
+//! The management of terminal endpoint identifiers (TEIs) of the ISDN D channel, after ITU-T Q.921
+//! (09/97), clause 5.3: its messages, a terminal, the assigner of the network side, and a bus of
+//! terminals in memory.
 //!
-//! [`TeiMessage`] is read from the information of a UI frame of management, and makes the whole frame. [`Terminal`] and
-//! [`Assigner`] take events and give outputs, [`TeiOut`], in order, with no clock and no line inside: begin there. [`Bus`]
-//! puts several terminals and one assigner together. Over every run of it no two terminals hold the same TEI, as long as
-//! none asks by the last reference of another and a TEI is freed only while it is nobody's; and so it is on a bus in service,
-//! where terminals with fixed TEIs come and the network side begins anew ([`service_is_in_order`]).
+//! Begin with [`Terminal`] and [`Assigner`]: they process events and return outputs, [`TeiOut`], in
+//! order, with no clock and no line inside. [`TeiMessage`] reads the information field of a
+//! management UI frame, and writes the whole frame. [`Bus`] joins several terminals and one
+//! assigner.
+//!
+//! Throughout every run of a bus, no two terminals hold the same TEI, provided that no terminal
+//! requests by another's last reference and that a TEI is freed only while it is unused.
+//! [`service_is_in_order`] says the same of a bus in service, where terminals with fixed TEIs join
+//! and the network side restarts.
 #![tactic(auto)]
 
 mod assigner;

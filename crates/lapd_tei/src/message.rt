@@ -14,21 +14,22 @@ const UI: u8 = 0x03;
 /// A message of TEI management (Q.921 5.3.6).
 #[derive(Clone, Copy, Debug, Default, PartialEq, Eq)]
 pub struct TeiMessage {
-    /// The reference number, Ri. It tells apart terminals that ask at the same time (Q.921 5.3.6.3).
+    /// The reference number, Ri. It distinguishes terminals that request at the same time (Q.921
+    /// 5.3.6.3).
     pub ri: u16,
-    /// What it is for.
     pub kind: TeiKind,
     /// The action indicator, Ai: a TEI, 0 to 127 (Q.921 5.3.6.5).
     pub ai: u8,
 }
 
 impl TeiMessage {
-    /// The message that the information of a UI frame is.
+    /// Reads a message from the information field of a UI frame.
     ///
     /// # Errors
     ///
-    /// The first of M1 (no first octet 0F), M2 (not five octets), M3 (no such message type) and M4 (the extension bit is 0,
-    /// or the group TEI in an assignment, a check response or a verification).
+    /// The first of M1 (the first octet is not 0F, or is missing), M2 (not five octets), M3 (no
+    /// such message type) and M4 (the extension bit is 0, or the group TEI in an assignment, a
+    /// check response or a verification).
     pub fn read(info: &[u8]) -> Result<TeiMessage, TeiFault>
         ensures exact { result ≡ message_at info.now }
         ensures found { IfOk result (λ m. IsMessage m × (info.now ≡ message_octets m)) }
@@ -45,7 +46,7 @@ impl TeiMessage {
         }
     }
 
-    /// Its five octets, the information of a UI frame. Its Ai is 0 to 127.
+    /// The five octets of the message, the information field of a UI frame. `ai` must be 0 to 127.
     pub fn write(&self) -> [u8; 5]
         requires { self.now.ai ≤ 127 }
         ensures { result ≡ message_octets self.now }
@@ -59,8 +60,8 @@ impl TeiMessage {
         ]
     }
 
-    /// The octets of the whole frame that carries it, as `from` sends it: a UI command with P=0 of SAPI 63 and the group
-    /// TEI (Q.921 5.3.6.1). Its Ai is 0 to 127.
+    /// The octets of the whole frame that carries the message, as `from` sends it: a UI command
+    /// with P=0, SAPI 63 and the group TEI (Q.921 5.3.6.1). `ai` must be 0 to 127.
     pub fn frame(&self, from: Side) -> [u8; 8]
         requires { self.now.ai ≤ 127 }
         ensures { result ≡ spelling from (frame_of_message self.now) }
@@ -76,7 +77,7 @@ impl TeiMessage {
     }
 }
 
-/// The message with this last octet, of the action indicator and its extension bit.
+/// Completes a message with this last octet: the action indicator and its extension bit.
 fn with_ai(ri: u16, kind: TeiKind, last: u8) -> Result<TeiMessage, TeiFault>
     ensures { result ≡ with_ai ri kind last }
 {

@@ -7,33 +7,33 @@ use arrayvec::ArrayVec;
 use lapd_frame::Tei;
 use lapd_timers::Timer;
 
-/// What an event of TEI management calls for (Q.921 5.3).
+/// An output of TEI management (Q.921 5.3).
 #[derive(Clone, Copy, Debug, Default, PartialEq, Eq)]
 pub enum TeiOut {
-    /// A message is sent.
+    /// Send this message.
     Send(TeiMessage),
-    /// The timer, T201 or T202, is started anew.
+    /// Start this timer, T201 or T202, or restart it if it runs.
     Start(Timer),
-    /// The timer, which was running, is stopped.
+    /// Stop this timer, which runs.
     Stop(Timer),
-    /// This terminal has got a TEI.
+    /// The terminal has been assigned this TEI.
     Got(Tei),
-    /// This terminal has no TEI any more.
+    /// The terminal no longer has this TEI.
     Gone(Tei),
-    /// This terminal has got no TEI, and no longer asks for one.
+    /// The terminal did not obtain a TEI, and stopped requesting one.
     #[default]
     Failed,
     /// The network side has assigned the TEI.
     Given(Tei),
-    /// No terminal answered for the TEI: it is free again.
+    /// No terminal responded to the check: the TEI is free again.
     Free(Tei),
-    /// One terminal answered for the TEI.
+    /// One terminal responded to the check of the TEI.
     InUse(Tei),
-    /// More than one terminal answered for the TEI: it is removed.
+    /// More than one terminal responded to the check: the TEI is removed.
     Doubled(Tei),
 }
 
-/// What one step gives, in order. A step gives at most six outputs.
+/// The outputs of one step, in order, at most six.
 pub type TeiOuts = ArrayVec<TeiOut, 6>;
 
 /// No output.
@@ -78,7 +78,7 @@ pub fn three_outs(first: TeiOut, second: TeiOut, third: TeiOut) -> TeiOuts
     outs
 }
 
-/// The messages that are sent by these outputs, in order.
+/// The messages that these outputs send, in order.
 pub fn sent(outs: &TeiOuts) -> ArrayVec<TeiMessage, 6>
     ensures { result.items ≡ sent outs.now.items }
 {

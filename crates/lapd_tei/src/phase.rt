@@ -1,9 +1,9 @@
 use lapd_frame::Tei;
 
-/// What a terminal waits for a TEI for.
+/// Why a terminal awaits a TEI.
 #[derive(Clone, Copy, PartialEq, Eq)]
 pub enum Purpose {
-    /// To have one: state 2, assign awaiting TEI.
+    /// Only to have one: state 2, assign awaiting TEI.
     Assignment,
     /// To establish a link: state 3, establish awaiting TEI.
     Establishment,
@@ -14,18 +14,17 @@ pub enum Purpose {
 pub enum Phase {
     /// State 1, TEI unassigned.
     Unassigned,
-    /// State 2 or 3: a TEI was asked for.
+    /// State 2 or 3: the terminal requested a TEI.
     Awaiting {
-        /// What for.
         purpose: Purpose,
-        /// How often, 1 to 3.
+        /// How often it requested, 1 to 3.
         count: u8,
         /// The reference of the last request, which is outstanding.
         ri: u16,
     },
     /// State 4, TEI assigned.
     Assigned {
-        /// The reference by which the TEI was got, `None` for a fixed one.
+        /// The reference of the request that obtained the TEI; `None` for a fixed TEI.
         by: Option<u16>,
         /// The TEI, 0 to 126.
         tei: Tei,

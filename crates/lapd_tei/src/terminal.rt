@@ -13,21 +13,21 @@ use lapd_frame::Tei;
 use lapd_timers::Timer;
 use std::marker::Model;
 
-/// N202, how often a TEI is asked for at most (Q.921 5.9.4).
+/// N202, the maximum number of requests for a TEI (Q.921 5.9.4).
 const N202: u8 = 3;
 
-/// What happens to a terminal.
+/// An event that the terminal processes.
 #[derive(Clone, Copy, Debug, PartialEq, Eq)]
 pub enum TerminalEvent {
-    /// A TEI is asked for, by this reference.
+    /// Request a TEI, with this reference.
     Ask(u16),
-    /// A TEI is asked for in order to establish a link, by this reference.
+    /// Request a TEI in order to establish a link, with this reference.
     Want(u16),
-    /// A message of the network side was heard. What may be answered has this reference.
+    /// A message from the network side was received. A response uses this reference.
     Heard(TeiMessage, u16),
-    /// T202 expires. What may be sent has this reference.
+    /// T202 expired. A repeated request uses this reference.
     T202(u16),
-    /// The terminal leaves, and gives up its TEI without a word.
+    /// The terminal leaves, and releases its TEI without sending a message.
     Leave,
 }
 
@@ -59,7 +59,7 @@ impl Model for Terminal {
 }
 
 impl Terminal {
-    /// A terminal with this fixed TEI, 0 to 126, in state 4, or with none, in state 1.
+    /// Creates a terminal with this fixed TEI, 0 to 126 (state 4), or without a TEI (state 1).
     pub fn new(fixed: Option<Tei>) -> Terminal
         requires { IfSome fixed (λ tei. tei < 127) }
         ensures { result ≡ new_terminal fixed }
@@ -74,7 +74,7 @@ impl Terminal {
         }
     }
 
-    /// The number of its state, 1 to 4.
+    /// The number of the state in Q.921, 1 to 4.
     pub fn state(&self) -> u8
         ensures { result ≡ state_number self.now }
     {
@@ -92,7 +92,7 @@ impl Terminal {
         }
     }
 
-    /// Its TEI, in state 4.
+    /// The TEI, in state 4.
     pub fn tei(&self) -> Option<Tei>
         ensures { result ≡ tei_of self.now }
     {
@@ -102,7 +102,8 @@ impl Terminal {
         }
     }
 
-    /// How often it asked for the TEI that it waits for, 1 to 3 in states 2 and 3; 0 in states 1 and 4.
+    /// How often the terminal requested the TEI that it awaits: 1 to 3 in states 2 and 3; 0 in
+    /// states 1 and 4.
     pub fn count(&self) -> u8
         ensures { result ≡ count_of self.now }
     {
@@ -112,8 +113,8 @@ impl Terminal {
         }
     }
 
-    /// The reference that is outstanding in states 2 and 3, and the one that it got its TEI by in state 4. `None` in state
-    /// 1, and where the TEI is fixed.
+    /// The reference of the outstanding request in states 2 and 3, or of the request that obtained
+    /// the TEI in state 4. `None` in state 1 and for a fixed TEI.
     pub fn reference(&self) -> Option<u16>
         ensures { result ≡ reference_of self.now }
     {
@@ -124,7 +125,7 @@ impl Terminal {
         }
     }
 
-    /// Whether it waits for a TEI, in state 2 or 3. T202 runs then.
+    /// Whether the terminal awaits a TEI (state 2 or 3). T202 runs then.
     pub fn is_awaiting(&self) -> bool
         ensures { result ≡ is_awaiting self.now }
     {
@@ -134,8 +135,8 @@ impl Terminal {
         }
     }
 
-    /// What is to be done for an event, in order. It takes no memory. What the rows do not name changes nothing and gives
-    /// nothing.
+    /// Processes an event and returns the resulting outputs, in order. Does not allocate. An event
+    /// that does not apply in the current state is ignored.
     pub fn handle(&mut self, event: TerminalEvent) -> TeiOuts
         ensures now { self.new ≡ (terminal_step self.old event).now }
         ensures outs { result.items ≡ (terminal_step self.old event).outs }
@@ -147,7 +148,6 @@ impl Terminal {
     }
 }
 
-/// The terminal after an event, and its outputs.
 fn step(phase: Phase, event: TerminalEvent) -> (Phase, TeiOuts)
     requires { IsTerminal phase }
     ensures now { result.0 ≡ (terminal_step phase event).now }
@@ -161,7 +161,7 @@ fn step(phase: Phase, event: TerminalEvent) -> (Phase, TeiOuts)
     }
 }
 
-/// State 1.
+/// Steps from state 1.
 fn unassigned(event: TerminalEvent) -> (Phase, TeiOuts)
     ensures now { result.0 ≡ (terminal_step Unassigned event).now }
     ensures outs { result.1.items ≡ (terminal_step Unassigned event).outs }
@@ -174,7 +174,7 @@ fn unassigned(event: TerminalEvent) -> (Phase, TeiOuts)
     }
 }
 
-/// States 2 and 3.
+/// Steps from states 2 and 3.
 fn awaiting(purpose: Purpose, count: u8, ri: u16, event: TerminalEvent) -> (Phase, TeiOuts)
     ensures now { result.0 ≡ (terminal_step (Awaiting purpose count ri) event).now }
     ensures outs { result.1.items ≡ (terminal_step (Awaiting purpose count ri) event).outs }
@@ -198,7 +198,7 @@ fn awaiting(purpose: Purpose, count: u8, ri: u16, event: TerminalEvent) -> (Phas
     }
 }
 
-/// State 4.
+/// Steps from state 4.
 fn assigned(by: Option<u16>, tei: Tei, event: TerminalEvent) -> (Phase, TeiOuts)
     requires { tei < 127 }
     ensures now { result.0 ≡ (terminal_step (Assigned by tei) event).now }
@@ -212,7 +212,7 @@ fn assigned(by: Option<u16>, tei: Tei, event: TerminalEvent) -> (Phase, TeiOuts)
     }
 }
 
-/// A TEI is asked for, the `count`th time (Q.921 5.3.2).
+/// Requests a TEI for the `count`th time (Q.921 5.3.2).
 fn ask(purpose: Purpose, count: u8, ri: u16) -> (Phase, TeiOuts)
     ensures now { result.0 ≡ Awaiting purpose count ri }
     ensures outs { result.1.items ≡ Send (request ri) ∷ Start T202 ∷ [] }
@@ -227,7 +227,7 @@ fn ask(purpose: Purpose, count: u8, ri: u16) -> (Phase, TeiOuts)
     (Phase::Awaiting { purpose, count, ri }, outs)
 }
 
-/// The terminal gives up its TEI.
+/// Removes the terminal's TEI.
 fn gone(tei: Tei) -> (Phase, TeiOuts)
     ensures now { result.0 ≡ Unassigned }
     ensures outs { result.1.items ≡ Gone tei ∷ [] }
@@ -236,7 +236,7 @@ fn gone(tei: Tei) -> (Phase, TeiOuts)
     (Phase::Unassigned, one_out(TeiOut::Gone(tei)))
 }
 
-/// A terminal that waits for a TEI hears a message.
+/// Processes a message while the terminal awaits a TEI.
 fn awaiting_hears(purpose: Purpose, count: u8, ri: u16, message: TeiMessage) -> (Phase, TeiOuts)
     ensures now { result.0 ≡ (awaiting_hears purpose count ri message.kind message.ri
         message.ai).now }
@@ -253,7 +253,7 @@ fn awaiting_hears(purpose: Purpose, count: u8, ri: u16, message: TeiMessage) -> 
     }
 }
 
-/// A terminal with a TEI hears a message, and may answer by the reference `ri`.
+/// Processes a message while the terminal has a TEI. A response uses the reference `ri`.
 #[tactic(auto, using(crate::proofs::Named::one_is_named))]
 fn assigned_hears(by: Option<u16>, tei: Tei, message: TeiMessage, ri: u16) -> (Phase, TeiOuts)
     requires { tei < 127 }
@@ -279,7 +279,7 @@ fn assigned_hears(by: Option<u16>, tei: Tei, message: TeiMessage, ri: u16) -> (P
     }
 }
 
-/// Whether the network side assigns such a TEI (Q.921 3.3.4.2).
+/// Whether the network side may assign this TEI (Q.921 3.3.4.2).
 fn is_automatic(tei: u8) -> bool
     ensures { result ≡ is_automatic tei }
 {

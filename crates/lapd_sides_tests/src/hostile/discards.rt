@@ -1,6 +1,7 @@
-//! Which octets a side discards, by plain rules.
+//! Decides by simple rules which octets a side discards.
 
-/// Whether the octets are too few, their address is no address, or their SAPI is not served: F1, F2 or F3.
+/// Whether the octets are too short, their address is not valid, or their SAPI is not served: F1,
+/// F2 or F3.
 fn are_for_nobody(octets: &[u8]) -> bool {
     let [first, second, third, ..] = octets else {
         return true;
@@ -10,8 +11,8 @@ fn are_for_nobody(octets: &[u8]) -> bool {
     !is_address || is_cut || !matches!(first / 4, 0 | 16 | 63)
 }
 
-/// Whether the octets are a UI command of the other side to all terminals, with information that fits: of SAPI 63, which is for
-/// TEI management, or of the SAPIs that a user side serves.
+/// Whether the octets are a UI command of the other side to all terminals, with information that
+/// fits: of SAPI 63, which is for TEI management, or of a SAPI that a user side serves.
 fn is_for_all(octets: &[u8], to_network: bool) -> bool {
     let [first, 0xff, 0x03 | 0x13, ..] = octets else {
         return false;
@@ -28,8 +29,8 @@ pub(super) fn is_for_management(octets: &[u8], to_network: bool) -> bool {
     }
 }
 
-/// Whether a side, which serves SAPI 0 and 16, discards these octets: they are none for a link that is there, none for TEI
-/// management, and no unit data to all terminals.
+/// Whether a side that serves SAPI 0 and 16 discards these octets: they are not for an existing
+/// link, not for TEI management, and not unit data to all terminals.
 pub(super) fn is_discarded(octets: &[u8], to_network: bool, is_for_link: bool) -> bool {
     are_for_nobody(octets) || !(is_for_link || is_for_all(octets, to_network))
 }

@@ -1,13 +1,14 @@
-//! Octets that are drawn, and those that stand at their front.
+//! Random octets, and the octets that they begin with.
 
 use arrayvec::ArrayVec;
 use rand_core::{Rng, SeedableRng};
 use rand_pcg::Pcg32;
 
-/// The most octets that are drawn.
+/// The maximum number of random octets.
 pub(super) const MOST: usize = 300;
 
-/// Octets with which strings begin: addresses of links that are there and of others, of all terminals, and of TEI management.
+/// Octets that strings begin with: addresses of existing and other links, of all terminals, and of
+/// TEI management.
 const FRONTS: &[&[u8]] = &[
     &[0x00, 0x81],
     &[0x02, 0x81],
@@ -29,12 +30,13 @@ const FRONTS: &[&[u8]] = &[
     &[0xfe, 0xff, 0x13, 0x0f, 0x00, 0x00, 0x06],
 ];
 
-/// What strings begin with, lent: a constant is written out in each function that names it.
+/// The octets that strings begin with, returned by reference: a constant would be copied into each
+/// function that names it.
 pub(super) fn fronts() -> &'static [&'static [u8]] {
     FRONTS
 }
 
-/// These octets at the front, and behind them the octets that stand there in a string.
+/// These octets, followed by the octets of a string after the same length.
 pub(super) fn behind(front: &[u8], string: &[u8; MOST]) -> ArrayVec<u8, MOST> {
     let mut octets = ArrayVec::new();
     let _ = octets.try_extend_from_slice(front);
@@ -42,7 +44,7 @@ pub(super) fn behind(front: &[u8], string: &[u8; MOST]) -> ArrayVec<u8, MOST> {
     octets
 }
 
-/// Draws of octets.
+/// A generator of random octets.
 #[derive(Drop)]
 pub(super) struct Draws {
     random: Pcg32,
@@ -50,7 +52,7 @@ pub(super) struct Draws {
 }
 
 impl Draws {
-    /// Draws from this seed on.
+    /// A generator with this seed.
     pub(super) fn new(seed: u64) -> Draws {
         Draws {
             random: Pcg32::seed_from_u64(seed),
@@ -58,13 +60,14 @@ impl Draws {
         }
     }
 
-    /// A number below this one.
+    /// A random number below this one.
     fn below(&mut self, limit: usize) -> usize {
         let drawn = self.random.next_u32() as usize;
         drawn.checked_rem(limit).unwrap_or(0)
     }
 
-    /// 0 to 300 octets. Of every two strings one has a front, and of every two of these one has 10 octets at most.
+    /// Draws 0 to 300 octets. Half of the strings begin with one of `FRONTS`, and half of these
+    /// have at most 10 octets.
     pub(super) fn draw(&mut self) -> &[u8] {
         let mut string = [0; MOST];
         self.random.fill_bytes(&mut string);

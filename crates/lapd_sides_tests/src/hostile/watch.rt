@@ -1,4 +1,4 @@
-//! A side that is watched: what it gives for octets, and which of its links they change.
+//! A side under watch: its results for octets, and which of its links they change.
 
 use crate::digest::{PLACES, at_place, id_at};
 use crate::hostile::discards::{is_discarded, is_for_management};
@@ -9,11 +9,11 @@ use lapd_sides::{Request, Side};
 use std::alloc::{AllocError, Global};
 use std::test::Fail;
 
-/// Where the link of SAPI 0 and TEI 64 stands.
+/// The index of the link of SAPI 0 and TEI 64.
 const PLACE: usize = 64;
 
-/// A side, whether it is a network side, what was last seen of each link, the state that its link is led to, and what was not
-/// well.
+/// A side, whether it is a network side, the last digest of each link, the state that its link is
+/// set to, and the octets for which a check failed.
 #[derive(Drop)]
 pub(super) struct Watch {
     pub(super) alloc: Global,
@@ -24,7 +24,8 @@ pub(super) struct Watch {
     pub(super) wrong: Text,
 }
 
-/// Where the link with the address of these octets stands, or one past all where it is none.
+/// The index of the link with the address of these octets, or an index past all links if there is
+/// none.
 fn place_of(octets: &[u8]) -> usize {
     match octets {
         [first, second, ..] if *first < 4 => usize::from(*second / 2),
@@ -33,7 +34,8 @@ fn place_of(octets: &[u8]) -> usize {
     }
 }
 
-/// Whether a side may send these octets: they are read as a frame, which is written as they are.
+/// Whether a side may send these octets: they can be read as a frame, and writing the frame
+/// produces the same octets.
 fn is_sent(octets: &[u8], from: Side) -> bool {
     match read(octets, from) {
         Ok(frame) => is_written(&frame, from, octets),
@@ -41,7 +43,7 @@ fn is_sent(octets: &[u8], from: Side) -> bool {
     }
 }
 
-/// Whether a frame is written as these octets.
+/// Whether writing a frame produces these octets.
 fn is_written(frame: &Frame<'_>, from: Side, octets: &[u8]) -> bool {
     let mut room = [0; MOST_OCTETS];
     let len = write(frame, from, &mut room);
@@ -49,7 +51,7 @@ fn is_written(frame: &Frame<'_>, from: Side, octets: &[u8]) -> bool {
 }
 
 impl Watch {
-    /// No link was seen.
+    /// Watches a new side, with no link seen yet.
     pub(super) fn new(alloc: Global) -> Result<Watch, AllocError> {
         Ok(Watch {
             alloc,
@@ -61,7 +63,7 @@ impl Watch {
         })
     }
 
-    /// Fails where all was not well.
+    /// Fails if any check failed.
     pub(super) fn end(&self) -> Result<(), Fail> {
         if self.wrong.is("") {
             return Ok(());
@@ -70,8 +72,8 @@ impl Watch {
         Err(Fail::new(format_args!("octets come: {wrong}")))
     }
 
-    /// Watches a new side, which these words name, and whose link is led to this state. Establishes the links of even TEIs that
-    /// are there, and looks at all.
+    /// Watches a new side, which these words describe, and whose link is set to this state.
+    /// Establishes the existing links of even TEIs, and takes the digests of all links.
     pub(super) fn begin(&mut self, links: &str, state: u8) {
         self.renew(links);
         self.to_network = links.starts_with("net");
@@ -87,7 +89,7 @@ impl Watch {
         }
     }
 
-    /// Watches the side that these words name.
+    /// Watches the side that these words describe.
     fn renew(&mut self, links: &str) {
         match Talk::of(self.alloc, links) {
             Ok(talk) => self.talk = talk,
@@ -95,7 +97,7 @@ impl Watch {
         }
     }
 
-    /// Looks at the link at this place: whether it is as it was.
+    /// Takes the digest of the link at this index, and returns whether it is unchanged.
     fn look_at(&mut self, place: usize) -> bool {
         let now = at_place(&self.talk.side, place);
         match self.seen.get_mut(place) {
@@ -108,12 +110,12 @@ impl Watch {
         }
     }
 
-    /// Whether octets come, and the side is not refused memory.
+    /// Passes octets to the side, and returns whether its allocations succeeded.
     fn takes(&mut self, octets: &[u8]) -> bool {
         self.talk.side.take(octets, 0, &mut self.talk.acts).is_ok()
     }
 
-    /// The side is given a message for the link of SAPI 0 and TEI 64.
+    /// Submits a message to the link of SAPI 0 and TEI 64.
     fn give(&mut self) {
         if let Ok(message) = [0xaa, 0xbb].to_vec(self.alloc) {
             let request = Request::Give(id_at(PLACE), message);
@@ -121,8 +123,9 @@ impl Watch {
         }
     }
 
-    /// Leads the link of SAPI 0 and TEI 64, if it is there, to its state. For state 4 the other side sends UA with F=1, then
-    /// DISC; for state 7, where one message is sent, UA with F=1, then SABME with P=1.
+    /// Brings the link of SAPI 0 and TEI 64, if it exists, to its state. For state 4 the other side
+    /// sends UA with F=1, then DISC. For state 7 it sends UA with F=1, then SABME with P=1, and the
+    /// link sends one message.
     pub(super) fn lead(&mut self) {
         let command = if self.to_network { 0x00 } else { 0x02 };
         let _ = self.takes(&[command ^ 0x02, 0x81, 0x73]);
@@ -135,7 +138,7 @@ impl Watch {
         let _ = self.look_at(PLACE);
     }
 
-    /// Leads the link to its state, and octets come.
+    /// Brings the link to its state, and passes octets.
     pub(super) fn hear(&mut self, octets: &[u8]) {
         self.lead();
         match self.talk.side.table().link(id_at(PLACE)) {
@@ -144,7 +147,7 @@ impl Watch {
         }
     }
 
-    /// Octets come, and are noted where all is not well.
+    /// Passes octets, and notes them if a check fails.
     pub(super) fn look(&mut self, octets: &[u8]) {
         if !self.hears(octets) {
             self.wrong.hex(octets);
@@ -152,8 +155,8 @@ impl Watch {
         }
     }
 
-    /// Whether all is well when these octets come: the frames that are given are frames, nothing is given for octets that are
-    /// discarded, which are counted, and all other links are as before.
+    /// Passes these octets and checks the results: the side sends only valid frames, it counts
+    /// discarded octets and has no results for them, and all other links are unchanged.
     fn hears(&mut self, octets: &[u8]) -> bool {
         let place = place_of(octets);
         let discarded = is_discarded(octets, self.to_network, self.is_there(place));
@@ -170,7 +173,7 @@ impl Watch {
             && self.leaves_others(place, is_for_management(octets, self.to_network))
     }
 
-    /// Whether a link was seen at this place.
+    /// Whether a link was seen at this index.
     fn is_there(&self, place: usize) -> bool {
         match self.seen.get(place) {
             Some(seen) => *seen != 0,
@@ -178,7 +181,7 @@ impl Watch {
         }
     }
 
-    /// Whether all that is given to be sent are frames.
+    /// Whether all octets that the side sends are valid frames.
     fn gives_frames(&self) -> bool {
         let from = self.talk.side.side();
         let mut all = true;
@@ -188,8 +191,8 @@ impl Watch {
         all
     }
 
-    /// Whether all links but the one at this place are as before. By TEI management the links of a TEI come to a network side,
-    /// and those of its own TEI come to a user side or go.
+    /// Whether all links except the one at this index are unchanged. TEI management may add the
+    /// links of a TEI on a network side, and add or remove the links of a user side's own TEI.
     fn leaves_others(&mut self, spared: usize, managed: bool) -> bool {
         let mut all = true;
         for place in 0..PLACES {

@@ -1,9 +1,10 @@
-//! Buses of terminals and an assigner: the outputs of each move, or why it is refused, and what the bus shows.
+//! Buses of terminals and an assigner: the outputs of each move, or why it is refused, and the
+//! state of the bus.
 //!
-//! It shows the state of each of its first two terminals, its TEI, how often it asked and its reference, and the TEI that the
-//! assigner checks, and those that it holds.
+//! The state is, for each of the first two terminals, its state, TEI, number of requests and
+//! reference; then the TEI that the assigner checks, and the TEIs that it holds.
 
-/// Moves of two terminals, as those of the scripts.
+/// Moves of two terminals, as in the scripts.
 pub(crate) const BUSES: &str = "\
 # two terminals ask
 bus begin 2

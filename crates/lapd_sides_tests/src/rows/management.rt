@@ -1,7 +1,8 @@
 //! Timers, terminals, assigners, and messages of TEI management (Q.921 5.3).
 
-/// Timers of the standard's durations show which of them run, and until when. A terminal and an assigner give outputs, and show
-/// what they are then. Messages are read, or go out and are read again.
+/// Timers with the standard durations show which of them run, and until when. A terminal and an
+/// assigner return outputs, and show their state after them. Messages are read, or are sent and
+/// read again.
 pub(crate) const MANAGEMENT: &str = "\
 # the least deadline is due first
 timers new

@@ -1,6 +1,6 @@
-//! What the readers of a side show, and the next moment at which something is due on it.
+//! Query results of a side, and the next moment at which something is due.
 
-/// Rows as those of dialogues. T200 runs 1 s, T201 1 s, T202 2 s and T203 10 s (Q.921 5.9).
+/// Rows like those of dialogues. T200 is 1 s, T201 1 s, T202 2 s and T203 10 s (Q.921 5.9).
 pub(crate) const READERS: &str = "\
 # a network side shows its links, and a check
 net 64 packets

@@ -1,10 +1,12 @@
 //! Dialogues of sides with the line, layer 3 and their clocks.
 //!
-//! A side begins: `net` or `user`, with `64` where it knows of TEI 64 or has it, and with `packets` where it serves SAPI 16.
-//! Then comes a line for each call: its moment, what is done, the SAPI and the TEI where it names a link, and octets; and
-//! behind `: ` a refusal, frames and primitives, each with `;` behind it, or `none` where nothing is due. `shows` is what the
-//! readers of the side show, and `shows 0 64` those of a link. `exact` is whether nothing is due before the next moment, and
-//! something at it. `requests` is the TEI that each of 63 Requests is given, and what is answered to one more.
+//! The first line creates a side: `net` or `user`, with `64` if it knows or has TEI 64, and with
+//! `packets` if it serves SAPI 16. Each following line is a call: its time, its name, the SAPI and
+//! TEI if it names a link, and octets. After `: ` follow a refusal, frames and primitives, each
+//! followed by `;`, or `none` if nothing is due. `shows` prints the query results of the side, and
+//! `shows 0 64` those of a link. `exact` prints whether nothing is due before the next moment, and
+//! something is due at it. `requests` prints the TEI that each of 63 requests is assigned, and the
+//! answer to one more.
 
 pub(crate) const NETWORK: &str = "\
 # a link goes, and the timer of the other runs on
@@ -262,9 +264,9 @@ shows: user;discarded 5;state 1;asked 0;
 exact: yes
 ";
 
-/// Octets that are as many as a frame has room for, or more (N201, 260, Q.921 5.9.3). What is refused is handed back, and
-/// nothing is given. And a Request for each TEI, and one more: the row is here, since where memory is refused between two of them,
-/// all of them can't be made again.
+/// Octets that exactly fill a frame, or exceed it (N201, 260, Q.921 5.9.3). Refused octets are
+/// returned, and nothing is sent. Then a request for each TEI, and one more: that row is here
+/// because if an allocation fails between two of the requests, they cannot all be repeated.
 pub(crate) const LENGTHS: &str = "\
 # to all terminals, 260 octets
 net

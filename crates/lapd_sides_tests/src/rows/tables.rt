@@ -1,7 +1,8 @@
-//! Tables of links: which links are there, octets that come for them, and faults as they are printed.
+//! Tables of links: the existing links, received octets, and printed faults.
 
-/// Octets of the user side come (`hear`), links are added and taken out, asked to be established and given messages; and of a
-/// link its state is looked at, and how many messages wait and are sent.
+/// Octets of the user side are received (`hear`); links are added, removed and established, and
+/// messages are submitted. The rows show the state of a link, and the numbers of its waiting and
+/// sent messages.
 pub(crate) const TABLES: &str = "\
 # one of two links is released
 table new
@@ -78,7 +79,7 @@ table links: SAPI 0 TEI 0;SAPI 0 TEI 64;SAPI 0 TEI 65;SAPI 0 TEI 70;SAPI 16 TEI 
 table memory: B3 Memory;
 ";
 
-/// Links that are added while memory may be refused.
+/// Links that are added while allocations may fail.
 pub(crate) const LINKS: &str = "\
 # so many links that slab and map grow several times
 table new

@@ -1,4 +1,5 @@
--- A handle may go to another thread: at null it owns nothing, and else a box of plain data.
+-- A handle may be sent to another thread: it owns nothing if it is null, and otherwise a box of
+-- plain data.
 use mir.Raw.{raw}
 use base.Shift.{Keyless}
 use denote.Memory.{lone}

@@ -1,4 +1,4 @@
--- `empty` puts null beside the heap, and there it owns nothing.
+-- `empty` stores null beside the heap; such a handle owns nothing.
 use Rattle.std.proofs.Common.{List, [], ◌∷◌, ◌++◌, refl, sym, subst, lit<}
 use mir.Val.{Val}
 use base.Logic.{ent, emp, id⊢}

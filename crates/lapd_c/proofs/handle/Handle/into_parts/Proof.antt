@@ -1,4 +1,5 @@
--- `into_parts` tests the word: at null there is nothing, and else the parts own what the handle owned.
+-- `into_parts` tests the word: if it is null, there are no parts; otherwise the parts own what the
+-- handle owned.
 use Rattle.std.proofs.Common.{List, [], ◌∷◌, ◌++◌, refl, sym, subst, lit<}
 use seplogic.Ra.Ura.{Ura}
 use mir.Val.{Val, vcons, vnil}

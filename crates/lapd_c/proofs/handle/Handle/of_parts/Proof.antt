@@ -1,4 +1,4 @@
--- `of_parts` moves two fields, and what they own goes with them.
+-- `of_parts` moves two fields, and with them what they own.
 use mathlib.Core.Path.{refl, sym, subst}
 use mathlib.Core.List.{List, [], ◌∷◌, ◌++◌}
 use seplogic.Ra.Ura.{Ura}
