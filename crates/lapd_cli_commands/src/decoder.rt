@@ -9,7 +9,7 @@ use lapd_frame::Side;
 use std::alloc::Global;
 use std::io::{Read, Write};
 
-/// What prints trace lines. The rooms of a line's octets and of its text are kept from line to line.
+/// Prints trace lines. It reuses its buffers for the octets and the text of a line.
 #[derive(Drop)]
 struct Decoder {
     alloc: Global,
@@ -17,11 +17,13 @@ struct Decoder {
     text: String,
 }
 
-/// Goes over a script of lines `user HEX` and `net HEX`, the octets and who sent them, and writes the trace line of each.
+/// Executes a script of lines `user HEX` and `net HEX` (the sender and the octets), and writes the
+/// trace line of each.
 ///
 /// # Errors
 ///
-/// `BadLine` at the first line that is none of the command's, `Device` where a read or a write fails, and `Memory`.
+/// `BadLine` at the first line that is not valid, `Device` if a read or a write fails, `Memory` if
+/// an allocation fails.
 pub fn decode<R: Read, W: Write>(
     alloc: Global,
     script: &mut R,
@@ -56,7 +58,7 @@ impl Command for Decoder {
 }
 
 impl Decoder {
-    /// Prints the trace line of the octets behind a word, which this side sent.
+    /// Prints the trace line of the octets after the word, which side `from` sent.
     fn trace<W: Write>(
         &mut self,
         from: Side,
