@@ -38,7 +38,7 @@ refused_line Json why = text_line (object_text (text_members (codes "refused") w
 abbrev pub refusal_line : LineStyle → SideKind → List ℕ
 refusal_line style kind = refused_line style (kind_text kind)
 
--- of `read`, when the input has ended
+-- `read` found the end of the input
 abbrev pub end_line : LineStyle → List ℕ
 end_line style = refused_line style (codes "S1 End")
 
@@ -55,7 +55,7 @@ abbrev pub acts_text : LineStyle → Side → List (List ℕ) → List Primitive
 acts_text style side frames primitives =
     frames_text style side frames ++ primitives_text style primitives
 
--- or the refusal, if the side refuses
+-- the output of the call, or the refusal if the side refuses
 abbrev pub answer_text : LineStyle → Side → Result ⊤ SideFault → Effects → List ℕ
 answer_text style side (Ok done) acts = acts_text style side acts.frames acts.primitives
 answer_text style side (Err fault) acts = refusal_line style fault.kind
