@@ -1,5 +1,5 @@
 -- `net` and `user` over a lossless line: each source delivers the octets that the other program
--- writes, and each program reads only what was written. What they do is a sequence of moves of an
+-- writes, and each program reads only what was written. Together they perform moves of an
 -- interface.
 use Rattle.std.specs.Prelude.{◌≡◌, ℕ, ◌<◌, ◌≤◌, List, [], ◌∷◌, ◌++◌, Some, IsSome}
 use Rattle.std.specs.Io.KnownBytes.{Appends}
@@ -110,8 +110,8 @@ AreMovesFor (line ∷ lines) network user moves =
     (AreMovesFor lines (network_clock line.side line.wish network)
     (user_clock line.side line.wish user)) moves
 
--- What both programs did is a sequence of moves that their lines requested. In `ArePlayedSafely`,
--- every link is safe whose premises these moves keep.
+-- Both programs performed exactly the moves that their lines requested. In `ArePlayedSafely`, every
+-- link is safe whose premises these moves keep.
 pub record ArePlayed (c : Configs) (lines : List ProgramLine) (a b : Programs) (i : Interface)
     : Type 0 where
   pub moves : List Move

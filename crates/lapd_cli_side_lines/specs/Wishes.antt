@@ -14,7 +14,7 @@ use Rattle.lapd_sides.specs.declared.request.Request.TheVariants as request
 use Rattle.lapd_cli_side_lines.specs.declared.side_lines.SideLine.{SideLine}
 use Rattle.lapd_cli_side_lines.specs.declared.side_lines.SideLine.TheVariants as line
 
--- What a line requests: read one frame; advance the clock by some milliseconds; establish or
+-- The request of a line: read one frame; advance the clock by some milliseconds; establish or
 -- release a link; send a message or unit data on a link; assign a TEI to this terminal, or check
 -- one.
 pub data Wish : Type 0 where

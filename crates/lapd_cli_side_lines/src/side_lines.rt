@@ -13,7 +13,7 @@ use std::alloc::Global;
 /// The longest step of the clock in one line, in milliseconds: an hour.
 const MOST_MS: u64 = 3_600_000;
 
-/// What a line of a side's script requests.
+/// The request of a line of a side's script.
 #[derive(Drop)]
 pub enum SideLine {
     /// Read one frame from the port, and pass it to the side.
