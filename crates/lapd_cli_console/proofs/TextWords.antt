@@ -9,7 +9,7 @@ use Rattle.lapd_cli_script.specs.Script.{with_first}
 use Rattle.lapd_cli_script.proofs.WordsOf.{one_word, words_behind}
 use Rattle.lapd_cli_console.specs.Forms.{last_word, text_and_last, words_before}
 
--- ---- Words are the parts between spaces, so joining them by spaces gives the octets again.
+-- ---- Words are the parts between spaces, so the octets are the words joined by spaces.
 
 with_first_is : (octet : ℕ) (words : List (List ℕ)) → with_first octet words ≡ onto_first octet words
 with_first_is octet [] = refl

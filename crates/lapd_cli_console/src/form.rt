@@ -7,7 +7,7 @@ use std::fmt;
 pub enum Argument {
     /// The delay of each sent frame in milliseconds, 0 to 3,600,000. It may be left out.
     Delay,
-    /// Octets in hexadecimal digits, which end the line. It is left out if there are no octets.
+    /// Octets in hexadecimal digits, which end the line. Left out if there are no octets.
     Hex,
     /// The chance that a sent frame is lost, 0 to 100 per cent, with or without a `%`.
     Loss,

@@ -1,4 +1,4 @@
-//! What the program `lapd` reports to people about its script and its standard streams.
+//! Messages of the program `lapd` to people about its script and its standard streams.
 //!
 //! - [`reason`] returns in one line of text what is wrong with a line of a command's script, and
 //!   [`forms`] lists the command's lines. The lines with the real clock are those of

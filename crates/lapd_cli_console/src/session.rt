@@ -29,11 +29,11 @@ pub struct Session<R, E> {
 
 /// How a typed line is handled.
 enum Fate {
-    /// It is passed on.
+    /// The line is passed on.
     PassedOn,
-    /// It was answered on the error writer.
+    /// The line was answered on the error writer.
     Answered,
-    /// It ends the input.
+    /// The line ends the input.
     Ends,
 }
 

@@ -60,7 +60,7 @@ teis_written texts = map (digits_value 10) texts
 abbrev pub AreTeis : List (List ℕ) → Type 0
 AreTeis texts = All (IsNumberFrom 0 126) texts
 
--- the given TEIs, in order; at primary rate TEI 0 if none is given
+-- the listed TEIs, in order; at primary rate TEI 0 if the list is empty
 abbrev pub teis_meant : Bool → List ℕ → List ℕ
 teis_meant true [] = 0 ∷ []
 teis_meant pri teis = teis

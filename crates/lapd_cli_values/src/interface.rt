@@ -19,7 +19,7 @@ pub struct Interface {
     pub durations: Durations,
     /// Whether SAPI 16 is served in addition to SAPI 0.
     pub sapi16: bool,
-    /// The seed of the user side's reference numbers (Ri), if `--seed` was given.
+    /// The seed of the user side's reference numbers (Ri), if set by `--seed`.
     pub seed: Option<u64>,
     /// The known TEIs, each 0 to 126: on the network side all of them, on the user side its fixed
     /// TEI.

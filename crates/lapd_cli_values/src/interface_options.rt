@@ -156,7 +156,7 @@ pub fn durations_written<'a>(
     }
 }
 
-// The seed, if it is given.
+// The seed, if present.
 fn seed_written<'a>(written: Option<&'a str>) -> Result<Option<u64>, OutOfRange<'a>>
     ensures { MatchResult result
         (λ seed. IsSeed (option_map (λ s. s.now) written.entry)
