@@ -1,4 +1,4 @@
-//! Lines of octets, in each form and style.
+//! Decoding lines of octets, in each form and style.
 
 ghost use Rattle.std.specs.Prelude.{◌≡◌, IfSome};
 ghost use Rattle.lapd_cli_script.specs.Script.{EndsAs, lines_of};
@@ -11,7 +11,7 @@ use lapd_cli_script::{Command, LineFault, ScriptFault, put_line, walk};
 use std::alloc::Global;
 use std::io::{Read, Write};
 
-/// What prints lines of a form in a style.
+/// Reads lines of a form and prints them in a style.
 #[derive(Drop)]
 struct LineDecoder {
     alloc: Global,
@@ -19,11 +19,12 @@ struct LineDecoder {
     style: Style,
 }
 
-/// Goes over a script of lines of this form, and writes each frame in this style.
+/// Executes a script with lines of this form, and writes each frame in this style.
 ///
 /// # Errors
 ///
-/// `BadLine` at the first line that is none of this form, `Device` where a read or a write fails, and `Memory`.
+/// `BadLine` at the first line that does not have this form, `Device` if a read or a write fails,
+/// `Memory` if an allocation fails.
 pub fn decode_lines<R: Read, W: Write>(
     alloc: Global,
     script: &mut R,
@@ -39,12 +40,12 @@ pub fn decode_lines<R: Read, W: Write>(
     walk(alloc, &mut decoder, script, out)
 }
 
-/// As [`decode_lines`], where a line that is none of this form is told on the error writer and passed over. What the error
-/// writer does not take is given up.
+/// Like [`decode_lines`], but reports each line that does not have this form on the error writer,
+/// and skips it. Failures of the error writer are ignored.
 ///
 /// # Errors
 ///
-/// `Device` where a read or a write fails, and `Memory`.
+/// `Device` if a read or a write fails, `Memory` if an allocation fails.
 pub fn decode_good_lines<R: Read, W: Write, E: Write + Drop>(
     alloc: Global,
     script: &mut R,
@@ -65,7 +66,7 @@ pub fn decode_good_lines<R: Read, W: Write, E: Write + Drop>(
 impl LineDecoder {
     ghost use Rattle.lapd_cli_script.specs.Script.{LineEndsAs};
 
-    /// Prints what one line tells.
+    /// Prints the frame of a line.
     fn decode<W: Write>(&self, line: &[u8], out: &mut W) -> Result<(), LineFault>
         ensures { LineEndsAs (λ decoder state. state ≡ stood_for decoder)
             (line_step (stood_for self.now) line.now) result self.now
@@ -96,7 +97,7 @@ impl Command for LineDecoder {
     }
 }
 
-/// What prints the lines that are good, and tells the others.
+/// Prints valid lines, and reports the others.
 #[derive(Drop)]
 struct GoodLines<E> {
     decoder: LineDecoder,

@@ -7,11 +7,11 @@ use std::fmt;
 /// Why the program's words do not name a job.
 #[derive(Drop)]
 pub enum NoInvocation<'a> {
-    /// They request help or the version, which is this text. It is for standard output, and the
-    /// exit status is 0.
+    /// They request help or the version. This text is for standard output, and the exit status is
+    /// 0.
     Shown(String),
-    /// The parser refuses them, for the reason in this text. It is for standard error, and the exit
-    /// status is 2, as for `OutOfRange`, `NoAddress`, `NotReal` and `OneTerminal`.
+    /// The parser refuses them, for the reason in this text. The text is for standard error, and
+    /// the exit status is 2, as for `OutOfRange`, `NoAddress`, `NotReal` and `OneTerminal`.
     Refused(String),
     /// A number that is not in the range of its option.
     OutOfRange(OutOfRange<'a>),
