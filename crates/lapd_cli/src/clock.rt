@@ -5,7 +5,7 @@ ghost use Rattle.std.specs.Prelude.{◌≡◌, ◌≤◌, IfOk};
 use std::io;
 use std::time::Instant;
 
-/// A clock that begins at 0 when it is created, and never goes back.
+/// A clock that begins at 0 when it is created and never runs backwards.
 #[derive(Drop)]
 pub struct RealClock<'a> {
     rt: &'a HostRuntime,

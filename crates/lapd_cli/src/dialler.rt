@@ -11,7 +11,7 @@ const FIRST_PAUSE: u64 = 100;
 /// The most milliseconds between two attempts.
 const MOST_PAUSE: u64 = 5000;
 
-/// The milliseconds after which an unanswered attempt is given up.
+/// The milliseconds after which an unanswered attempt is abandoned.
 const ATTEMPT: u64 = 5000;
 
 /// Connects again and again, with pauses that double, until a connection is established.
@@ -30,7 +30,7 @@ enum Dialling {
     Idle,
     /// The next attempt begins at this moment, in milliseconds.
     Pausing(u64),
-    /// An attempt is under way; it is given up at this moment, in milliseconds.
+    /// An attempt is under way; it is abandoned at this moment, in milliseconds.
     Begun(TcpStream, u64),
 }
 
@@ -39,7 +39,7 @@ enum Dialling {
 pub enum Attempt {
     /// No attempt is due, or one is under way.
     Open,
-    /// The connection is established. It is not registered with a poll.
+    /// The connection is established, and not registered with a poll.
     Made(TcpStream),
     /// The attempt failed. The next attempt follows after this many milliseconds.
     Failed(io::Error, u64),

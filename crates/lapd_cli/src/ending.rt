@@ -1,5 +1,5 @@
 //! How the program ends: its exit status, and its report on standard error. The first line names
-//! the fault, the second gives the reason. Failed writes to standard error are ignored.
+//! the fault, the second the reason. Failed writes to standard error are ignored.
 
 ghost use Rattle.std.specs.Prelude.{◌≡◌, ◌&&◌, IfNone, IfSome, if◌then◌else◌};
 ghost use Rattle.lapd_cli_script.specs.Script.{status_of as status_of_fault};
