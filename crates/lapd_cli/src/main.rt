@@ -1,10 +1,10 @@
-//! The program `lapd`. Its commands
+//! The program `lapd`. Depending on its command, it
 //!
-//! - execute a script on one end of a link of the ISDN D channel (ITU-T Q.921),
-//! - simulate two ends and the line between them, also over a socket,
-//! - run a whole side of an interface over a socket,
-//! - assign TEIs on a bus of terminals, or
-//! - print octets as trace lines.
+//! - executes a script on one end of a link of the ISDN D channel (ITU-T Q.921),
+//! - simulates two ends and the line between them, also over a socket,
+//! - runs a whole side of an interface over a socket,
+//! - assigns TEIs on a bus of terminals, or
+//! - prints octets as trace lines.
 //!
 //! The program reads a script on standard input, a line for each event, and writes the output of
 //! each line to standard output before it reads more. The commands are in `lapd_cli_commands` and

@@ -58,7 +58,8 @@ WalkEnds stands_for step s (Err (Port fault)) lines last command n m old new = �
 abbrev pub KeepsFault : Result ⊤ ScriptFault → Result ⊤ ScriptFault → Type 0
 KeepsFault ended result = (result ≡ ended) ⊎ (result ≡ Err Device)
 
--- the run has executed all lines but the cut-off line and the bytes that the reader still holds
+-- the run has executed all lines before the unfinished line in `cut` and the bytes left in the
+-- reader
 abbrev pub Came : {C S : Type 0} → (C → S → Type 0) → Step S → S → Option (List ℕ) → Option (List ℕ)
     → C → List ℕ → ℕ → Option (List ℕ) → Option (List ℕ) → Type 0
 Came {C} {S} stands_for step s initial now command cut n a b = IfSome initial

@@ -1,4 +1,4 @@
--- The behavior of a side, line after line.
+-- The behaviour of a side, line after line.
 use Rattle.std.proofs.Common.{◌≡◌, ◌<◌, ℕ, ◌+◌, List, [], ◌∷◌, ◌++◌, get_or, length, map, take, Option, None, Some, OnOk, Result, Ok, Err, inl, inr, refl, sym, ap, subst, ◌∙◌, append_assoc}
 use Rattle.std.specs.Prelude.{IsSomeAnd, flat_map, option_and_then, option_map}
 use Rattle.std.proofs.lemmas.Grind.{flat_map-append}

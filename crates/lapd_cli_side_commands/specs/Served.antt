@@ -1,4 +1,4 @@
--- The behavior of `net` and `user`, line by line: what they read from the port, how they call the
+-- The behaviour of `net` and `user`, line by line: what they read from the port, how they call the
 -- side, what they write to the port, and what they print.
 use Rattle.std.specs.Prelude.{◌≡◌, ◌⊎◌, ℕ, ◌+◌, List, [], ◌∷◌, ◌++◌, flat_map, if◌then◌else◌, true, Option, Some, None, option_map, Result, Ok, Err, ⊤}
 use Rattle.std.specs.Io.KnownBytes.{Appends, Consumes}
@@ -143,7 +143,7 @@ pub record HasServed (side : EitherSide) (wishes : List Wish) (before after : De
     pub moment : ℕ
     pub did : LinesDo wishes (at_work side 0 before) (at_work ended moment after)
 
--- ---- The commands. Without options, the interface is at basic access (Q.921 5.9), and no TEI is known.
+-- ---- The commands. By default: an interface at basic access (Q.921 5.9), no known TEI.
 
 abbrev pub basic_access : Config
 basic_access = record {

@@ -37,7 +37,7 @@ record Did {S : Type 0} (w : Behaviour S) (IsSo : S → Type 0) (acts : Effects)
   is_so : IsSo (does w deed v).now
   puts : Puts w acts deed v
 
--- the calls of a side are events of this behavior
+-- the calls of a side are events of this behaviour
 pub record HasDeeds {S : Type 0} (w : Behaviour S) (Shows : EitherSide → S → Type 0) : Type 0 where
   takes : (octets : List ℕ) (now : ℕ) (old new : EitherSide) (acts : Effects) → Takes octets now (Ok tt) old new acts
       → (v : SideView S) (rest : List (List ℕ)) → Shows old v.now → v.incoming ≡ octets ∷ rest → Did w (Shows new) acts (Take now) v

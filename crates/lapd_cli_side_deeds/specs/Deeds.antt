@@ -70,10 +70,10 @@ pub record LeadTo {S : Type 0} (w : Behaviour S) (IsSo : S → Type 0) (left sen
   pub incoming : (does_all w deeds v).incoming ≡ left
   pub outgoing : (does_all w deeds v).outgoing ≡ v.outgoing ++ sent
 
--- The steps of a program from a to b follow from events. The source lost the octets of the frames
--- in `heard`, and the sink received the octets of the frames in `sent`. For every side that the
--- code showed before, with the frames of `heard` first on their way to it, requested events lead to
--- a side that the code shows now: they consume exactly the frames of `heard` and put exactly the
+-- A program gets from a to b by requested events. The source lost the octets of the frames in
+-- `heard`, and the sink received those of the frames in `sent`. Take any side that the code showed
+-- before, with the frames of `heard` first on their way to it: some requested events lead it to a
+-- side that the code shows now. They consume exactly the frames of `heard`, and put exactly the
 -- frames of `sent` on the line.
 pub record IsByDeeds {S : Type 0} (w : Behaviour S) (Shows : EitherSide → S → Type 0)
     (AreAskedFor : List Deed → Type 0) (a b : AtWork) : Type 0 where

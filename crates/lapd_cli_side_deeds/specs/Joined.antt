@@ -18,8 +18,8 @@ use Rattle.lapd_cli_side_deeds.specs.Deeds.{AreFor, ShowsNetwork, ShowsUser, mom
 
 -- ---- Two programs.
 
--- A program, and `later`: the octets that the other program is yet to write, which its source holds
--- after those on their way.
+-- A program, and `later`: the octets that the other program has not written yet. The program's
+-- source holds them after the octets on their way.
 pub record Program : Type 0 where
   pub at : AtWork
   pub later : List ℕ

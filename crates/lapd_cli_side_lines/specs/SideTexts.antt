@@ -1,5 +1,6 @@
--- The lines that the commands `net` and `user` print: frames, primitives, refusals, and the end of the input. In words, a frame is
--- its trace line and a primitive its own words; else each line is a JSON object.
+-- The lines that the commands `net` and `user` print: frames, primitives, refusals, and the end of
+-- the input. With the style `Text`, a frame is printed as its trace line and a primitive in words.
+-- With `Json`, each line is a JSON object.
 use Rattle.std.specs.Prelude.{ℕ, List, [], ◌++◌, flat_map, codes, Result, Ok, Err, ⊤}
 use Rattle.lapd_frame.specs.declared.Side.{Side}
 use Rattle.lapd_trace.specs.Trace.{trace_line}

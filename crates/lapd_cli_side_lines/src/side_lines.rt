@@ -18,7 +18,8 @@ const MOST_MS: u64 = 3_600_000;
 pub enum SideLine {
     /// Read one frame from the port, and pass it to the side.
     Read,
-    /// Advance the clock by this many milliseconds, 1 to 3,600,000, and expire each timer that is then due.
+    /// Advance the clock by this many milliseconds, 1 to 3,600,000, and expire each timer that is
+    /// then due.
     Tick(u64),
     /// Make this request of the side.
     Ask(Request),

@@ -12,8 +12,8 @@ use lapd_timers::Timer;
 use std::alloc::Global;
 use std::test::Fail;
 
-/// Words, separated by spaces or bars, and their meaning. A `~` stands for a line feed. The meaning
-/// lists:
+/// Words, separated by spaces or bars, and their meaning, in which `~` means a line feed. The
+/// meaning lists:
 ///
 /// - for a link: the window, N200, the capacity of the I queue and the recovery;
 /// - for an interface: the same for SAPI 0 and for SAPI 16, T200 to T203, whether SAPI 16 is

@@ -12,9 +12,9 @@ use lapd_cli_side_commands::{FromRead, FromWrite, Port};
 use std::alloc::Global;
 use std::test::Fail;
 
-/// Fails the test if a scenario does not run as written although memory is ample. If an allocation
-/// fails, the earlier lines must be answered and nothing of the current line; a side must print
-/// whole lines.
+/// Fails the test unless a scenario runs as written. If an allocation fails, the earlier lines must
+/// be answered, and nothing of the current line's answer printed. A side may have printed a part of
+/// it, in whole lines.
 fn keeps(rt: &HostRuntime, job: Job, text: &str) -> Result<(), Fail> {
     let is_side = matches!(job, Job::Net(_) | Job::User(_));
     let chosen = Invocation {
@@ -47,8 +47,7 @@ fn ended_of(alloc: Global, chosen: &Invocation<'_>, play: &Play<'_>) -> Result<(
     ended
 }
 
-/// Whether no printed line is incomplete and, for a script without a side, no line of the last
-/// answer was printed.
+/// Whether nothing of the last answer was printed or, on a side, only whole lines.
 fn is_kept(play: &Play<'_>, text: &str, is_side: bool) -> bool {
     if play.mark() != b"    ".as_slice() {
         return true;

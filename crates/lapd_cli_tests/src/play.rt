@@ -8,7 +8,7 @@
 //! - octets on the port, in hexadecimal digits: `<` before the octets of one read, `>` before the
 //!   octets of one write;
 //! - `.` alone: the end of the script, if something is printed after it;
-//! - `!` and a fault, or nothing: the result of the command. It is the last line; nothing may be
+//! - `!` and a fault, or nothing: the result of the command. This line is the last; nothing may be
 //!   read or written after it.
 //!
 //! At a `*` the call fails, and at a `%` it is interrupted.

@@ -66,8 +66,8 @@ const OCTETS: &[u8] = b" 0g1#\t\r\xff";
 /// A command, and the invocation that chose it.
 type Command<'a> = (Script, &'a Invocation<'a>);
 
-/// Whether a line has a reason exactly if its command refuses it, and the reason is `wanted`; `?`
-/// stands for any reason, and `*` for any or none.
+/// Whether a line has a reason exactly if its command refuses it, and the reason is `wanted`. There
+/// `?` means any reason, and `*` means any or none.
 fn has_reason(alloc: Global, command: Command<'_>, line: &[u8], wanted: &str) -> bool {
     let is_bad = is_bad(alloc, command, line);
     match reason(alloc, command.0, line) {

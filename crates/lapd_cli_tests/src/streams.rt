@@ -1,4 +1,4 @@
-//! What the wrappers of standard streams remember, and typed lines.
+//! The memory of the wrappers of standard streams, and typed lines.
 
 use crate::play::{Console, Play};
 use crate::plays::words_of;
@@ -129,7 +129,7 @@ fn ends<R: Read, W: Write>(
     ended
 }
 
-/// Texts, and the first refusal in each. A `~` stands for a line feed.
+/// Texts, and the first refusal in each, with `~` for a line feed.
 const REFUSED: &str = "\
 state 4~refused L1 NotEstablished~send 00~refused L2 QueueFull~ => refused L1 NotEstablished
 state 4~data refused ~refuse d~refused~5x refused L1~7 8 refused L1~~refused L1 => none

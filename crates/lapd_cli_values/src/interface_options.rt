@@ -107,7 +107,7 @@ fn links_written<'a>(options: &InterfaceOptions<'a>, sapi: Sapi) -> Result<Param
     }
 }
 
-// The given window, or the default.
+// The window in the options, or the default.
 fn window<'a>(pri: bool, sapi: Sapi, k: Option<&'a str>) -> &'a str
     ensures { result.now ≡ window_meant pri sapi (option_map (λ k. k.now) k.entry) }
 {

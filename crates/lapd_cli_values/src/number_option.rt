@@ -14,7 +14,7 @@ pub struct NumberOption {
     pub value_name: &'static str,
     /// The help text, with the range.
     pub help: &'static str,
-    /// The number if the option is not given.
+    /// The number if the option is absent.
     pub default: &'static str,
     /// The first number of its range.
     pub least: u64,

@@ -138,7 +138,7 @@ fn ends_by(alloc: Global, ended: Result<(), CaptureStop>, fault: &str) -> bool {
     }
 }
 
-// Whether these lines were printed. A slash here stands for a line feed.
+// Whether these lines were printed, here separated by slashes.
 fn are_lines(printed: &[u8], lines: &str) -> bool {
     let mut rest = printed;
     if lines.is_empty() {

@@ -124,8 +124,8 @@ impl<'s> Made<'s> {
         self.arrivals.events = behind_line(self.arrivals.events);
     }
 
-    /// The next event, if its time has come. Parts of the input that become readable before it are
-    /// counted.
+    /// The next event, if its time is reached. Parts of the input that become readable before it
+    /// are counted.
     fn present_event(&mut self) -> Option<Event<'s>> {
         for _line in 0..u64::MAX {
             match self.next_event() {
@@ -190,7 +190,8 @@ impl<'s> Made<'s> {
         }
     }
 
-    /// Advances the clock to the next event or to `until`, whichever comes first. `false` if there is neither.
+    /// Advances the clock to the next event or to `until`, whichever is first. Returns `false` if
+    /// there is neither.
     fn advance(&mut self, until: Option<u64>) -> bool {
         let next = self.next_event().map(|(moment, _event)| moment);
         let Some(moment) = sooner(next, until) else {
@@ -201,7 +202,7 @@ impl<'s> Made<'s> {
         true
     }
 
-    /// Stalls if the next event is a stall whose time has come.
+    /// Stalls if the next event is a stall whose time is reached.
     fn stall(&mut self) {
         if let Some(Event::Stall(ms)) = self.present_event() {
             self.pass();

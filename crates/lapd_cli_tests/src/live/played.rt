@@ -195,7 +195,7 @@ fn told_text(alloc: Global, played: &Played<'_>) -> Result<String, AllocError> {
     Ok(text)
 }
 
-/// What differs from the row, if anything does.
+/// The difference from the row, if there is one.
 fn other_than(alloc: Global, row: &Row, played: &Played<'_>) -> Result<Option<String>, AllocError> {
     let printed = String::from_utf8_lossy(alloc, played.printed.as_slice())?;
     let printed = printed.as_str();
