@@ -179,7 +179,7 @@ fn say_device(rt: &HostRuntime, ending: &Ending<'_>) {
     };
 }
 
-// The printed text of a line.
+// A printed line as text; empty if it is not UTF-8.
 fn text_of(line: &[u8]) -> &str {
     str::from_utf8(line).unwrap_or("")
 }

@@ -99,7 +99,8 @@ fn lines_of(side: Side) -> Script {
     }
 }
 
-/// Writes what was printed before a fault. The writer remembers its own faults.
+/// Flushes what was printed, even after a fault; the writer remembers its own faults. Notes if the
+/// other side has closed the connection.
 fn close<W: Write>(live: LiveSide<Line<'_>, &mut W>) {
     let (line, out) = live.into_parts();
     let _ = out.flush();

@@ -270,7 +270,7 @@ impl Answerer {
         }
     }
 
-    /// Runs a step of the link with the octets that the event carries, and prints its outputs.
+    /// Runs a step of the link with an event and its octets, and prints the outputs.
     fn step<W: Write>(&mut self, event: Event, handed: &[u8], out: &mut W) -> Result<(), LineFault>
         requires for_link { IsForLink self.old.link event }
         requires handed { IsHandedWith (input_of event) handed.now }
@@ -309,7 +309,7 @@ impl Answerer {
         self.step(Event::Unit(octets.len()), octets.as_slice(), out)
     }
 
-    /// Prints the outputs of the last step, which carried these octets.
+    /// Prints the outputs of the last step, in which these octets were passed to the link.
     fn put_outs<W: Write>(&self, handed: &[u8], out: &mut W) -> Result<(), LineFault>
         ensures ok { (s : Session) → IsAnswerer self.now s
             → OnOk result

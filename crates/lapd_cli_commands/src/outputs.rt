@@ -14,7 +14,7 @@ use lapd_frame::{Frame, MOST_OCTETS, Side, write};
 use lapd_link::{Link, LinkFault, Out};
 use std::io::Write;
 
-/// Prints the outputs of a link's last step, which carried the octets `handed`.
+/// Prints the outputs of a link's last step, in which the octets `handed` were passed to the link.
 ///
 /// # Errors
 ///

@@ -232,12 +232,12 @@ whole_done {C} {S} stands_for step s result cut line joined left after command n
     let F : List (List ℕ) → Type 0 = λ x. WalkEnds stands_for step s result x (walk_lines (left ++ after)) command n m a b in
     subst F (ap (λ x. without_comment x ∷ walk_lines (left ++ after)) e ∙ sym (walk_lines-whole cut line left after h k)) q
 
--- the run so far, if the remaining octets are written in another form
+-- the run so far, with the remaining octets written in another form
 pub Walk-same : {S : Type 0} (step : Step S) (s : S) (lines : List (List ℕ)) (x y : List ℕ) (t : S) (n m : ℕ) (a b : Option (List ℕ)) → x ≡ y → Walk step s lines (walk_lines x) t n m a b → Walk step s lines (walk_lines y) t n m a b
 Walk-same {S} step s lines x y t n m a b e p =
     let F : List ℕ → Type 0 = λ z. Walk step s lines (walk_lines z) t n m a b in subst F e p
 
--- the run so far, if the beginning of the remaining octets is moved to the cut line
+-- the run so far, with the unfinished line cut to the part that is kept
 pub Walk-cut : {S : Type 0} (step : Step S) (s : S) (lines : List (List ℕ)) (cut new after : List ℕ) (t : S) (n m : ℕ) (a b : Option (List ℕ))
     → HasNoFeed cut → new ≡ without_comment cut → Walk step s lines (walk_lines (cut ++ after)) t n m a b → Walk step s lines (walk_lines (new ++ after)) t n m a b
 Walk-cut {S} step s lines cut new after t n m a b h e p =
@@ -252,7 +252,7 @@ last_ends {C} {S} stands_for step s result (o ∷ line) command n m a b some h q
     let F : List (List ℕ) → Type 0 = λ x. WalkEnds stands_for step s result x [] command n m a b in
     subst F (sym (walk_lines-last o line h)) q
 
--- there is no last line without a line feed
+-- no unfinished line is left
 pub none_last : {C S : Type 0} (stands_for : C → S → Type 0) (step : Step S) (s : S) (cut : List ℕ) (command : C) (n : ℕ) (a : Option (List ℕ))
     → length cut ≡ 0 → stands_for command s → WalkEnds stands_for step s (Ok tt) (walk_lines cut) [] command n n a a
 none_last stands_for step s [] command n a none h = (s, h, Walk-none step s [] n a a (Keeps-refl a))
@@ -335,7 +335,7 @@ handed_fails (Ok done) fault is k = absurd is
 handed_fails (Err e) fault is (inl k) = absurd cc
 handed_fails (Err e) fault is (inr k) = ap Err is ∙ k
 
--- a statement about known bytes of the script, under a weaker conclusion
+-- a consequence for the script's bytes, if they are known
 pub if_known : (o : Option (List ℕ)) (P Q : List ℕ → Type 0) → ((octets : List ℕ) → P octets → Q octets) → IfSome o P → IfSome o Q
 if_known None P Q f h = tt
 if_known (Some octets) P Q f h = f octets h

@@ -79,7 +79,7 @@ fn has_reason(alloc: Global, command: Command<'_>, line: &[u8], wanted: &str) ->
     }
 }
 
-/// The name of a command before its rows.
+/// The name of a command in the rows.
 fn name_of(script: Script) -> &'static str {
     match script {
         Script::LiveNet => "live net",

@@ -134,7 +134,7 @@ fn usual_window(pri: bool, sapi: Sapi) -> &'static str
 ///
 /// # Errors
 ///
-/// The first of the four that is not from 1 to 3,600,000.
+/// `OutOfRange` at the first of the four that is not from 1 to 3,600,000.
 pub fn durations_written<'a>(
     t200: &'a str,
     t201: &'a str,
@@ -191,7 +191,7 @@ fn milliseconds(option: NumberOption, written: &str) -> Result<u32, OutOfRange<'
 ///
 /// # Errors
 ///
-/// The text, if it is not a number from 0 to 126.
+/// `OutOfRange` if the text is not a number from 0 to 126.
 pub fn tei_written(option: NumberOption, written: &str) -> Result<Tei, OutOfRange<'_>>
     requires { option.most < 127 }
     ensures { MatchResult result

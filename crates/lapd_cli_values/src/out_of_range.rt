@@ -22,7 +22,7 @@ pub struct OutOfRange<'a> {
 ///
 /// # Errors
 ///
-/// The first of the three that is not in its option's range.
+/// `OutOfRange` at the first of the three that is not in its option's range.
 pub fn params_written<'a>(
     k: &'a str,
     n200: &'a str,
@@ -67,7 +67,7 @@ fn refused(option: NumberOption, written: &str) -> OutOfRange<'_>
 ///
 /// # Errors
 ///
-/// The text, if it is not in the option's range.
+/// `OutOfRange` if the text is not a number in the option's range.
 pub fn number_written(option: NumberOption, written: &str) -> Result<u64, OutOfRange<'_>>
     ensures { MatchResult result
         (λ number. IsNumberFrom option.least option.most written.now
@@ -85,7 +85,7 @@ pub fn number_written(option: NumberOption, written: &str) -> Result<u64, OutOfR
 ///
 /// # Errors
 ///
-/// The text, if it is not in the range.
+/// `OutOfRange` if the text is not such a number.
 pub fn terminals_written(written: &str) -> Result<u8, OutOfRange<'_>>
     ensures { MatchResult result
         (λ terminals. IsNumberFrom 1 127 written.now × (terminals ≡ digits_value 10 written.now))
