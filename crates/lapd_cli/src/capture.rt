@@ -1,4 +1,4 @@
-//! The command `decode` over a capture.
+//! The command `decode` for a capture.
 
 use crate::ending::say_memory;
 use crate::job::style_of;
@@ -11,10 +11,10 @@ use std::fs;
 use std::io::{self, BufWriter, ErrorKind, Write};
 use std::process::ExitCode;
 
-/// The exit status after a capture that can't be read to its end.
+/// The exit status after a capture that could not be read to its end.
 const UNREADABLE: u8 = 1;
 
-/// Prints the frames of the capture in this file, and says how that ended.
+/// Prints the frames of the capture in this file, and reports how that ended.
 pub fn do_capture(rt: &HostRuntime, file: &str, options: DecodeOptions) -> ExitCode {
     match fs::read(rt, file) {
         Ok(octets) => print_capture(rt, file, octets.as_slice(), options),
@@ -39,7 +39,7 @@ fn print_capture(rt: &HostRuntime, file: &str, octets: &[u8], options: DecodeOpt
     };
     let ended = decode_capture(rt.alloc(), &mut capture, &mut out, &mut rt.stderr(), how);
     let is_written = out.flush().is_ok();
-    // What a device that failed did not take is given up.
+    // Text that a failed writer did not accept is dropped.
     let (watched, _left) = out.into_parts();
     match ended {
         Ok(()) if is_written => ExitCode::SUCCESS,
@@ -48,14 +48,15 @@ fn print_capture(rt: &HostRuntime, file: &str, octets: &[u8], options: DecodeOpt
     }
 }
 
-// Says why a file could not be read.
+// Reports why a file could not be read.
 fn say_no_file(rt: &HostRuntime, file: &str, error: &io::Error) -> ExitCode {
     let _ = eprintln!(rt; "{}", ScriptFault::Device);
     let _ = eprintln!(rt; "{file}: {}", Reason(error));
     ExitCode::from(ScriptFault::Device.status())
 }
 
-// Says why a capture was not printed to its end. Where nobody reads what is printed any more, nothing is said.
+// Reports why a capture was not printed to its end. Prints nothing if the reader of standard output
+// has closed it.
 fn say_stop(
     rt: &HostRuntime,
     file: &str,

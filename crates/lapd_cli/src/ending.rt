@@ -1,5 +1,5 @@
-//! How the program ends: its exit status, and what it says on standard error. The first line names the fault, and the second
-//! one tells why. What standard error does not take is given up.
+//! How the program ends: its exit status, and its report on standard error. The first line names
+//! the fault, the second the reason. Failed writes to standard error are ignored.
 
 ghost use Rattle.std.specs.Prelude.{◌≡◌, ◌&&◌, IfNone, IfSome, if◌then◌else◌};
 ghost use Rattle.lapd_cli_script.specs.Script.{status_of as status_of_fault};
@@ -11,48 +11,49 @@ use lapd_cli_script::ScriptFault;
 use std::io::{self, ErrorKind};
 use std::process::ExitCode;
 
-/// The exit status after a fault of the command line.
+/// The exit status after a fault in the command line.
 const COMMAND_LINE: u8 = 2;
 
-/// The exit status after a script of which a line was refused, where that is to be told, and after one that expected a line in
-/// vain.
+/// The exit status after a script with a refused line, under `--strict`, and after `expect` has
+/// failed.
 const REFUSED: u8 = 5;
 
-/// Why a script was not done to its end.
+/// Why a script did not run to its end.
 #[derive(Drop)]
 pub enum Stop {
-    /// There is no connection.
+    /// The connection could not be established.
     NoConnection(io::Error),
-    /// The command ended by this fault.
+    /// The command ended with this fault.
     Script(ScriptFault),
-    /// A line was expected, and did not come in time.
+    /// An expected line was not printed in time.
     Unmet,
-    /// Frames can't go where they were to besides.
+    /// The capture or the GSMTAP socket could not be opened.
     NoTaps(NoTaps),
 }
 
-/// What is known when a script has ended.
+/// The facts that are known when a script has ended.
 #[derive(Clone, Copy)]
 pub struct Ending<'a> {
-    /// The command whose script it was.
+    /// The command that executed the script.
     pub script: Script,
-    /// By which clock it goes.
+    /// The clock of the command.
     pub clock: Clock<'a>,
-    /// The address of `net` or `user`. Of another command it is empty.
+    /// The address of `net` or `user`; empty for other commands.
     pub address: &'a str,
-    /// Whether the exit status tells of a line that was refused.
+    /// Whether the exit status reports refused lines (`--strict`).
     pub strict: bool,
-    /// The line that is bad. It is empty where none is, and where it is not known any more.
+    /// The bad line; empty if no line was bad, or if it is no longer kept.
     pub line: &'a [u8],
-    /// What was printed for the first line that was refused. It is empty where none was, and where the exit status tells of none.
+    /// The printed text of the first refused line; empty if no line was refused, or without
+    /// `--strict`.
     pub refusal: &'a [u8],
-    /// How the last read of the script failed.
+    /// Why the last failed read of the script failed.
     pub input: Option<ErrorKind>,
-    /// How the last write failed.
+    /// Why the last failed write failed.
     pub output: Option<ErrorKind>,
 }
 
-/// Says how a script ended.
+/// Reports how a script ended, and returns the exit status.
 pub fn say_ending(rt: &HostRuntime, ending: &Ending<'_>, ended: &Result<(), Stop>) -> ExitCode {
     let fault = match ended {
         Ok(()) => {
@@ -79,7 +80,8 @@ pub fn say_ending(rt: &HostRuntime, ending: &Ending<'_>, ended: &Result<(), Stop
     ExitCode::from(status_of(fault, ending.strict, !ending.refusal.is_empty()))
 }
 
-// The exit status after a script that ended by this fault, where it ended by one, of which a line was refused, where one was.
+// The exit status after a script, by the fault that ended it, if any, and whether a line was
+// refused.
 fn status_of(fault: Option<ScriptFault>, strict: bool, is_refused: bool) -> u8
     ensures done { IfNone fault (result ≡ (if strict && is_refused then 5 else 0)) }
     ensures fault { IfSome fault (λ fault. result ≡ status_of_fault fault) }
@@ -91,7 +93,7 @@ fn status_of(fault: Option<ScriptFault>, strict: bool, is_refused: bool) -> u8
     }
 }
 
-// Says which line was refused first, where that is to be told.
+// Reports which line was refused first, under `--strict`.
 fn say_refusal(rt: &HostRuntime, ending: &Ending<'_>) {
     if ending.strict && !ending.refusal.is_empty() {
         let _ = eprintln!(rt; "a line was refused");
@@ -99,7 +101,8 @@ fn say_refusal(rt: &HostRuntime, ending: &Ending<'_>) {
     }
 }
 
-// Says by which fault a script ended, and why. Where nobody reads what is printed any more, nothing is said.
+// Reports the fault that ended a script, and the reason. Prints nothing if the reader of standard
+// output has closed it.
 fn say_fault(rt: &HostRuntime, ending: &Ending<'_>, fault: ScriptFault) {
     if fault == ScriptFault::Device && ending.output == Some(ErrorKind::BrokenPipe) {
         return;
@@ -115,7 +118,7 @@ fn say_fault(rt: &HostRuntime, ending: &Ending<'_>, fault: ScriptFault) {
     }
 }
 
-// Says why there is no connection.
+// Reports why the connection could not be established.
 fn say_no_connection(rt: &HostRuntime, ending: &Ending<'_>, error: &io::Error) {
     let (what, whom) = match ending.script {
         Script::Net | Script::LiveNet => ("listen on", ending.address),
@@ -125,13 +128,13 @@ fn say_no_connection(rt: &HostRuntime, ending: &Ending<'_>, error: &io::Error) {
     say_impossible(rt, what, whom, error);
 }
 
-// Says that a device can't be had, what was to be done, with what, and why not.
+// Reports a device fault: what could not be done, with which file or address, and why.
 fn say_impossible(rt: &HostRuntime, what: &str, whom: &str, error: &io::Error) {
     let _ = eprintln!(rt; "{}", ScriptFault::Device);
     let _ = eprintln!(rt; "cannot {what} {whom}: {}", Reason(error));
 }
 
-// Says why frames can't go where they were to besides.
+// Reports why the capture or the GSMTAP socket could not be opened.
 fn say_no_taps(rt: &HostRuntime, ending: &Ending<'_>, taps: &NoTaps) {
     let (pcap, gsmtap) = match ending.clock {
         Clock::Real(options) => (options.pcap.unwrap_or(""), options.gsmtap.unwrap_or("")),
@@ -143,14 +146,15 @@ fn say_no_taps(rt: &HostRuntime, ending: &Ending<'_>, taps: &NoTaps) {
     }
 }
 
-// Says what is wrong with a line, if it is known.
+// Reports what is wrong with the bad line, if it is known.
 fn say_bad_line(rt: &HostRuntime, ending: &Ending<'_>) {
     if !ending.line.is_empty() {
         say_reason(rt, ending.script, ending.line);
     }
 }
 
-// Says what is wrong with a line of this script. A `tick` that is right by its form takes the clock past its end.
+// Reports what is wrong with a line of this script. If a `tick` has a valid form, it takes the
+// clock past its end.
 fn say_reason(rt: &HostRuntime, script: Script, line: &[u8]) {
     let _ = match reason(rt.alloc(), script, line) {
         Ok(Some(reason)) => eprintln!(rt; "{reason}"),
@@ -161,7 +165,7 @@ fn say_reason(rt: &HostRuntime, script: Script, line: &[u8]) {
     };
 }
 
-// Says which device failed, and how.
+// Reports which standard stream failed, and why.
 fn say_device(rt: &HostRuntime, ending: &Ending<'_>) {
     let _ = match (ending.input, ending.output, ending.script) {
         (Some(kind), _, _) => eprintln!(rt; "standard input: {}", KindReason(kind)),
@@ -173,18 +177,18 @@ fn say_device(rt: &HostRuntime, ending: &Ending<'_>) {
     };
 }
 
-// What was printed for a line, which is text.
+// A printed line as text; empty if it is not UTF-8.
 fn text_of(line: &[u8]) -> &str {
     str::from_utf8(line).unwrap_or("")
 }
 
-/// Says that memory ran out before a script could be begun.
+/// Reports that an allocation failed before the script began.
 pub fn say_memory(rt: &HostRuntime) -> ExitCode {
     let _ = eprintln!(rt; "{}", ScriptFault::Memory);
     ExitCode::from(ScriptFault::Memory.status())
 }
 
-/// Says why the program's words could not be read.
+/// Reports why the program's words could not be read.
 pub fn say_words_fault(rt: &HostRuntime, fault: WordsFault) -> ExitCode {
     if fault == WordsFault::Memory {
         return say_memory(rt);
@@ -193,7 +197,7 @@ pub fn say_words_fault(rt: &HostRuntime, fault: WordsFault) -> ExitCode {
     ExitCode::from(COMMAND_LINE)
 }
 
-/// Prints the text that the program's words ask for, or says what is wrong with them.
+/// Prints the requested help or version, or reports what is wrong with the words.
 pub fn say_no_invocation(rt: &HostRuntime, unchosen: &NoInvocation<'_>) -> ExitCode {
     match unchosen {
         NoInvocation::Shown(text) => show(rt, text.as_str()),

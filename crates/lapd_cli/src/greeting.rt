@@ -1,6 +1,7 @@
 use std::io::{self, Read, Write};
 
-/// A reader of lines that are typed, which greets before its first read. What the writer of errors does not take is given up.
+/// A reader of typed lines that prints a greeting before its first read. Failed writes to the error
+/// writer are ignored.
 #[derive(Drop)]
 pub struct Greeting<R, E> {
     reader: R,
@@ -9,7 +10,7 @@ pub struct Greeting<R, E> {
 }
 
 impl<R: Read, E: Write> Greeting<R, E> {
-    /// Nothing is said yet.
+    /// Nothing is printed yet.
     pub fn new(reader: R, errors: E) -> Greeting<R, E> {
         Greeting {
             reader,

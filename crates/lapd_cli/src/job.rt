@@ -1,4 +1,4 @@
-//! What the program does, by the word that chose it.
+//! Running the program's job.
 
 use crate::ending::Stop;
 use crate::live::do_live;
@@ -12,21 +12,21 @@ use lapd_cli_side_commands::{Config, FromRead, FromWrite, Port, SideRun, net, us
 use lapd_cli_side_lines::LineStyle;
 use std::io::{Read, Write};
 
-/// Where references begin with the script's clock, if `--seed` is not given.
+/// The seed of reference numbers with the script's clock, if `--seed` is absent.
 const SCRIPT_SEED: u64 = 921;
 
-/// What `net` or `user` is made with, and how it prints.
+/// The configuration of `net` or `user`, and the style of its lines.
 #[derive(Clone, Copy)]
 pub struct SideSetup<'a> {
     /// The interface.
     pub interface: &'a Interface,
-    /// The address that it listens on or connects to.
+    /// The address to listen on or to connect to.
     pub address: &'a str,
-    /// How its lines are printed.
+    /// The style of its lines.
     pub lines: LineStyle,
 }
 
-/// The command whose script this is, with this clock.
+/// The command that executes the script, with this clock.
 pub fn script_of(job: &Job, clock: &Clock<'_>) -> Script {
     match (job, clock) {
         (Job::Answer(_), _) => Script::Answer,
@@ -41,11 +41,12 @@ pub fn script_of(job: &Job, clock: &Clock<'_>) -> Script {
     }
 }
 
-/// Does the script of what the words chose.
+/// Executes the script of a job.
 ///
 /// # Errors
 ///
-/// `NoConnection`, where `loop`, `net` or `user` has none, and the command's own.
+/// `NoConnection` if `loop`, `net` or `user` can't establish its connection, and the command's own
+/// faults.
 pub fn do_job<R: Read, W: Write>(
     rt: &HostRuntime,
     chosen: &Invocation<'_>,
@@ -66,7 +67,7 @@ pub fn do_job<R: Read, W: Write>(
     ended.map_err(Stop::Script)
 }
 
-// Does a script of a side of this interface, by the clock that was chosen.
+// Executes the script of a side of this interface, with the chosen clock.
 fn do_side<R: Read, W: Write>(
     rt: &HostRuntime,
     side: Side,
@@ -87,7 +88,7 @@ fn do_side<R: Read, W: Write>(
     }
 }
 
-// How `net` and `user` print their lines.
+// The style of the lines of `net` and `user`.
 fn style_of_lines(json: bool) -> LineStyle {
     if json {
         LineStyle::Json
@@ -96,7 +97,7 @@ fn style_of_lines(json: bool) -> LineStyle {
     }
 }
 
-// Does a script of this end of a link.
+// Executes the script of this end of a link.
 fn do_answer<R: Read, W: Write>(
     rt: &HostRuntime,
     script: &mut R,
@@ -112,7 +113,7 @@ fn do_answer<R: Read, W: Write>(
     answer(rt.alloc(), script, out, side, sapi, tei, params)
 }
 
-// Does a script of lines that tell octets.
+// Executes a script of lines with octets.
 fn do_decode<R: Read, W: Write>(
     rt: &HostRuntime,
     script: &mut R,
@@ -126,7 +127,7 @@ fn do_decode<R: Read, W: Write>(
     decode_lines(rt.alloc(), script, out, form, style)
 }
 
-// The form of the lines that `decode` takes.
+// The form of the lines that `decode` reads.
 fn form_of(options: DecodeOptions) -> LineForm {
     if options.loose {
         LineForm::Loose(options.sender)
@@ -135,7 +136,7 @@ fn form_of(options: DecodeOptions) -> LineForm {
     }
 }
 
-/// How `decode` prints a frame.
+/// The style in which `decode` prints a frame.
 pub fn style_of(options: DecodeOptions) -> Style {
     match (options.json, options.names) {
         (false, false) => Style::Plain,
@@ -145,7 +146,7 @@ pub fn style_of(options: DecodeOptions) -> Style {
     }
 }
 
-// Does a script of two ends, whose frames cross a connection of the process to itself.
+// Executes the script of two ends whose frames pass through a connection of the process to itself.
 fn do_loop<R: Read, W: Write>(
     rt: &HostRuntime,
     script: &mut R,
@@ -159,7 +160,8 @@ fn do_loop<R: Read, W: Write>(
     ended.map_err(Stop::Script)
 }
 
-// Does a script of the network side, with the user side behind the first connection to its address.
+// Executes the script of the network side, whose user side makes the first connection to its
+// address.
 fn do_net<R: Read, W: Write>(
     rt: &HostRuntime,
     script: &mut R,
@@ -182,7 +184,7 @@ fn do_net<R: Read, W: Write>(
     ended.map_err(Stop::Script)
 }
 
-// Does a script of the user side, with the network side behind a connection to its address.
+// Executes the script of the user side, which connects to the network side's address.
 fn do_user<R: Read, W: Write>(
     rt: &HostRuntime,
     script: &mut R,
@@ -205,7 +207,7 @@ fn do_user<R: Read, W: Write>(
     ended.map_err(Stop::Script)
 }
 
-/// What a side of this interface is made with, whose references begin at this seed.
+/// The configuration of a side of this interface, with this seed of its reference numbers.
 pub fn config_of(interface: &Interface, seed: u64) -> Config {
     Config {
         sapi16: interface.sapi16,

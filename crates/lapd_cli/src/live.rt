@@ -15,15 +15,15 @@ use std::alloc::AllocError;
 use std::io::{IsTerminal, Read, Write};
 use std::random::RandomSource;
 
-/// A line to the other side, which can be impaired, and whose frames are recorded.
+/// The line to the other side. It can be impaired, and its frames are recorded.
 type Line<'a> = Tapped<Impaired<Connections<'a>>, Taps<'a>>;
 
-/// Serves this side of an interface with the real clock: over a script, or over lines that are typed if standard input is a
-/// terminal.
+/// Runs this side of an interface with the real clock: it executes a script, or typed lines if
+/// standard input is a terminal.
 ///
 /// # Errors
 ///
-/// `NoTaps`, `NoConnection`, `Unmet`, and those of any script.
+/// `NoTaps`, `NoConnection`, `Unmet`, and the faults of any script.
 pub fn do_live<R: Read, W: Write>(
     rt: &HostRuntime,
     side: Side,
@@ -48,7 +48,7 @@ pub fn do_live<R: Read, W: Write>(
     serve(rt, &notes, side, live, script, options.serve).map_err(stop_of)
 }
 
-/// The line to the other side, and where its frames are recorded.
+/// The line to the other side, and the places where its frames are recorded.
 fn tapped_line<'a>(
     rt: &'a HostRuntime,
     notes: &'a Notes<'a>,
@@ -78,7 +78,7 @@ fn connection_setup<'a>(setup: &SideSetup<'a>, options: &LiveOptions<'_>) -> Con
     }
 }
 
-/// Serves a side, and says that the other one has closed the connection, if it has.
+/// Runs a side, and notes that the other one has closed the connection, if it has.
 fn serve<R: Read, W: Write>(
     rt: &HostRuntime,
     notes: &Notes<'_>,
@@ -97,7 +97,7 @@ fn serve<R: Read, W: Write>(
     ended
 }
 
-/// The lines of a side with the real clock.
+/// The command for a side with the real clock.
 fn lines_of(side: Side) -> Script {
     match side {
         Side::Network => Script::LiveNet,
@@ -105,7 +105,8 @@ fn lines_of(side: Side) -> Script {
     }
 }
 
-/// What was printed before a fault is written all the same. The writer knows what it could not write.
+/// Flushes what was printed, even after a fault; the writer remembers its own faults. Notes if the
+/// other side has closed the connection.
 fn close<W: Write>(live: LiveSide<Line<'_>, &mut W>) {
     let (line, out) = live.into_parts();
     let _ = out.flush();
@@ -113,7 +114,7 @@ fn close<W: Write>(live: LiveSide<Line<'_>, &mut W>) {
     line.into_inner().tell_closed();
 }
 
-/// Why the script of a side that is served was not done to its end.
+/// Why the script of a running side did not run to its end.
 fn stop_of(stop: LiveStop) -> Stop {
     match stop {
         LiveStop::Script(fault) => Stop::Script(fault),
@@ -121,7 +122,7 @@ fn stop_of(stop: LiveStop) -> Stop {
     }
 }
 
-/// A side of this interface, and room for what a call gives.
+/// A side of this interface, and room for the output of a call.
 fn made_side(
     rt: &HostRuntime,
     side: Side,
@@ -153,14 +154,14 @@ fn user_side(
     Ok(EitherSide::User(side))
 }
 
-/// Where the references of a side begin: at the seed that was given, or at one that the system draws, so that two terminals
-/// that ask at the same moment differ.
+/// The seed of a side's reference numbers: the requested seed, or one drawn from the system, so
+/// that two terminals that request a TEI at the same moment differ.
 fn seed_of(rt: &HostRuntime, interface: &Interface) -> u64 {
     if let Some(seed) = interface.seed {
         return seed;
     }
     let mut octets = [0; 8];
-    // Octets that the system does not draw stay 0.
+    // If the system can't draw octets, they stay 0.
     let _ = rt.fill_bytes(&mut octets);
     u64::from_be_bytes(octets)
 }

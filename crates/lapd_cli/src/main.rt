@@ -1,11 +1,15 @@
-//! The program `lapd`: it answers a script as a link of the ISDN D channel (ITU-T Q.921), plays two ends of one and the line
-//! between them, also over a socket, is a whole side of an interface over a socket, assigns TEIs on a bus of terminals, or
-//! prints octets as trace lines.
+//! The program `lapd`. Depending on its command, it
 //!
-//! Scripts come on standard input, a line for each thing that happens, and each line's answer goes
-//! to standard output before more is read. The commands stand in `lapd_cli_link_commands` and `lapd_cli_side_commands`, the
-//! walk over a script in `lapd_cli_script`, the command line in `lapd_cli_options`, and what is said to people about a script
-//! in `lapd_cli_console`.
+//! - executes a script on one end of a link of the ISDN D channel (ITU-T Q.921),
+//! - simulates two ends and the line between them, also over a socket,
+//! - runs a whole side of an interface over a socket,
+//! - assigns TEIs on a bus of terminals, or
+//! - prints octets as trace lines.
+//!
+//! The program reads a script on standard input, a line for each event, and writes the output of
+//! each line to standard output before it reads more. The commands are in `lapd_cli_link_commands` and
+//! `lapd_cli_side_commands`, the execution of a script in `lapd_cli_script`, the command line in
+//! `lapd_cli_options`, and the messages to people about a script in `lapd_cli_console`.
 #![tactic(auto)]
 
 mod capture;
@@ -36,7 +40,7 @@ fn main(rt: HostRuntime) -> ExitCode {
     }
 }
 
-// Does what the words chose.
+// Runs the chosen job.
 fn do_chosen(rt: &HostRuntime, chosen: &Invocation<'_>) -> ExitCode {
     match (&chosen.job, chosen.pcap) {
         (Job::Decode(options), Some(file)) => do_capture(rt, file, *options),
@@ -44,7 +48,8 @@ fn do_chosen(rt: &HostRuntime, chosen: &Invocation<'_>) -> ExitCode {
     }
 }
 
-// Does what the words chose, over standard input and output. At a terminal a bad line is told, and the next one awaited.
+// Runs the chosen job over standard input and output. At a terminal, a bad line is reported and the
+// next one awaited.
 fn do_lines(rt: &HostRuntime, chosen: &Invocation<'_>) -> ExitCode {
     if rt.stdin().is_terminal() && has_forms(chosen) {
         let script = script_of(&chosen.job, &chosen.clock);
@@ -55,7 +60,8 @@ fn do_lines(rt: &HostRuntime, chosen: &Invocation<'_>) -> ExitCode {
     }
 }
 
-// Whether the lines have the forms that a session at a terminal knows. With the real clock a side has a session of its own.
+// Whether a session at a terminal knows the forms of the job's lines. With the real clock a side
+// has its own session.
 fn has_forms(chosen: &Invocation<'_>) -> bool {
     match &chosen.job {
         Job::Decode(options) => !options.loose,
@@ -63,7 +69,7 @@ fn has_forms(chosen: &Invocation<'_>) -> bool {
     }
 }
 
-// Does what the words chose, over a script that comes from this reader, and says how it ended.
+// Runs the chosen job over a script from this reader, and reports how it ended.
 fn do_script<R: Read + Drop>(rt: &HostRuntime, chosen: &Invocation<'_>, reader: R) -> ExitCode {
     let mut kept = KeptLines::new(reader);
     let watched = Watched::new(Refusals::new(rt.stdout(), chosen.strict));
@@ -71,7 +77,7 @@ fn do_script<R: Read + Drop>(rt: &HostRuntime, chosen: &Invocation<'_>, reader: 
         return say_memory(rt);
     };
     let ended = do_job(rt, chosen, &mut kept, &mut out);
-    // What a device that failed did not take is given up.
+    // Text that a failed writer did not accept is dropped.
     let (watched, _left) = out.into_parts();
     let output = watched.fault();
     let refusals = watched.into_inner();
@@ -88,7 +94,7 @@ fn do_script<R: Read + Drop>(rt: &HostRuntime, chosen: &Invocation<'_>, reader: 
     say_ending(rt, &ending, &ended)
 }
 
-// The line that is bad. It is empty where none is, and where it is no longer kept.
+// The bad line; empty if no line was bad, or if it is no longer kept.
 fn bad_line<'a, R: Read>(lines: &'a KeptLines<R>, ended: &Result<(), Stop>) -> &'a [u8] {
     match ended {
         Err(Stop::Script(ScriptFault::BadLine(number))) => lines.line(*number).unwrap_or(&[]),

@@ -1,11 +1,11 @@
-//! A person at the terminal of a live session, who is spoken to by notes.
+//! The person at the terminal of a live session, who is informed by notes.
 
 use lapd_cli_console::{Script, put_help, reason, tidied};
 use lapd_cli_io::Notes;
 use lapd_cli_live::Person;
 use std::alloc::{AllocError, Global};
 
-/// Says by notes which lines a command has, and what is wrong with a line.
+/// Notes which lines a command has, and what is wrong with a line.
 #[derive(Drop)]
 pub struct Speaker<'a> {
     alloc: Global,
@@ -14,7 +14,7 @@ pub struct Speaker<'a> {
 }
 
 impl<'a> Speaker<'a> {
-    /// Speaks of the lines of this command.
+    /// Notes about the lines of this command.
     pub fn new(alloc: Global, script: Script, notes: &'a Notes<'a>) -> Speaker<'a> {
         Speaker {
             alloc,
@@ -26,7 +26,7 @@ impl<'a> Speaker<'a> {
     /// The forms of the command's lines.
     fn help_text(&self) -> Vec<u8> {
         let mut text = Vec::new(self.alloc);
-        // If memory runs out the text ends early.
+        // If an allocation fails, the text ends early.
         let _ = put_help(self.script, &mut text);
         text
     }

@@ -1,4 +1,4 @@
--- For a line that is not passed over, `answer` has a step just where the line has a form of its lines.
+-- For a line that is not skipped, `answer` has a step exactly if the line has a valid form.
 use Rattle.std.proofs.Common.{◌≡◌, ℕ, List, [], ◌∷◌, Bool, true, false, refl, cond, Some, None, length, sym, ap, ◌∙◌, subst, codes, ◌&&◌, ◌||◌, ◌==◌}
 use Rattle.std.proofs.lemmas.Bool.{eqb-false}
 use Rattle.std.specs.Prelude.{Option, option_map, is_some}
@@ -35,7 +35,7 @@ words_have_no_space (octet ∷ line) =
       | false ↦ λ e. with_octet octet (words_of line) (eqb-false octet 32 e) rest
     ] refl
 
--- ---- The words behind the first.
+-- ---- The words after the first.
 
 and_true : (b : Bool) → (b && true) ≡ b
 and_true true = refl
@@ -121,7 +121,7 @@ unless_passed false fits next outcome e = sym e
 pub answer_lines : (s : Session) (line : List ℕ) → is_line_of Answer line ≡ is_some (outcome_of answer_step s line)
 answer_lines s line = unless_passed (is_passed_over line) _ ([], s) (answer_step s line) (words_fit s (words_of line) (words_have_no_space line))
 
--- what says whether a line is one of its command says so of `answer` by its steps
+-- a test of the form of `answer`'s lines is a test of whether `answer` has a step for the line
 pub answer_told : (told : Bool) (script : Script) (line : List ℕ) → told ≡ is_line_of script line → script ≡ Answer
     → (s : Session) → told ≡ is_some (outcome_of answer_step s line)
 answer_told told script line e is s =

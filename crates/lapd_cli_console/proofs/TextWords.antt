@@ -9,7 +9,7 @@ use Rattle.lapd_cli_script.specs.Script.{with_first}
 use Rattle.lapd_cli_script.proofs.WordsOf.{one_word, words_behind}
 use Rattle.lapd_cli_console.specs.Forms.{last_word, text_and_last, words_before}
 
--- ---- Words are the parts between spaces, so that joined by spaces they are the octets again.
+-- ---- Words are the parts between spaces, so the octets are the words joined by spaces.
 
 with_first_is : (octet : ℕ) (words : List (List ℕ)) → with_first octet words ≡ onto_first octet words
 with_first_is octet [] = refl
@@ -22,7 +22,7 @@ words_are_parts (octet ∷ octets) = rw (with_first_is octet (words_of octets), 
 joined : (octets : List ℕ) → join_with_byte 32 (words_of octets) ≡ octets
 joined octets = ap (join_with_byte 32) (words_are_parts octets) ∙ join_with_byte-slice_split 32 octets
 
--- ---- One more word behind a space.
+-- ---- One more word after a space.
 
 abbrev AreSome : List (List ℕ) → Type 0
 AreSome words = (first : List ℕ) × (more : List (List ℕ)) × (words ≡ first ∷ more)
@@ -45,7 +45,7 @@ words_cut [] last h = rw (one_word last h) refl
 words_cut (octet ∷ front) last h =
     rw (words_cut front last h) (one_more (octet == 32) octet last (words_of front) (some_words front))
 
--- ---- A text and the word behind it.
+-- ---- A text and the word after it.
 
 before_last : (word last : List ℕ) (words : List (List ℕ)) → words_before word (words ++ last ∷ []) ≡ word ∷ words
 before_last word last [] = refl
@@ -74,7 +74,7 @@ text_cut octets front last e h =
 pub text_whole : (octets : List ℕ) → HasNoSpace octets → text_and_last (words_of octets) ≡ words_of octets
 text_whole octets h = ap text_and_last (one_word octets h) ∙ sym (one_word octets h)
 
--- ---- The words behind the first one.
+-- ---- The words after the first one.
 
 pub behind_first : (line word rest : List ℕ) → line ≡ word ++ 32 ∷ rest → HasNoSpace word → drop 1 (words_of line) ≡ words_of rest
 behind_first line word rest e h = ap (λ x. drop 1 (words_of x)) e ∙ ap (drop 1) (words_behind word rest h)

@@ -1,4 +1,4 @@
--- What is left of a typed line.
+-- The remains of a typed line.
 use Rattle.std.proofs.Common.{◌≡◌, ◌≢◌, ℕ, ◌==◌, List, [], ◌∷◌, ◌++◌, append-nil, refl, ap, ◌∙◌, sym}
 use Rattle.std.specs.List.{flat_map, slice_split}
 use Rattle.std.proofs.lemmas.Bool.{ne_eqb}

@@ -1,4 +1,4 @@
--- Which lines are lines of a command by their form.
+-- Which lines have a valid form, for each command.
 use Rattle.std.specs.Prelude.{ℕ, ◌-◌, ◌==◌, ◌&&◌, ◌||◌, nat_le, not, Bool, true, false, List, [], ◌∷◌, ◌++◌, length, slice_index, take, codes, if◌then◌else◌, Option, Some, None, is_some, option_and_then, find}
 use Rattle.std.specs.List.{join_with_byte}
 use Rattle.std.specs.Str.{bytes_eq, is_utf8}
@@ -11,7 +11,7 @@ use Rattle.lapd_cli_console.specs.declared.form.Form.{Form}
 use Rattle.lapd_cli_console.specs.declared.script.Script.{Script}
 use Rattle.lapd_cli_console.specs.declared.script.Script.TheVariants.{Answer, Bus, Decode, LiveNet, LiveUser, Loop, Net, Pair, User}
 
--- the first word of a line, and what the words behind it are
+-- the first word of a line, and the meaning of the words after it
 abbrev pub Shape : Type 0
 Shape = List ℕ × List Argument
 
@@ -43,7 +43,7 @@ side_shapes =
     ∷ (codes "release", Sapi ∷ Tei ∷ []) ∷ (codes "give", Sapi ∷ Tei ∷ Hex ∷ [])
     ∷ (codes "unit", Sapi ∷ Tei ∷ Hex ∷ []) ∷ []
 
--- the lines by which both wait, with the real clock
+-- the lines with the real clock that wait or assert, which both have
 abbrev pub waiting_shapes : List Shape
 waiting_shapes =
     (codes "read", OptionalMilliseconds ∷ []) ∷ (codes "run", OptionalMilliseconds ∷ [])
@@ -58,7 +58,7 @@ live_net_shapes = waiting_shapes ++
     ∷ (codes "state", OptionalSapi ∷ Tei ∷ []) ∷ (codes "stats", [])
     ∷ (codes "impair", Loss ∷ Delay ∷ []) ∷ []
 
--- and those of `user`, which name no TEI: its links have the terminal's own
+-- the lines of `user` with the real clock, which name no TEI: its links have the terminal's own
 abbrev pub live_user_shapes : List Shape
 live_user_shapes = waiting_shapes ++
     (codes "establish", Sapi ∷ []) ∷ (codes "release", Sapi ∷ [])
@@ -90,27 +90,27 @@ shapes_of User = side_shapes ++ (codes "ask", []) ∷ []
 abbrev pub shape_named : Script → List ℕ → Option Shape
 shape_named script word = find (λ shape. bytes_eq word shape.0) (shapes_of script)
 
--- ---- What a word says.
+-- ---- The value of a word.
 
--- the number below 256 that a word writes in decimal digits
+-- the number below 256 that a word spells in decimal digits
 abbrev pub octet_at : ℕ → Option ℕ
 octet_at n = if nat_le n 255 then Some n else None
 
 abbrev pub octet_said : List ℕ → Option ℕ
 octet_said word = option_and_then octet_at (number_said word)
 
--- the octets that a word writes in hexadecimal digits
+-- the octets that a word spells in hexadecimal digits
 abbrev pub octets_said : List ℕ → Option (List ℕ)
 octets_said word = octets_behind (words_of word)
 
 abbrev pub is_span : ℕ → Bool
 is_span ms = nat_le 1 ms && nat_le ms 3600000
 
--- by how many milliseconds the clock goes on
+-- the number of milliseconds by which the clock advances
 abbrev pub span_at : ℕ → Option ℕ
 span_at ms = if is_span ms then Some ms else None
 
--- 0 to 100 per cent, in digits that may have a `%` behind them
+-- 0 to 100 per cent, in digits, with or without a `%` at the end
 abbrev pub without_percent : List ℕ → List ℕ
 without_percent word = if slice_index word (length word - 1) == 37
     then take (length word - 1) word else word
@@ -121,15 +121,15 @@ percent_at n = if nat_le n 100 then Some n else None
 abbrev pub loss_said : List ℕ → Option ℕ
 loss_said word = option_and_then percent_at (number_said (without_percent word))
 
--- by how many milliseconds frames are delayed
+-- the number of milliseconds by which frames are delayed
 abbrev pub delay_at : ℕ → Option ℕ
 delay_at ms = if nat_le ms 3600000 then Some ms else None
 
--- text of one octet at least
+-- text of at least one octet
 abbrev pub is_text : List ℕ → Bool
 is_text octets = not (length octets == 0) && is_utf8 octets
 
--- a word is what this argument has to be
+-- the word is a valid value of this argument
 abbrev pub is_said : Argument → List ℕ → Bool
 is_said Delay word = is_some (option_and_then delay_at (number_said word))
 is_said Hex word = is_some (octets_said word)
@@ -154,19 +154,19 @@ abbrev pub is_hex : Argument → Bool
 is_hex Hex = true
 is_hex argument = false
 
--- a square bracket shows that the word of this argument may be left out
+-- the form has a square bracket before this argument, whose word may be left out
 abbrev pub has_bracket : Argument → Bool
 has_bracket Delay = true
 has_bracket OptionalMilliseconds = true
 has_bracket OptionalSapi = true
 has_bracket argument = false
 
--- the word of this argument may be left out, with all words behind it
+-- the word of this argument may be left out, with all words after it
 abbrev pub is_left_out : Argument → Bool
 is_left_out Hex = true
 is_left_out argument = has_bracket argument
 
--- these words say what the arguments have to be, in order, and none is left
+-- these words are valid values of the arguments, in order, and no word is left
 abbrev pub are_said : List Argument → List (List ℕ) → Bool
 are_said [] [] = true
 are_said [] (word ∷ words) = false
@@ -182,8 +182,8 @@ abbrev pub last_word : List ℕ → List (List ℕ) → List ℕ
 last_word word [] = word
 last_word word (next ∷ words) = last_word next words
 
--- two words: all words up to the last one as one, with the spaces between them, and the last one;
--- or a word that is alone
+-- two words: all words up to the last one, joined by their spaces, and the last one; or the only
+-- word
 abbrev pub text_and_last_of : List ℕ → List (List ℕ) → List (List ℕ)
 text_and_last_of word [] = word ∷ []
 text_and_last_of word (next ∷ words) = join_with_byte 32 (words_before word (next ∷ words))
@@ -202,7 +202,8 @@ abbrev pub begin_with_words : List Argument → Bool
 begin_with_words [] = false
 begin_with_words (argument ∷ arguments) = is_words argument
 
--- the words of a line by the arguments of its form: for WORDS.. all up to the last one count as one
+-- the words of a line by the arguments of its form: for WORDS.. all words up to the last one count
+-- as one
 abbrev pub by_arguments : List Argument → List (List ℕ) → List (List ℕ)
 by_arguments arguments words = if begin_with_words arguments then text_and_last words else words
 
@@ -215,6 +216,6 @@ abbrev pub are_words_of : Script → List (List ℕ) → Bool
 are_words_of script [] = false
 are_words_of script (word ∷ behind) = fits (shape_named script word) behind
 
--- the line is passed over, or a line of the command by its form
+-- the line is skipped, or has a valid form for the command
 abbrev pub is_line_of : Script → List ℕ → Bool
 is_line_of script line = is_passed_over line || are_words_of script (words_of line)

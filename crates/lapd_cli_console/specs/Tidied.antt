@@ -1,4 +1,4 @@
--- A line as it is meant that was typed at a terminal.
+-- Tidying a line that was typed at a terminal.
 use Rattle.std.specs.Prelude.{◌≢◌, ℕ, ◌==◌, ◌&&◌, ◌||◌, if◌then◌else◌, List, [], ◌∷◌, ◌++◌, Option, Some, None, codes, drop, length, take}
 use Rattle.std.specs.List.{AllByRecursion, flat_map, slice_split}
 use Rattle.std.specs.Str.{bytes_eq}
@@ -13,7 +13,7 @@ abbrev pub without_front : List ℕ → List ℕ
 without_front [] = []
 without_front (octet ∷ octets) = if octet == 32 then without_front octets else octet ∷ octets
 
--- an octet before what is left of those behind it: a space before nothing is dropped
+-- prepends an octet to the tidied rest of a line: a space before an empty rest is dropped
 abbrev pub before_kept : ℕ → List ℕ → List ℕ
 before_kept octet [] = if octet == 32 then [] else octet ∷ []
 before_kept octet (next ∷ octets) = octet ∷ next ∷ octets
@@ -27,7 +27,7 @@ trimmed line = without_end (without_front line)
 
 -- ---- The digits of HEX.
 
--- without a `0x` in front
+-- the part without a leading `0x`
 abbrev pub digits_of_part : List ℕ → List ℕ
 digits_of_part part = if bytes_eq (take 2 part) (codes "0x") || bytes_eq (take 2 part) (codes "0X")
     then drop 2 part else part
@@ -36,7 +36,7 @@ digits_of_part part = if bytes_eq (take 2 part) (codes "0x") || bytes_eq (take 2
 abbrev pub HasNoColon : List ℕ → Type 0
 HasNoColon octets = AllByRecursion (λ octet. octet ≢ 58) octets
 
--- the parts between colons, each so
+-- the parts between colons, each without a leading `0x`
 abbrev pub digits_of_word : List ℕ → List ℕ
 digits_of_word word = flat_map digits_of_part (slice_split (λ octet. octet == 58) word)
 
@@ -50,7 +50,7 @@ hex_words words = digits_or words (flat_map digits_of_word words)
 
 -- ---- A line.
 
--- the arguments of the form that begins with this word, none if no form does
+-- the arguments of the form that begins with this word; empty if no form does
 abbrev pub arguments_of : Option Shape → List Argument
 arguments_of None = []
 arguments_of (Some shape) = shape.1
@@ -58,7 +58,7 @@ arguments_of (Some shape) = shape.1
 abbrev pub arguments_named : Script → List ℕ → List Argument
 arguments_named script word = arguments_of (shape_named script word)
 
--- the words behind the first one: those of HEX, if it is the last argument, are one
+-- the words after the first one; if the last argument is HEX, its words are joined into one
 abbrev pub tidied_behind : List Argument → List (List ℕ) → List (List ℕ)
 tidied_behind [] words = words
 tidied_behind (argument ∷ arguments) [] = []
@@ -75,6 +75,7 @@ tidied_words script [] = []
 tidied_words script (word ∷ behind) = word
     ++ spaced (tidied_behind (arguments_named script word) behind)
 
--- a line of the command without spaces around it, and without `0x`, spaces and colons in HEX
+-- a line of the command without leading and trailing spaces, and without `0x`, spaces and colons in
+-- HEX
 abbrev pub tidied_line : Script → List ℕ → List ℕ
 tidied_line script line = tidied_words script (words_of (trimmed line))

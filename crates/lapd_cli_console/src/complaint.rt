@@ -13,7 +13,7 @@ pub(crate) enum Complaint<'a> {
     NotUtf8,
     /// Its last octet is a carriage return.
     CarriageReturn,
-    /// There is a tab in it.
+    /// It has a tab.
     Tab,
     /// Its first octet is a space.
     SpaceAtFront,
@@ -31,7 +31,7 @@ pub(crate) enum Complaint<'a> {
     NoDigit(Form, u8),
     /// The number of hexadecimal digits is odd.
     OddDigits(Form),
-    /// This word follows a line that is whole without it.
+    /// This word follows a line that is complete without it.
     Behind(Form, &'a [u8]),
 }
 
@@ -58,8 +58,8 @@ impl fmt::Display for Complaint<'_> {
     }
 }
 
-/// Says that no line of this command begins with this word: the word needs the other clock, or the
-/// command has other lines.
+/// Says that no line of this command begins with this word. If the command has the word with the
+/// other clock, it says so; else it lists the command's lines.
 fn put_no_line<W: fmt::Write>(
     script: Script,
     word: &[u8],
@@ -108,7 +108,7 @@ fn put_no_digit<W: fmt::Write>(form: &Form, octet: u8, f: &mut fmt::Formatter<W>
     )
 }
 
-/// Says which word follows a line that is whole without it.
+/// Says which word follows a line that is complete without it.
 fn put_behind<W: fmt::Write>(form: &Form, word: &[u8], f: &mut fmt::Formatter<W>) -> fmt::Result {
     let word = Shown(word);
     write!(f, "{form}: nothing may stand behind it, and {word} does")

@@ -1,18 +1,17 @@
-//! The form of a line: its first word and the words behind it.
+//! The form of a line: its first word and the words after it.
 
 use std::fmt;
 
-/// The meaning of a word behind the first word of a line.
+/// The meaning of a word after the first word of a line.
 #[derive(Clone, Copy)]
 pub enum Argument {
-    /// By how many milliseconds each frame that is sent is delayed, 0 to 3,600,000. It may be left
-    /// out.
+    /// The delay of each sent frame in milliseconds, 0 to 3,600,000. It may be left out.
     Delay,
-    /// Octets in hexadecimal digits, which end the line. For no octets the word is left out.
+    /// Octets in hexadecimal digits, which end the line. Left out if there are no octets.
     Hex,
-    /// The chance that a frame that is sent is lost, 0 to 100 per cent, with or without a `%`.
+    /// The chance that a sent frame is lost, 0 to 100 per cent, with or without a `%`.
     Loss,
-    /// The place of a message among those on their way.
+    /// The index of a message among those on their way.
     Message,
     /// A time in milliseconds, 1 to 3,600,000.
     Milliseconds,
@@ -20,11 +19,11 @@ pub enum Argument {
     OnOff,
     /// A time in milliseconds, 1 to 3,600,000, which may be left out.
     OptionalMilliseconds,
-    /// A SAPI: 0, 16 or 63. It may be left out with all that stands behind it.
+    /// A SAPI: 0, 16 or 63. It may be left out with all words after it.
     OptionalSapi,
-    /// The place of a frame among those on their way.
+    /// The index of a frame among those on their way.
     Place,
-    /// A reference of TEI management, four hexadecimal digits.
+    /// A reference number (Ri) of TEI management, four hexadecimal digits.
     Reference,
     /// A SAPI: 0, 16 or 63.
     Sapi,
@@ -34,7 +33,7 @@ pub enum Argument {
     Tei,
     /// The number of a terminal.
     Terminal,
-    /// All words up to the last one, with the spaces between them: text of an octet at least.
+    /// All words up to the last one, with the spaces between them: text of at least one octet.
     Words,
 }
 
@@ -61,14 +60,14 @@ impl Argument {
         }
     }
 
-    /// Whether the word may be left out, with all words behind it.
+    /// Whether the word may be left out, with all words after it.
     pub fn may_be_left_out(self) -> bool
         ensures { result ≡ is_left_out self }
     {
         matches!(self, Argument::Hex) || self.has_bracket()
     }
 
-    /// Whether a square bracket shows in a form that the word may be left out.
+    /// Whether the form has a square bracket before the word, because it may be left out.
     fn has_bracket(self) -> bool
         ensures { result ≡ has_bracket self }
     {
@@ -92,7 +91,7 @@ impl Argument {
         matches!(self, Argument::Words)
     }
 
-    /// The values of the word, in words.
+    /// The valid values of the word, as text.
     pub fn range(self) -> &'static str {
         match self {
             Argument::Delay => "a number from 0 to 3,600,000",
@@ -120,13 +119,13 @@ impl fmt::Display for Argument {
     }
 }
 
-/// The form of a line, as `give SIDE HEX` or `state [SAPI TEI]`. Single spaces part its words.
-/// Square brackets hold words that may be left out, all of them.
+/// The form of a line, such as `give SIDE HEX` or `state [SAPI TEI]`. Single spaces separate its
+/// words. Words in square brackets may be left out, all together.
 #[derive(Clone, Copy)]
 pub struct Form {
     /// The first word.
     pub word: &'static str,
-    /// The words behind it, in order.
+    /// The words after it, in order.
     pub arguments: &'static [Argument],
 }
 
@@ -146,7 +145,7 @@ impl fmt::Display for Form {
     }
 }
 
-/// Forms one behind another, parted by commas.
+/// A list of forms, separated by commas.
 #[derive(Clone, Copy)]
 pub(crate) struct Forms(pub(crate) &'static [Form]);
 

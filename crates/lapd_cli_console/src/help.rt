@@ -1,14 +1,14 @@
-//! What `help` prints where lines are typed.
+//! The output of `help` for typed lines.
 
 use crate::line_forms::forms;
 use crate::script::Script;
 use std::io::{self, Write};
 
-/// Prints the forms of a command's lines, and `help` and `quit` below them.
+/// Prints the forms of a command's lines, followed by `help` and `quit`.
 ///
 /// # Errors
 ///
-/// Those of the writer.
+/// The writer's error.
 pub fn put_help<W: Write>(script: Script, out: &mut W) -> io::Result<()> {
     let end = if script.has_real_clock() {
         out.write_all(b"the lines with the real clock:\n")?;

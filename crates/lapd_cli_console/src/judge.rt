@@ -1,4 +1,4 @@
-//! Why a line is not a line of its command.
+//! The reason why a line is not valid for its command.
 
 ghost use Rattle.std.specs.Prelude.{◌≡◌, ◌∷◌, [], drop, is_none, is_some, IfOk};
 ghost use Rattle.std.specs.Str.{is_utf8 as utf8_told};
@@ -17,16 +17,15 @@ use lapd_frame::{Sapi, Tei};
 use memchr::memmem;
 use std::alloc::{AllocError, Global};
 
-/// The longest time that a line names, in milliseconds: an hour.
+/// The longest time in a line, in milliseconds: an hour.
 const MOST_MS: u64 = 3_600_000;
 
 /// The greatest loss, in per cent.
 const MOST_LOSS: u64 = 100;
 
-/// Returns what is wrong with a line of a command by its form, as one line of text without a line
-/// feed. The line has no line feed either. Returns `None` if the form is right, and for empty lines
-/// and comments. A `tick` that takes the clock of `net` or `user` past its end is right by its
-/// form.
+/// Returns what is wrong with the form of a command's line, as one line of text. Neither line has a
+/// line feed. Returns `None` if the form is valid, and for empty lines and comments. A `tick` may
+/// have a valid form and still take the clock of `net` or `user` past its end.
 ///
 /// # Errors
 ///
@@ -42,7 +41,7 @@ pub fn reason(alloc: Global, script: Script, line: &[u8]) -> Result<Option<Strin
     }
 }
 
-/// Finds what is wrong with a line by its form.
+/// Finds what is wrong with the form of a line.
 ///
 /// # Errors
 ///
@@ -63,7 +62,7 @@ fn complaint<'a>(
     }
 }
 
-/// Whether the line is empty, or begins with `#`.
+/// Whether the line is empty or a comment.
 fn is_passed_over(line: &[u8]) -> bool
     ensures { result ≡ passed_over line.now }
 {
@@ -93,8 +92,8 @@ fn of_words<'a>(
     }
 }
 
-/// Finds what is wrong with the words behind the first one, which `behind` holds. Its form begins
-/// with that word.
+/// Finds what is wrong with the words after the first one, which `behind` holds, by the form that
+/// begins with the first word.
 ///
 /// # Errors
 ///
@@ -145,8 +144,8 @@ fn of_spacing<'a>(line: &'a [u8]) -> Option<Complaint<'a>> {
     }
 }
 
-/// Finds what is wrong with a line whose words up to the last one count as one, as WORDS.. of its
-/// form.
+/// Finds what is wrong with a line whose form begins with WORDS.., so that its words up to the last
+/// one count as one.
 ///
 /// # Errors
 ///
@@ -165,7 +164,7 @@ fn of_text<'a>(
     }
 }
 
-/// Finds what is wrong with the words behind the first one of such a line.
+/// Finds what is wrong with the words after the first one of such a line.
 ///
 /// # Errors
 ///
@@ -185,7 +184,7 @@ fn of_text_behind<'a>(
     }
 }
 
-/// Finds what is wrong with a text and the one word behind it.
+/// Finds what is wrong with a text and the one word after it.
 ///
 /// # Errors
 ///
@@ -315,7 +314,7 @@ fn is_in_range(alloc: Global, argument: Argument, word: &[u8]) -> Result<bool, A
     }
 }
 
-/// Whether a word writes octets in hexadecimal digits.
+/// Whether a word spells octets in hexadecimal digits.
 ///
 /// # Errors
 ///
@@ -340,7 +339,7 @@ fn without_percent(word: &[u8]) -> &[u8]
     }
 }
 
-/// The number below 256 that a word writes in decimal digits.
+/// The number below 256 that a word spells in decimal digits.
 fn octet_of(word: &[u8]) -> Option<u8>
     ensures { result ≡ octet_said word.now }
 {

@@ -1,4 +1,4 @@
-//! A reader that keeps the lines that were read last.
+//! A reader that keeps the lines it read last.
 
 ghost use Rattle.std.specs.Prelude.{◌≡◌, ◌<◌, length, IfSome, None};
 ghost use Rattle.std.specs.Io.{ReadsAtMost};
@@ -9,28 +9,29 @@ use arrayvec::ArrayVec;
 use memchr::{memchr, memrchr};
 use std::io::{self, ErrorKind, Read};
 
-/// How many octets of a read are kept: as many as a walk over a script reads at a time.
+/// The number of kept octets of a read: as many as running a script reads at a time.
 const PART: usize = 8192;
 
-/// How many octets are kept of a line that an earlier read began.
+/// The number of kept octets of a line that began in an earlier read.
 const HEAD: usize = 4096;
 
-/// A reader that hands on what another reader gives, and keeps the lines that were read last. What it keeps does not grow
-/// with what is read: the last 8,192 octets or fewer, and 4,096 at most of the line that goes on in them.
+/// A reader that passes another reader's octets on, and keeps the lines it read last. Its memory is
+/// bounded: it keeps at most the last 8,192 octets, and at most 4,096 octets of the line that they
+/// continue.
 #[derive(Drop)]
 pub struct KeptLines<R> {
     reader: R,
-    // How many lines ended before that of `head`.
+    // The number of lines that ended before the line in `head`.
     ended: u64,
-    // The front of the line that goes on in `part`, with what `part` has of it.
+    // The beginning of the line that `part` continues, with its octets in `part`.
     head: ArrayVec<u8, HEAD>,
-    // What was read last.
+    // The octets read last.
     part: ArrayVec<u8, PART>,
     fault: Option<ErrorKind>,
 }
 
 impl<R: Read> KeptLines<R> {
-    /// Keeps what this reader gives from now on.
+    /// Keeps the octets read from this reader.
     pub fn new(reader: R) -> KeptLines<R>
         ensures reader { result.reader ≡ reader }
         ensures fault { result.fault ≡ None }
@@ -44,8 +45,8 @@ impl<R: Read> KeptLines<R> {
         }
     }
 
-    /// The line of this number, counted from 1, without its line feed and cut to 4,096 octets. Of the last line there is as
-    /// much as was read. `None` where the line is not kept.
+    /// The line with this number, counted from 1, without its line feed and cut to 4,096 octets.
+    /// The last line may be incomplete. Returns `None` if the line is not kept.
     pub fn line(&self, number: u64) -> Option<&[u8]> {
         let place = number.checked_sub(1)?.checked_sub(self.ended)?;
         if place == 0 {
@@ -55,7 +56,8 @@ impl<R: Read> KeptLines<R> {
         Some(&line[..line.len().min(HEAD)])
     }
 
-    /// How the last read failed that failed otherwise than by an interruption. `None` where none did.
+    /// The kind of the last failed read. Interruptions do not count. Returns `None` if no read
+    /// failed.
     pub fn fault(&self) -> Option<ErrorKind>
         ensures { result ≡ self.now.fault }
     {
@@ -74,7 +76,7 @@ impl<R: Read> KeptLines<R> {
         }
     }
 
-    /// Lets go of the lines that ended in what was read last.
+    /// Drops the lines that ended in the octets read last.
     fn let_go(&mut self)
         ensures reader { self.new.reader ≡ self.old.reader }
         ensures fault { self.new.fault ≡ self.old.fault }
@@ -113,13 +115,14 @@ impl<R: Read> Read for KeptLines<R> {
     }
 }
 
-/// Puts behind the front of a line as many of these octets as are kept of it.
+/// Appends as many of these octets to the beginning of a line as it has room for.
 fn lengthen(head: &mut ArrayVec<u8, HEAD>, octets: &[u8]) {
     let room = head.remaining_capacity();
     let _ = head.try_extend_from_slice(&octets[..octets.len().min(room)]);
 }
 
-/// How many line feeds there are. Going from one to the next is cheaper than looking at each octet, as soon as a line has a few.
+/// The number of line feeds. Searching for each is faster than comparing each octet, unless lines
+/// are very short.
 fn feeds_in(octets: &[u8]) -> u64 {
     let mut feeds: u64 = 0;
     let mut rest = octets;
@@ -130,7 +133,7 @@ fn feeds_in(octets: &[u8]) -> u64 {
     feeds
 }
 
-/// The octets behind the first line feed.
+/// The octets after the first line feed.
 fn behind_feed(octets: &[u8]) -> Option<&[u8]>
     ensures { IfSome result (λ behind. length behind.now < length octets.now) }
 {
@@ -138,7 +141,7 @@ fn behind_feed(octets: &[u8]) -> Option<&[u8]>
     Some(&octets[end + 1..])
 }
 
-/// The octets before the first line feed, all where there is none.
+/// The octets before the first line feed; all if there is none.
 fn first_line(octets: &[u8]) -> &[u8] {
     match memchr(b'\n', octets) {
         Some(end) => &octets[..end],
@@ -146,7 +149,7 @@ fn first_line(octets: &[u8]) -> &[u8] {
     }
 }
 
-/// The line behind so many line feeds.
+/// The line after this many line feeds.
 fn line_at(octets: &[u8], feeds: u64) -> Option<&[u8]> {
     let mut rest = octets;
     for _feed in 0..feeds {

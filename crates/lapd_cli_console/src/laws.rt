@@ -1,11 +1,11 @@
-//! Laws over the definitions. The functions do nothing.
+//! Laws over the definitions. The functions do nothing when they are called.
 
 ghost use Rattle.std.specs.Prelude.{◌≡◌, codes, false, true};
 ghost use Rattle.lapd_cli_console.specs.declared.script.Script.TheVariants.{Answer, LiveNet, LiveUser, Net};
 ghost use Rattle.lapd_cli_console.specs.Forms.{is_line_of};
 ghost use Rattle.lapd_cli_console.specs.Tidied.{tidied_line};
 
-/// Typed lines, and how they are meant, as documented.
+/// The documented examples of typed lines and their tidied form.
 pub fn worked_typed_lines()
     ensures spaces { tidied_line Answer (codes "  frame 00 81 7f ") ≡ codes "frame 00817f" }
     ensures front { tidied_line Net (codes "give 0 64 0x08 01") ≡ codes "give 0 64 0801" }
@@ -16,7 +16,7 @@ pub fn worked_typed_lines()
     ensures expected { tidied_line LiveNet (codes "expect 0x : 5") ≡ codes "expect 0x : 5" }
 {}
 
-/// Lines of each clock, and lines that are none, as documented.
+/// The documented examples of valid and invalid lines, with each clock.
 pub fn worked_lines_by_form()
     ensures state { is_line_of LiveNet (codes "state") ≡ true }
     ensures state_of_link { is_line_of LiveNet (codes "state 0 64") ≡ true }

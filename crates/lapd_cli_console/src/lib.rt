@@ -1,12 +1,14 @@
-//! What the program `lapd` says to people about its script and its standard streams.
+//! Messages of the program `lapd` to people about its script and its standard streams.
 //!
-//! [`reason`] says in one line of text what is wrong with a line of a command's script, and
-//! [`forms`] which lines a command has. [`KeptLines`] reads a script and keeps the lines that were
-//! read last, so that the line of a number can be shown. [`Watched`] is a writer that remembers how
-//! a write failed, and [`Refusals`] one that notes the first line that begins with `refused`.
-//! [`Session`] reads lines that are typed, and hands on those that are right by their form;
-//! [`tidied`] is a typed line as it is meant. The lines with the real clock are those of
-//! [`Script::LiveNet`] and [`Script::LiveUser`].
+//! - [`reason`] returns in one line of text what is wrong with a line of a command's script, and
+//!   [`forms`] lists the command's lines. The lines with the real clock are those of
+//!   [`Script::LiveNet`] and [`Script::LiveUser`].
+//! - [`KeptLines`] reads a script and keeps the lines it read last, so that a line can be shown by
+//!   its number.
+//! - [`Watched`] is a writer that remembers how a write failed, and [`Refusals`] one that notes the
+//!   first line that begins with `refused`.
+//! - [`Session`] reads typed lines, and passes on those with a valid form; [`tidied`] removes
+//!   needless characters from a typed line.
 #![tactic(auto)]
 
 mod complaint;

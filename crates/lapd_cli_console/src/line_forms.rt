@@ -12,9 +12,9 @@ use crate::form::Argument::{
 use crate::form::Form;
 use crate::script::Script;
 
-/// The forms of a command's lines. A line is a line of the command exactly if it has one of these
-/// forms, is empty or is a comment. A `tick` of `net` or `user` may still take the clock past its
-/// end.
+/// The forms of a command's lines. A line is valid for the command exactly if it has one of these
+/// forms, is empty or is a comment. But a `tick` of `net` or `user` may still take the clock past
+/// its end.
 pub fn forms(script: Script) -> &'static [Form]
     ensures { map shape_of result.now ≡ shapes_of script }
 {
@@ -48,7 +48,7 @@ fn form_among(forms: &[Form], word: &[u8]) -> Option<Form>
         .find(|form| word == form.word.as_bytes())
 }
 
-/// The form of this first word and these words behind it.
+/// The form of this first word and these words after it.
 macro_rules! line {
     ($word:literal $($argument:ident)*) => {
         Form { word: $word, arguments: &[$($argument),*] }

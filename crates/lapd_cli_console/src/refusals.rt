@@ -6,17 +6,18 @@ use arrayvec::ArrayVec;
 use memchr::memchr;
 use std::io::{self, Write};
 
-/// What a line begins with that tells of a refusal.
+/// The beginning of a line that reports a refusal.
 const REFUSED: &[u8] = b"refused ";
 
-/// What an object begins with that does.
+/// The beginning of a JSON object that reports a refusal.
 const REFUSED_OBJECT: &[u8] = b"{\"refused\":";
 
-/// How many octets are noted of a line.
+/// The number of noted octets of a line.
 const NOTED: usize = 256;
 
-/// A writer that hands on to another writer, and notes the first line that begins with `refused `, or with a moment and that, and
-/// the first object of which the first member is `refused`, where that is wanted.
+/// A writer that passes text to another writer, and notes the first refusal if requested. A refusal
+/// is a line that begins with `refused `, or with a time and `refused `, or an object whose first
+/// member is `refused`.
 #[derive(Drop)]
 pub struct Refusals<W> {
     writer: W,
@@ -25,7 +26,8 @@ pub struct Refusals<W> {
 }
 
 impl<W: Write> Refusals<W> {
-    /// Hands on to this writer, and notes the first refusal where that is wanted. Where it is not, the text is not looked through.
+    /// Passes text to this writer, and notes the first refusal if `is_wanted`. Otherwise it does
+    /// not search the text.
     pub fn new(writer: W, is_wanted: bool) -> Refusals<W>
         ensures { result.writer ≡ writer }
     {
@@ -36,8 +38,8 @@ impl<W: Write> Refusals<W> {
         }
     }
 
-    /// The first line that was written whole and begins with `refused `, or with a moment and that, or is an object that begins
-    /// with `refused`, without its line feed and cut to 256 octets. None where it was not wanted.
+    /// The first complete line that is a refusal, without its line feed and cut to 256 octets.
+    /// Returns `None` if there is none, or if noting was not requested.
     pub fn first(&self) -> Option<&[u8]> {
         self.noted.refusal()
     }
@@ -66,16 +68,16 @@ impl<W: Write> Write for Refusals<W> {
     }
 }
 
-/// What is noted of text that comes in parts.
+/// The noted part of a text that is written in parts.
 #[derive(Drop)]
 struct Noted {
-    // The front of the line that goes on; once there is a refusal, that one.
+    // The beginning of the current line; once there is a refusal, that line.
     line: ArrayVec<u8, NOTED>,
     is_refused: bool,
 }
 
 impl Noted {
-    /// Nothing has come.
+    /// No text yet.
     fn new() -> Noted {
         Noted {
             line: ArrayVec::new(),
@@ -83,7 +85,7 @@ impl Noted {
         }
     }
 
-    /// The first line that has ended and is a refusal.
+    /// The first complete line that is a refusal.
     fn refusal(&self) -> Option<&[u8]> {
         if self.is_refused {
             Some(self.line.as_slice())
@@ -92,7 +94,7 @@ impl Noted {
         }
     }
 
-    /// Looks through text up to the first refusal.
+    /// Searches text up to the first refusal.
     fn note(&mut self, octets: &[u8]) {
         let mut rest = octets;
         while let Some((line, left)) = first_line(rest) {
@@ -102,7 +104,8 @@ impl Noted {
         self.lengthen(rest);
     }
 
-    /// Notes the end of a line. One that came whole and is no refusal, as most do, is not kept at all.
+    /// Notes the end of a line. Most lines are written whole and are not refusals; they are not
+    /// copied at all.
     fn note_end(&mut self, end: &[u8]) {
         if !self.line.is_empty() || is_refusal(end) {
             self.lengthen(end);
@@ -110,7 +113,8 @@ impl Noted {
         }
     }
 
-    /// Puts behind the front of the line as many of these octets as are noted of it, unless there is a refusal.
+    /// Appends as many of these octets to the current line as there is room for, unless there is a
+    /// refusal.
     fn lengthen(&mut self, octets: &[u8]) {
         if !self.is_refused {
             let room = self.line.remaining_capacity();
@@ -119,7 +123,7 @@ impl Noted {
         }
     }
 
-    /// Ends the line, which stays where it is the first refusal.
+    /// Ends the line, which is kept if it is the first refusal.
     fn end_line(&mut self) {
         if is_refusal(self.line.as_slice()) {
             self.is_refused = true;
@@ -129,7 +133,7 @@ impl Noted {
     }
 }
 
-/// Whether a line tells of a refusal. Its first octet says of most lines that they do not.
+/// Whether a line is a refusal. The first octet rules out most lines.
 fn is_refusal(line: &[u8]) -> bool {
     match line {
         [b'r', ..] => line.starts_with(REFUSED),
@@ -139,7 +143,8 @@ fn is_refusal(line: &[u8]) -> bool {
     }
 }
 
-/// What stands behind the decimal digits that a line begins with and a space. Nothing, where no space follows them.
+/// The rest of a line after its leading decimal digits and a space. Empty if no space follows the
+/// digits.
 fn behind_moment(line: &[u8]) -> &[u8] {
     let Some(end) = memchr(b' ', line) else {
         return &[];
@@ -152,7 +157,7 @@ fn behind_moment(line: &[u8]) -> &[u8] {
     }
 }
 
-/// The octets before the first line feed, and those behind it.
+/// The octets before the first line feed, and those after it.
 fn first_line(octets: &[u8]) -> Option<(&[u8], &[u8])>
     ensures { IfSome result (λ parts. length parts.1.now < length octets.now) }
 {

@@ -1,8 +1,8 @@
-//! The commands of the program that go over a script.
+//! The commands of the program that execute a script.
 
 use std::fmt;
 
-/// A command of the program, which goes over a script.
+/// A command of the program that executes a script.
 #[derive(Clone, Copy)]
 pub enum Script {
     /// `lapd answer`
@@ -39,7 +39,8 @@ impl Script {
         }
     }
 
-    /// The same command with the real clock. `None` if it has none, or has it already.
+    /// The same command with the real clock. `None` if it has no such form, or already uses the
+    /// real clock.
     pub(crate) fn with_real_clock(self) -> Option<Script> {
         match self {
             Script::Net => Some(Script::LiveNet),
@@ -48,7 +49,7 @@ impl Script {
         }
     }
 
-    /// Whether the command goes by the real clock.
+    /// Whether the command uses the real clock.
     pub(crate) fn has_real_clock(self) -> bool {
         matches!(self, Script::LiveNet | Script::LiveUser)
     }

@@ -9,17 +9,17 @@ use crate::typed_line::tidied;
 use std::alloc::Global;
 use std::io::{self, BufRead, ErrorKind, Read, Write};
 
-/// A reader of lines that a person types. Each line is read as it is meant ([`tidied`]). A line
-/// with a valid form is passed on whole, one a read. For any other line the reason is printed on
-/// the error writer, and the next line is read. `help` prints the forms of the command's lines, and
-/// `quit` and `exit` end the input. A failed write to the error writer is ignored.
+/// A reader of typed lines. It tidies each line ([`tidied`]). If the line has a valid form, one
+/// read returns it whole. For any other line it prints the reason on the error writer, and reads
+/// the next line. `help` prints the forms of the command's lines; `quit` and `exit` end the input.
+/// Failed writes to the error writer are ignored.
 #[derive(Drop)]
 pub struct Session<R, E> {
     alloc: Global,
     script: Script,
     reader: R,
     errors: E,
-    // The line that is handed on, with its line feed, and how much of it was.
+    // The line that is passed on, with its line feed, and how many of its octets were returned.
     line: Vec<u8>,
     given: usize,
     is_ended: bool,
@@ -27,13 +27,13 @@ pub struct Session<R, E> {
     ghost given_in_line: { given ≤ vec_len line },
 }
 
-/// The fate of a line that was typed.
+/// How a typed line is handled.
 enum Fate {
-    /// It is passed on.
+    /// The line is passed on.
     PassedOn,
-    /// It was answered here.
+    /// The line was answered on the error writer.
     Answered,
-    /// It ends the input.
+    /// The line ends the input.
     Ends,
 }
 
@@ -57,7 +57,7 @@ impl<R: BufRead, E: Write> Session<R, E> {
         self.fault
     }
 
-    /// Reads up to the next line that is passed on. There is none at the end of the input.
+    /// Reads up to the next line that is passed on. At the end of the input there is none.
     fn next_line(&mut self) -> io::Result<()> {
         for _turn in 0..u64::MAX {
             self.line.clear();
@@ -78,7 +78,7 @@ impl<R: BufRead, E: Write> Session<R, E> {
         Ok(())
     }
 
-    /// Checks the line that was typed, and answers it if it is not a line of the command.
+    /// Checks the typed line, and answers it if it is not valid for the command.
     fn judge(&mut self) -> io::Result<Fate> {
         let line = tidied(self.alloc, self.script, without_feed(self.line.as_slice()))?;
         match line.as_slice() {
@@ -108,7 +108,7 @@ impl<R: BufRead, E: Write> Session<R, E> {
         Ok(())
     }
 
-    /// Gives as much of the line as there is room for.
+    /// Returns as much of the line as `octets` has room for.
     fn give(&mut self, octets: &mut [u8]) -> usize
         ensures { result ≤ length octets.new }
     {
@@ -134,7 +134,7 @@ impl<R: BufRead, E: Write> Read for Session<R, E> {
     }
 }
 
-/// The line without its line feed, which the last may lack.
+/// The line without its line feed, which the last line may lack.
 fn without_feed(line: &[u8]) -> &[u8] {
     line.strip_suffix(b"\n").unwrap_or(line)
 }

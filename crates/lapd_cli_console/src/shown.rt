@@ -1,11 +1,12 @@
-//! What a person typed, as it is shown.
+//! Showing what a person typed.
 
 use std::fmt;
 
-/// How many octets of a word are shown at most.
+/// The most octets of a word that are shown.
 const MOST_SHOWN: usize = 32;
 
-/// A word between quotes. Of a long one the front is shown, and three dots. Octets that are not printed are escaped.
+/// A word between quotes. A long word is cut and ends in two dots. Octets that are not printable
+/// are escaped.
 #[derive(Clone, Copy)]
 pub(crate) struct Shown<'a>(pub(crate) &'a [u8]);
 

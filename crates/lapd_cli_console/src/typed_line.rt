@@ -1,4 +1,4 @@
-//! A line as it is meant that was typed at a terminal.
+//! Tidying a line that was typed at a terminal.
 
 ghost use Rattle.std.specs.Prelude.{◌≡◌, ◌<◌, ◌++◌, ◌∷◌, [], length, IfNone, IfOk, IfSome, MatchOption, OnOk};
 ghost use Rattle.lapd_cli_console.specs.Tidied.{HasNoColon, arguments_named, digits_of_part, digits_of_word, hex_words, spaced, tidied_behind, tidied_line, trimmed as trimmed_of, without_end as end_dropped, without_front as front_dropped};
@@ -10,10 +10,10 @@ use lapd_cli_script::Words;
 use memchr::memchr;
 use std::alloc::{AllocError, Global};
 
-/// A line of a command as it is meant that was typed at a terminal, without its line feed: spaces
-/// in front and at the end are dropped; and if the last argument of its form is HEX, so are spaces
-/// and colons between its digits, and a `0x` in front of them and behind a space or colon. Nothing
-/// is dropped of HEX if no digit would be left.
+/// Tidies a command's line that was typed at a terminal, without its line feed. Leading and
+/// trailing spaces are dropped. If the last argument of its form is HEX, spaces and colons between
+/// its digits are dropped too, and so is `0x` before the digits or after a space or colon. HEX is
+/// unchanged if no digit would be left.
 ///
 /// # Errors
 ///
@@ -30,7 +30,7 @@ pub fn tidied(alloc: Global, script: Script, line: &[u8]) -> Result<Vec<u8>, All
     Ok(text)
 }
 
-/// The arguments of the form that begins with this word, none if no form does.
+/// The arguments of the form that begins with this word; empty if no form does.
 fn arguments_of(script: Script, word: &[u8]) -> &'static [Argument]
     ensures { result.now ≡ arguments_named script word.now }
 {
@@ -40,14 +40,14 @@ fn arguments_of(script: Script, word: &[u8]) -> &'static [Argument]
     }
 }
 
-/// Octets without the spaces in front and at the end.
+/// The octets without leading and trailing spaces.
 fn trimmed(octets: &[u8]) -> &[u8]
     ensures { result.now ≡ trimmed_of octets.now }
 {
     without_end(without_front(octets))
 }
 
-/// Octets without the spaces in front.
+/// The octets without leading spaces.
 fn without_front(octets: &[u8]) -> &[u8]
     ensures { result.now ≡ front_dropped octets.now }
 {
@@ -58,7 +58,7 @@ fn without_front(octets: &[u8]) -> &[u8]
     kept
 }
 
-/// Octets without the spaces at the end.
+/// The octets without trailing spaces.
 #[tactic(auto, using(crate::proofs::TypedLine::last_space))]
 fn without_end(octets: &[u8]) -> &[u8]
     ensures { result.now ≡ end_dropped octets.now }
@@ -80,8 +80,8 @@ fn without_last_space(octets: &[u8]) -> Option<&[u8]>
     if *last == b' ' { Some(rest) } else { None }
 }
 
-/// Appends the words behind the first one, each with a space before it. If the last argument is
-/// HEX, its digits are one word.
+/// Appends the words after the first one, each with a space before it. If the last argument is HEX,
+/// its digits are joined into one word.
 ///
 /// # Errors
 ///
@@ -135,8 +135,8 @@ fn push_word(text: &mut Vec<u8>, word: &[u8]) -> Result<(), AllocError>
     text.extend_from_slice(word)
 }
 
-/// Appends a space and the digits of the words that are left, or these words as they are if they
-/// have no digits.
+/// Appends a space and the digits of the remaining words, or these words unchanged if they have no
+/// digits.
 ///
 /// # Errors
 ///
@@ -157,7 +157,7 @@ fn push_hex(alloc: Global, text: &mut Vec<u8>, mut words: Words<'_>) -> Result<(
     }
 }
 
-/// Appends the parts of a word between its colons, each without a `0x` in front.
+/// Appends the parts of a word between its colons, each without a leading `0x`.
 ///
 /// # Errors
 ///
@@ -174,7 +174,7 @@ fn push_digits(digits: &mut Vec<u8>, word: &[u8]) -> Result<(), AllocError>
     digits.extend_from_slice(without_0x(rest))
 }
 
-/// The octets before the first colon, and those behind it.
+/// The octets before the first colon, and those after it.
 fn cut_at_colon(octets: &[u8]) -> Option<(&[u8], &[u8])>
     ensures none { IfNone result (HasNoColon octets.now) }
     ensures parts { IfSome result (λ parts. HasNoColon parts.0.now
@@ -185,7 +185,7 @@ fn cut_at_colon(octets: &[u8]) -> Option<(&[u8], &[u8])>
     Some((&octets[..end], &octets[end + 1..]))
 }
 
-/// Octets without a `0x` or `0X` in front.
+/// The octets without a leading `0x` or `0X`.
 fn without_0x(part: &[u8]) -> &[u8]
     ensures { result.now ≡ digits_of_part part.now }
 {

@@ -7,7 +7,7 @@ ghost use Rattle.lapd_cli_console.specs.Fault.{Remembers};
 
 use std::io::{self, ErrorKind, Write};
 
-/// A writer that hands on to another writer, and remembers how a write or a flush failed.
+/// A writer that passes text to another writer, and remembers how a write or a flush failed.
 #[derive(Drop)]
 pub struct Watched<W> {
     writer: W,
@@ -15,7 +15,7 @@ pub struct Watched<W> {
 }
 
 impl<W: Write> Watched<W> {
-    /// Hands on to this writer.
+    /// Passes text to this writer.
     pub fn new(writer: W) -> Watched<W>
         ensures { result ≡ record { writer = writer; fault = None } }
     {
@@ -25,7 +25,8 @@ impl<W: Write> Watched<W> {
         }
     }
 
-    /// How the last write or flush failed that failed otherwise than by an interruption. `None` where none did.
+    /// The kind of the last failed write or flush. Interruptions do not count. Returns `None` if
+    /// none failed.
     pub fn fault(&self) -> Option<ErrorKind>
         ensures { result ≡ self.now.fault }
     {
@@ -39,7 +40,7 @@ impl<W: Write> Watched<W> {
         self.writer
     }
 
-    /// Remembers how a call failed.
+    /// Remembers how a call failed, and returns its result.
     fn watch<T>(&mut self, answered: io::Result<T>) -> io::Result<T>
         ensures same { result ≡ answered }
         ensures writer { self.new.writer ≡ self.old.writer }

@@ -1,4 +1,4 @@
--- What is printed up to a place, with what is found there behind it.
+-- The text printed up to a place, followed by the text of the next step.
 use Rattle.std.proofs.Common.{◌≡◌, ℕ, List, [], ◌++◌, suc, Option, None, Ok, Err, true, false, refl, subst, append-nil}
 use Rattle.std.proofs.KnownBytes.{Appends-trans, Appends-nil}
 use Rattle.std.specs.Io.KnownBytes.{Appends}
@@ -30,19 +30,19 @@ pub PrintsTo-kept : (how : CaptureStyle) (start mid : Reading) (a b d : Option (
 PrintsTo-kept how start mid a b d p grew =
     (p.0, p.1, p.2, subst (Appends a d) (append-nil p.1) (Appends-trans a b d p.1 [] p.3 grew))
 
--- a step behind what was printed
+-- one more step, after the text printed so far
 pub PrintsTo-step : (how : CaptureStyle) (start mid new : Reading) (a b d : Option (List ℕ))
     → PrintsTo how start a b mid → TakesStep how (Ok false) mid new b d → PrintsTo how start a d new
 PrintsTo-step how start mid new a b d p s =
     PrintsTo-more how start mid new s.0 a b d p s.1 s.2 s.3
 
--- the end behind what was printed
+-- the end of the capture, after the text printed so far
 pub CaptureEnds-done : (how : CaptureStyle) (start mid new : Reading) (a b d : Option (List ℕ))
     → PrintsTo how start a b mid → TakesStep how (Ok true) mid new b d → CaptureEnds how start (Ok tt) a d
 CaptureEnds-done how start mid new a b d p s =
     (mid, new, PrintsTo-kept how start mid a b d p s.1, s.0)
 
--- a stop behind what was printed
+-- a stop, after the text printed so far
 pub CaptureEnds-stop : (how : CaptureStyle) (start mid new : Reading) (a b d : Option (List ℕ)) (stop : CaptureStop)
     → PrintsTo how start a b mid → TakesStep how (Err stop) mid new b d → CaptureEnds how start (Err stop) a d
 CaptureEnds-stop how start mid new a b d (Capture fault at) p s =

@@ -1,4 +1,4 @@
--- What `decode` prints of a capture.
+-- The output of `decode` for a capture.
 use Rattle.std.specs.Prelude.{◌≡◌, ℕ, ◌-◌, zero, suc, List, [], ◌++◌, take, drop, Option, Some, None, unwrap_or, Bool, true, false, Result, Ok, Err, ⊤}
 use Rattle.std.specs.Io.KnownBytes.{Appends}
 use Rattle.lapd_capture.specs.declared.Found.{Found}
@@ -12,12 +12,12 @@ use Rattle.lapd_cli_decode.specs.declared.capture_lines.CaptureStyle.{CaptureSty
 use Rattle.lapd_cli_render.specs.declared.Packet.{Packet as JsonPacket}
 use Rattle.lapd_cli_decode.specs.Style.{styled_packet}
 
--- the packet that was passed last
+-- the packet read last
 abbrev pub last_packet : Reading → JsonPacket
 last_packet reading = record { number = reading.packets; moment = reading.moment }
 
--- the line of what was found, by the capture behind it: of a frame of which nobody tells who sent it, as if the sender that was
--- chosen had
+-- the line of what was found; `behind` is the capture after it. If the capture does not name a
+-- frame's sender, the chosen sender is printed.
 abbrev pub found_text : CaptureStyle → Reading → Found → List ℕ
 found_text how behind (Frame span) = text_line (styled_packet how.style (last_packet behind)
     (unwrap_or span.from how.sender)
@@ -26,7 +26,7 @@ found_text how behind (Unreadable fault) = []
 found_text how behind Other = []
 found_text how behind End = []
 
--- a packet that can't be read, at which reading stops unless such packets are passed over
+-- the fault of an unreadable packet, at which reading stops unless such packets are skipped
 abbrev pub packet_fault : Bool → Found → Option PacketFault
 packet_fault keeping (Frame span) = None
 packet_fault true (Unreadable fault) = None
@@ -34,7 +34,7 @@ packet_fault false (Unreadable fault) = Some fault
 packet_fault keeping Other = None
 packet_fault keeping End = None
 
--- so many steps lead from the one place to the other, and this text is printed for what they find
+-- this many steps lead from one place to another, and this text is printed for them
 abbrev pub Prints : CaptureStyle → ℕ → Reading → List ℕ → Reading → Type 0
 Prints how zero old text new = (text ≡ []) × (new ≡ old)
 Prints how (suc n) old text new = (mid : Reading) × (found : Found)
@@ -43,14 +43,14 @@ Prints how (suc n) old text new = (mid : Reading) × (found : Found)
     × (packet_fault how.keeping found ≡ None)
     × (text ≡ before ++ found_text how new found)
 
--- this is printed up to a place
+-- this is the text printed up to a place
 abbrev pub PrintsTo : CaptureStyle → Reading → Option (List ℕ) → Option (List ℕ) → Reading
     → Type 0
 PrintsTo how start old new place = (n : ℕ) × (text : List ℕ)
     × Prints how n start text place × Appends old new text
 
--- how a capture ends that is read from a place on, and what the writer holds then: all frames are printed, or those
--- before the fault that stands there
+-- how reading a capture from a place ends, and the writer's contents then: all frames are printed,
+-- or all before the fault
 abbrev pub CaptureEnds : CaptureStyle → Reading → Result ⊤ CaptureStop → Option (List ℕ)
     → Option (List ℕ) → Type 0
 CaptureEnds how start (Ok done) old new = (place : Reading) × (behind : Reading)
@@ -66,7 +66,7 @@ CaptureEnds how start (Err (Packet fault at)) old new = (place : Reading)
 CaptureEnds how start (Err Device) old new = ⊤
 CaptureEnds how start (Err Memory) old new = ⊤
 
--- a failure of the writer or of memory alone
+-- success, or a failure of the writer or of an allocation
 abbrev pub IsOtherStop : Result ⊤ CaptureStop → Type 0
 IsOtherStop (Ok done) = ⊤
 IsOtherStop (Err (Capture fault at)) = ⊥
@@ -74,7 +74,7 @@ IsOtherStop (Err (Packet fault at)) = ⊥
 IsOtherStop (Err Device) = ⊤
 IsOtherStop (Err Memory) = ⊤
 
--- one step: what it finds is printed, or it is at the end, or it stops
+-- one step: it prints what it finds, or reaches the end, or stops
 abbrev pub TakesStep : CaptureStyle → Result Bool CaptureStop → Reading → Reading
     → Option (List ℕ) → Option (List ℕ) → Type 0
 TakesStep how (Ok false) old new a b = (found : Found)

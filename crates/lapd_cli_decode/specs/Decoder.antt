@@ -1,4 +1,4 @@
--- What a decoder of lines stands for.
+-- The state that a decoder of lines represents.
 use Rattle.lapd_cli_decode.specs.declared.line_decoder.LineDecoder.{LineDecoder}
 use Rattle.lapd_cli_decode.specs.Lines.{Decoding}
 

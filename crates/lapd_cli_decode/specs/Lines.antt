@@ -1,4 +1,4 @@
--- The lines of `decode`: strict as ever, or loose.
+-- The lines of `decode`: strict, or loose.
 use Rattle.std.specs.Prelude.{ℕ, ◌==◌, ◌||◌, not, if◌then◌else◌, Bool, true, List, [], ◌∷◌, codes, take, drop, Option, Some, None, option_map}
 use Rattle.std.specs.List.{filter}
 use Rattle.std.specs.Str.{bytes_eq}
@@ -12,7 +12,7 @@ use Rattle.lapd_cli_decode.specs.declared.line_form.LineForm.TheVariants.{Strict
 use Rattle.lapd_cli_decode.specs.declared.style.Style.{Style}
 use Rattle.lapd_cli_decode.specs.Style.{styled_text}
 
--- a side and what it sent, where a line says it
+-- a side and the octets it sent, if the line names them
 abbrev pub sent_by : Side → Option (List ℕ) → Option (Side × List ℕ)
 sent_by from octets = option_map (λ octets. (from, octets)) octets
 
@@ -24,7 +24,7 @@ strict_words (word ∷ behind) =
     if bytes_eq word (codes "user") then sent_by User (octets_behind behind) else (
     if bytes_eq word (codes "net") then sent_by Network (octets_behind behind) else None)
 
--- ---- A loose line: what stands among the digits is passed over.
+-- ---- A loose line: separators among the digits are skipped.
 
 -- a space, a tab, a carriage return, a colon, or a bracket
 abbrev pub is_separator : ℕ → Bool
@@ -34,7 +34,7 @@ is_separator octet = (octet == 32) || ((octet == 9) || ((octet == 13) || ((octet
 abbrev pub is_no_separator : ℕ → Bool
 is_no_separator octet = not (is_separator octet)
 
--- the octets of these digits; there may be none
+-- the octets of these digits; without digits, no octets
 abbrev pub octets_or_none : List ℕ → Option (List ℕ)
 octets_or_none [] = Some []
 octets_or_none (digit ∷ digits) = octets_of (digit ∷ digits)
@@ -42,7 +42,7 @@ octets_or_none (digit ∷ digits) = octets_of (digit ∷ digits)
 abbrev pub loose_octets : List ℕ → Option (List ℕ)
 loose_octets rest = octets_or_none (filter is_no_separator rest)
 
--- a separator ends the word before it
+-- a separator, or the line's end, ends the word before it
 abbrev pub is_parted : List ℕ → Bool
 is_parted [] = true
 is_parted (octet ∷ octets) = is_separator octet
@@ -64,22 +64,22 @@ loose_line printer line =
 
 -- ---- Both.
 
--- who sent what, where this is a line of this form
+-- the side and the octets it sent, if the line has this form
 abbrev pub sent_in : LineForm → List ℕ → Option (Side × List ℕ)
 sent_in Strict line = strict_words (words_of line)
 sent_in (Loose printer) line = loose_line printer line
 
--- how lines are read and printed
+-- how to read and print lines
 pub record Decoding : Type 0 where
   pub form : LineForm
   pub style : Style
 
--- what each line calls for; nothing changes
+-- the result of each line; the state never changes
 abbrev pub line_step : Decoding → List ℕ → Outcome Decoding
 line_step s line =
     option_map (λ sent. (text_line (styled_text s.style sent.0 sent.1), s)) (sent_in s.form line)
 
--- what it calls for where bad lines are passed over: nothing is printed for one
+-- the result if bad lines are skipped: nothing is printed for them
 abbrev pub or_nothing : Decoding → Outcome Decoding → Outcome Decoding
 or_nothing s None = Some ([], s)
 or_nothing s (Some next) = Some next

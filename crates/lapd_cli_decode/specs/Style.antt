@@ -1,4 +1,4 @@
--- How octets that a side sent are printed.
+-- How the octets that a side sent are printed.
 use Rattle.std.specs.Prelude.{ℕ, List, ◌++◌}
 use Rattle.lapd_frame.specs.declared.Side.{Side}
 use Rattle.lapd_trace.specs.Trace.{trace_line}
@@ -9,14 +9,14 @@ use Rattle.lapd_cli_render.specs.Packet.{with_packet}
 use Rattle.lapd_cli_decode.specs.declared.style.Style.{Style}
 use Rattle.lapd_cli_decode.specs.declared.style.Style.TheVariants.{Plain, Named, Json, NamedJson}
 
--- the trace line, and behind it, where names are asked for, what its message is; or the object of the same
+-- the trace line, followed by the name of its message if requested; or a JSON object with the same
 abbrev pub styled_text : Style → Side → List ℕ → List ℕ
 styled_text Plain from octets = trace_line from octets
 styled_text Named from octets = trace_line from octets ++ names_text from octets
 styled_text Json from octets = object_text (frame_members from octets)
 styled_text NamedJson from octets = object_text (named_members from octets)
 
--- the same in a packet of a capture: an object says which, and when it was captured
+-- the same for a packet of a capture: a JSON object also has the packet's number and time
 abbrev pub styled_packet : Style → Packet → Side → List ℕ → List ℕ
 styled_packet Plain packet from octets = styled_text Plain from octets
 styled_packet Named packet from octets = styled_text Named from octets

@@ -1,4 +1,4 @@
-//! The frames of a capture as lines.
+//! Printing the frames of a capture.
 
 ghost use Rattle.std.specs.Prelude.{length, OnOk};
 ghost use Rattle.std.specs.Io.KnownBytes.{Appends};
@@ -14,10 +14,11 @@ use std::alloc::Global;
 use std::io::Write;
 use thiserror::Error;
 
-/// How reading a capture ends before its end. Places are those of its octets, from 0.
+/// Why reading a capture stopped before its end. Places are offsets into the capture, in octets
+/// from 0.
 #[derive(Clone, Copy, Debug, PartialEq, Eq, Error)]
 pub enum CaptureStop {
-    /// What stands at this place can't be read, nor what is behind it.
+    /// The block or packet at this place can't be read, nor anything after it.
     #[error("octet {1}: {0}")]
     Capture(CaptureFault, usize),
     /// The packet at this place can't be read.
@@ -26,28 +27,30 @@ pub enum CaptureStop {
     /// The writer failed.
     #[error("device fault")]
     Device,
-    /// Memory ran out.
+    /// An allocation failed.
     #[error("out of memory")]
     Memory,
 }
 
-/// What becomes of the frames of a capture.
+/// How to print the frames of a capture.
 #[derive(Clone, Copy)]
 pub struct CaptureStyle {
-    /// How each is printed.
+    /// The style of each line.
     pub style: Style,
-    /// Who sent those of which the capture does not tell.
+    /// The assumed sender of frames whose capture does not name it.
     pub sender: Side,
-    /// Whether packets that can't be read are passed over.
+    /// Whether unreadable packets are skipped.
     pub keeping: bool,
 }
 
-/// Prints the frames of a capture from where it stands to its end. Where `keeping` is set, a packet that can't be read is
-/// told on the error writer and passed over; what that does not take is given up.
+/// Prints the frames of a capture from its current place to its end. If `keeping` is set, an
+/// unreadable packet is reported on the error writer and skipped; failures of the error writer are
+/// ignored.
 ///
 /// # Errors
 ///
-/// `Capture` and `Packet`, where what was before is printed, `Device` where a write fails, and `Memory`.
+/// `Capture` and `Packet` at a fault, with all frames before it printed; `Device` if a write fails;
+/// `Memory` if an allocation fails.
 pub fn decode_capture<W: Write, E: Write>(
     alloc: Global,
     capture: &mut Capture<'_>,
@@ -65,7 +68,7 @@ pub fn decode_capture<W: Write, E: Write>(
     Err(CaptureStop::Device)
 }
 
-/// Prints what stands next, and tells whether it is the end.
+/// Prints what the capture has next. Returns whether the end is reached.
 fn print_next<W: Write, E: Write>(
     alloc: Global,
     capture: &mut Capture<'_>,

@@ -1,8 +1,9 @@
-//! The command `decode`: octets as trace lines or as JSON objects, from lines of several forms and from captures.
+//! The command `decode`: octets as trace lines or as JSON objects, from lines of several forms and
+//! from captures.
 //!
-//! [`decode_lines`] goes over a script whose lines are of a [`LineForm`], and prints each frame in a [`Style`];
-//! [`decode_good_lines`] passes over lines that are none, and tells them. [`decode_capture`] prints the frames of a capture
-//! of `lapd_capture`.
+//! [`decode_lines`] executes a script with lines of one [`LineForm`], and prints each frame in a
+//! [`Style`]. [`decode_good_lines`] reports and skips invalid lines. [`decode_capture`] prints the
+//! frames of a capture of `lapd_capture`.
 #![tactic(auto)]
 
 mod capture_lines;

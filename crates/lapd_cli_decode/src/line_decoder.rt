@@ -1,4 +1,4 @@
-//! Lines of octets, in each form and style.
+//! Decoding lines of octets, in each form and style.
 
 ghost use Rattle.std.specs.Prelude.{◌≡◌, IfSome};
 ghost use Rattle.lapd_cli_script.specs.Script.{EndsAs, lines_of};
@@ -11,7 +11,8 @@ use lapd_cli_script::{Command, LineFault, ScriptFault, put_line, walk};
 use std::alloc::Global;
 use std::io::{Read, Write};
 
-/// What prints lines of a form in a style. The rooms of a line's octets and of its text are kept from line to line.
+/// Reads lines of a form and prints them in a style. It reuses its buffers for the octets and the
+/// text of a line.
 #[derive(Drop)]
 struct LineDecoder {
     alloc: Global,
@@ -21,11 +22,12 @@ struct LineDecoder {
     text: String,
 }
 
-/// Goes over a script of lines of this form, and writes each frame in this style.
+/// Executes a script with lines of this form, and writes each frame in this style.
 ///
 /// # Errors
 ///
-/// `BadLine` at the first line that is none of this form, `Device` where a read or a write fails, and `Memory`.
+/// `BadLine` at the first line that does not have this form, `Device` if a read or a write fails,
+/// `Memory` if an allocation fails.
 pub fn decode_lines<R: Read, W: Write>(
     alloc: Global,
     script: &mut R,
@@ -41,12 +43,12 @@ pub fn decode_lines<R: Read, W: Write>(
     walk(alloc, &mut decoder, script, out)
 }
 
-/// As [`decode_lines`], where a line that is none of this form is told on the error writer and passed over. What the error
-/// writer does not take is given up.
+/// Like [`decode_lines`], but reports each line that does not have this form on the error writer,
+/// and skips it. Failures of the error writer are ignored.
 ///
 /// # Errors
 ///
-/// `Device` where a read or a write fails, and `Memory`.
+/// `Device` if a read or a write fails, `Memory` if an allocation fails.
 pub fn decode_good_lines<R: Read, W: Write, E: Write + Drop>(
     alloc: Global,
     script: &mut R,
@@ -67,7 +69,7 @@ pub fn decode_good_lines<R: Read, W: Write, E: Write + Drop>(
 impl LineDecoder {
     ghost use Rattle.lapd_cli_script.specs.Script.{LineEndsAs};
 
-    /// Decodes lines of this form, and prints each frame in this style.
+    /// Creates a decoder of lines of this form that prints each frame in this style.
     fn new(alloc: Global, form: LineForm, style: Style) -> LineDecoder
         ensures { stood_for result ≡ record { form = form; style = style } }
     {
@@ -80,7 +82,7 @@ impl LineDecoder {
         }
     }
 
-    /// Prints what one line tells.
+    /// Prints the frame of a line.
     fn decode<W: Write>(&mut self, line: &[u8], out: &mut W) -> Result<(), LineFault>
         ensures { LineEndsAs (λ decoder state. state ≡ stood_for decoder)
             (line_step (stood_for self.old) line.now) result self.new
@@ -109,7 +111,7 @@ impl Command for LineDecoder {
     }
 }
 
-/// What prints the lines that are good, and tells the others.
+/// Prints valid lines, and reports the others.
 #[derive(Drop)]
 struct GoodLines<E> {
     decoder: LineDecoder,

@@ -1,4 +1,4 @@
-//! The forms of a line that tells octets and who sent them.
+//! The forms of a line with octets and their sender.
 
 ghost use Rattle.std.specs.Prelude.{◌≡◌, IfOk};
 ghost use Rattle.std.specs.List.{filter};
@@ -9,31 +9,33 @@ use lapd_cli_script::{LineFault, Words};
 use lapd_frame::Side;
 use std::alloc::{AllocError, Global};
 
-/// The form of a line that tells octets and who sent them.
+/// The form of a line with octets and their sender.
 #[derive(Clone, Copy)]
 pub enum LineForm {
     /// `SIDE HEX`, with one space between.
     Strict,
-    /// The same with spaces, tabs, colons and brackets among the digits, and lines of libpri, as `> [ 00 81 7f ]`. The
-    /// side is the one that printed these: it sent what stands behind `>`, and received what stands behind `<`.
+    /// The same, but with spaces, tabs, colons and brackets allowed among the digits. Lines of
+    /// libpri such as `> [ 00 81 7f ]` are allowed too: this side printed them, so it sent the
+    /// octets after `>` and received those after `<`.
     Loose(Side),
 }
 
-/// What a loose line tells.
+/// The contents of a loose line.
 #[derive(Drop)]
 pub(crate) struct Sent {
-    /// Who sent the octets.
+    /// The sender of the octets.
     pub(crate) from: Side,
     /// The octets.
     pub(crate) octets: Vec<u8>,
 }
 
 impl LineForm {
-    /// Returns who sent the octets of a line of this form, and reads them into `octets`, in place of what these were.
+    /// Reads the octets of a line of this form into `octets`, which it clears first, and returns who
+    /// sent them.
     ///
     /// # Errors
     ///
-    /// `Bad` where the line is none of this form, and `Memory`.
+    /// `Bad` if the line does not have this form, `Memory` if an allocation fails.
     pub(crate) fn read(
         self,
         alloc: Global,
@@ -53,7 +55,7 @@ impl LineForm {
     }
 }
 
-/// Who sent what, by the words of a strict line.
+/// Reads the words of a strict line: returns the sender, and puts the octets into `octets`.
 fn strict_words(mut words: Words<'_>, octets: &mut Vec<u8>) -> Result<Side, LineFault>
     ensures { Reads (λ from. (from, octets.new.items)) result (strict_words words.entry) }
 {
@@ -66,7 +68,7 @@ fn strict_words(mut words: Words<'_>, octets: &mut Vec<u8>) -> Result<Side, Line
     Ok(from)
 }
 
-/// Who sent what, by a loose line.
+/// Reads a loose line.
 fn loose_line(alloc: Global, printer: Side, line: &[u8]) -> Result<Sent, LineFault>
     ensures { Reads (λ sent. (sent.from, sent.octets.items)) result (loose_line printer line.now) }
 {
@@ -79,7 +81,7 @@ fn loose_line(alloc: Global, printer: Side, line: &[u8]) -> Result<Sent, LineFau
     printed_line(alloc, printer, line)
 }
 
-/// Who sent what, by a line that this side printed.
+/// Reads a line that libpri printed on side `printer`.
 fn printed_line(alloc: Global, printer: Side, line: &[u8]) -> Result<Sent, LineFault>
     ensures { Reads (λ sent. (sent.from, sent.octets.items)) result
         (printed_line printer line.now) }
@@ -91,7 +93,7 @@ fn printed_line(alloc: Global, printer: Side, line: &[u8]) -> Result<Sent, LineF
     }
 }
 
-/// What `from` sent, by what stands behind its word.
+/// Reads what `from` sent from the rest of a line, after its first word.
 fn loose_behind(alloc: Global, from: Side, rest: &[u8]) -> Result<Sent, LineFault>
     ensures { Reads (λ sent. (sent.from, sent.octets.items)) result (loose_behind from rest.now) }
 {
@@ -112,7 +114,7 @@ fn is_parted(rest: &[u8]) -> bool
     }
 }
 
-/// The octets whose digits stand here, with separators among them.
+/// The octets spelled here, with separators among their digits.
 fn loose_octets(alloc: Global, rest: &[u8]) -> Result<Vec<u8>, LineFault>
     ensures { Reads (λ octets. octets.items) result (loose_octets rest.now) }
 {
@@ -122,7 +124,7 @@ fn loose_octets(alloc: Global, rest: &[u8]) -> Result<Vec<u8>, LineFault>
     }
 }
 
-/// The octets that these digits write, none where there are none.
+/// The octets that these digits spell; without digits, no octets.
 fn octets_or_none(alloc: Global, digits: &[u8]) -> Result<Vec<u8>, LineFault>
     ensures { Reads (λ octets. octets.items) result (octets_or_none digits.now) }
 {
@@ -136,7 +138,7 @@ fn octets_or_none(alloc: Global, digits: &[u8]) -> Result<Vec<u8>, LineFault>
     }
 }
 
-/// What is left without separators.
+/// The text without its separators.
 fn digits_among(alloc: Global, rest: &[u8]) -> Result<Vec<u8>, AllocError>
     ensures { IfOk result (λ digits. digits.items ≡ filter is_no_separator rest.now) }
 {
@@ -149,7 +151,7 @@ fn digits_among(alloc: Global, rest: &[u8]) -> Result<Vec<u8>, AllocError>
     Ok(digits)
 }
 
-/// Whether this octet may stand among digits.
+/// Whether this octet may be among digits.
 fn is_separator(octet: u8) -> bool
     ensures { result ≡ is_separator octet }
 {

@@ -11,20 +11,20 @@ use std::alloc::{AllocError, Global};
 pub enum Style {
     /// As its trace line.
     Plain,
-    /// As its trace line, and behind it what its message is.
+    /// As its trace line, followed by the name of its message.
     Named,
     /// As a JSON object.
     Json,
-    /// As a JSON object that also says what its message is.
+    /// As a JSON object with the name of its message.
     NamedJson,
 }
 
 impl Style {
-    /// The text for octets that `from` sent.
+    /// The line for octets that `from` sent.
     ///
     /// # Errors
     ///
-    /// `AllocError` where there was no memory for the text.
+    /// `AllocError` if an allocation fails.
     pub(crate) fn text(self, alloc: Global, from: Side, octets: &[u8]) -> Result<String, AllocError>
         ensures { IfOk result (λ text. string_bytes text ≡ styled_text self from octets.now) }
     {
@@ -62,11 +62,11 @@ impl Style {
         }
     }
 
-    /// The text for octets that `from` sent, which stand in a packet of a capture.
+    /// The line for octets that `from` sent, from a packet of a capture.
     ///
     /// # Errors
     ///
-    /// `AllocError` where there was no memory for the text.
+    /// `AllocError` if an allocation fails.
     pub(crate) fn packet_text(
         self,
         alloc: Global,
@@ -85,7 +85,7 @@ impl Style {
     }
 }
 
-/// The trace line for octets that `from` sent, and behind it what their message is.
+/// The trace line for octets that `from` sent, followed by the name of their message.
 fn named_line(alloc: Global, from: Side, octets: &[u8]) -> Result<String, AllocError>
     ensures { IfOk result (λ text. string_bytes text ≡ styled_text Style.Named from octets.now) }
 {

@@ -1,11 +1,11 @@
-//! The clock of a side that is served.
+//! The clock of a running side.
 
 ghost use Rattle.std.specs.Prelude.{◌≡◌, ◌≤◌, IfOk};
 
 use std::io;
 use std::time::Instant;
 
-/// A clock that begins at 0 when it is made, and never goes back.
+/// A clock that begins at 0 when it is created and never runs backwards.
 #[derive(Drop)]
 pub struct RealClock<'a> {
     rt: &'a HostRuntime,
@@ -14,11 +14,11 @@ pub struct RealClock<'a> {
 }
 
 impl<'a> RealClock<'a> {
-    /// The present moment is 0.
+    /// Starts the clock: the current time is 0.
     ///
     /// # Errors
     ///
-    /// There is no clock.
+    /// The system has no clock.
     pub fn start(rt: &'a HostRuntime) -> io::Result<RealClock<'a>> {
         Ok(RealClock {
             rt,
@@ -27,11 +27,11 @@ impl<'a> RealClock<'a> {
         })
     }
 
-    /// The present moment, in milliseconds since the start.
+    /// The current time, in milliseconds since the start.
     ///
     /// # Errors
     ///
-    /// There is no clock.
+    /// The system has no clock.
     pub fn now(&mut self) -> io::Result<u64>
         ensures latest { IfOk result (λ now. self.new.latest ≡ now) }
         ensures rises { self.old.latest ≤ self.new.latest }
@@ -42,7 +42,7 @@ impl<'a> RealClock<'a> {
         Ok(self.latest)
     }
 
-    /// The moment that was read last.
+    /// The time that was read last.
     pub fn latest(&self) -> u64
         ensures { result ≡ self.now.latest }
     {

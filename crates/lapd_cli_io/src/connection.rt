@@ -1,4 +1,4 @@
-//! The TCP connections of the program, and what is said of them on standard error.
+//! The TCP connections of the program, and their notes on standard error.
 
 use crate::lost::words_of;
 use crate::notes::Notes;
@@ -6,12 +6,12 @@ use lapd_port::PortFault;
 use std::io::{self, ErrorKind};
 use std::net::{SocketAddr, TcpListener, TcpStream};
 
-/// Both ends of a new connection of the process to itself, over the loopback interface. What is written to the first is
-/// read from the second, each frame at once.
+/// Both ends of a new connection of the process to itself, over the loopback interface. The second
+/// end reads what is written to the first, each frame without delay.
 ///
 /// # Errors
 ///
-/// Those of the system, and `ConnectionRefused` where another process came first.
+/// The system's error, or `ConnectionRefused` if another process connected first.
 pub fn to_itself(rt: &HostRuntime) -> io::Result<(TcpStream, TcpStream)> {
     let listener = TcpListener::bind(rt, "127.0.0.1:0")?;
     let near = TcpStream::connect(rt, listener.local_addr()?)?;
@@ -20,7 +20,7 @@ pub fn to_itself(rt: &HostRuntime) -> io::Result<(TcpStream, TcpStream)> {
     Ok((near, far))
 }
 
-// The other end of this connection, which is the first that comes here.
+// The other end of this connection, which must be the first one that the listener accepts.
 fn far_end(listener: &TcpListener, near: &TcpStream) -> io::Result<TcpStream> {
     let (far, from) = listener.accept()?;
     if from == near.local_addr()? {
@@ -30,22 +30,23 @@ fn far_end(listener: &TcpListener, near: &TcpStream) -> io::Result<TcpStream> {
     }
 }
 
-/// The connection that comes first to this address, which is listened on, as [`listening`] and [`next`] do and say.
+/// Listens on this address and accepts the first connection, with notes as from [`listening`] and
+/// [`next`].
 ///
 /// # Errors
 ///
-/// Those of the system.
+/// The system's error.
 pub fn accepted(rt: &HostRuntime, notes: &Notes<'_>, address: &str) -> io::Result<TcpStream> {
     let listener = listening(rt, notes, address)?;
     let (stream, _from) = next(notes, &listener)?;
     Ok(stream)
 }
 
-/// Listens on this address, and says so, with the port that is listened on.
+/// Listens on this address, and notes the address with its port.
 ///
 /// # Errors
 ///
-/// Those of the system.
+/// The system's error.
 pub fn listening(rt: &HostRuntime, notes: &Notes<'_>, address: &str) -> io::Result<TcpListener> {
     let listener = TcpListener::bind(rt, address)?;
     let own = listener.local_addr()?;
@@ -53,11 +54,11 @@ pub fn listening(rt: &HostRuntime, notes: &Notes<'_>, address: &str) -> io::Resu
     Ok(listener)
 }
 
-/// The next connection that comes here, and from where it comes, which is said.
+/// Accepts the next connection, and notes its peer's address.
 ///
 /// # Errors
 ///
-/// Those of the system.
+/// The system's error.
 pub fn next(notes: &Notes<'_>, listener: &TcpListener) -> io::Result<(TcpStream, SocketAddr)> {
     let (stream, from) = listener.accept()?;
     notes.say(format_args!("connected by {from}"));
@@ -65,11 +66,11 @@ pub fn next(notes: &Notes<'_>, listener: &TcpListener) -> io::Result<(TcpStream,
     Ok((stream, from))
 }
 
-/// A connection to this address, which is said.
+/// Connects to this address, and notes the connection.
 ///
 /// # Errors
 ///
-/// Those of the system.
+/// The system's error.
 pub fn made(rt: &HostRuntime, notes: &Notes<'_>, address: &str) -> io::Result<TcpStream> {
     let stream = TcpStream::connect(rt, address)?;
     let peer = stream.peer_addr()?;
@@ -78,14 +79,15 @@ pub fn made(rt: &HostRuntime, notes: &Notes<'_>, address: &str) -> io::Result<Tc
     Ok(stream)
 }
 
-/// Says that the other side has closed the connection, if it has and nothing is left to be read.
+/// Notes that the other side has closed the connection, if it has and everything it sent was read.
 pub fn tell_closed(notes: &Notes<'_>, stream: &TcpStream) {
     if is_closed(stream) {
         notes.say(words_of(PortFault::End));
     }
 }
 
-// Whether nothing comes any more. What comes is left to be read, and is not waited for.
+// Whether the other side has closed the connection and everything was read. Neither reads nor
+// waits.
 fn is_closed(stream: &TcpStream) -> bool {
     let mut octet = [0u8];
     match stream.set_nonblocking(true) {

@@ -1,5 +1,5 @@
-//! What is around a side of the program with the real clock: one TCP connection with the other side behind it, or several
-//! with a terminal behind each; the clock; and standard input. One wait serves all of them.
+//! The surroundings of a side with the real clock: one TCP connection to the other side, or one to
+//! each of several terminals; the clock; and standard input. One wait serves all of them.
 
 ghost use Rattle.std.specs.Prelude.{◌≤◌, IfOk, IfSome};
 
@@ -22,16 +22,16 @@ use std::io::{self, ErrorKind};
 use std::net::SocketAddr;
 use std::time::Duration;
 
-/// The token of standard input. Those of connections are their places, below 127.
+/// The token of standard input. The token of a connection is its place, below 127.
 const INPUT: Token = Token(1000);
 
-/// How many reports a poll takes at most.
+/// The most events per poll.
 const EVENTS: usize = 130;
 
-/// How many frames are taken one after another before it is polled what else has arrived.
+/// The most frames taken in a row before the next poll.
 const MOST_IN_TURN: u32 = 64;
 
-/// Connections, and a clock that begins when they are made.
+/// Connections, and a clock that begins when they are created.
 #[derive(Drop)]
 pub struct Connections<'a> {
     rt: &'a HostRuntime,
@@ -42,21 +42,23 @@ pub struct Connections<'a> {
     input: Input,
     peers: Peers,
     further: Further,
-    /// How many milliseconds a connection may send no whole frame, if that is limited.
+    /// How long a connection may go without sending a whole frame, in milliseconds. No limit if
+    /// `None`.
     idle_limit: Option<u64>,
     discards: Discards,
-    /// How many frames were taken since the last poll.
+    /// The number of frames taken since the last poll.
     taken: u32,
-    /// Whether the only connection is closed, and each frame was taken that arrived over it.
+    /// Whether the only connection is closed and all frames that arrived over it were taken.
     is_closed: bool,
 }
 
 impl<'a> Connections<'a> {
-    /// Room for up to so many connections, 1 to 127, of a side at primary rate or at basic access.
+    /// Room for at most this many connections, 1 to 127, of a side at primary rate or at basic
+    /// access.
     ///
     /// # Errors
     ///
-    /// Those of the system, and out of memory.
+    /// The system's error, or out of memory.
     pub fn new(
         rt: &'a HostRuntime,
         notes: &'a Notes<'a>,
@@ -80,22 +82,23 @@ impl<'a> Connections<'a> {
         })
     }
 
-    /// Adds this connection. It must not wait in its calls.
+    /// Adds this connection, which must be non-blocking.
     ///
     /// # Errors
     ///
-    /// Those of the system, and out of memory.
+    /// The system's error, or out of memory.
     pub fn add(&mut self, stream: TcpStream, peer: SocketAddr) -> io::Result<()> {
         let _ = stream.set_nodelay(true);
         let stream = FrameStream::new(self.rt, stream, peer)?;
         self.peers.add(&self.poll, stream, self.clock.latest())
     }
 
-    /// Accepts further connections here from now on, when there is room. The listener must not wait in its calls.
+    /// Accepts further connections from this listener from now on, when there is room. The listener
+    /// must be non-blocking.
     ///
     /// # Errors
     ///
-    /// Those of the system.
+    /// The system's error.
     pub fn accept_from(&mut self, listener: TcpListener) -> io::Result<()> {
         self.further = Further::Door(Door::new(&self.poll, COMING, listener)?);
         Ok(())
@@ -106,19 +109,21 @@ impl<'a> Connections<'a> {
         self.further = Further::Dialler(Dialler::new(address));
     }
 
-    /// Lets go of a connection that sends no whole frame for so many milliseconds.
+    /// Sets how long a connection may go without sending a whole frame, in milliseconds, before it
+    /// is closed.
     pub fn limit_idle(&mut self, limit: Option<u64>) {
         self.idle_limit = limit;
     }
 
-    /// Says that the other side has closed the only connection, if it has, and nothing is left to be read.
+    /// Notes that the other side has closed the only connection, if it has and everything it sent
+    /// was read.
     pub fn tell_closed(&self) {
         if self.further.is_nowhere() && self.peers.is_closed() {
             self.notes.say(words_of(PortFault::End));
         }
     }
 
-    /// The next frame, of those that were reported.
+    /// The next frame that has arrived.
     fn next_frame(&mut self, frame: &mut [u8; MOST_OCTETS]) -> Result<Option<usize>, PortFault>
         ensures { IfOk result (λ count. IfSome count (λ count. count ≤ MOST_OCTETS)) }
     {
@@ -138,7 +143,7 @@ impl<'a> Connections<'a> {
         Ok(None)
     }
 
-    /// A connection is lost. A further one may take its place; without it the side's service ends.
+    /// Handles a lost connection. If no other connection can take its place, the side ends.
     fn lose(&mut self, lost: LostPeer) -> Result<(), PortFault> {
         match (self.further.is_nowhere(), lost.why.fault()) {
             (true, PortFault::End) => {
@@ -153,7 +158,7 @@ impl<'a> Connections<'a> {
         }
     }
 
-    /// Lets go of a connection whose place is for the next one, and says so.
+    /// Removes a connection whose place the next one may take, and notes it.
     fn let_go(&mut self, lost: LostPeer) {
         let is_alone = self.peers.is_alone();
         if let Some(peer) = self.peers.remove(lost.place) {
@@ -162,7 +167,7 @@ impl<'a> Connections<'a> {
         }
     }
 
-    /// Adds the further connections that there are, while there is room.
+    /// Adds the further connections that exist, while there is room.
     fn connect_further(&mut self) {
         for _connection in 0..self.peers.most() {
             if !self.peers.has_room() {
@@ -176,7 +181,7 @@ impl<'a> Connections<'a> {
         }
     }
 
-    /// Adds a further connection, and says so.
+    /// Adds a further connection, and notes it.
     fn greet(&mut self, coming: Coming) {
         let Coming {
             stream,
@@ -192,8 +197,8 @@ impl<'a> Connections<'a> {
         }
     }
 
-    /// Lets go of the connections that were idle for too long at this moment, in milliseconds. What had arrived by then has to
-    /// be reported before.
+    /// Removes the connections that have been idle for too long at this moment, in milliseconds. A
+    /// poll must have reported what had arrived by then.
     fn drop_idle(&mut self, now: u64) {
         let Some(limit) = self.idle_limit else {
             return;
@@ -206,7 +211,7 @@ impl<'a> Connections<'a> {
         }
     }
 
-    /// Polls what has arrived, for so many milliseconds at most, or until something has.
+    /// Polls until something has arrived, or for at most `left` milliseconds.
     fn poll(&mut self, left: Option<u64>) -> io::Result<()> {
         self.taken = 0;
         let left = left.map(Duration::from_millis);
@@ -224,7 +229,7 @@ impl<'a> Connections<'a> {
         Ok(())
     }
 
-    /// How many milliseconds a wait may last from this moment on. `None` is without end.
+    /// How many milliseconds a wait may last from this moment on. `None` means without limit.
     fn left(&self, until: Option<u64>, now: u64) -> Option<u64> {
         let idle = match self.idle_limit {
             Some(limit) => self.peers.next_idle(limit),
@@ -239,17 +244,17 @@ impl<'a> Connections<'a> {
         Some(next.saturating_sub(now))
     }
 
-    /// Whether a line of input is awaited that can be read.
+    /// Whether a line of input is awaited and can be read.
     fn has_line(&self, lines: Lines) -> bool {
         matches!(lines, Lines::Awaited) && self.input.is_ready()
     }
 
-    /// Whether something is known that ends a wait.
+    /// Whether there is already a reason to end a wait.
     fn is_awake(&self, lines: Lines) -> bool {
         self.has_line(lines) || self.peers.is_ready() || self.is_closed
     }
 
-    /// What ends a wait, if something is known that does.
+    /// The reason to end a wait, if there is one.
     fn woken(&mut self, lines: Lines) -> Option<Woken> {
         if self.has_line(lines) {
             self.input.pass_on();
@@ -263,7 +268,7 @@ impl<'a> Connections<'a> {
         }
     }
 
-    /// Waits.
+    /// Waits until the moment `until`, or until there is something to do.
     fn wait_for(&mut self, until: Option<u64>, lines: Lines) -> io::Result<Woken> {
         if matches!(lines, Lines::Awaited) {
             self.input.request(&self.poll, INPUT)?;
@@ -289,7 +294,7 @@ impl<'a> Connections<'a> {
     }
 }
 
-/// The sooner of two moments that may be set.
+/// The earlier of two moments, each of which may be unset.
 fn sooner(one: Option<u64>, other: Option<u64>) -> Option<u64> {
     match (one, other) {
         (Some(one), Some(other)) => Some(one.min(other)),
@@ -298,7 +303,7 @@ fn sooner(one: Option<u64>, other: Option<u64>) -> Option<u64> {
     }
 }
 
-/// Whether a moment that is set has come.
+/// Whether a moment is set and has passed.
 fn has_come(until: Option<u64>, now: u64) -> bool {
     match until {
         Some(until) => until <= now,
@@ -313,7 +318,7 @@ impl Outside for Connections<'_> {
 
     fn receive(&mut self, frame: &mut [u8; MOST_OCTETS]) -> Result<Option<usize>, PortFault> {
         if self.peers.is_alone() {
-            // Reading its connection is as good as a poll.
+            // With only one connection, reading it replaces a poll.
             self.peers.wake(0);
             return self.next_frame(frame);
         }

@@ -1,4 +1,4 @@
-//! Connecting again to the address of a connection that was lost, without waiting.
+//! Reconnecting to the address of a lost connection, without blocking.
 
 use mio::net::TcpStream;
 use mio::{Interest, Poll, Token};
@@ -11,10 +11,10 @@ const FIRST_PAUSE: u64 = 100;
 /// The most milliseconds between two attempts.
 const MOST_PAUSE: u64 = 5000;
 
-/// The milliseconds after which an attempt is given up that was not answered.
+/// The milliseconds after which an unanswered attempt is abandoned.
 const ATTEMPT: u64 = 5000;
 
-/// Connects again and again, with pauses that double, until a connection is made.
+/// Connects again and again, with pauses that double, until a connection is established.
 #[derive(Drop)]
 pub struct Dialler {
     address: SocketAddr,
@@ -23,30 +23,30 @@ pub struct Dialler {
     state: Dialling,
 }
 
-/// How far it is.
+/// The state of reconnecting.
 #[derive(Drop)]
 enum Dialling {
-    /// The connection is there.
+    /// The connection exists.
     Idle,
-    /// The next attempt is made at this moment, in milliseconds.
+    /// The next attempt begins at this moment, in milliseconds.
     Pausing(u64),
-    /// An attempt is under way, and is given up at this moment, in milliseconds.
+    /// An attempt is under way; it is abandoned at this moment, in milliseconds.
     Begun(TcpStream, u64),
 }
 
-/// What an attempt came to.
+/// The result of an attempt.
 #[derive(Drop)]
 pub enum Attempt {
-    /// None is made, or it is under way.
+    /// No attempt is due, or one is under way.
     Open,
-    /// The connection is made. No poll reports of it.
+    /// The connection is established, and not registered with a poll.
     Made(TcpStream),
-    /// It failed. The next attempt is made after so many milliseconds.
+    /// The attempt failed. The next attempt follows after this many milliseconds.
     Failed(io::Error, u64),
 }
 
 impl Dialler {
-    /// Makes connections to this address. One is there.
+    /// Reconnects to this address. A connection exists now.
     pub fn new(address: SocketAddr) -> Dialler {
         Dialler {
             address,
@@ -60,13 +60,15 @@ impl Dialler {
         self.address
     }
 
-    /// The connection was lost, at this moment in milliseconds. Returns after how many milliseconds the first attempt is made.
+    /// Begins to reconnect, after the connection was lost at this moment in milliseconds. Returns
+    /// the milliseconds until the first attempt.
     pub fn begin(&mut self, now: u64) -> u64 {
         self.pause = FIRST_PAUSE;
         self.put_off(now)
     }
 
-    /// When there is something to be done, in milliseconds, unless an attempt ends before. `None` while nothing is.
+    /// The next moment at which to call [`Dialler::go_on`], in milliseconds, unless an attempt ends
+    /// earlier. `None` if there is nothing to do.
     pub fn next_moment(&self) -> Option<u64> {
         match &self.state {
             Dialling::Idle => None,
@@ -74,7 +76,8 @@ impl Dialler {
         }
     }
 
-    /// Does what is to be done by this moment, in milliseconds. A poll reports by this token when an attempt has ended.
+    /// Does what is due at this moment, in milliseconds. A poll reports the end of an attempt by
+    /// this token.
     pub fn go_on(&mut self, rt: &HostRuntime, poll: &Poll, token: Token, now: u64) -> Attempt {
         match self.take_state() {
             Dialling::Pausing(moment) if moment <= now => match self.connect(rt, poll, token) {
@@ -89,12 +92,12 @@ impl Dialler {
         }
     }
 
-    /// Takes the state out, which becomes idle.
+    /// Takes the state out, and leaves it idle.
     fn take_state(&mut self) -> Dialling {
         std::mem::replace(&mut self.state, Dialling::Idle)
     }
 
-    /// The next attempt is made after the pause, which is returned.
+    /// Schedules the next attempt after the pause, which it returns.
     fn put_off(&mut self, now: u64) -> u64 {
         let pause = self.pause;
         self.state = Dialling::Pausing(now.saturating_add(pause));
@@ -120,7 +123,7 @@ impl Dialler {
         Ok(stream)
     }
 
-    /// Ends an attempt, if it has ended, or has lasted for too long.
+    /// Ends an attempt if it has succeeded, failed or lasted for too long.
     fn finish(&mut self, poll: &Poll, now: u64, mut stream: TcpStream, end: u64) -> Attempt {
         match is_made(&stream) {
             Ok(true) => match poll.registry().deregister(&mut stream) {
@@ -134,13 +137,13 @@ impl Dialler {
     }
 }
 
-/// Whether an attempt has led to a connection. `false` while it is under way.
+/// Whether an attempt has succeeded. `false` while it is under way.
 fn is_made(stream: &TcpStream) -> io::Result<bool> {
     if let Some(error) = stream.take_error()? {
         return Err(error);
     }
     match stream.peer_addr() {
-        // TCP can connect a port to itself if nobody listens there.
+        // TCP can connect a port to itself if nobody listens on it.
         Ok(peer) if peer == stream.local_addr()? => Err(io::Error::from(
             ErrorKind::ConnectionRefused,
         )),

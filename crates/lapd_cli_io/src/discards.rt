@@ -5,26 +5,26 @@ ghost use Rattle.std.specs.Prelude.{◌<◌};
 use lapd_table::{LinkId, Sapi};
 use std::fmt;
 
-/// How many addresses there are.
+/// The number of addresses.
 const ADDRESSES: usize = 3 * 128;
 
-/// The addresses of which a frame was discarded so far.
+/// The addresses for which a frame has been discarded.
 #[derive(Drop)]
 pub struct Discards {
     is_primary: bool,
     seen: [bool; ADDRESSES],
 }
 
-/// What is said of the first frame that is discarded of an address.
+/// The note about the first discarded frame of an address.
 #[derive(Clone, Copy)]
 pub struct Discard {
     id: LinkId,
-    /// Whether the side that discarded it is one at primary rate.
+    /// Whether the side that discarded it is at primary rate.
     is_primary: bool,
 }
 
 impl Discards {
-    /// Those of a side at primary rate, or at basic access. No frame was discarded so far.
+    /// No frame has been discarded yet. The side is at primary rate or at basic access.
     pub fn new(is_primary: bool) -> Discards {
         Discards {
             is_primary,
@@ -32,7 +32,8 @@ impl Discards {
         }
     }
 
-    /// A frame of this address is discarded. Returns what is to be said, if it is the first of its address.
+    /// Records a discarded frame of this address. Returns the note if it is the first one of its
+    /// address.
     pub fn add(&mut self, id: LinkId) -> Option<Discard> {
         let place = place_of(&id);
         if self.seen[place] {
@@ -46,7 +47,7 @@ impl Discards {
     }
 }
 
-/// The place of an address.
+/// The index of an address.
 fn place_of(id: &LinkId) -> usize
     ensures { result < ADDRESSES }
 {
@@ -62,7 +63,7 @@ impl fmt::Display for Discard {
     fn fmt<W: fmt::Write>(&self, f: &mut fmt::Formatter<W>) -> fmt::Result {
         let (sapi, tei) = (self.id.sapi, self.id.tei);
         write!(f, "discarded: no link of SAPI {sapi} TEI {tei}")?;
-        // TEI 0 is the one of primary rate.
+        // TEI 0 is the usual TEI at primary rate.
         match (tei.value(), self.is_primary) {
             (0, false) => f.write_str("; is the other side --pri and this one not?"),
             (1.., true) => f.write_str("; is this side --pri and the other one not?"),

@@ -1,31 +1,31 @@
-//! A listener from which connections are accepted when there is room for them.
+//! A listener that accepts connections when there is room for them.
 
 use mio::net::{TcpListener, TcpStream};
 use mio::{Interest, Poll, Token};
 use std::io::{self, ErrorKind};
 use std::net::SocketAddr;
 
-/// How many milliseconds pass before a connection is accepted again that the system refused.
+/// The milliseconds before the next attempt after the system refused to accept a connection.
 const AGAIN_AFTER: u64 = 1000;
 
-/// A listener, and what is known of the connections that wait there.
+/// A listener, and the state of the connections that wait there.
 #[derive(Drop)]
 pub struct Door {
     listener: TcpListener,
     /// Whether connections may wait.
     is_waiting: bool,
-    /// When it is tried again, in milliseconds, if the system refused.
+    /// The moment of the next attempt, in milliseconds, if the system refused the last one.
     again: Option<u64>,
     /// Whether the last attempt was refused.
     is_refused: bool,
 }
 
 impl Door {
-    /// Has a poll report connections that come here by this token. The listener must not wait in its calls.
+    /// Registers the listener with the poll, by this token. The listener must be non-blocking.
     ///
     /// # Errors
     ///
-    /// Those of the system.
+    /// The system's error.
     pub fn new(poll: &Poll, token: Token, mut listener: TcpListener) -> io::Result<Door> {
         poll.registry()
             .register(&mut listener, token, Interest::READABLE)?;
@@ -37,17 +37,17 @@ impl Door {
         })
     }
 
-    /// A connection was reported.
+    /// Records that the poll has reported a connection.
     pub fn wake(&mut self) {
         self.is_waiting = true;
     }
 
-    /// A descriptor has become free: the next attempt is made at once.
+    /// Allows the next attempt at once, because a descriptor has become free.
     pub fn retry(&mut self) {
         self.again = None;
     }
 
-    /// When the next attempt is to be made, if a connection may wait. `None` if none does.
+    /// The moment of the next attempt, if a connection may wait. `None` if none does.
     pub fn next_attempt(&self) -> Option<u64> {
         if self.is_waiting {
             Some(self.again.unwrap_or(0))
@@ -56,12 +56,13 @@ impl Door {
         }
     }
 
-    /// Accepts a connection that waits, at a moment in milliseconds. `None` if none does, or if it is too early for another
-    /// attempt.
+    /// Accepts a waiting connection, at a moment in milliseconds. Returns `None` if no connection
+    /// waits, or if it is too early for another attempt.
     ///
     /// # Errors
     ///
-    /// The system refuses, and did not refuse the attempt before. Refused connections go on waiting.
+    /// The system's error, unless it refused the attempt before as well. Refused connections keep
+    /// waiting.
     pub fn accept(&mut self, now: u64) -> io::Result<Option<(TcpStream, SocketAddr)>> {
         match self.next_attempt() {
             Some(moment) if moment <= now => {}
@@ -77,7 +78,7 @@ impl Door {
         }
     }
 
-    /// What follows when no connection could be accepted.
+    /// Schedules the next attempt after a connection could not be accepted.
     fn put_off(
         &mut self,
         now: u64,

@@ -1,4 +1,4 @@
-//! A TCP connection that frames go over, each behind its length. Its calls never wait.
+//! A TCP connection that carries frames, each after its length. Its calls never block.
 
 ghost use Rattle.std.specs.Prelude.{◌≡◌, ◌≤◌, length, IfOk, IfSome};
 ghost use Rattle.lapd_port.specs.SocketText.{IsFrameLength};
@@ -10,29 +10,29 @@ use mio::{Interest, Poll, Token};
 use std::io::{self, ErrorKind, Read, Write};
 use std::net::SocketAddr;
 
-/// How many octets a length has.
+/// The number of octets in a length.
 const LENGTH_OCTETS: usize = 2;
 
-/// How many octets one read takes at most.
+/// The most octets per read.
 const PART: usize = 4096;
 
-/// A connection, and what arrived over it and was not taken yet.
+/// A connection, and the octets that arrived over it and were not taken yet.
 #[derive(Drop)]
 pub struct FrameStream {
     stream: TcpStream,
     peer: SocketAddr,
-    /// What was read and not taken yet, each frame behind its length.
+    /// The octets that were read and not taken yet, each frame after its length.
     text: Vec<u8>,
-    /// Whether there may be octets that were not read, or a frame that was not taken.
+    /// Whether there may be unread octets, or a frame that was not taken yet.
     is_ready: bool,
-    /// Whether the other side sends no more, and all that it sent was read.
+    /// Whether the other side has stopped sending and everything it sent was read.
     is_ended: bool,
-    /// Whether a frame was not taken. Nothing is sent any more then.
+    /// Whether the connection did not accept a whole frame. Nothing more is sent then.
     is_stuck: bool,
 }
 
 impl FrameStream {
-    /// This connection with this peer. It must not wait in its calls.
+    /// This connection to this peer. It must be non-blocking.
     ///
     /// # Errors
     ///
@@ -53,32 +53,35 @@ impl FrameStream {
         self.peer
     }
 
-    /// Has a poll report by this token that there are octets to be read.
+    /// Registers the connection with the poll, which then reports by this token that octets can be
+    /// read.
     ///
     /// # Errors
     ///
-    /// Those of the system.
+    /// The system's error.
     pub fn register(&mut self, poll: &Poll, token: Token) -> io::Result<()> {
         poll.registry()
             .register(&mut self.stream, token, Interest::READABLE)
     }
 
-    /// There may be octets to be read.
+    /// Records that there may be octets to read.
     pub fn wake(&mut self) {
         self.is_ready = true;
     }
 
-    /// Whether [`FrameStream::next_frame`] may return a frame or a loss that it did not return before.
+    /// Whether [`FrameStream::next_frame`] may return a frame or a loss that it has not returned
+    /// before.
     pub fn is_ready(&self) -> bool {
         self.is_ready
     }
 
-    /// Takes the first frame that arrived whole, and returns its number of octets. `None` if all that arrived was read and
-    /// holds no whole frame, or if nothing was reported since that was so.
+    /// Takes the first frame that has arrived whole, and returns its number of octets. Returns
+    /// `None` if everything was read and holds no whole frame. It then returns `None` until
+    /// [`FrameStream::wake`] is called.
     ///
     /// # Errors
     ///
-    /// The connection is lost. Each frame that arrived whole was taken before.
+    /// The connection is lost. All frames that arrived whole were taken before.
     pub fn next_frame(&mut self, frame: &mut [u8; MOST_OCTETS]) -> Result<Option<usize>, Lost>
         ensures { IfOk result (λ count. IfSome count (λ count. count ≤ MOST_OCTETS)) }
     {
@@ -100,7 +103,7 @@ impl FrameStream {
         Err(Lost::Port(PortFault::TooManyTurns))
     }
 
-    /// Takes the first frame of what was read, if it is whole.
+    /// Takes the first frame from the octets read, if it is whole.
     fn take_frame(&mut self, frame: &mut [u8; MOST_OCTETS]) -> Result<Option<usize>, Lost>
         ensures { IfOk result (λ count. IfSome count (λ count. count ≤ MOST_OCTETS)) }
     {
@@ -133,7 +136,7 @@ impl FrameStream {
         }
     }
 
-    /// Reads once, and keeps what arrived.
+    /// Reads once, and keeps the octets.
     fn read_part(&mut self) -> io::Result<()> {
         let mut part = [0; PART];
         match self.stream.read(&mut part) {
@@ -148,12 +151,13 @@ impl FrameStream {
         Ok(())
     }
 
-    /// Sends a frame of 3 to 264 octets, in one write with its length. A connection that does not take it whole at once gets
-    /// nothing more, and is reported as lost when all that arrived over it was taken.
+    /// Sends a frame of 3 to 264 octets, in one write with its length. If the connection does not
+    /// accept all of it at once, nothing more is sent; the connection is reported as lost once
+    /// everything that arrived over it was taken.
     ///
     /// # Errors
     ///
-    /// The connection does not take it, or did not take an earlier frame.
+    /// The connection does not accept the frame, or did not accept an earlier one.
     pub fn send(&mut self, frame: &[u8]) -> Result<(), Lost>
         requires { IsFrameLength (length frame.now) }
     {
@@ -175,13 +179,13 @@ impl FrameStream {
         }
     }
 
-    /// Whether the other side has closed the connection, and each frame that it sent was taken.
+    /// Whether the other side has closed the connection and all frames that it sent were taken.
     pub fn is_closed(&self) -> bool {
         let mut octet = [0u8];
         !self.has_frame() && matches!(self.stream.peek(&mut octet), Ok(0))
     }
 
-    /// Whether a frame arrived whole that is not taken.
+    /// Whether a whole frame has arrived and was not taken yet.
     fn has_frame(&self) -> bool {
         match self.text.as_slice().split_first_chunk::<LENGTH_OCTETS>() {
             Some((length, behind)) => {

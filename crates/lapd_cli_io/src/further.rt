@@ -1,4 +1,4 @@
-//! Where further connections of a side come from.
+//! The source of a side's further connections.
 
 use crate::dialler::{Attempt, Dialler};
 use crate::door::Door;
@@ -10,20 +10,20 @@ use mio::{Poll, Token};
 use std::io;
 use std::net::SocketAddr;
 
-/// The token of connections that come.
+/// The token of the listener.
 pub const COMING: Token = Token(1001);
 
-/// The token of a connection that is being made.
+/// The token of a connection that is being established.
 const DIALLED: Token = Token(1002);
 
-/// Where further connections come from.
+/// The source of further connections.
 #[derive(Drop)]
 pub enum Further {
-    /// Nowhere: the side is served over its first connection.
+    /// None: the side uses only its first connection.
     Nowhere,
-    /// They are accepted when there is room for them.
+    /// Connections are accepted when there is room for them.
     Door(Door),
-    /// The first connection is made again when it is lost.
+    /// The first connection is established again when it is lost.
     Dialler(Dialler),
 }
 
@@ -33,24 +33,25 @@ pub struct Coming {
     pub stream: TcpStream,
     /// The address of the other side.
     pub peer: SocketAddr,
-    /// What is said of it, before the address.
+    /// The words of its note, before the address.
     pub words: &'static str,
 }
 
 impl Further {
-    /// Whether there is none but the first.
+    /// Whether there is only the first connection.
     pub fn is_nowhere(&self) -> bool {
         matches!(self, Further::Nowhere)
     }
 
-    /// A connection that comes was reported.
+    /// Records that the poll has reported an incoming connection.
     pub fn wake(&mut self) {
         if let Further::Door(door) = self {
             door.wake();
         }
     }
 
-    /// When there is something to be done, in milliseconds. `None` while nothing is.
+    /// The next moment at which there is something to do, in milliseconds. `None` if there is
+    /// nothing to do.
     pub fn next_moment(&self) -> Option<u64> {
         match self {
             Further::Nowhere => None,
@@ -59,7 +60,8 @@ impl Further {
         }
     }
 
-    /// The next connection, if there is one at this moment, in milliseconds. Says why there is none, if the system refuses.
+    /// The next connection, if there is one at this moment, in milliseconds. If the system refuses,
+    /// notes the reason.
     pub fn next(
         &mut self,
         rt: &HostRuntime,
@@ -77,7 +79,8 @@ impl Further {
         }
     }
 
-    /// A connection is lost at this moment, in milliseconds. Says so, and what follows. A descriptor is free then.
+    /// Records that a connection is lost at this moment, in milliseconds, so its descriptor is
+    /// free. Notes it, and what happens next.
     pub fn lose(
         &mut self,
         peer: SocketAddr,
@@ -103,7 +106,8 @@ impl Further {
         }
     }
 
-    /// A connection that was there at this moment, in milliseconds, could not be added. Says so, and what follows.
+    /// Records that a connection could not be added at this moment, in milliseconds. Notes it, and
+    /// what happens next.
     pub fn miss(&mut self, peer: SocketAddr, why: &io::Error, now: u64, notes: &Notes<'_>) {
         let why = Reason(why);
         match self {
@@ -116,7 +120,7 @@ impl Further {
     }
 }
 
-/// A connection that was accepted.
+/// The result of accepting a connection.
 fn accepted(
     accepted: io::Result<Option<(TcpStream, SocketAddr)>>,
     notes: &Notes<'_>,
@@ -135,7 +139,7 @@ fn accepted(
     }
 }
 
-/// A connection that was made to this address.
+/// The result of connecting to this address.
 fn made(attempt: Attempt, peer: SocketAddr, notes: &Notes<'_>) -> Option<Coming> {
     match attempt {
         Attempt::Open => None,

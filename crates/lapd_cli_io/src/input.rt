@@ -1,4 +1,4 @@
-//! Standard input, which is read by lines while a side is served.
+//! Standard input, which is read by lines while a side is running.
 
 use mio::unix::SourceFd;
 use mio::{Interest, Poll, Token};
@@ -8,26 +8,26 @@ use std::os::fd::RawFd;
 /// The descriptor of standard input.
 const STANDARD_INPUT: RawFd = 0;
 
-/// What is known of standard input.
+/// The state of standard input.
 #[derive(Clone, Copy, PartialEq, Eq)]
 pub enum Input {
-    /// It can be read at all times: a regular file.
+    /// It can always be read, because it is a regular file.
     Free,
-    /// A poll reports when it can be read.
+    /// A poll will report when it can be read.
     Watched,
     /// It can be read.
     Ready,
-    /// It was read since the last report. The next report has to be requested.
+    /// It was read since the last report. The next report must be requested.
     Read,
 }
 
 impl Input {
-    /// Has a poll report by this token that standard input can be read. Of a regular file, which can't be polled, nothing is
-    /// reported.
+    /// Registers standard input with the poll, by this token. A regular file can't be polled, so it
+    /// is never reported.
     ///
     /// # Errors
     ///
-    /// The system has no room for a further descriptor that is polled.
+    /// The system has no room for a further polled descriptor.
     pub fn register(poll: &Poll, token: Token) -> io::Result<Input> {
         let mut input = SourceFd(&STANDARD_INPUT);
         match poll
@@ -42,16 +42,16 @@ impl Input {
         }
     }
 
-    /// A poll reported that it can be read.
+    /// Records that the poll has reported input.
     pub fn wake(&mut self) {
         *self = Input::Ready;
     }
 
-    /// Requests a report of what was left by the last read.
+    /// Requests a report of input that the last read has left.
     ///
     /// # Errors
     ///
-    /// Those of the system.
+    /// The system's error.
     pub fn request(&mut self, poll: &Poll, token: Token) -> io::Result<()> {
         if *self == Input::Read {
             let mut input = SourceFd(&STANDARD_INPUT);
@@ -62,12 +62,12 @@ impl Input {
         Ok(())
     }
 
-    /// Whether it can be read without waiting.
+    /// Whether it can be read without blocking.
     pub fn is_ready(self) -> bool {
         matches!(self, Input::Free | Input::Ready)
     }
 
-    /// The caller reads once.
+    /// Records that the caller reads once.
     pub fn pass_on(&mut self) {
         if *self == Input::Ready {
             *self = Input::Read;

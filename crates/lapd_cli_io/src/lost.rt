@@ -4,16 +4,16 @@ use std::fmt;
 /// Why a connection is lost.
 #[derive(Clone, Copy, PartialEq, Eq)]
 pub enum Lost {
-    /// A read ended so.
+    /// A read failed with this fault.
     Port(PortFault),
-    /// It did not take at once what was sent.
+    /// The connection did not accept a whole frame at once.
     NotTaken,
-    /// No whole frame arrived for so many milliseconds.
+    /// No whole frame arrived for this many milliseconds.
     Idle(u64),
 }
 
 impl Lost {
-    /// The fault that a loss is, if the connection is the only one.
+    /// The port fault that a loss means for an only connection.
     pub fn fault(self) -> PortFault {
         match self {
             Lost::Port(fault) => fault,

@@ -1,4 +1,4 @@
-//! What the program says to people on standard error while a side is served. It never waits for standard error.
+//! Notes to people on standard error while a side is running. Writing a note never blocks.
 
 use mio::unix::SourceFd;
 use mio::{Events, Interest, Poll, Token};
@@ -12,26 +12,27 @@ use std::time::Duration;
 /// The descriptor of standard error.
 const STANDARD_ERROR: RawFd = 2;
 
-/// How many octets a note has at most, with its line feed. A pipe that can be written to has room for so many.
+/// The most octets of a note, with its line feed. A pipe that is reported as writable has room for
+/// this many.
 const MOST_OCTETS: usize = 4096;
 
-/// Notes on standard error, from several parts of the program. A note that would have to wait for standard error is given up,
-/// and the next one that is written says how many were.
+/// Notes on standard error, from several parts of the program. A note that would block is dropped,
+/// and the next note that is written begins with the number of dropped notes.
 #[derive(Drop)]
 pub struct Notes<'a> {
     rt: &'a HostRuntime,
     errors: RefCell<Errors>,
 }
 
-/// Standard error, and how many notes were given up since the last one was written.
+/// Standard error, and the number of notes dropped since the last one was written.
 #[derive(Drop)]
 struct Errors {
-    /// `None` for a regular file, which is always ready, and if no watch can be had.
+    /// `None` for a regular file, which is always ready, and if the watch can't be created.
     watch: Option<Watch>,
     given_up: u64,
 }
 
-/// Tells whether standard error can be written to.
+/// Checks whether standard error can be written to.
 #[derive(Drop)]
 struct Watch {
     poll: Poll,
@@ -51,7 +52,7 @@ impl<'a> Notes<'a> {
         }
     }
 
-    /// Writes a note and a line feed, or gives the note up. A note is cut to 4,095 octets.
+    /// Writes a note and a line feed, or drops the note. A note is cut to 4,095 octets.
     pub fn say<D: Display + Drop>(&self, note: D) {
         if let Ok(mut errors) = self.errors.try_borrow_mut() {
             errors.say(self.rt, note);
@@ -78,7 +79,7 @@ impl Errors {
         self.given_up = self.given_up.saturating_add(1);
     }
 
-    /// Whether a note can be written without waiting.
+    /// Whether a note can be written without blocking.
     fn is_ready(&mut self) -> bool {
         match &mut self.watch {
             Some(watch) => watch.is_ready(),
@@ -86,7 +87,7 @@ impl Errors {
         }
     }
 
-    /// The octets of a note, behind a line about those that were given up.
+    /// The octets of a note, after a line about dropped notes, if any.
     fn text_of<D: Display + Drop>(&self, rt: &HostRuntime, note: D) -> Result<Vec<u8>, AllocError> {
         let text = match self.given_up {
             0 => format!(in rt.alloc(); "{note}")?,
@@ -102,7 +103,7 @@ impl Errors {
 impl Watch {
     /// # Errors
     ///
-    /// Standard error is a regular file, or those of the system.
+    /// Standard error is a regular file, or the system's error.
     fn new(rt: &HostRuntime) -> io::Result<Watch> {
         let watch = Watch {
             poll: Poll::new(rt)?,
@@ -114,7 +115,7 @@ impl Watch {
         Ok(watch)
     }
 
-    /// Asks whether standard error can be written to.
+    /// Whether standard error can be written to.
     fn is_ready(&mut self) -> bool {
         let mut errors = SourceFd(&STANDARD_ERROR);
         let registry = self.poll.registry();

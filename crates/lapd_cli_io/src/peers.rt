@@ -1,4 +1,4 @@
-//! The connections of a side: one, or a place for each of several terminals on a bus.
+//! The connections of a side: only one, or a place for each of several terminals on a bus.
 
 ghost use Rattle.std.specs.Prelude.{◌≤◌, IfOk, IfSome, length};
 ghost use Rattle.lapd_port.specs.SocketText.{IsFrameLength};
@@ -11,13 +11,13 @@ use slab::Slab;
 use std::io::{self, ErrorKind};
 use std::net::SocketAddr;
 
-/// Connections at places from 0 on. The token of a connection is its place.
+/// Connections at places from 0 on. The place of a connection is also its token.
 #[derive(Drop)]
 pub struct Peers {
     streams: Slab<Peer>,
     /// The most connections.
     most: usize,
-    /// The place at which the next frame is looked for first.
+    /// The place to look for the next frame first.
     turn: usize,
 }
 
@@ -25,7 +25,7 @@ pub struct Peers {
 #[derive(Drop)]
 struct Peer {
     stream: FrameStream,
-    /// When it was made or sent its last whole frame, in milliseconds.
+    /// The moment when it was established or last sent a whole frame, in milliseconds.
     heard: u64,
 }
 
@@ -39,7 +39,7 @@ pub struct LostPeer {
 }
 
 impl Peers {
-    /// Room for so many connections, 1 to 127.
+    /// Room for this many connections, 1 to 127.
     pub fn new(rt: &HostRuntime, most: u8) -> Peers {
         Peers {
             streams: Slab::new(rt.alloc()),
@@ -63,11 +63,12 @@ impl Peers {
         self.most == 1 && self.streams.len() == 1
     }
 
-    /// Adds a connection that was made at this moment, in milliseconds, and has the poll report what arrives over it.
+    /// Adds a connection that was established at this moment, in milliseconds, and registers it
+    /// with the poll.
     ///
     /// # Errors
     ///
-    /// Those of the system, and out of memory.
+    /// The system's error, or out of memory.
     pub fn add(&mut self, poll: &Poll, stream: FrameStream, now: u64) -> io::Result<()> {
         let Ok(place) = self.streams.insert(Peer { stream, heard: now }) else {
             return Err(io::Error::from(ErrorKind::OutOfMemory));
@@ -82,20 +83,20 @@ impl Peers {
         registered
     }
 
-    /// Removes the connection at this place, and returns the address of its other side.
+    /// Removes the connection at this place, and returns its peer's address.
     pub fn remove(&mut self, place: usize) -> Option<SocketAddr> {
         let peer = self.streams.try_remove(place)?;
         Some(peer.stream.peer())
     }
 
-    /// Something may have arrived over the connection at this place.
+    /// Records that something may have arrived over the connection at this place.
     pub fn wake(&mut self, place: usize) {
         if let Some(peer) = self.streams.get_mut(place) {
             peer.stream.wake();
         }
     }
 
-    /// Whether [`Peers::next_frame`] may return a frame or a loss that it did not return before.
+    /// Whether [`Peers::next_frame`] may return a frame or a loss that it has not returned before.
     pub fn is_ready(&self) -> bool {
         (0..self.most).any(|place| self.is_ready_at(place))
     }
@@ -107,8 +108,8 @@ impl Peers {
         }
     }
 
-    /// Takes the next frame that arrived whole, of the connections in turn, at a moment in milliseconds. `None` if each
-    /// connection of which something was reported was read until nothing was left.
+    /// Takes the next frame that has arrived whole, from each connection in turn, at a moment in
+    /// milliseconds. Returns `None` when nothing is left to read from the reported connections.
     ///
     /// # Errors
     ///
@@ -150,7 +151,8 @@ impl Peers {
         Ok(count)
     }
 
-    /// Sends a frame of 3 to 264 octets over each connection. Returns whether one of them took it.
+    /// Sends a frame of 3 to 264 octets over each connection. Returns whether at least one accepted
+    /// it.
     pub fn send(&mut self, frame: &[u8]) -> bool
         requires { IsFrameLength (length frame.now) }
     {
@@ -163,8 +165,8 @@ impl Peers {
         is_taken
     }
 
-    /// The first connection that has sent no whole frame for so many milliseconds at this moment, and of which nothing was
-    /// reported that is not read.
+    /// The first connection that has sent no whole frame for `limit` milliseconds and has no
+    /// reported octets left to read.
     pub fn idle_peer(&self, limit: u64, now: u64) -> Option<LostPeer> {
         let place = (0..self.most).find(|place| self.is_idle_at(*place, limit, now))?;
         Some(LostPeer {
@@ -180,7 +182,8 @@ impl Peers {
         }
     }
 
-    /// The first moment at which a connection may have sent no whole frame for so many milliseconds.
+    /// The first moment at which a connection may have sent no whole frame for `limit`
+    /// milliseconds.
     pub fn next_idle(&self, limit: u64) -> Option<u64> {
         let mut next = None;
         for (_place, peer) in self.streams.iter() {
@@ -190,7 +193,8 @@ impl Peers {
         next
     }
 
-    /// Whether the other side has closed the only connection, and each frame that it sent was taken.
+    /// Whether the other side has closed the only connection and all frames that it sent were
+    /// taken.
     pub fn is_closed(&self) -> bool {
         match self.streams.get(0) {
             Some(peer) => self.is_alone() && peer.stream.is_closed(),
@@ -200,13 +204,13 @@ impl Peers {
 }
 
 impl Peer {
-    /// When it will have sent no whole frame for so many milliseconds.
+    /// The moment at which it will have sent no whole frame for `limit` milliseconds.
     fn idle_moment(&self, limit: u64) -> u64 {
         self.heard.saturating_add(limit)
     }
 }
 
-/// The place behind this one among so many. The first is behind the last.
+/// The place after this one, among `most` places. The first place follows the last.
 fn place_behind(place: usize, most: usize) -> usize {
     let next = place.saturating_add(1);
     if next < most { next } else { 0 }

@@ -1,12 +1,14 @@
-//! Why calls of the system fail, in the usual words.
+//! Why system calls fail, in the usual words.
 
 use std::fmt;
 use std::io::{self, ErrorKind};
 
-/// The system's numbers for descriptors that ran out, in all or of this process (ENFILE and EMFILE).
+/// The error numbers for running out of descriptors, in the system or in this process (ENFILE and
+/// EMFILE).
 const NO_DESCRIPTORS: [i32; 2] = [23, 24];
 
-/// Why a call of the system failed: the kind of its error in words, or the error's own text if its kind says nothing.
+/// Why a system call failed: the kind of its error in words, or the error's own text if its kind
+/// says nothing.
 #[derive(Clone, Copy)]
 pub struct Reason<'a>(pub &'a io::Error);
 

@@ -1,4 +1,4 @@
-//! Where the frames of a line go besides: a capture in a file, and GSMTAP over UDP.
+//! Recording the frames of a line: a capture in a file, and GSMTAP over UDP.
 
 ghost use Rattle.std.specs.Prelude.{◌≤◌, length};
 
@@ -13,28 +13,28 @@ use std::io::{self, ErrorKind};
 use std::net::{SocketAddr, ToSocketAddrs, UdpSocket};
 use std::time::{SystemTime, UNIX_EPOCH};
 
-/// Why frames can't go where they were to.
+/// Why frames can't be recorded.
 #[derive(Drop)]
 pub enum NoTaps {
-    /// The file of the capture can't be made.
+    /// The capture's file can't be created.
     File(io::Error),
-    /// There is no socket for the address of `--gsmtap`.
+    /// The socket for the address of `--gsmtap` can't be created.
     Socket(io::Error),
 }
 
-/// A capture and a socket, each if it was requested. If one of them fails, that is said on standard error, once, and from then
-/// on it gets nothing more.
+/// A capture and a socket, each if it was requested. If one of them fails, that is noted once on
+/// standard error, and it is not used any more.
 #[derive(Drop)]
 pub struct Taps<'rt> {
     rt: &'rt HostRuntime,
     notes: &'rt Notes<'rt>,
-    /// The moment of the start, in milliseconds since 1970, as soon as a frame was passed.
+    /// The time of the start, in milliseconds since 1970, known from the first frame on.
     begun: Option<u64>,
     capture: Option<CaptureWriter<File>>,
     gsmtap: Option<GsmtapSocket>,
 }
 
-/// A UDP socket, and where its datagrams go.
+/// A UDP socket, and the destination of its datagrams.
 #[derive(Drop)]
 struct GsmtapSocket {
     socket: UdpSocket,
@@ -42,12 +42,13 @@ struct GsmtapSocket {
 }
 
 impl<'rt> Taps<'rt> {
-    /// The capture that this side makes into the file `pcap`, which is made anew, and GSMTAP to the address `gsmtap`, a host
-    /// and a port. The first frame has the moment of the day's clock, and the others go by the clock of the line.
+    /// Creates this side's capture in the file `pcap`, which is overwritten, and GSMTAP to the
+    /// address `gsmtap`, a host and a port. The first frame is stamped by the system's clock, the
+    /// later ones by the line's clock.
     ///
     /// # Errors
     ///
-    /// `File` and `Socket`.
+    /// `File` or `Socket`, if one of them can't be created.
     pub fn open(
         rt: &'rt HostRuntime,
         notes: &'rt Notes<'rt>,
@@ -81,7 +82,7 @@ impl Tap for Taps<'_> {
 }
 
 impl Taps<'_> {
-    // Writes a frame into the capture, where there is one.
+    // Writes a frame into the capture, if there is one.
     fn capture_frame(&mut self, from: Side, moment: u64, frame: &[u8])
         requires { length frame.now ≤ MOST_OCTETS }
     {
@@ -97,7 +98,7 @@ impl Taps<'_> {
         }
     }
 
-    // Sends a frame as GSMTAP, where that was asked for.
+    // Sends a frame as GSMTAP, if requested.
     fn send_frame(&mut self, from: Side, frame: &[u8])
         requires { length frame.now ≤ MOST_OCTETS }
     {
@@ -113,7 +114,7 @@ impl Taps<'_> {
 }
 
 impl GsmtapSocket {
-    // A socket for datagrams to this address.
+    // Creates a socket for datagrams to this address.
     fn open(rt: &HostRuntime, address: &str) -> io::Result<GsmtapSocket> {
         let address = gsmtap_address(rt, address)?;
         let own = if address.is_ipv4() {
@@ -125,7 +126,7 @@ impl GsmtapSocket {
         Ok(GsmtapSocket { socket, address })
     }
 
-    // Sends a frame. The socket is bound to no peer, so that nobody has to listen.
+    // Sends a frame. The socket is not connected, so nobody has to listen.
     fn send(&self, from: Side, frame: &[u8]) -> io::Result<()>
         requires { length frame.now ≤ MOST_OCTETS }
     {
@@ -141,12 +142,12 @@ fn gsmtap_address(rt: &HostRuntime, address: &str) -> io::Result<SocketAddr> {
     first.ok_or(io::Error::from(ErrorKind::NotFound))
 }
 
-// The capture of this side into a file that is made anew.
+// Creates this side's capture in a file, which is overwritten.
 fn capture_into(rt: &HostRuntime, own: Side, file: &str) -> io::Result<CaptureWriter<File>> {
     CaptureWriter::new(own, fs::create(rt, file)?)
 }
 
-// The moment of the start, where it is known, or where it is so many milliseconds ago now.
+// The time of the start: the known one, or `moment` milliseconds ago.
 fn begun_at(rt: &HostRuntime, begun: Option<u64>, moment: u64) -> u64 {
     match begun {
         Some(begun) => begun,
@@ -154,7 +155,7 @@ fn begun_at(rt: &HostRuntime, begun: Option<u64>, moment: u64) -> u64 {
     }
 }
 
-// The moment by the clock of the day, in milliseconds since 1970; 0 where it can't be read.
+// The time of the system's clock, in milliseconds since 1970; 0 if it can't be read.
 fn milliseconds_now(rt: &HostRuntime) -> u64 {
     let Ok(now) = SystemTime::now(rt) else {
         return 0;

@@ -1,4 +1,4 @@
--- A script that was done to its end, and the lines behind it.
+-- A script that ran to its end, followed by the closing lines.
 use Rattle.std.specs.Prelude.{⊤}
 use Rattle.std.proofs.Common.{◌≡◌, ℕ, List, ◌++◌, Option, Some, None, Result, Ok, Err, OnOk, IfSome, IsOkUnless, ◌∙◌, ap, refl, sym, subst}
 use Rattle.std.proofs.lemmas.List.{append_assoc}
@@ -9,7 +9,7 @@ use Rattle.lapd_cli_script.specs.declared.script.ScriptFault.TheVariants.{Device
 use Rattle.lapd_cli_link_commands.specs.Pair.{ClosesAs, closing_lines}
 use Rattle.lapd_pair_laws.specs.World.{World}
 
--- two texts, one after the other
+-- two texts appended one after the other
 pub appends_both : (old mid new : Option (List ℕ)) (first second : List ℕ) → Appends old mid first → Appends mid new second → Appends old new (first ++ second)
 appends_both None mid new first second h k = tt
 appends_both (Some xs) None new first second h k = elim h [ ]
@@ -22,7 +22,7 @@ ended : (step : Step World) (w v : World) (result : Result ⊤ ScriptFault) (lin
 ended step w v (Ok done) lines old mid new is walked close err = (walked.0, appends_both old mid new _ _ walked.1 (subst (λ after. Appends mid new (closing_lines after)) is close))
 ended step w v (Err fault) lines old mid new is walked close err = subst (λ f. ClosesAs step w (Err f) lines old new) (sym err) tt
 
--- a walk that came to the end of its script, and then the lines that close it
+-- a run to the end of its script, and then the closing lines
 pub closed : {M : Type 0} (step : Step World) (stands_for : M → World → Type 0) (known : Option (List ℕ)) (w : World) (mover : M) (result : Result ⊤ ScriptFault) (old mid new : Option (List ℕ))
     → IfSome known (λ octets. EndsAs step w (Ok tt) (lines_of octets) old mid)
     → IfSome known (λ octets. stands_for mover (state_after step w (lines_of octets)))

@@ -1,4 +1,5 @@
--- What is made of the outputs of a step is what is printed of it: each that is sent has its frame.
+-- The printed text of a step follows its specification: each output that sends a frame has its
+-- frame.
 use Rattle.std.specs.Prelude.{⊤}
 use Rattle.std.proofs.Common.{◌≡◌, ◌≤◌, ℕ, List, [], ◌∷◌, ◌++◌, length, flat_map, slice_get, false, Option, Some, None, Result, Ok, Err, refl, sym, ap, subst, ◌∙◌, arith}
 use Rattle.std.proofs.lemmas.List.Elements.{All-head, All-tail}
@@ -42,11 +43,11 @@ use Rattle.lapd_cli_link_commands.specs.StandsForWorld.{made_side_line, made_sid
 use Rattle.lapd_cli_link_commands.specs.Session.{IsHandedWith, made_line, made_text}
 use Rattle.lapd_cli_link_commands.specs.Told.{Spoken, told, told_as, told_with, what_told}
 
--- the frame that is made of an output is the one that is sent
+-- the frame built from an output is the specified one
 abbrev IsSent : Setup → List (List ℕ) → List ℕ → Out → Type 0
 IsSent setup messages handed output = made_frame setup messages handed output ≡ sent_frame setup messages handed output
 
--- two ways to print outputs that say the same of each
+-- two printers that agree on each output agree on all
 same_lines : {P : Out → Type 0} (f g : Out → List ℕ) (outs : List Out) → ((output : Out) → P output → f output ≡ g output) → All P outs → flat_map f outs ≡ flat_map g outs
 same_lines f g [] same h = refl
 same_lines {P} f g (output ∷ outs) same h =
@@ -65,14 +66,14 @@ pub text_of_step : (link : Link) (s : Session) (handed : List ℕ) (outs : List 
 text_of_step link s handed outs has session fits =
     same_text s.setup (messages_of s.end) handed outs (subst (λ (setup : Setup). HaveFrames setup (messages_of s.end) outs) session.setup (has s.end session.end) handed fits)
 
--- what was handed in with an input that is not refused
+-- octets passed with an accepted input fit into a frame
 pub fits_with : (input : Input) (handed : List ℕ) (e : End) (s : StepState) → IsHandedWith input handed → step Tagged input e ≡ Ok s → length handed ≤ n201
 fits_with (input.UnitData len) handed e s same done = subst (λ (n : ℕ). n ≤ n201) same (short_unit len e s done)
 fits_with input handed e s fits done = fits
 
--- ---- A frame that is made.
+-- ---- A frame that is built.
 
--- the control table has it, where there is one
+-- if there is a frame, the control table allows its content
 abbrev HasContent : Option Fields → Type 0
 HasContent None = ⊤
 HasContent (Some f) = content_fault f.address.role f.control (length f.info) ≡ None
@@ -91,7 +92,7 @@ made_has_content setup messages handed (out.SendMessage place control) = message
 made_has_content setup messages handed out.SendUnit = frame_has_content (link_address setup Command) (Ui false) handed _ refl
 made_has_content setup messages handed output = tt
 
--- its line is that of its octets
+-- an output without a frame has the same line in both forms
 line_of_unsent : (side : Side) (what : Option What) (output : Out) → side_line (frame_line side) side (told_as what output) ≡ told_line side (told_as what output)
 line_of_unsent side (Some what) output = refl
 line_of_unsent side None (out.Start timer) = refl
@@ -116,7 +117,7 @@ same_side_lines side s unit outs h =
     let spoken = spoken_of s.history unit in
     same_lines (made_side_line side messages spoken) (λ output. told_line side (told (setup_for side) messages spoken output)) outs (same_side_line side messages spoken) h
 
--- unit data of a move that is admitted
+-- unit data of an accepted move
 unit_stepped : (who : Side) (w : World) (octets : List ℕ) (v : View) (happened : Happened) (result : Result StepState LinkFault) → step Tagged (input.UnitData (length octets)) v.station.end ≡ result
     → in_world who w (stepped octets 0 v result) ≡ Ok happened → length octets ≤ n201
 unit_stepped who w octets v happened (Ok s) done is = short_unit (length octets) v.station.end s done
@@ -131,13 +132,13 @@ short_move : (move : Move) (w : World) (happened : Happened) → happens Tagged 
 unfolding happens
 short_move move w happened is = short_deed move.side move.deed w happened is
 
--- what is printed of a move
+-- the printed lines of a move
 pub lines_of_move : (move : Move) (w : World) (happened : Happened) → IsKeptWorld Tagged w → happens Tagged move w ≡ Ok happened
     → made_side_lines move.side (view_of move.side happened.world).station (unit_of move.deed) happened.outs ≡ told_lines move.side (view_of move.side happened.world).station (unit_of move.deed) happened.outs
 lines_of_move move w happened kept is =
     same_side_lines move.side (view_of move.side happened.world).station (unit_of move.deed) happened.outs (frames_of_move move w happened kept is (unit_of move.deed) (short_move move w happened is))
 
--- what is written of it
+-- the text that is written for a move
 pub move_written : (w : World) (move : Move) (happened : Happened) (p : Pair) (side : Side) (unit : List ℕ) (outs : List Out) (text written : List ℕ) (old new : Option (List ℕ))
     → IsKeptWorld Tagged w → happens Tagged move w ≡ Ok happened → happened.outs ≡ outs → PairStandsFor p happened.world → side ≡ move.side → unit ≡ unit_of move.deed
     → text ≡ made_side_lines side (view_of side happened.world).station unit outs → written ≡ text → Appends old new written

@@ -1,4 +1,5 @@
--- What the lines of a script come to for `loop` is what they come to as moves, and the frames of them all cross.
+-- A line of `loop` has the same result as the move it names, and all frames put on the line pass
+-- through the port.
 use Rattle.std.specs.Prelude.{⊤}
 use Rattle.std.proofs.Common.{◌≡◌, ℕ, ◌+◌, List, [], ◌∷◌, ◌++◌, length, drop, Bool, true, false, Option, Some, None, option_map, Result, Ok, Err, OnOk, IfSome, IsSomeAnd, IsErrAnd, append-nil, append_assoc, if◌then◌else◌, ap, refl, sym, subst, ◌∙◌}
 use Rattle.std.specs.Io.KnownBytes.{Appends}
@@ -23,17 +24,17 @@ drop_all : (xs : List (List ℕ)) → drop (length xs) xs ≡ []
 drop_all [] = refl
 drop_all (x ∷ xs) = drop_all xs
 
--- nothing comes on the line where nothing happens
+-- if the world does not change, no frame is put on the line
 nothing_put : (w : World) → put_between w w ≡ []
 nothing_put w = rw (drop_all (line_to User w), drop_all (line_to Network w)) refl
 
--- a line that is passed over
+-- a line that is skipped
 same_after : (s : LoopState) → s ≡ record { world = s.world; crossed = s.crossed ++ put_between s.world s.world; rest = s.rest; written = s.written }
 same_after s =
     let e : s.crossed ≡ s.crossed ++ put_between s.world s.world = sym (ap (λ frames. s.crossed ++ frames) (nothing_put s.world) ∙ append-nil s.crossed) in
     ap (λ frames. record { world = s.world; crossed = frames; rest = s.rest; written = s.written }) e
 
--- a line comes to what it comes to as a move
+-- a line has the same result as its move
 line_same : (s : LoopState) (line : List ℕ) → outcome_of loop_step s line ≡ option_map (after_line s) (outcome_of move_step s.world line)
 line_same s line = by_test (is_passed_over line)
   where
@@ -63,7 +64,8 @@ output_same s (line ∷ lines) =
     by_outcome rest None = refl
     by_outcome rest (Some (text, v)) = ap (λ more. text ++ more) (rest (after_line s (text, v)).1)
 
--- the world after the lines is that of their moves, and the frames that they put on the line have crossed behind those of before
+-- the state after the lines: the world after their moves, with the frames they put on the line
+-- appended to those that have crossed
 abbrev crossed_after : LoopState → List (List ℕ) → LoopState
 crossed_after s lines = record { world = state_after move_step s.world lines; crossed = s.crossed ++ frames_put s.world lines; rest = s.rest; written = s.written }
 
@@ -82,7 +84,7 @@ state_same s (line ∷ lines) =
 
 -- ---- How one line of the command ends.
 
--- the line is no move
+-- the line is not a move
 pub line_failed : {L : Type 0} (stands_for : L → LoopState → Type 0) (s : LoopState) (o : Outcome World) (result : Result ⊤ LineFault) (fault : LineFault) (mover : Mover) (looper : L) (old new : Option (List ℕ))
     → IsErrAnd result (λ e. e ≡ fault) → LineEndsAs IsMover o (Err fault) mover old new → LineEndsAs stands_for (option_map (after_line s) o) result looper old new
 line_failed stands_for s o (Ok done) fault mover looper old new is h = absurd is
@@ -96,7 +98,7 @@ line_failed {L} stands_for s o (Err e) fault mover looper old new is h =
     by_fault LineMemory o h = h
     by_fault LineDevice o h = tt
 
--- a line is done, and its frames have crossed
+-- a line is executed, and its frames have crossed
 pub line_crossed : (s : LoopState) (o : Outcome World) (mover after : Mover) (to_user to_network : ℕ) (mid left more grown old new : Option (List ℕ))
     → IsSomeAnd o (λ next. IsMover mover next.1 × Appends old new next.0) → after ≡ mover
     → to_user ≡ length (line_to User s.world) → to_network ≡ length (line_to Network s.world) → HaveCrossed s.rest mid s.written more s.crossed
@@ -125,19 +127,19 @@ ends_same s (Err (Port fault)) lines old new ends = ends
 pub new_stands : (mover : Mover) (w : World) (rest written : Option (List ℕ)) → IsMover mover w → IsLooped mover rest written (new_loop w rest written)
 new_stands mover w rest written stands = (stands, none_crossed rest written)
 
--- the same of a script whose octets are known, where they are
+-- the same for a script whose octets are known
 pub text_same : (known : Option (List ℕ)) (s : LoopState) (result : Result ⊤ ScriptFault) (old new : Option (List ℕ)) → IfSome known (λ octets. EndsAs loop_step s result (lines_of octets) old new)
     → IfSome known (λ octets. EndsAs move_step s.world result (lines_of octets) old new)
 text_same None s result old new ends = tt
 text_same (Some octets) s result old new ends = ends_same s result (lines_of octets) old new ends
 
--- in the end the value stands for the world of the moves
+-- at the end the command is in the world that the moves lead to
 pub stands_same : (known : Option (List ℕ)) (s : LoopState) (mover : Mover) (left grown : Option (List ℕ)) → IfSome known (λ octets. IsLooped mover left grown (state_after loop_step s (lines_of octets)))
     → IfSome known (λ octets. IsMover mover (state_after move_step s.world (lines_of octets)))
 stands_same None s mover left grown stands = tt
 stands_same (Some octets) s mover left grown stands = (subst (IsLooped mover left grown) (state_same s (lines_of octets)) stands).0
 
--- and the frames that the script put on the line have crossed
+-- at the end the frames that the script put on the line have crossed
 pub frames_crossed : (known : Option (List ℕ)) (w : World) (rest written : Option (List ℕ)) (mover : Mover) (left grown : Option (List ℕ)) {T E : Type 0} (result : Result T E)
     → IfSome known (λ octets. IsLooped mover left grown (state_after loop_step (new_loop w rest written) (lines_of octets)))
     → IfSome known (λ octets. OnOk result (HaveCrossed rest left written grown (frames_put w (lines_of octets))))

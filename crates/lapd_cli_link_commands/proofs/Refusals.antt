@@ -15,7 +15,7 @@ use Rattle.lapd_cli_link_commands.specs.declared.mover.Mover.{Mover}
 use Rattle.lapd_cli_link_commands.specs.Pair.{move_made, move_told, not_admitted}
 use Rattle.lapd_cli_link_commands.specs.StandsForWorld.{IsMover}
 
--- the text of the refusal is what the line calls for
+-- the text of the refusal is the specified result of the line
 pub refusal_printed : (w : World) (move : Move) (refusal : Refusal) (result : Result ⊤ LineFault) (mover : Mover) (old new : Option (List ℕ))
     → happens Tagged move w ≡ Err refusal → IsMover mover w → OnOk result (Appends old new (not_admitted refusal)) → IsOkUnless result Device
     → LineEndsAs IsMover (Some (move_made w move)) result mover old new
@@ -26,6 +26,6 @@ refusal_printed w move refusal (Err Device) mover old new e stands printed ends 
 refusal_printed w move refusal (Err Bad) mover old new e stands printed ends = absurd cc
 refusal_printed w move refusal (Err Memory) mover old new e stands printed ends = absurd cc
 
--- a refusal of a kind that is known
+-- two names of the same kind of refusal
 pub refused_as : (fault known : PairFault) (outcome : Result Happened Refusal) → fault ≡ known → IsRefusedAs fault outcome → IsRefusedAs known outcome
 refused_as fault known outcome e refused = let P : PairFault → Type 0 = λ f. IsRefusedAs f outcome in subst P e refused

@@ -10,7 +10,7 @@ use Rattle.lapd_cli_link_commands.specs.declared.settler.Settler.{Settler}
 use Rattle.lapd_cli_link_commands.specs.Pair.{move_step, pair_step, settle_made}
 use Rattle.lapd_cli_link_commands.specs.StandsForWorld.{IsMover, IsSettler}
 
--- a line ends for the command as for its mover
+-- a line ends for the command as it does for its mover
 ends_around : (o : Outcome World) (result : Result ⊤ LineFault) (settler : Settler) (old new : Option (List ℕ))
     → LineEndsAs IsMover o result settler.mover old new → LineEndsAs IsSettler o result settler old new
 ends_around o (Ok done) settler old new h = h

@@ -1,4 +1,4 @@
--- The command `answer`: one link that goes over a script, by the state table.
+-- The command `answer`: one link that executes a script by the state table.
 use Rattle.std.specs.Prelude.{◌≡◌, ℕ, List, [], ◌∷◌, ◌++◌, drop, length, if◌then◌else◌, codes, Bool, Option, Some, None, option_map, Result, Ok, Err}
 use Rattle.std.specs.Fmt.{decimal}
 use Rattle.std.specs.Str.{bytes_eq}
@@ -25,7 +25,7 @@ use Rattle.lapd_cli_script.specs.Line.{words_of, nothing_of, octets_behind, text
 use Rattle.lapd_cli_script.specs.Script.{Outcome}
 use Rattle.lapd_cli_link_commands.specs.Outputs.{outs_text, refusal_line}
 
--- a link: for whom it was made, and the end that it is by now
+-- a link: its side and address, and its current end
 pub record Session : Type 0 where
   pub setup : Setup
   pub end : End
@@ -37,9 +37,9 @@ new_session from sapi tei parameters = record {
   end = new_end parameters;
 }
 
--- ---- What a step of the link gives.
+-- ---- The result of a step of the link.
 
--- the given messages from place `first` on, which are neither acknowledged nor dropped
+-- the submitted messages from index `first` on: those neither acknowledged nor dropped
 abbrev pub messages_of : End → List (List ℕ)
 messages_of e = drop e.first e.given
 
@@ -51,16 +51,16 @@ step_ended s handed (Ok done) = (
 )
 step_ended s handed (Err fault) = (refusal_line fault, s)
 
--- a step of the link, to which these octets are handed
+-- a step of the link, with the octets that the input carries
 abbrev pub link_step : Session → Input → List ℕ → List ℕ × Session
 link_step s input handed = step_ended s handed (step Tagged input s.end)
 
--- ---- What octets that the other side sent call for.
+-- ---- Octets received from the other side.
 
 abbrev pub if_mine : Session → Bool → List ℕ × Session → List ℕ × Session
 if_mine s mine heard = if mine then heard else (text_line (codes "not-mine"), s)
 
--- octets that are no frame: for no link, or for the link of this address
+-- octets that do not form a valid frame: with no readable address, or with this address
 abbrev pub hear_fault : Session → FaultKind → Option Address → List ℕ × Session
 hear_fault s kind None = (text_line (codes "discarded " ++ fault_name kind), s)
 hear_fault s kind (Some a) = if_mine s (is_address_of s.setup a) (link_step s (Faulty kind) [])
@@ -69,7 +69,7 @@ abbrev pub hear_frame : Session → Fields → List ℕ × Session
 hear_frame s f = if_mine s (is_address_of s.setup f.address)
     (link_step s (Heard f.control f.address.role) f.info)
 
--- a frame, or what came in its place
+-- a valid frame, or the first fault of the octets
 abbrev pub hear_read : Session → Result Fields FrameFault → List ℕ × Session
 hear_read s (Ok f) = hear_frame s f
 hear_read s (Err fault) = hear_fault s fault.kind fault.address
@@ -80,13 +80,13 @@ hear s octets = hear_read s (frame_at (other_side s.setup.side) octets)
 abbrev pub state_line : End → List ℕ
 state_line e = text_line (codes "state " ++ decimal (state_number e.state))
 
--- ---- What a line calls for, by its first word and the words behind it.
+-- ---- The result of a line, by its first word and the words after it.
 
--- a word with nothing behind it
+-- a word with nothing after it
 abbrev pub alone : List (List ℕ) → List ℕ × Session → Outcome Session
 alone behind next = option_map (λ none. next) (nothing_of behind)
 
--- a word with octets behind it
+-- a word with octets after it
 abbrev pub with_octets : List (List ℕ) → (List ℕ → List ℕ × Session) → Outcome Session
 with_octets behind next = option_map next (octets_behind behind)
 
@@ -115,13 +115,13 @@ abbrev pub answer_words : Session → List (List ℕ) → Outcome Session
 answer_words s [] = None
 answer_words s (word ∷ behind) = answer_word s word behind
 
--- what each line calls for
+-- the result of each line
 abbrev pub answer_step : Session → List ℕ → Outcome Session
 answer_step s line = answer_words s (words_of line)
 
 -- ---- A link and its session.
 
--- the link stands for the session's end
+-- the link represents the session's end
 pub record IsSession (link : Link) (s : Session) : Type 0 where
   pub setup : setup_of link ≡ s.setup
   pub end : LinkStandsFor link s.end

@@ -1,4 +1,4 @@
--- The command `bus`: what each line calls for.
+-- The command `bus`: the result of each line.
 use Rattle.std.specs.Prelude.{ℕ, List, option_map, Result, Ok, Err}
 use Rattle.lapd_cli_script.specs.Line.{words_of}
 use Rattle.lapd_cli_script.specs.Script.{Outcome}

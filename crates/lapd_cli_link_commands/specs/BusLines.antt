@@ -1,4 +1,4 @@
--- The lines that the command `bus` prints.
+-- The lines printed by the command `bus`.
 use Rattle.std.specs.Prelude.{ℕ, List, [], ◌++◌, flat_map, codes, Option, Some, None}
 use Rattle.std.specs.Fmt.{decimal}
 use Rattle.lapd_frame.specs.declared.Side.TheVariants.{Network, User}
@@ -12,7 +12,7 @@ use Rattle.lapd_tei.specs.declared.out.TeiOut.TheVariants as out
 use Rattle.lapd_tei.specs.Bus.{bus_fault_name}
 use Rattle.lapd_tei.specs.Message.{frame_of_message}
 
--- an output of the terminal at this place; what is started or stopped is not printed
+-- an output of terminal t; timers that are started or stopped are not printed
 abbrev pub terminal_text : ℕ → List ℕ
 terminal_text t = codes "terminal " ++ decimal t
 
@@ -33,7 +33,7 @@ network_line (out.InUse tei) = text_line (codes "net in-use " ++ decimal tei)
 network_line (out.Doubled tei) = text_line (codes "net doubled " ++ decimal tei)
 network_line other = []
 
--- the terminal whose move it is, `None` for the network side
+-- the terminal that makes the move; `None` for the network side
 abbrev pub mover : BusMove → Option ℕ
 mover (move.Ask t ri) = Some t
 mover (move.T202 t ri) = Some t

@@ -1,4 +1,4 @@
--- The words of a line of the command `bus`, and the move that they are.
+-- The words of a line of the command `bus`, and the move they name.
 use Rattle.std.specs.Prelude.{ℕ, ◌+◌, ◌-◌, ◌*◌, ◌&&◌, nat_le, if◌then◌else◌, List, [], ◌∷◌, codes, Option, Some, None, option_map, option_and_then}
 use Rattle.std.specs.Str.{bytes_eq}
 use Rattle.lapd_cli_script.specs.Line.{is_digit, number_behind, number_said}
@@ -7,29 +7,29 @@ use Rattle.lapd_tei.specs.declared.bus_move.BusMove.TheVariants.{Ask, T202, Hear
 
 -- ---- Numbers.
 
--- a number that is a TEI
+-- the number if it is a TEI
 abbrev pub tei_at : ℕ → Option ℕ
 tei_at n = if nat_le n 127 then Some n else None
 
--- the value of a hexadecimal digit of either case
+-- the value of a hexadecimal digit in either case
 abbrev pub digit_value : ℕ → Option ℕ
 digit_value octet =
     if is_digit octet then Some (octet - 48) else (
     if nat_le 97 octet && nat_le octet 102 then Some (octet - 87) else (
     if nat_le 65 octet && nat_le octet 70 then Some (octet - 55) else None))
 
--- the number of four values of hexadecimal digits
+-- the number of four hexadecimal digits, given by their values
 abbrev pub joined : Option ℕ → Option ℕ → Option ℕ → Option ℕ → Option ℕ
 joined (Some a) (Some b) (Some c) (Some d) = Some (a * 4096 + b * 256 + c * 16 + d)
 joined a b c d = None
 
--- the reference that a word of four hexadecimal digits writes
+-- the reference number (Ri) that four hexadecimal digits spell
 abbrev pub reference_of : List ℕ → Option ℕ
 reference_of (a ∷ b ∷ c ∷ d ∷ []) =
     joined (digit_value a) (digit_value b) (digit_value c) (digit_value d)
 reference_of word = None
 
--- ---- The words behind the first.
+-- ---- The words after the first.
 
 abbrev pub both : Option ℕ → Option ℕ → Option (ℕ × ℕ)
 both (Some a) (Some b) = Some (a, b)
@@ -40,7 +40,7 @@ abbrev pub terminal_and_reference : List (List ℕ) → Option (ℕ × ℕ)
 terminal_and_reference (t ∷ ri ∷ []) = both (number_said t) (reference_of ri)
 terminal_and_reference behind = None
 
--- a message, and behind it a terminal and a reference
+-- a message, then a terminal and a reference number
 abbrev pub hear_of : Option ℕ → Option (ℕ × ℕ) → Option BusMove
 hear_of (Some i) (Some (t, ri)) = Some (Hear i t ri)
 hear_of i answer = None
@@ -49,7 +49,7 @@ abbrev pub hear : List (List ℕ) → Option BusMove
 hear [] = None
 hear (i ∷ behind) = hear_of (number_said i) (terminal_and_reference behind)
 
--- the word of a TEI, and nothing behind it
+-- a TEI, with nothing after it
 abbrev pub tei_behind : List (List ℕ) → Option ℕ
 tei_behind behind = option_and_then tei_at (number_behind behind)
 

@@ -6,7 +6,7 @@ use Rattle.lapd_frame.specs.declared.Side.TheVariants.{Network, User}
 use Rattle.lapd_cli_script.specs.Line.{words_of, nothing_of, number_behind, octets_behind}
 use Rattle.lapd_pair_laws.specs.Move.{Deed, Move, Give, Establish, Release, Deliver, Lose, Expire200, Expire203, Busy, UnitData, Restart}
 
--- a side, by its name
+-- the side with this name
 abbrev pub side_named : List ℕ → Option Side
 side_named word =
     if bytes_eq word (codes "user") then Some User else (
@@ -15,7 +15,7 @@ side_named word =
 abbrev pub move_by : Side → Deed → Move
 move_by side deed = record { side = side; deed = deed }
 
--- a word with nothing behind its side
+-- a word with nothing after its side
 abbrev pub bare_move : Side → Deed → List (List ℕ) → Option Move
 bare_move side deed behind = option_map (λ none. move_by side deed) (nothing_of behind)
 
@@ -26,7 +26,7 @@ busy_move side (word ∷ behind) =
     if bytes_eq word (codes "on") then bare_move side (Busy true) behind else (
     if bytes_eq word (codes "off") then bare_move side (Busy false) behind else None)
 
--- the move that a word names, with its side and the words behind that
+-- the move named by a word, its side and the words after the side
 abbrev pub move_named : List ℕ → Side → List (List ℕ) → Option Move
 move_named word side behind =
     if bytes_eq word (codes "give")

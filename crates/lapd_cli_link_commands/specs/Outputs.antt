@@ -1,4 +1,4 @@
--- The lines of what a link's steps give.
+-- The printed lines of a link's outputs.
 use Rattle.std.specs.Prelude.{ℕ, List, [], ◌++◌, flat_map, codes}
 use Rattle.lapd_frame.specs.declared.Side.{Side}
 use Rattle.lapd_frame.specs.Frame.{Fields, spelling}
@@ -9,7 +9,7 @@ use Rattle.lapd_link.specs.Refusal.{refusal_name}
 use Rattle.lapd_cli_script.specs.Line.{text_line, digits_of}
 use Rattle.lapd_cli_link_commands.specs.Told.{Spoken, Told, Sent, Primitive, Timer, Nothing, told}
 
--- a frame that goes out: all its octets
+-- a frame that is sent: all its octets
 abbrev pub send_line : Side → Fields → List ℕ
 send_line from frame = text_line (codes "send" ++ digits_of (spelling from frame))
 
@@ -19,15 +19,15 @@ out_line from (Primitive line) = line
 out_line from (Timer line) = line
 out_line from Nothing = []
 
--- all outputs speak of what was just handed in: the information of a frame, or the octets of unit data
+-- the octets of the outputs, which are those the line carried: a frame's information or unit data
 abbrev pub handed_in : List ℕ → Spoken
 handed_in handed = record { message = handed; unit = handed; sent = handed }
 
--- `messages` are those that are neither acknowledged nor dropped after the step
+-- `messages`: those neither acknowledged nor dropped after the step
 abbrev pub outs_text : Setup → List (List ℕ) → List ℕ → List Out → List ℕ
 outs_text setup messages handed outs =
     flat_map (λ output. out_line setup.side (told setup messages (handed_in handed) output)) outs
 
--- a request that the link refused
+-- a request refused by the link
 abbrev pub refusal_line : LinkFault → List ℕ
 refusal_line fault = text_line (codes "refused " ++ refusal_name fault)

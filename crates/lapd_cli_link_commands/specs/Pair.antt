@@ -1,4 +1,4 @@
--- The command `pair`: two ends and the line between them, by the moves of a script.
+-- The command `pair`: two ends and the line between them, driven by the moves of a script.
 use Rattle.std.specs.Prelude.{◌≡◌, ℕ, ◌-◌, Bool, true, false, if◌then◌else◌, List, [], ◌∷◌, ◌++◌, codes, flat_map, get_or, is_none, length, map, None, Some, Option, option_map, Result, Ok, Err, ⊤}
 use Rattle.std.specs.Str.{bytes_eq}
 use Rattle.std.specs.Io.KnownBytes.{Appends}
@@ -26,22 +26,22 @@ use Rattle.lapd_cli_link_commands.specs.Moves.{move_of_line}
 use Rattle.lapd_cli_link_commands.specs.Outputs.{refusal_line}
 use Rattle.lapd_cli_link_commands.specs.Told.{Spoken, Told, Sent, Primitive, told}
 
--- ---- What one side puts out in a move.
+-- ---- The output of one side in a move.
 
 abbrev pub side_name : Side → List ℕ
 side_name User = codes "user"
 side_name Network = codes "net"
 
--- the last of a list of octets, none where it is empty
+-- the last of a list of octets; empty if the list is empty
 abbrev pub last_octets : List (List ℕ) → List ℕ
 last_octets all = get_or all (length all - 1) []
 
--- the last message received, with its establishment
+-- the last message received, of a list of messages with their establishments
 abbrev pub last_message : List (List ℕ × ℕ) → List ℕ
 last_message all = (get_or all (length all - 1) ([], 0)).0
 
--- the octets that the outputs of a side speak of that has this history after the move: the message and the unit data last
--- received, and the unit data that are sent
+-- the octets that a side's outputs refer to, by its history after the move: the message and the
+-- unit data received last, and the unit data sent
 abbrev pub spoken_of : History → List ℕ → Spoken
 spoken_of h unit = record {
   message = last_message (map octets_and_establishment h.received);
@@ -49,25 +49,25 @@ spoken_of h unit = record {
   sent = unit;
 }
 
--- a frame that goes on the line, by this way to write it as text, or a primitive or a report behind the name of its side;
+-- the line of a frame, in the format `written`, or of a primitive or report after the side's name;
 -- timers are not printed
 abbrev pub side_line : (Fields → List ℕ) → Side → Told → List ℕ
 side_line written side (Sent frame) = text_line (written frame)
 side_line written side (Primitive line) = side_name side ++ (32 ∷ line)
 side_line written side other = []
 
--- a frame is written as the trace line of its octets
+-- a frame is printed as the trace line of its octets
 abbrev pub told_line : Side → Told → List ℕ
 told_line side told = side_line (λ frame. trace_line side (spelling side frame)) side told
 
--- the outputs of a side that stands so after the move, where `unit` is the unit data to be sent
+-- the lines of a side's outputs, by the side's state after the move; `unit` is the unit data sent
 abbrev pub told_lines : Side → Station → List ℕ → List Out → List ℕ
 told_lines side s unit outs = flat_map (λ output. told_line side
     (told (setup_for side) (messages_of s.end) (spoken_of s.history unit) output)) outs
 
--- ---- What a move comes to.
+-- ---- The result of a move.
 
--- why a move is not admitted
+-- why a move is refused
 abbrev pub not_admitted : Refusal → List ℕ
 not_admitted NothingThere = text_line (codes "refused P1 NothingThere")
 not_admitted NotRunning = text_line (codes "refused P2 NotRunning")
@@ -75,12 +75,12 @@ not_admitted (NotYet to at) =
     text_line (codes "refused P3 NotYet " ++ (side_name to ++ (32 ∷ decimal at)))
 not_admitted (Refused fault) = refusal_line fault
 
--- the unit data that a deed sends
+-- the unit data that a move sends
 abbrev pub unit_of : Deed → List ℕ
 unit_of (UnitData octets) = octets
 unit_of deed = []
 
--- its text, and the world after it
+-- the text of a move, and the world after it
 abbrev pub move_told : World → Move → Result Happened Refusal → List ℕ × World
 move_told w move (Ok happened) = (
   told_lines move.side (view_of move.side happened.world).station (unit_of move.deed) happened.outs,
@@ -91,32 +91,32 @@ move_told w move (Err refusal) = (not_admitted refusal, w)
 abbrev pub move_made : World → Move → List ℕ × World
 move_made w move = move_told w move (happens Tagged move w)
 
--- what a line calls for that names a move
+-- the result of a line that names a move
 abbrev pub move_step : Step World
 move_step w line = option_map (move_made w) (move_of_line line)
 
--- ---- What it comes to that the line settles.
+-- ---- The result of `settle`.
 
--- how many moves were made, and whether none is possible any more
+-- the number of moves, and `rest` if no further move is possible
 abbrev pub settled_line : ℕ → Bool → List ℕ
 settled_line moves true = text_line (codes "settled " ++ (decimal moves ++ codes " rest"))
 settled_line moves false = text_line (codes "settled " ++ decimal moves)
 
--- its text, and the world after it; of the moves themselves nothing is printed
+-- the text, and the world after it; the moves themselves are not printed
 abbrev pub settle_made : World → List ℕ × World
 settle_made w = (
   settled_line (length (settling Tagged (bound w) w)) (is_none (next_move Tagged (settled w))),
   settled w,
 )
 
--- what each line calls for: a line of the single word `settle`, or a move
+-- the result of each line: the single word `settle`, or a move
 abbrev pub pair_step : Step World
 pair_step w line =
     if bytes_eq line (codes "settle") then Some (settle_made w) else move_step w line
 
 -- ---- What is printed at the end.
 
--- where a side is, how many messages it was given and received, and how many of its own are acknowledged or dropped
+-- the side's state, and its messages: submitted, received, acknowledged and dropped
 abbrev pub figures_of : Station → Figures
 figures_of s = record {
   state = state_number s.end.state;
@@ -139,7 +139,7 @@ closing_line side s = figures_line side (figures_of s)
 abbrev pub closing_lines : World → List ℕ
 closing_lines w = closing_line User w.user ++ closing_line Network w.network
 
--- how a command ends whose lines call for this: a script that is done to its end has these two lines behind it
+-- how a command with these lines ends: after a complete script it prints the two closing lines
 abbrev pub ClosesAs : Step World → World → Result ⊤ ScriptFault → List (List ℕ) → Option (List ℕ)
     → Option (List ℕ) → Type 0
 ClosesAs step w (Ok done) lines old new =

@@ -1,4 +1,4 @@
--- How the command's value stands for a session, and what its calls are handed and print.
+-- How the command represents a session, and what its calls receive and print.
 use Rattle.std.specs.Prelude.{◌≡◌, ◌≤◌, ℕ, List, flat_map, length}
 use Rattle.lapd_frame.specs.Frame.{n201}
 use Rattle.lapd_link.specs.declared.Out.{Out}
@@ -13,12 +13,13 @@ use Rattle.lapd_cli_link_commands.specs.ToldValues.{made_told}
 abbrev pub IsAnswerer : Answerer → Session → Type 0
 IsAnswerer answerer s = IsSession answerer.link s
 
--- what is handed in with an input: unit data of this length, or no more than a frame carries
+-- the octets that an input carries: unit data of the input's length, or at most the information of
+-- a frame
 abbrev pub IsHandedWith : Input → List ℕ → Type 0
 IsHandedWith (UnitData len) octets = len ≡ length octets
 IsHandedWith input octets = length octets ≤ n201
 
--- the line of an output, by the frame that is made of it
+-- the line of an output, by the frame built from it
 abbrev pub made_line : Setup → List (List ℕ) → Spoken → Out → List ℕ
 made_line setup messages s output = out_line setup.side (made_told setup messages s output)
 

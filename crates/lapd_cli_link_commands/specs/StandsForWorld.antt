@@ -1,4 +1,4 @@
--- How the values of the commands stand for a world, and what their calls print.
+-- How the commands represent a world, and what their calls print.
 use Rattle.std.specs.Prelude.{ℕ, List, flat_map}
 use Rattle.lapd_frame.specs.declared.Side.{Side}
 use Rattle.lapd_link_definition.specs.declared.out.Out.{Out}
@@ -20,7 +20,7 @@ IsMover mover w = PairStandsFor mover.pair w
 abbrev pub IsSettler : Settler → World → Type 0
 IsSettler settler w = IsMover settler.mover w
 
--- the line of an output of a side, by the frame that is made of it
+-- the line of a side's output, by the frame built from it
 abbrev pub made_side_line : Side → List (List ℕ) → Spoken → Out → List ℕ
 made_side_line side messages s output =
     side_line (frame_line side) side (made_told (setup_for side) messages s output)

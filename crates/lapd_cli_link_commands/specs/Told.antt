@@ -1,4 +1,4 @@
--- What the outputs of a link come to for a reader.
+-- The printed form of a link's outputs.
 use Rattle.std.specs.Prelude.{ℕ, List, ◌++◌, codes, Option, Some, None}
 use Rattle.lapd_frame.specs.Frame.{Fields}
 use Rattle.lapd_link.specs.Link.{Setup}
@@ -11,26 +11,26 @@ use Rattle.lapd_sides_links.specs.Texts.{what_text}
 use Rattle.lapd_sides_links.specs.declared.primitive.What.{What}
 use Rattle.lapd_cli_script.specs.Line.{text_line}
 
--- the octets that outputs speak of: a message and unit data that came, and unit data that are sent
+-- the octets that outputs refer to: the received message and unit data, and the unit data sent
 pub record Spoken : Type 0 where
   pub message : List ℕ
   pub unit : List ℕ
   pub sent : List ℕ
 
--- a frame that is sent; the line of a primitive or a report, or of a timer that is started or stopped; or nothing, where a
--- frame was to be sent and there is none
+-- a frame that is sent; the line of a primitive or report, or of a timer that is started or
+-- stopped; or `Nothing` if a frame was to be sent and does not exist
 pub data Told : Type 0 where
   Sent : (frame : Fields) → Told
   Primitive : (line : List ℕ) → Told
   Timer : (line : List ℕ) → Told
   Nothing : Told
 
--- what a side would tell of an output
+-- the report that a whole side would make of an output
 abbrev pub what_told : Spoken → Out → Option What
 what_told s out.UnitUp = what_of s.unit out.UnitUp
 what_told s output = what_of s.message output
 
--- an output that has no frame: what a side tells is said in its words
+-- an output without a frame, in the words of a whole side's report
 abbrev pub told_as : Option What → Out → Told
 told_as (Some what) output = Primitive (text_line (what_text what))
 told_as None (out.Start timer) = Timer (text_line (codes "start " ++ timer_name timer))
@@ -40,11 +40,11 @@ told_as None other = Nothing
 abbrev pub told_unsent : Spoken → Out → Told
 told_unsent s output = told_as (what_told s output) output
 
--- an output with its frame, where it has one
+-- an output, with its frame if it has one
 abbrev pub told_with : Option Fields → Spoken → Out → Told
 told_with (Some frame) s output = Sent frame
 told_with None s output = told_unsent s output
 
--- `messages` are those that are neither acknowledged nor dropped after the step
+-- `messages`: those neither acknowledged nor dropped after the step
 abbrev pub told : Setup → List (List ℕ) → Spoken → Out → Told
 told setup messages s output = told_with (sent_frame setup messages s.sent output) s output

@@ -1,4 +1,4 @@
--- How the values that are printed stand for what the outputs of a link come to, and what is made of an output.
+-- How printed values represent a link's outputs.
 use Rattle.std.specs.Prelude.{ℕ, List, ◌∷◌, ◌++◌}
 use Rattle.std.specs.Fmt.{decimal}
 use Rattle.lapd_link.specs.Link.{Setup}
@@ -23,6 +23,6 @@ told_of (told.Primitive phrase) = Primitive (phrase_line phrase)
 told_of (told.Timer phrase) = Timer (phrase_line phrase)
 told_of told.Nothing = Nothing
 
--- an output, by the frame that is made of it
+-- an output, by the frame built from it
 abbrev pub made_told : Setup → List (List ℕ) → Spoken → Out → Told
 made_told setup messages s output = told_with (made_frame setup messages s.sent output) s output

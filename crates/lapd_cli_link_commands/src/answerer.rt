@@ -1,4 +1,4 @@
-//! The command `answer`: one link that answers a script.
+//! The command `answer`: one link that executes a script.
 
 ghost use Rattle.std.specs.Prelude.{◌≡◌, ◌≢◌, ◌<◌, ◌≤◌, ◌&&◌, [], length, true, IfOk, IfSome, IsOkUnless, OnOk, Some};
 ghost use Rattle.std.specs.Io.KnownBytes.{Appends};
@@ -14,8 +14,8 @@ use std::alloc::{AllocError, Global};
 use std::io::{Read, Write};
 use std::mem;
 
-/// A link that answers a script line by line, by [`Command::run`], with room for the outputs of one step. The room of the octets
-/// that a line hands to it is kept from line to line.
+/// A link that executes a script line by line, by [`Command::run`]. It reuses its buffers for the
+/// outputs of a step and for the octets of a line.
 #[derive(Drop)]
 pub struct Answerer {
     alloc: Global,
@@ -24,12 +24,14 @@ pub struct Answerer {
     octets: Vec<u8>,
 }
 
-/// Goes over a script as this side's end of the link of `sapi` (not management) and `tei` (not the group TEI), made with these
-/// parameters, and writes what the script calls for: a line for each output of each step, or of why there was none.
+/// Executes a script on one end of a link: the end of `side`, for `sapi` (not management) and `tei`
+/// (not the group TEI), with these parameters. Writes a line for each output of each step, or the
+/// reason why there was none.
 ///
 /// # Errors
 ///
-/// `BadLine` at the first line that is none of the command's, `Device` where a read or a write fails, and `Memory`.
+/// `BadLine` at the first line that is not valid, `Device` if a read or a write fails, `Memory` if
+/// an allocation fails.
 pub fn answer<R: Read, W: Write>(
     alloc: Global,
     script: &mut R,
@@ -57,11 +59,11 @@ impl Answerer {
     ghost use Rattle.lapd_cli_link_commands.specs.Session.{IsAnswerer};
     ghost use Rattle.lapd_link.specs.Link.{LinkStandsFor};
 
-    /// A new link of SAPI 0 and TEI 64 on this side, made with these parameters.
+    /// A new link of this side with SAPI 0, TEI 64 and these parameters.
     ///
     /// # Errors
     ///
-    /// `AllocError` where the memory of its I queue was refused.
+    /// `AllocError` if the I queue can't be allocated.
     pub fn new(alloc: Global, side: Side, params: Params) -> Result<Answerer, AllocError>
         ensures { IfOk result (λ answerer. IsAnswerer answerer
             (new_session side Sapi.Call 64 params)) }
@@ -69,11 +71,12 @@ impl Answerer {
         Answerer::of_link(alloc, side, Sapi::Call, Tei::new(64).unwrap(), params)
     }
 
-    /// This side's end of a new link of `sapi` (not management) and `tei` (not the group TEI), made with these parameters.
+    /// A new link of this side, for `sapi` (not management) and `tei` (not the group TEI), with
+    /// these parameters.
     ///
     /// # Errors
     ///
-    /// `AllocError` where the memory of its I queue was refused.
+    /// `AllocError` if the I queue can't be allocated.
     pub fn of_link(
         alloc: Global,
         side: Side,
@@ -94,7 +97,7 @@ impl Answerer {
         })
     }
 
-    /// The link as the lines so far left it.
+    /// The link in its current state.
     pub fn link(&self) -> &Link
         ensures { (s : Session) → IsAnswerer self.now s → LinkStandsFor result.now s.end }
     {
@@ -129,7 +132,7 @@ impl Answerer {
     ghost use Rattle.lapd_cli_link_commands.specs.Answer.{Session, alone, with_octets, answer_word, hear, hear_frame, hear_fault, busy, link_step, state_line, messages_of};
     ghost use Rattle.lapd_cli_link_commands.specs.Session.{IsAnswerer, IsHandedWith, made_text};
 
-    /// Does what a word calls for, with the words behind it.
+    /// Executes a line, given as its first word and the words after it.
     fn word<W: Write>(
         &mut self,
         word: &[u8],
@@ -163,7 +166,7 @@ impl Answerer {
         }
     }
 
-    /// Makes a step of the link, for a word with nothing behind it.
+    /// Runs a step of the link for a word with nothing after it.
     fn alone<W: Write>(
         &mut self,
         behind: Words<'_>,
@@ -190,7 +193,7 @@ impl Answerer {
         put_number(b"state", u64::from(self.link.state()), out)
     }
 
-    /// Begins or ends the own receiver busy condition.
+    /// Sets or clears own receiver busy.
     fn busy<W: Write>(&mut self, mut behind: Words<'_>, out: &mut W) -> Result<(), LineFault>
         ensures { (s : Session) → IsAnswerer self.old s
             → LineEndsAs IsAnswerer (busy s behind.entry) result self.new (W.contents out.old)
@@ -203,7 +206,7 @@ impl Answerer {
         }
     }
 
-    /// Takes the octets behind a word, which the other side sent.
+    /// Processes received octets, which follow the word.
     fn hear<W: Write>(&mut self, behind: Words<'_>, out: &mut W) -> Result<(), LineFault>
         ensures { (s : Session) → IsAnswerer self.old s
             → LineEndsAs IsAnswerer (with_octets behind.entry (hear s)) result self.new
@@ -215,7 +218,7 @@ impl Answerer {
         ended
     }
 
-    /// Takes the octets behind a word, which the other side sent, in the place of these.
+    /// Processes received octets, which are read into `octets`.
     fn hear_into<W: Write>(
         &mut self,
         behind: Words<'_>,
@@ -233,7 +236,7 @@ impl Answerer {
         }
     }
 
-    /// Takes a frame, if it is for this link.
+    /// Processes a frame if it has this link's address.
     fn hear_frame<W: Write>(&mut self, frame: &Frame<'_>, out: &mut W) -> Result<(), LineFault>
         requires fits { length frame.now.info ≤ N201 }
         ensures { (s : Session) → IsAnswerer self.old s
@@ -247,7 +250,7 @@ impl Answerer {
         }
     }
 
-    /// Takes octets that are no frame, by their first fault.
+    /// Processes octets that do not form a valid frame, by their first fault.
     fn hear_fault<W: Write>(&mut self, fault: &FrameFault, out: &mut W) -> Result<(), LineFault>
         requires for_link { (a : Address) → fault.now.address ≡ Some a
             → is_for_link fault.now.kind ≡ true }
@@ -267,7 +270,7 @@ impl Answerer {
         }
     }
 
-    /// Makes a step of the link, to which these octets are handed, and prints its outputs.
+    /// Runs a step of the link with an event and its octets, and prints the outputs.
     fn step<W: Write>(&mut self, event: Event, handed: &[u8], out: &mut W) -> Result<(), LineFault>
         requires for_link { IsForLink self.old.link event }
         requires handed { IsHandedWith (input_of event) handed.now }
@@ -281,7 +284,7 @@ impl Answerer {
         }
     }
 
-    /// Gives the octets behind a word to the link as a message, and prints the step's outputs.
+    /// Submits the octets after the word as a message, and prints the step's outputs.
     fn give<W: Write>(&mut self, behind: Words<'_>, out: &mut W) -> Result<(), LineFault>
         ensures { (s : Session) → IsAnswerer self.old s
             → LineEndsAs IsAnswerer
@@ -295,7 +298,7 @@ impl Answerer {
         }
     }
 
-    /// Sends the octets behind a word as unit data.
+    /// Sends the octets after the word as unit data.
     fn unit<W: Write>(&mut self, behind: Words<'_>, out: &mut W) -> Result<(), LineFault>
         ensures { (s : Session) → IsAnswerer self.old s
             → LineEndsAs IsAnswerer
@@ -306,7 +309,7 @@ impl Answerer {
         self.step(Event::Unit(octets.len()), octets.as_slice(), out)
     }
 
-    /// Prints the outputs of the step that was just done, to which these octets were handed.
+    /// Prints the outputs of the last step, in which these octets were passed to the link.
     fn put_outs<W: Write>(&self, handed: &[u8], out: &mut W) -> Result<(), LineFault>
         ensures ok { (s : Session) → IsAnswerer self.now s
             → OnOk result

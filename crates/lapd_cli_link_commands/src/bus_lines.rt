@@ -1,4 +1,4 @@
-//! The lines of what a move gives.
+//! The printed lines of a move.
 
 ghost use Rattle.std.specs.Prelude.{◌≡◌, ℕ, Option, Some, None, IsOkUnless, OnOk};
 ghost use Rattle.std.specs.List.{All};
@@ -12,11 +12,11 @@ use lapd_cli_script::{LineFault, put_line, put_number, put_octets};
 use lapd_tei::{BusFault, BusMove, Side, TeiMessage, TeiOut};
 use std::io::Write;
 
-/// Prints the outputs of a move: of this terminal, or of the network side.
+/// Prints the outputs of a move of this terminal, or of the network side if `who` is `None`.
 ///
 /// # Errors
 ///
-/// `Device`, where the writer fails.
+/// `Device` if the writer fails.
 pub fn put_outs<W: Write>(who: Option<usize>, outs: &[TeiOut], out: &mut W) -> Result<(), LineFault>
     requires { All IsInRange outs.now }
     ensures ok { OnOk result
@@ -29,7 +29,7 @@ pub fn put_outs<W: Write>(who: Option<usize>, outs: &[TeiOut], out: &mut W) -> R
     Ok(())
 }
 
-/// The terminal whose move it is, `None` for the network side.
+/// The terminal that makes the move; `None` for the network side.
 pub fn mover(m: &BusMove) -> Option<usize>
     ensures { result ≡ mover m.now }
 {
@@ -48,7 +48,7 @@ pub fn mover(m: &BusMove) -> Option<usize>
 ///
 /// # Errors
 ///
-/// `Device`, where the writer fails.
+/// `Device` if the writer fails.
 pub fn put_refusal<W: Write>(fault: BusFault, out: &mut W) -> Result<(), LineFault>
     ensures ok { OnOk result
         (Appends (W.contents out.old) (W.contents out.new) (refusal_line fault)) }
@@ -95,7 +95,7 @@ fn put_terminal_out<W: Write>(t: usize, given: &TeiOut, out: &mut W) -> Result<(
     }
 }
 
-/// Prints which terminal it is, at the front of a line.
+/// Prints the number of the terminal, which begins a line.
 fn put_terminal<W: Write>(t: usize, out: &mut W) -> Result<(), LineFault>
     ensures ok { OnOk result (Appends (W.contents out.old) (W.contents out.new) (terminal_text t)) }
     ensures err { IsOkUnless result LineFault.Device }

@@ -1,4 +1,4 @@
-//! The moves that a script's lines are.
+//! The moves that a script's lines name.
 
 ghost use Rattle.std.specs.Prelude.{◌≡◌, ◌<◌, IfSome, None, Some};
 ghost use Rattle.lapd_cli_script.specs.Line.{number_behind, number_said, words_of};
@@ -8,7 +8,7 @@ use crate::words::is;
 use lapd_cli_script::{Words, number_of};
 use lapd_tei::{BusMove, Tei};
 
-/// The move that a line is, `None` where it is none.
+/// The move that a line names; `None` if the line is not valid.
 pub fn move_of(line: &[u8]) -> Option<BusMove>
     ensures { result ≡ move_of (words_of line.now) }
 {
@@ -17,7 +17,7 @@ pub fn move_of(line: &[u8]) -> Option<BusMove>
     move_by(word, words)
 }
 
-/// The move of this word with those behind it.
+/// The move of this word and the words after it.
 fn move_by(word: &[u8], behind: Words<'_>) -> Option<BusMove>
     ensures { result ≡ move_by word.now behind.entry }
 {
@@ -46,7 +46,7 @@ fn move_by(word: &[u8], behind: Words<'_>) -> Option<BusMove>
     }
 }
 
-/// A message, a terminal and a reference.
+/// A received message: its number, the terminal and its reference number.
 fn hear(mut behind: Words<'_>) -> Option<BusMove>
     ensures { result ≡ hear behind.entry }
 {
@@ -55,7 +55,7 @@ fn hear(mut behind: Words<'_>) -> Option<BusMove>
     Some(BusMove::Hear(i, t, ri))
 }
 
-/// Nothing behind `t201`.
+/// The move `t201`, which has nothing after it.
 fn t201(mut behind: Words<'_>) -> Option<BusMove>
     ensures { result ≡ nothing_behind behind.entry }
 {
@@ -65,7 +65,7 @@ fn t201(mut behind: Words<'_>) -> Option<BusMove>
     }
 }
 
-/// A terminal and a reference, and nothing behind them.
+/// A terminal and a reference number, with nothing after them.
 fn terminal_and_reference(mut behind: Words<'_>) -> Option<(usize, u16)>
     ensures { result ≡ terminal_and_reference behind.entry }
 {
@@ -77,7 +77,7 @@ fn terminal_and_reference(mut behind: Words<'_>) -> Option<(usize, u16)>
     }
 }
 
-/// The place of a message or of a terminal, and nothing behind it.
+/// The number of a message or terminal, with nothing after it.
 fn place_alone(mut behind: Words<'_>) -> Option<usize>
     ensures { result ≡ number_behind behind.entry }
 {
@@ -88,14 +88,14 @@ fn place_alone(mut behind: Words<'_>) -> Option<usize>
     }
 }
 
-/// A TEI, and nothing behind it.
+/// A TEI, with nothing after it.
 fn tei_alone(behind: Words<'_>) -> Option<Tei>
     ensures { result ≡ tei_behind behind.entry }
 {
     tei_at(place_alone(behind)?)
 }
 
-/// The TEI of this value, 0 to 127.
+/// The TEI with this value, 0 to 127.
 fn tei_at(number: usize) -> Option<Tei>
     ensures { result ≡ tei_at number }
 {
@@ -106,14 +106,14 @@ fn tei_at(number: usize) -> Option<Tei>
     }
 }
 
-/// The place that a word writes in decimal digits alone.
+/// The number that a word spells in decimal digits.
 fn place_of(word: &[u8]) -> Option<usize>
     ensures { result ≡ number_said word.now }
 {
     Some(number_of(word)? as usize)
 }
 
-/// The reference that a word of four hexadecimal digits writes.
+/// The reference number that a word of four hexadecimal digits spells.
 fn reference_of(word: &[u8]) -> Option<u16>
     ensures { result ≡ reference_of word.now }
 {
@@ -127,7 +127,7 @@ fn reference_of(word: &[u8]) -> Option<u16>
     }
 }
 
-/// The value of a hexadecimal digit of either case.
+/// The value of a hexadecimal digit in either case.
 fn digit_value(octet: u8) -> Option<u16>
     ensures value { result ≡ digit_value octet }
     ensures range { IfSome result (λ value. value < 16) }

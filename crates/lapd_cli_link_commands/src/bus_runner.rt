@@ -12,18 +12,20 @@ use lapd_tei::{Bus, BusFault, BusMove};
 use std::alloc::Global;
 use std::io::{Read, Write};
 
-/// A bus that goes over a script line by line.
+/// A bus that executes a script line by line.
 #[derive(Drop)]
 struct BusRunner {
     bus: Bus,
 }
 
-/// Goes over a script of moves as a bus of so many terminals, 1 to 127 in the program, all without a TEI, and writes what
-/// the script calls for: a line for each message that is sent and for what became of a TEI, or of why a move is refused.
+/// Executes a script on a bus of `terminals` terminals without a TEI (the program allows 1 to 127)
+/// and the network side. Writes a line for each message sent, for each change of a TEI, and for
+/// each refused move.
 ///
 /// # Errors
 ///
-/// `BadLine` at the first line that is none of the command's, `Device` where a read or a write fails, and `Memory`.
+/// `BadLine` at the first line that is not valid, `Device` if a read or a write fails, `Memory` if
+/// an allocation fails.
 pub fn bus<R: Read, W: Write>(
     alloc: Global,
     script: &mut R,
@@ -62,7 +64,7 @@ impl BusRunner {
     ghost use Rattle.lapd_tei.specs.Bus.{BusState};
     ghost use Rattle.lapd_cli_link_commands.specs.Bus.{made};
 
-    /// Makes a move, and prints what it gives.
+    /// Makes a move, and prints its outputs.
     fn make<W: Write>(&mut self, m: BusMove, out: &mut W) -> Result<(), LineFault>
         ensures { (b : BusState) → self.old.bus ≡ b
             → LineEndsAs (λ runner c. runner.bus ≡ c) (Some (made b m)) result self.new

@@ -1,4 +1,4 @@
-//! Frames that go out through a port and have to come back by it.
+//! Frames that are sent through a port and must be received from it unchanged.
 
 ghost use Rattle.std.specs.Prelude.{◌≡◌, ◌∷◌, [], length, map, OnOk, IsOkUnless};
 ghost use Rattle.lapd_port.specs.SocketText.{IsFrameLength};
@@ -11,11 +11,11 @@ use lapd_port::{LEAST_OCTETS, MOST_OCTETS, Port, Sink, Source};
 /// The octets of one frame.
 pub(crate) type FrameOctets = ArrayVec<u8, MOST_OCTETS>;
 
-/// All these frames cross, one after another: each comes back before the next one goes.
+/// Sends these frames one after another, and receives each before it sends the next.
 ///
 /// # Errors
 ///
-/// `Device`, where one does not cross.
+/// `Device` if one of them is not received unchanged.
 pub(crate) fn cross_all<S: Source, K: Sink>(
     port: &mut Port<S, K>,
     frames: &[FrameOctets],
@@ -32,12 +32,12 @@ pub(crate) fn cross_all<S: Source, K: Sink>(
     Ok(())
 }
 
-/// A frame goes out through the port, and the next one that comes in has to be the same.
+/// Sends a frame through the port; the next frame received must be the same.
 ///
 /// # Errors
 ///
-/// `Device`, where a call of the port answers a fault, or another frame comes in. So too for octets that no frame has, too
-/// few or too many.
+/// `Device` if the port reports a fault, if another frame is received, or if the number of octets
+/// is out of a frame's range.
 fn cross<S: Source, K: Sink>(port: &mut Port<S, K>, frame: &[u8]) -> Result<(), LineFault>
     ensures ok { OnOk result
         (HaveCrossed (S.rest port.old.source) (S.rest port.new.source) (K.written port.old.sink)

@@ -1,13 +1,17 @@
 //! The commands of the program `lapd`, over any reader and writer.
 //!
-//! [`answer`] goes over a script as one end of a data link of the ISDN D channel (ITU-T Q.921), and prints what each line
-//! calls for: begin with the definition `answer_word` in specs/Answer.antt, which has a row for each word. [`pair`] goes over
-//! a script of moves as two ends and the line between them: `move_named` in specs/Moves.antt has a row for each word, and
-//! `pair_step` in specs/Pair.antt for the word `settle`. [`Mover`] makes the moves alone. [`loop_over`] is the command
-//! `loop`: two ends whose frames go out through a port and have to come back by it (`loop_step` in specs/LoopState.antt).
-//! [`bus`] goes over a script of moves as several terminals without a fixed TEI and
-//! the network side that assigns TEIs (Q.921 5.3): `bus_line` in specs/Bus.antt. All end as a script of `lapd_cli_script`
-//! ends.
+//! - [`answer`] executes a script on one end of a data link of the ISDN D channel (ITU-T Q.921),
+//!   and prints the outputs of each line. Begin with the definition `answer_word` in
+//!   specs/Answer.antt, which has a row for each word.
+//! - [`pair`] executes a script of moves on two ends and the line between them: `move_named` in
+//!   specs/Moves.antt has a row for each word, and `pair_step` in specs/Pair.antt one for the word
+//!   `settle`. [`Mover`] makes the moves alone.
+//! - [`loop_over`] is the command `loop`: two ends whose frames are sent through a port and must be
+//!   received from it unchanged (`loop_step` in specs/LoopState.antt).
+//! - [`bus`] executes a script of moves on several terminals without a fixed TEI and the network
+//!   side that assigns TEIs (Q.921 5.3): `bus_line` in specs/Bus.antt.
+//!
+//! Each ends as [`lapd_cli_script::walk`] does.
 #![tactic(auto)]
 
 mod answerer;

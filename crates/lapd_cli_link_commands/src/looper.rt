@@ -1,4 +1,4 @@
-//! The command `loop`: two ends whose frames go through a port.
+//! The command `loop`: two ends whose frames pass through a port.
 
 ghost use Rattle.std.specs.Prelude.{◌≡◌, IfSome, OnOk, drop};
 ghost use Rattle.lapd_cli_script.specs.Script.{lines_of};
@@ -15,20 +15,20 @@ use lapd_port::{Port, Sink, Source};
 use std::alloc::Global;
 use std::io::{Read, Write};
 
-/// Two ends with the line between them, and the port that its frames cross.
+/// Two ends with the line between them, and the port that its frames pass through.
 struct Looper<S, K> {
     mover: Mover,
     port: Port<S, K>,
 }
 
-/// Goes over a script of moves as [`crate::pair`] does, and prints the same; `settle` is no line of it. Each frame
-/// that a line of the script puts on the line goes out through the port before the next line is done, and has to come back
-/// by it. The port is handed back.
+/// Executes a script of moves and prints the same as [`crate::pair`], but without the line
+/// `settle`. Each frame that a line of the script puts on the line is sent through the port, and
+/// must be received from it unchanged, before the next line is executed. The port is returned.
 ///
 /// # Errors
 ///
-/// As [`crate::pair`], and `Device` where a call of the port answers a fault, or another frame comes back. What the
-/// line calls for is printed then.
+/// As for [`crate::pair`], and `Device` if the port reports a fault or another frame is received.
+/// The output of that line has been written.
 pub fn loop_over<R: Read, W: Write, S: Source, K: Sink>(
     alloc: Global,
     script: &mut R,
@@ -58,7 +58,7 @@ pub fn loop_over<R: Read, W: Write, S: Source, K: Sink>(
     }
 }
 
-/// How many frames stand on the line in each direction.
+/// The number of frames on the line in each direction.
 #[derive(Clone, Copy)]
 struct OnLine {
     to_user: usize,
@@ -79,7 +79,7 @@ impl<S: Source, K: Sink> Command for Looper<S, K> {
         let before = self.on_line();
         self.mover.run(line, out)?;
         let Ok(()) = self.cross(before) else {
-            // No walk does it after a device fault.
+            // `walk` does not flush after a device fault.
             out.flush()?;
             return Err(LineFault::Device);
         };
@@ -94,7 +94,7 @@ impl<S: Source, K: Sink> Looper<S, K> {
     ghost use Rattle.lapd_cli_link_commands.specs.Loop.{line_to};
     ghost use Rattle.lapd_pair_laws.specs.World.{World};
 
-    /// How many frames stand on the line.
+    /// The number of frames now on the line.
     fn on_line(&self) -> OnLine
         ensures to_user { (w : World) → IsMover self.now.mover w
             → result.to_user ≡ length (line_to User w) }
@@ -108,11 +108,11 @@ impl<S: Source, K: Sink> Looper<S, K> {
         }
     }
 
-    /// The frames behind as many as these cross.
+    /// Sends the frames after the first `before` of each direction through the port.
     ///
     /// # Errors
     ///
-    /// `Device`, where one does not cross.
+    /// `Device` if one of them is not received unchanged.
     fn cross(&mut self, before: OnLine) -> Result<(), LineFault>
         ensures ok { (w : World) → IsMover self.old.mover w
             → OnOk result (HaveCrossed (S.rest self.old.port.source) (S.rest self.new.port.source)
@@ -133,7 +133,7 @@ impl<S: Source, K: Sink> Looper<S, K> {
     }
 }
 
-/// The frames behind so many.
+/// The frames after the first `count`.
 fn behind(frames: &[FrameOctets], count: usize) -> &[FrameOctets]
     ensures { result.now ≡ drop count frames.now }
 {

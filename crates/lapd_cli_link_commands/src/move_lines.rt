@@ -1,4 +1,4 @@
-//! The lines of what the moves of two ends give.
+//! The printed lines of the moves of two ends.
 
 ghost use Rattle.std.specs.Prelude.{◌≡◌, ◌∷◌, ◌++◌, IsOkUnless, OnOk};
 ghost use Rattle.lapd_cli_link_commands.specs.Answer.{messages_of};
@@ -17,12 +17,12 @@ use lapd_link::Out;
 use lapd_pair::Pair;
 use std::alloc::Global;
 
-/// Makes the text of the outputs of a move of this side, which is done and sent this unit data, in place of what the text
-/// was.
+/// Replaces `text` by the lines of the outputs of a move of this side, in which it sent the unit
+/// data `unit`.
 ///
 /// # Errors
 ///
-/// `Memory`.
+/// `Memory` if an allocation fails.
 pub(crate) fn write_lines(
     alloc: Global,
     pair: &Pair,
@@ -43,7 +43,7 @@ pub(crate) fn write_lines(
     Ok(())
 }
 
-/// The octets that the outputs of this side speak of, which sent this unit data.
+/// The octets that this side's outputs refer to, if it sent the unit data `unit`.
 fn spoken_of<'a>(pair: &'a Pair, side: Side, unit: &'a [u8]) -> Spoken<'a>
     ensures { (w : World) → PairStandsFor pair.now w
         → result ≡ spoken_of (view_of side w).station.history unit.now }
@@ -61,7 +61,7 @@ fn spoken_of<'a>(pair: &'a Pair, side: Side, unit: &'a [u8]) -> Spoken<'a>
     }
 }
 
-/// Adds the line of an output of this side, where it has one. Timers are not told.
+/// Appends the line of this side's output, if it has one. Timers are not printed.
 fn push_line(
     alloc: Global,
     pair: &Pair,
@@ -82,7 +82,7 @@ fn push_line(
     }
 }
 
-/// Adds a frame that this side sends, as a trace line.
+/// Appends the trace line of a frame that this side sends.
 fn push_frame(
     alloc: Global,
     side: Side,
@@ -102,7 +102,7 @@ fn push_frame(
     Ok(())
 }
 
-/// Adds the name of the side, a space and what it is told.
+/// Appends a report to this side: the side's name, a space and the report.
 fn push_phrase(side: Side, phrase: &Phrase<'_>, text: &mut Vec<u8>) -> Result<(), LineFault>
     ensures ok { OnOk result
         (text.new.items ≡ text.old.items ++ name_of side ++ (32 ∷ phrase_line phrase.now)) }

@@ -1,4 +1,4 @@
-//! Two ends and the line between them, on which a script makes the moves.
+//! Two ends and the line between them, driven by the moves of a script.
 
 ghost use Rattle.std.specs.Prelude.{◌≡◌, IsOkUnless, OnOk};
 ghost use Rattle.std.specs.Io.KnownBytes.{Appends};
@@ -18,8 +18,8 @@ use lapd_pair::{Move, Pair, PairFault, Settled};
 use std::alloc::{AllocError, Global};
 use std::io::Write;
 
-/// Two ends of a link and the line between them, which make the moves of a script, a line each, by [`Command::run`]. It has
-/// room for the outputs and the text of one move, which is used again for the next.
+/// Two ends of a link and the line between them. [`Command::run`] makes the move of one line. It
+/// reuses its buffers for the outputs and the text of a move.
 #[derive(Drop)]
 pub struct Mover {
     alloc: Global,
@@ -32,11 +32,11 @@ impl Mover {
     ghost use Rattle.std.specs.Prelude.{IfOk};
     ghost use Rattle.lapd_pair.specs.Runs.{PairStandsFor};
 
-    /// Two ends in state 4, with nothing on the line.
+    /// Two ends in state 4, with an empty line between them.
     ///
     /// # Errors
     ///
-    /// `AllocError` where the memory of an I queue was refused.
+    /// `AllocError` if an I queue can't be allocated.
     pub fn new(alloc: Global, user: Params, network: Params) -> Result<Mover, AllocError>
         ensures { IfOk result (λ mover. IsMover mover (new_world user network)) }
     {
@@ -51,7 +51,7 @@ impl Mover {
         })
     }
 
-    /// The two ends and their line.
+    /// The two ends and the line between them.
     pub fn pair(&self) -> &Pair
         ensures { (w : World) → IsMover self.now w → PairStandsFor result.now w }
     {
@@ -80,7 +80,7 @@ impl Mover {
     ghost use Rattle.lapd_cli_script.specs.Script.{LineEndsAs};
     ghost use Rattle.lapd_pair_laws.specs.World.{view_of};
 
-    /// Makes a move, and prints what it comes to.
+    /// Makes a move, and prints its outputs or why it is refused.
     fn make<W: Write>(&mut self, deed: &Move, out: &mut W) -> Result<(), LineFault>
         ensures { (w : World) → IsMover self.old w
             → LineEndsAs IsMover (Some (move_made w (move_of deed.now))) result self.new
@@ -107,7 +107,7 @@ impl Mover {
         }
     }
 
-    /// Makes the moves by which the line settles, and prints how many they are.
+    /// Makes the moves that settle the line, and prints their number.
     pub(crate) fn settle<W: Write>(&mut self, out: &mut W) -> Result<(), LineFault>
         ensures { (w : World) → IsMover self.old w
             → LineEndsAs IsMover (Some (settle_made w)) result self.new
@@ -119,11 +119,11 @@ impl Mover {
         }
     }
 
-    /// Prints where both sides are in the end, and hands it to the device.
+    /// Prints the final state of both sides, and flushes the writer.
     ///
     /// # Errors
     ///
-    /// `Device`, where a write or the flush fails.
+    /// `Device` if a write or the flush fails.
     pub fn close<W: Write>(&self, out: &mut W) -> Result<(), ScriptFault>
         ensures ok { (w : World) → IsMover self.now w
             → OnOk result (Appends (W.contents out.old) (W.contents out.new) (closing_lines w)) }
@@ -141,7 +141,7 @@ impl Mover {
         Ok(())
     }
 
-    /// Prints where a side is in the end, and how many messages it was given, received, and saw acknowledged or dropped.
+    /// Prints the closing line of a side.
     fn put_closing<W: Write>(&self, side: Side, out: &mut W) -> Result<(), LineFault>
         ensures ok { (w : World) → IsMover self.now w
             → OnOk result
@@ -152,7 +152,7 @@ impl Mover {
         put_figures(side, self.figures(side), out)
     }
 
-    /// Where a side is, and how many messages it was given, received, and saw acknowledged or dropped.
+    /// The state of a side, and its messages: submitted, received, acknowledged and dropped.
     fn figures(&self, side: Side) -> Figures
         ensures { (w : World) → IsMover self.now w → result ≡ figures_of (view_of side w).station }
     {
@@ -166,7 +166,7 @@ impl Mover {
     }
 }
 
-/// What is printed of a side at the end: its state, and numbers of messages.
+/// The figures in a side's closing line: its state, and numbers of messages.
 #[derive(Clone, Copy)]
 struct Figures {
     state: u8,
@@ -197,7 +197,7 @@ fn put_figures<W: Write>(side: Side, figures: Figures, out: &mut W) -> Result<()
     Ok(())
 }
 
-/// Prints how many moves were made, and whether none is possible any more.
+/// Prints the number of moves made, and `rest` if no further move is possible.
 fn put_settled<W: Write>(settled: Settled, out: &mut W) -> Result<(), LineFault>
     ensures ok { OnOk result
         (Appends (W.contents out.old) (W.contents out.new)
@@ -223,7 +223,7 @@ fn unit_of(deed: &Move) -> &[u8]
     }
 }
 
-/// The name of a side, as scripts have it.
+/// The name of a side in scripts.
 fn side_name(side: Side) -> &'static str
     ensures { result.now ≡ name_of side }
 {
@@ -233,7 +233,8 @@ fn side_name(side: Side) -> &'static str
     }
 }
 
-/// Prints that T200 may not expire yet, for the frame at this place on its way to this side.
+/// Prints that T200 can't expire yet, because of the frame at index `place` on its way to side
+/// `to`.
 fn put_not_yet<W: Write>(to: Side, place: usize, out: &mut W) -> Result<(), LineFault>
     ensures ok { OnOk result
         (Appends (W.contents out.old) (W.contents out.new) (not_admitted (NotYet to place))) }

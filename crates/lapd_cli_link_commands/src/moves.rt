@@ -1,4 +1,4 @@
-//! The moves that the lines of a script name.
+//! The moves that a script's lines name.
 
 ghost use Rattle.std.specs.Prelude.{◌≡◌, None, Some};
 ghost use Rattle.lapd_cli_link_commands.specs.Moves.{bare_move, busy_move, move_named, move_of_line, side_named};
@@ -11,11 +11,11 @@ use lapd_frame::Side;
 use lapd_pair::Move;
 use std::alloc::Global;
 
-/// Reads the move that a line names: a word, a side, and what the word wants behind it.
+/// Reads the move that a line names: a word, a side, and the word's arguments.
 ///
 /// # Errors
 ///
-/// `Bad` where the line names no move, and `Memory`.
+/// `Bad` if the line does not name a move, `Memory` if an allocation fails.
 pub fn read_move(alloc: Global, line: &[u8]) -> Result<Move, LineFault>
     ensures { Reads move_of result (move_of_line line.now) }
 {
@@ -32,7 +32,7 @@ pub fn read_move(alloc: Global, line: &[u8]) -> Result<Move, LineFault>
     }
 }
 
-/// The side of this name.
+/// The side with this name.
 fn side_of(name: &[u8]) -> Option<Side>
     ensures { result ≡ side_named name.now }
 {
@@ -43,7 +43,7 @@ fn side_of(name: &[u8]) -> Option<Side>
     }
 }
 
-/// The move that a word names, with the words behind its side.
+/// The move of a word, a side and the words after the side.
 fn move_by(alloc: Global, word: &[u8], side: Side, behind: Words<'_>) -> Result<Move, LineFault>
     ensures { Reads move_of result (move_named word.now side behind.entry) }
 {
@@ -72,7 +72,7 @@ fn move_by(alloc: Global, word: &[u8], side: Side, behind: Words<'_>) -> Result<
     }
 }
 
-/// This move, where nothing stands behind.
+/// This move, if nothing is left.
 fn alone(behind: Words<'_>, deed: Move) -> Result<Move, LineFault>
     ensures { Reads move_of result
         (bare_move (move_of deed).side (move_of deed).deed behind.entry) }
@@ -81,7 +81,7 @@ fn alone(behind: Words<'_>, deed: Move) -> Result<Move, LineFault>
     Ok(deed)
 }
 
-/// The receiver of this side becomes busy, or is no longer.
+/// This side's receiver becomes busy, or stops being busy.
 fn busy(mut behind: Words<'_>, side: Side) -> Result<Move, LineFault>
     ensures { Reads move_of result (busy_move side behind.entry) }
 {

@@ -1,4 +1,4 @@
-//! The lines that `answer` prints of what a link's steps give.
+//! The lines that `answer` prints for a link's outputs.
 
 ghost use Rattle.std.specs.Prelude.{◌≡◌, IsOkUnless, OnOk};
 ghost use Rattle.std.specs.Io.KnownBytes.{Appends};
@@ -14,11 +14,11 @@ use lapd_frame::{Frame, MOST_OCTETS, Side, write};
 use lapd_link::{Link, LinkFault, Out};
 use std::io::Write;
 
-/// Prints the outputs of a link's last step, to which these octets were handed.
+/// Prints the outputs of a link's last step, in which the octets `handed` were passed to the link.
 ///
 /// # Errors
 ///
-/// `Device`, where the writer fails.
+/// `Device` if the writer fails.
 pub fn put_outs<W: Write>(
     link: &Link,
     handed: &[u8],
@@ -62,7 +62,7 @@ fn put_out<W: Write>(
     }
 }
 
-/// Prints a frame that goes out.
+/// Prints a frame that is sent.
 fn put_send<W: Write>(frame: &Frame<'_>, side: Side, out: &mut W) -> Result<(), LineFault>
     ensures ok { OnOk result
         (Appends (W.contents out.old) (W.contents out.new) (send_line side frame.now)) }
@@ -77,7 +77,7 @@ fn put_send<W: Write>(frame: &Frame<'_>, side: Side, out: &mut W) -> Result<(), 
 ///
 /// # Errors
 ///
-/// `Device`, where the writer fails.
+/// `Device` if the writer fails.
 pub fn put_refusal<W: Write>(fault: LinkFault, out: &mut W) -> Result<(), LineFault>
     ensures ok { OnOk result
         (Appends (W.contents out.old) (W.contents out.new) (refusal_line fault)) }

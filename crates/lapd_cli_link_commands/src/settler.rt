@@ -1,4 +1,5 @@
-//! The command `pair`: the moves of a script on two ends and the line between them, and the word `settle`.
+//! The command `pair`: two ends and the line between them, driven by the moves of a script and the
+//! word `settle`.
 
 ghost use Rattle.std.specs.Prelude.{IfSome};
 ghost use Rattle.lapd_cli_link_commands.specs.Pair.{PairEndsAs};
@@ -13,20 +14,21 @@ use lapd_link::Params;
 use std::alloc::Global;
 use std::io::{Read, Write};
 
-/// What makes the moves of a script, and lets the line settle.
+/// Two ends that also execute the word `settle`.
 #[derive(Drop)]
 struct Settler {
     mover: Mover,
 }
 
-/// Goes over a script of moves of two ends of SAPI 0 and TEI 64, made with these parameters, and writes what they call
-/// for: a line for each frame, primitive and report, or why a move is refused. A line `settle` makes the moves of
-/// [`lapd_pair::Pair::settle`], and how many they are is written. Behind a script that is done to its end comes a line for
-/// each side, of its state and its messages.
+/// Executes a script of moves on two ends of SAPI 0 and TEI 64, with these parameters. Writes a
+/// line for each frame, primitive and report, or why a move is refused. The line `settle` makes the
+/// moves of [`lapd_pair::Pair::settle`] and writes their number. After a complete script it writes
+/// a closing line for each side, with its state and its messages.
 ///
 /// # Errors
 ///
-/// `BadLine` at the first line that is none of the command's, `Device` where a read or a write fails, and `Memory`.
+/// `BadLine` at the first line that is not valid, `Device` if a read or a write fails, `Memory` if
+/// an allocation fails.
 pub fn pair<R: Read, W: Write>(
     alloc: Global,
     script: &mut R,
@@ -46,7 +48,7 @@ pub fn pair<R: Read, W: Write>(
     }
 }
 
-/// Goes over the script, and prints where both sides are in the end.
+/// Executes the script, and then prints the closing lines.
 fn walk_to_close<R: Read, W: Write>(
     alloc: Global,
     settler: &mut Settler,

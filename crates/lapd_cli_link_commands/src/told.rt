@@ -1,4 +1,4 @@
-//! What the outputs of a link come to for a reader.
+//! The printed form of a link's outputs.
 
 ghost use Rattle.std.specs.Prelude.{◌≡◌, OnOk, IsOkUnless};
 ghost use Rattle.std.specs.Io.KnownBytes.{Appends};
@@ -15,14 +15,14 @@ use lapd_sides_links::told_word;
 use std::io::Write;
 use std::marker::Model;
 
-/// The octets that the outputs of a step speak of.
+/// The octets that a step's outputs refer to.
 #[derive(Drop)]
 pub(crate) struct Spoken<'a> {
-    /// The message that goes up to layer 3.
+    /// The message delivered to layer 3.
     pub message: &'a [u8],
-    /// The unit data that go up to layer 3.
+    /// The unit data delivered to layer 3.
     pub unit: &'a [u8],
-    /// The unit data that are sent.
+    /// The unit data sent.
     pub sent: &'a [u8],
 }
 
@@ -34,34 +34,34 @@ impl<'a> Model for Spoken<'a> {
     ghost view = { λ s. record { message = s.message.now; unit = s.unit.now; sent = s.sent.now } };
 }
 
-/// What an output of a link comes to for a reader.
+/// The printed form of one output of a link.
 #[derive(Drop)]
 pub(crate) enum Told<'a> {
     /// A frame is sent.
     Sent(Frame<'a>),
-    /// Layer 3 or management is told this.
+    /// A primitive to layer 3, or a report to management.
     Primitive(Phrase<'a>),
     /// A timer is started or stopped.
     Timer(Phrase<'a>),
-    /// A frame was to be sent, and there is none. No step gives such an output.
+    /// A frame was to be sent, but does not exist. No step produces such an output.
     Nothing,
 }
 
-/// A word, and what stands behind it, parted by a space.
+/// A word, and its argument after a space.
 #[derive(Drop)]
 pub(crate) enum Phrase<'a> {
-    /// Nothing.
+    /// No argument.
     Alone(&'static str),
     /// The digits of octets.
     Octets(&'static str, &'a [u8]),
-    /// A number.
+    /// A decimal number.
     Number(&'static str, u64),
-    /// The name of a timer or of a report.
+    /// The name of a timer or a report.
     Name(&'static str, &'static str),
 }
 
 impl<'a> Told<'a> {
-    /// What an output of the link's last step comes to.
+    /// The printed form of an output of the link's last step.
     pub fn of(link: &'a Link, spoken: &Spoken<'a>, output: &Out) -> Told<'a>
         ensures { (e : End) → LinkStandsFor link.now e → told_of result
             ≡ made_told (setup_of link.now) (messages_of e) spoken.now output.now }
@@ -73,7 +73,7 @@ impl<'a> Told<'a> {
     }
 }
 
-/// What an output comes to that has no frame.
+/// The printed form of an output without a frame.
 fn told_unsent<'a>(spoken: &Spoken<'a>, output: &Out) -> Told<'a>
     ensures { told_of result ≡ told_unsent spoken.now output.now }
 {
@@ -94,11 +94,11 @@ fn told_unsent<'a>(spoken: &Spoken<'a>, output: &Out) -> Told<'a>
     }
 }
 
-/// Prints a line of a word and what stands behind it.
+/// Prints a line of a word and its argument.
 ///
 /// # Errors
 ///
-/// `Device`, where the writer fails.
+/// `Device` if the writer fails.
 pub(crate) fn put_phrase<W: Write>(phrase: &Phrase<'_>, out: &mut W) -> Result<(), LineFault>
     ensures ok { OnOk result
         (Appends (W.contents out.old) (W.contents out.new) (phrase_line phrase.now)) }

@@ -1,4 +1,4 @@
--- What the words of the command line choose.
+-- The meaning of the command line's words.
 use Rattle.std.specs.Prelude.{◌≡◌, false, None}
 use Rattle.lapd_frame.specs.declared.Side.TheVariants.{Network}
 use Rattle.lapd_frame.specs.declared.Sapi.TheVariants.{Call}
@@ -10,11 +10,11 @@ use Rattle.lapd_cli_options.specs.declared.invocation.Clock.TheVariants.{Script}
 use Rattle.lapd_cli_options.specs.declared.invocation.Job.{Job}
 use Rattle.lapd_cli_options.specs.declared.invocation.Job.TheVariants.{Answer}
 
--- the window of basic access for call control, its N200, and room for 512 messages
+-- at basic access for call control: a window of 1, N200 = 3, and an I queue of 512 messages
 abbrev pub default_parameters : Parameters
 default_parameters = record { k = 1; n200 = 3; room = 512; recovery = Enquiry }
 
--- with no word: the network side of the link with SAPI 0 and TEI 64
+-- without words: the network side of the link with SAPI 0 and TEI 64
 pub record IsDefaultEnd (end : LinkEnd) : Type 0 where
   pub side : end.side ≡ Network
   pub sapi : end.sapi ≡ Call

@@ -1,4 +1,4 @@
-//! By which clock `net` or `user` goes, as the parser found it.
+//! The clock of `net` or `user`, from the parsed options.
 
 use crate::invocation::{Clock, LiveOptions};
 use crate::no_invocation::NoInvocation;
@@ -6,13 +6,13 @@ use crate::script_command::ScriptCommand;
 use clap::ArgMatches;
 use lapd_cli_values::{CONNECTED_TERMINALS, GSMTAP, IDLE_LIMIT, number_written, terminals_written};
 
-// The flags that go with the real clock.
+// The flags that require the real clock.
 const REAL_FLAGS: [&str; 4] = ["time", "quiet", "serve", "keep"];
 
-// The options with a value that do.
+// The options with a value that require the real clock.
 const REAL_OPTIONS: [&str; 4] = ["pcap", "gsmtap", "terminals", "idle-limit"];
 
-/// The clock that was chosen for this command.
+/// The clock of this command.
 pub(crate) fn clock_of<'a>(
     command: ScriptCommand,
     given: &ArgMatches<'a>,
@@ -23,7 +23,7 @@ pub(crate) fn clock_of<'a>(
     }
 }
 
-// The clock of a side. What goes with the real one is refused without it.
+// The clock of a side. Options that require the real clock are refused without it.
 fn side_clock_of<'a>(given: &ArgMatches<'a>) -> Result<Clock<'a>, NoInvocation<'a>> {
     if given.get_str("clock") == Some("real") {
         return Ok(Clock::Real(live_options_of(given)?));
@@ -34,7 +34,7 @@ fn side_clock_of<'a>(given: &ArgMatches<'a>) -> Result<Clock<'a>, NoInvocation<'
     }
 }
 
-// The first option that was given of those that go with the real clock.
+// The first option present that requires the real clock.
 fn real_option_of(given: &ArgMatches<'_>) -> Option<&'static str> {
     for flag in REAL_FLAGS {
         if given.get_flag(flag) {
@@ -49,7 +49,7 @@ fn real_option_of(given: &ArgMatches<'_>) -> Option<&'static str> {
     None
 }
 
-// What goes with the real clock.
+// The options of the real clock.
 fn live_options_of<'a>(given: &ArgMatches<'a>) -> Result<LiveOptions<'a>, NoInvocation<'a>> {
     let terminals = terminals_of(given)?;
     Ok(LiveOptions {
@@ -64,7 +64,7 @@ fn live_options_of<'a>(given: &ArgMatches<'a>) -> Result<LiveOptions<'a>, NoInvo
     })
 }
 
-// How many terminals the network side takes.
+// The number of terminals that the network side accepts.
 fn terminals_of<'a>(given: &ArgMatches<'a>) -> Result<u8, NoInvocation<'a>> {
     match given.get_str(CONNECTED_TERMINALS.name) {
         Some(written) => Ok(terminals_written(written)?),
@@ -72,7 +72,8 @@ fn terminals_of<'a>(given: &ArgMatches<'a>) -> Result<u8, NoInvocation<'a>> {
     }
 }
 
-// How long a terminal may send no whole frame, in milliseconds. One connection alone has no such limit.
+// How long a terminal may go without sending a whole frame, in milliseconds. With only one terminal
+// the option is refused.
 fn idle_limit_of<'a>(
     given: &ArgMatches<'a>,
     terminals: u8,
@@ -84,7 +85,7 @@ fn idle_limit_of<'a>(
     }
 }
 
-// The address that frames are sent to as GSMTAP.
+// The address to which frames are sent as GSMTAP.
 fn gsmtap_of<'a>(given: &ArgMatches<'a>) -> Result<Option<&'a str>, NoInvocation<'a>> {
     let Some(written) = given.get_str(GSMTAP.name) else {
         return Ok(None);

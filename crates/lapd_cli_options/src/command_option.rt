@@ -1,4 +1,4 @@
-//! An option of a command, and how the parser takes it.
+//! The options of a command, as arguments of the parser.
 
 use clap::{Arg, ArgAction};
 use lapd_cli_values::{AddressOption, NumberOption};
@@ -7,41 +7,41 @@ use std::alloc::Global;
 /// An option of a command.
 #[derive(Clone, Copy)]
 pub(crate) enum CommandOption {
-    /// One of this name that takes no value, and what it is for.
+    /// A flag: its name and its help text.
     Flag(&'static str, &'static str),
-    /// One of this name that takes a file, and what it is for.
+    /// An option with a file: its name and its help text.
     File(&'static str, &'static str),
-    /// One that takes a word of some.
+    /// An option with one of a few words.
     Word(WordOption),
-    /// One that takes a number.
+    /// An option with a number.
     Number(NumberOption),
-    /// One that takes a number and has no default.
+    /// An option with a number and no default.
     BareNumber(NumberOption),
-    /// One that takes a number, has no default, and may be given several times.
+    /// An option with a number and no default, which may be repeated.
     Numbers(NumberOption),
-    /// One that takes an address.
+    /// An option with an address.
     Address(AddressOption),
-    /// One that takes an address, and has to be given.
+    /// A required option with an address.
     RequiredAddress(AddressOption),
 }
 
-/// An option that takes a word of some.
+/// An option whose value is one of a few words.
 #[derive(Clone, Copy)]
 pub(crate) struct WordOption {
-    /// Its long name, without the hyphens.
+    /// The long name, without the hyphens.
     pub name: &'static str,
-    /// What stands for the word in the help.
+    /// The placeholder for the word in the help.
     pub value_name: &'static str,
-    /// What it is for.
+    /// The help text.
     pub help: &'static str,
     /// The words.
     pub words: &'static [&'static str],
-    /// The word where the option is not given.
+    /// The word if the option is absent.
     pub default: &'static str,
 }
 
-/// The option as the parser takes it. The parser takes any text for a number or an address, so that the fault of one can be
-/// told in words of its own.
+/// The option as an argument of the parser. The parser accepts any text for a number or an address;
+/// a bad one is reported later, in this crate's own words.
 pub(crate) fn arg_of<'a>(alloc: Global, option: &CommandOption) -> Arg<'a> {
     match option {
         CommandOption::Flag(name, help) => flag(alloc, name, help),
@@ -55,12 +55,12 @@ pub(crate) fn arg_of<'a>(alloc: Global, option: &CommandOption) -> Arg<'a> {
     }
 }
 
-// An option of this name that takes no value.
+// An option with this name and no value.
 fn flag<'a>(alloc: Global, name: &'static str, help: &'static str) -> Arg<'a> {
     named_arg(alloc, name, help).action(ArgAction::SetTrue)
 }
 
-// An option of this name that takes a value, with what stands for the value in the help, and what it is for.
+// An option with this name and a value, with the value's placeholder and the help text.
 fn value_arg<'a>(
     alloc: Global,
     name: &'static str,
@@ -72,7 +72,7 @@ fn value_arg<'a>(
         .action(ArgAction::Set)
 }
 
-// An option of this name, with what it is for.
+// An option with this name and this help text.
 fn named_arg<'a>(alloc: Global, name: &'static str, help: &'static str) -> Arg<'a> {
     Arg::new(alloc, name).long(name).help(help)
 }
@@ -87,7 +87,8 @@ fn number_arg<'a>(alloc: Global, option: &NumberOption) -> Arg<'a> {
     bare_number_arg(alloc, option).default_value(option.default)
 }
 
-// A number may look like an option, where it is written with a minus: its own words tell then that it is none.
+// Accepts a number with a minus, which looks like an option, so that it is reported as a bad
+// number.
 fn bare_number_arg<'a>(alloc: Global, option: &NumberOption) -> Arg<'a> {
     value_arg(alloc, option.name, option.value_name, option.help).allow_negative_numbers(true)
 }

@@ -1,4 +1,4 @@
-//! What the options of a command choose, as the parser found them.
+//! The job of a command, from the parsed options.
 
 ghost use Rattle.std.specs.Prelude.{◌<◌, ◌≢◌, IfOk};
 ghost use Rattle.lapd_frame.specs.declared.Sapi.TheVariants.{Management};
@@ -14,7 +14,7 @@ use lapd_cli_values::{
 };
 use std::alloc::Global;
 
-/// What this command chooses, with its options.
+/// The job of this command with its options.
 pub(crate) fn job_of<'a>(
     alloc: Global,
     command: ScriptCommand,
@@ -68,7 +68,7 @@ fn decode_of(given: &ArgMatches<'_>) -> DecodeOptions {
     }
 }
 
-/// The file that was written for this command, where it takes one in place of a script.
+/// The file that replaces the script of this command, if the option is present.
 pub(crate) fn pcap_of<'a>(command: ScriptCommand, given: &ArgMatches<'a>) -> Option<&'a str> {
     match command {
         ScriptCommand::Decode => given.get_str("pcap"),
@@ -84,7 +84,7 @@ pub(crate) fn prints_json(command: ScriptCommand, given: &ArgMatches<'_>) -> boo
     }
 }
 
-// What the user side and the network side of `pair` or `loop` are made with.
+// The parameters of the user side and the network side of `pair` or `loop`.
 fn ends_of<'a>(given: &ArgMatches<'a>) -> Result<(Params, Params), NoInvocation<'a>> {
     match params_of(given) {
         Ok(params) => Ok((
@@ -120,7 +120,7 @@ fn sapi_of(given: &ArgMatches<'_>) -> Sapi
     }
 }
 
-// What `net` or `user` is made with.
+// The configuration of `net` or `user`.
 fn interface_of<'a>(alloc: Global, given: &ArgMatches<'a>) -> Result<Interface, NoInvocation<'a>> {
     let options = interface_options_of(given);
     let teis = given.get_strs(KNOWN_TEI.name).unwrap_or(&[]);
@@ -130,7 +130,7 @@ fn interface_of<'a>(alloc: Global, given: &ArgMatches<'a>) -> Result<Interface, 
     }
 }
 
-// What was written for an interface, but for its TEIs.
+// The texts of an interface's options, without its TEIs.
 fn interface_options_of<'a>(given: &ArgMatches<'a>) -> InterfaceOptions<'a> {
     let [t200, t201, t202, t203] = timers_of(given);
     InterfaceOptions {
@@ -148,7 +148,7 @@ fn interface_options_of<'a>(given: &ArgMatches<'a>) -> InterfaceOptions<'a> {
     }
 }
 
-// What was written for the timers, of which T200 is the first.
+// The texts of the timers' options, T200 to T203 in order.
 fn timers_of<'a>(given: &ArgMatches<'a>) -> [&'a str; 4] {
     [
         number_of(given, T200),
@@ -158,12 +158,12 @@ fn timers_of<'a>(given: &ArgMatches<'a>) -> [&'a str; 4] {
     ]
 }
 
-// What was written for this option, or its default.
+// The text of this option, or its default.
 fn number_of<'a>(given: &ArgMatches<'a>, option: NumberOption) -> &'a str {
     given.get_str(option.name).unwrap_or(option.default)
 }
 
-/// The address that was written for this command, where it takes one.
+/// The address in this command's options, if it has one.
 pub(crate) fn address_of<'a>(
     command: ScriptCommand,
     given: &ArgMatches<'a>,
@@ -175,7 +175,7 @@ pub(crate) fn address_of<'a>(
     }
 }
 
-// The address that was written for this option, which the parser requires.
+// The address in this option, which the parser requires.
 fn written_address<'a>(
     given: &ArgMatches<'a>,
     option: AddressOption,

@@ -1,55 +1,55 @@
-//! The texts of the help. The parser puts the usage, the commands and the options between a command's first line and
-//! the text that follows them, which is short with `-h`, and whole with `--help`.
+//! The help texts. The parser inserts the usage, the commands and the options between a command's
+//! first line and the text after them. That text is short with `-h`, and complete with `--help`.
 
-/// What the program is.
+/// The description of the program.
 pub const ABOUT: &str = "LAPD, the data link layer of the ISDN D channel (ITU-T Q.921)";
 
-/// What the command `answer` does.
+/// The description of the command `answer`.
 pub const ANSWER_ABOUT: &str =
     "Answers a script as one end of a link, by default with SAPI 0 and TEI 64";
 
-/// What the command `bus` does.
+/// The description of the command `bus`.
 pub const BUS_ABOUT: &str = "Assigns TEIs to terminals on a bus, by a script of moves";
 
-/// What the command `pair` does.
+/// The description of the command `pair`.
 pub const PAIR_ABOUT: &str =
     "Plays two ends of a link and the line between them, by a script of moves";
 
-/// What the command `loop` does.
+/// The description of the command `loop`.
 pub const LOOP_ABOUT: &str = "As `pair`, with each frame sent over TCP to the program itself";
 
-/// What the command `net` does.
+/// The description of the command `net`.
 pub const NET_ABOUT: &str = "Is the network side of an interface, over TCP, by a script";
 
-/// What the command `user` does.
+/// The description of the command `user`.
 pub const USER_ABOUT: &str = "Is the user side of an interface, over TCP, by a script";
 
-/// What the command `decode` does.
+/// The description of the command `decode`.
 pub const DECODE_ABOUT: &str = "Prints octets as trace lines";
 
-/// What the recovery of `answer` is.
+/// The help of `--recovery`.
 pub const RECOVERY: &str = "What T200 sends in state 7: an enquiry, or the last message again";
 
-/// What the recovery of the user side of `pair` and `loop` is.
+/// The help of `--recovery-user`, of `pair` and `loop`.
 pub const RECOVERY_USER: &str =
     "What T200 of the user side sends in state 7: an enquiry, or the last message again";
 
-/// What the recovery of the network side of `pair` and `loop` is.
+/// The help of `--recovery-net`, of `pair` and `loop`.
 pub const RECOVERY_NET: &str =
     "What T200 of the network side sends in state 7: an enquiry, or the last message again";
 
-/// What the SAPI of `answer` is.
+/// The help of `--sapi`, of `answer`.
 pub const SAPI: &str =
     "The SAPI of the link: 0 is call control, 16 is packet communication on the D channel";
 
-/// What makes an interface one at primary rate.
+/// The help of `--pri`.
 pub const PRI: &str =
     "Primary rate: TEI 0 where --tei is not given, a window of 7, and SAPI 16 only with --sapi16";
 
-/// What has packet communication served at primary rate.
+/// The help of `--sapi16`.
 pub const SAPI16: &str = "With --pri, serves SAPI 16 beside SAPI 0, as is done without --pri";
 
-/// What the options of `decode` are for.
+/// The help of the options of `decode`.
 pub const LOOSE: &str =
     "Takes spaces, colons and brackets among the digits, and libpri's own lines";
 
@@ -64,10 +64,10 @@ pub const KEEP_GOING: &str = "Tells a bad line or packet on standard error, and 
 
 pub const PCAP: &str = "Prints the frames of this pcap or pcapng file in place of a script";
 
-/// What the option of a side's lines is for.
+/// The help of `--json`, of `net` and `user`.
 pub const SIDE_JSON: &str = "Prints each line as a JSON object";
 
-/// What the options of the clock are for.
+/// The help of the options of the clock.
 pub const CLOCK: &str =
     "The clock: that of the script, which goes on by tick alone, or the real one";
 
@@ -85,21 +85,21 @@ pub const KEEP: &str =
 pub const LIVE_PCAP: &str =
     "With --clock real, writes each frame into this file, as pcap of link type 177 (LINUX_LAPD)";
 
-/// What the option of all commands is for.
+/// The help of `--strict`.
 pub const STRICT: &str = "Ends with exit status 5 where a line of the script was refused";
 
-/// What ends the short help of the program.
+/// The end of the program's short help.
 pub const SHORT_PROGRAM: &str = "\
 `lapd` alone is `lapd answer --side net`. A script comes on standard input, a line for each thing that
 happens, and is answered on standard output.
 `lapd help COMMAND` lists the lines of a command's script, with examples; `lapd --help` tells more of
 scripts, faults and the exit status.";
 
-/// What ends the short help of each command.
+/// The end of each command's short help.
 pub const SHORT: &str = "\
 The script comes on standard input. `--help` lists its lines, and what is printed for them, with an example.";
 
-/// What all commands share.
+/// The end of the program's long help.
 pub const PROGRAM: &str = "\
 `lapd` alone is `lapd answer --side net`. `lapd help answer`, or `lapd answer --help`, lists the lines
 of a script, and what is printed for them, with examples; so do those of `pair`, `bus`, `net`, `user`
@@ -147,7 +147,7 @@ Exit status:
 The text goes to standard error; of 1, 3 and 5 a second line tells why. Nothing is said where standard
 output is a pipe that nobody reads any more.";
 
-/// The lines of `answer`.
+/// The end of the long help of `answer`.
 pub const ANSWER: &str = "\
 `lapd --help` tells what scripts and HEX are, and has the faults F1 to F7 and the exit status.
 
@@ -258,7 +258,7 @@ The network side, `lapd answer --side net`, answers:
   > released
   > stop T203";
 
-/// The lines of `bus`.
+/// The end of the long help of `bus`.
 pub const BUS: &str = "\
 `lapd --help` tells what scripts and HEX are, and has the exit status.
 
@@ -324,7 +324,7 @@ Example. A line of the script stands behind <, and what is printed for it stands
   < t201
   > net free 64";
 
-/// The lines of `pair`.
+/// The end of the long help of `pair`.
 pub const PAIR: &str = "\
 `lapd --help` tells what scripts and HEX are, and has the exit status. `lapd answer --help` has the
 states, the error codes and the refusals L1 to L5.
@@ -437,7 +437,7 @@ The network side begins anew while the user side is still in state 7, `lapd pair
   > user: state 7, given 0, received 0, acknowledged 0, dropped 0
   > net: state 7, given 0, received 0, acknowledged 0, dropped 0";
 
-/// What `loop` does otherwise than `pair`.
+/// The end of the long help of `loop`.
 pub const LOOP: &str = "\
 `lapd --help` tells what scripts and HEX are, and has the exit status. `lapd pair --help` has the lines
 of the script, what is printed for them, and the refusals: they are the same here, without `settle`.
@@ -471,7 +471,7 @@ A message is sent, `lapd loop`. The connection carries 0003 00817f, 0003 008173,
   > user: state 7, given 1, received 0, acknowledged 1, dropped 0
   > net: state 7, given 0, received 1, acknowledged 0, dropped 0";
 
-/// The lines of `net`.
+/// The end of the long help of `net`.
 pub const NET: &str = "\
 `lapd --help` tells what scripts and HEX are, and has the faults F1 to F7 and the exit status.
 `lapd answer --help` has the states, the error codes and the refusals L1 to L5.
@@ -600,7 +600,7 @@ Example, with the real clock:
   3 0 64 state 7 V(S)=1 V(A)=1 V(R)=0 RC=0 queue=0 T203=10000
   3 16 64 state 4 V(S)=0 V(A)=0 V(R)=0 RC=0 queue=0";
 
-/// The lines of `user`.
+/// The end of the long help of `user`.
 pub const USER: &str = "\
 `lapd --help` tells what scripts and HEX are, and has the faults F1 to F7 and the exit status.
 `lapd answer --help` has the states, the error codes and the refusals L1 to L5.
@@ -707,7 +707,7 @@ Example, with the real clock and the `lapd net` of the example of `lapd net --he
   2 U>N SAPI 0 TEI 64 R RR N(R)=1 F=0
   2 0 64 data 0807";
 
-/// The lines of `decode`.
+/// The end of the long help of `decode`.
 pub const DECODE: &str = "\
 `lapd --help` tells what scripts and HEX are, and has the faults F1 to F7 and the exit status.
 

@@ -2,89 +2,93 @@ ghost use Rattle.lapd_cli_options.specs.CommandLine.{IsDefault};
 
 use lapd_cli_values::{Interface, LinkEnd, Params, Sapi, Side, Tei};
 
-/// What the program's words choose.
+/// The meaning of the program's words.
 #[derive(Drop)]
 pub struct Invocation<'a> {
-    /// What the program is to do.
+    /// The program's job.
     pub job: Job,
-    /// The address and port that were written for `net` or `user`, as they stand.
+    /// The address and port of `net` or `user`, unchanged from the command line.
     pub address: Option<&'a str>,
-    /// The file that was written for `decode --pcap`, as it stands.
+    /// The file of `decode --pcap`, unchanged from the command line.
     pub pcap: Option<&'a str>,
-    /// By which clock `net` or `user` goes.
+    /// The clock of `net` or `user`.
     pub clock: Clock<'a>,
-    /// Whether `net` or `user` prints each line as a JSON object. `decode` has its own.
+    /// Whether `net` or `user` prints each line as a JSON object. `decode` has a field of its own.
     pub json: bool,
-    /// Whether the exit status is to tell that a line of the script was refused.
+    /// Whether the exit status reports that a line of the script was refused.
     pub strict: bool,
 }
 
-/// What the program is to do.
+/// The program's job.
 #[derive(Drop)]
 pub enum Job {
-    /// Answers a script as this end of a link.
+    /// Execute a script on this end of a link.
     Answer(LinkEnd),
-    /// Goes over a script as a bus of so many terminals, 1 to 127.
+    /// Execute a script on a bus of 1 to 127 terminals.
     Bus { terminals: u8 },
-    /// Makes the moves of a script on two ends, made with these parameters, and the line between them.
+    /// Execute a script of moves on two ends with these parameters, and the line between them.
     Pair { user: Params, network: Params },
-    /// As `Pair`, where each frame crosses a connection of the process to itself.
+    /// Like `Pair`, but each frame is sent over a connection of the process to itself.
     Loop { user: Params, network: Params },
-    /// Goes over a script as the network side of such an interface, over the first connection that comes to the address.
+    /// Execute a script on the network side of this interface, over the first connection accepted
+    /// at the address.
     Net(Interface),
-    /// Goes over a script as the user side of such an interface, over a connection to the address.
+    /// Execute a script on the user side of this interface, over a connection to the address.
     User(Interface),
-    /// Prints octets as trace lines.
+    /// Print octets as trace lines.
     Decode(DecodeOptions),
 }
 
-/// By which clock a side goes.
+/// The clock of a side.
 #[derive(Clone, Copy)]
 pub enum Clock<'a> {
-    /// That of its script, which stands but for `tick`. All other commands have this one.
+    /// The script's clock, which only `tick` advances. All commands without a side use it too.
     Script,
-    /// The real one.
+    /// The real clock.
     Real(LiveOptions<'a>),
 }
 
-/// What goes with the real clock.
+/// The options of the real clock.
 #[derive(Clone, Copy)]
 pub struct LiveOptions<'a> {
-    /// Whether each line begins with the moment, in milliseconds since the start.
+    /// Whether each line begins with the time, in milliseconds since the start.
     pub time: bool,
     /// Whether the trace lines of frames are left out.
     pub quiet: bool,
-    /// Whether the side is served on when the script has ended, until the connection closes.
+    /// Whether the side runs on after the end of the script, until the connection closes.
     pub serve: bool,
-    /// Whether a connection that is lost is replaced by the next one.
+    /// Whether a lost connection is replaced by the next one.
     pub keep: bool,
-    /// How many terminals the network side takes, 1 to 127. Of the user side it is 1.
+    /// The number of terminals that the network side accepts, 1 to 127. On the user side it is 1.
     pub terminals: u8,
-    /// How many milliseconds a terminal may send no whole frame, 1 to 3,600,000, if that is limited.
+    /// How long a terminal may go without sending a whole frame, 1 to 3,600,000 milliseconds; no
+    /// limit if `None`.
     pub idle_limit: Option<u64>,
-    /// The file that was written for `--pcap`, as it stands.
+    /// The file of `--pcap`, unchanged from the command line.
     pub pcap: Option<&'a str>,
-    /// The address and port that were written for `--gsmtap`, as they stand.
+    /// The address and port of `--gsmtap`, unchanged from the command line.
     pub gsmtap: Option<&'a str>,
 }
 
-/// What `decode` takes and prints.
+/// The options of `decode`.
 #[derive(Clone, Copy)]
 pub struct DecodeOptions {
-    /// Whether lines with more than single spaces in them, and those of libpri, are taken.
+    /// Whether lines may have spaces, colons and brackets among the digits, or be lines printed by
+    /// libpri.
     pub loose: bool,
-    /// Who sent what libpri prints behind `>`, and the frames of which a capture does not tell.
+    /// The sender of what libpri prints after `>`, and of captured frames whose capture does not
+    /// name the sender.
     pub sender: Side,
-    /// Whether messages are named.
+    /// Whether the message in a frame is named.
     pub names: bool,
     /// Whether each frame is printed as a JSON object.
     pub json: bool,
-    /// Whether lines and packets that can't be read are told and passed over.
+    /// Whether bad lines and packets are reported and skipped.
     pub keep_going: bool,
 }
 
 impl Invocation<'_> {
-    /// What the program does that is called with no word.
+    /// The job of the program without words.
     pub(crate) fn by_no_word() -> Invocation<'static>
         ensures { IsDefault result }
     {

@@ -1,7 +1,7 @@
-//! The command line of the program `lapd`: what its words choose, and the texts of its help.
+//! The command line of the program `lapd`: the meaning of its words, and its help texts.
 //!
-//! It stands apart from the program so that neither is proved once more for the tests of the other, and so that the parser is
-//! read here alone. Begin with [`words`] and [`parse_words`].
+//! This crate is separate from the program so that a change to one does not prove the other again,
+//! and so that only this crate reads the parser. Begin with [`words`] and [`parse_words`].
 #![tactic(auto)]
 
 ghost use Rattle.std.specs.Prelude.{◌<◌, length, IsOkAnd};
@@ -34,13 +34,14 @@ use script_command::ScriptCommand;
 use std::alloc::Global;
 use std::convert::AsStr;
 
-/// Reads the program's words, the first of which is its name. No further word means
-/// `answer --side net`.
+/// Reads the program's words, the first of which is its name. No further word means `answer --side
+/// net`.
 ///
 /// # Errors
 ///
-/// `Shown`, if the words ask for help or the version; `Refused`, `OutOfRange`, `NoAddress`, `NotReal` and `OneTerminal`, if
-/// they are not valid; `Memory`.
+/// - `Shown` if the words request help or the version;
+/// - `Refused`, `OutOfRange`, `NoAddress`, `NotReal` or `OneTerminal` if they are not valid;
+/// - `Memory` if an allocation fails.
 pub fn parse_words<'a, S: AsStr>(
     alloc: Global,
     words: &'a [S],
@@ -56,7 +57,7 @@ pub fn parse_words<'a, S: AsStr>(
     }
 }
 
-// What the words choose by this parser.
+// The meaning of the words, read by this parser.
 fn invocation_of<'a, S: AsStr>(
     alloc: Global,
     program: &mut Command<'a>,
@@ -68,7 +69,7 @@ fn invocation_of<'a, S: AsStr>(
     }
 }
 
-// What the words choose in which the parser found this.
+// The meaning of the parsed words.
 fn invocation_by<'a>(
     alloc: Global,
     program: &mut Command<'a>,
@@ -83,7 +84,7 @@ fn invocation_by<'a>(
     }
 }
 
-// What this command chooses beside its job.
+// The settings of this command, with its job.
 fn invocation_with<'a>(
     job: Job,
     command: ScriptCommand,

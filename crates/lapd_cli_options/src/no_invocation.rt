@@ -4,27 +4,29 @@ use lapd_cli_values::{InterfaceFault, NoAddress, OutOfRange};
 use std::alloc::Global;
 use std::fmt;
 
-/// Why the program's words choose nothing for it to do.
+/// Why the program's words do not name a job.
 #[derive(Drop)]
 pub enum NoInvocation<'a> {
-    /// They ask for help or the version, which is this text. It is for standard output, and the exit status is 0.
+    /// They request help or the version. This text is for standard output, and the exit status is
+    /// 0.
     Shown(String),
-    /// The parser does not take them, as this text says. It is for standard error, and the exit status is 2, as with
-    /// `OutOfRange`, `NoAddress`, `NotReal` and `OneTerminal`.
+    /// The parser refuses them, for the reason in this text. The text is for standard error, and
+    /// the exit status is 2, as for `OutOfRange`, `NoAddress`, `NotReal` and `OneTerminal`.
     Refused(String),
     /// A number that is not in the range of its option.
     OutOfRange(OutOfRange<'a>),
-    /// Something in the place of an address that is none.
+    /// The value of an option is not an address.
     NoAddress(NoAddress<'a>),
-    /// An option of this name, without the hyphens, was given that goes with the real clock alone, and that clock was not.
+    /// The option with this name, without the hyphens, requires the real clock, which was not
+    /// requested.
     NotReal(&'static str),
-    /// `--idle-limit` was given for a side that takes one connection.
+    /// `--idle-limit` is present, but the side accepts only one connection.
     OneTerminal,
-    /// Memory ran out.
+    /// An allocation failed.
     Memory,
 }
 
-/// Writes its text, with the line's end.
+/// Writes the text, with a line feed.
 impl fmt::Display for NoInvocation<'_> {
     fn fmt<W: fmt::Write>(&self, f: &mut fmt::Formatter<W>) -> fmt::Result {
         match self {
@@ -63,7 +65,7 @@ impl<'a> From<NoAddress<'a>> for NoInvocation<'a> {
     }
 }
 
-/// The parser's text, where memory is there for it.
+/// The parser's text, or `Memory` if it can't be allocated.
 pub(crate) fn refused_by_parser<'a>(alloc: Global, error: &Error) -> NoInvocation<'a> {
     if error.kind() == ErrorKind::OutOfMemory {
         return NoInvocation::Memory;

@@ -1,4 +1,5 @@
-//! The options of the commands, in the order of the help. Each table is a list of groups, of which some are shared.
+//! The options of the commands, in the order of the help. Each table is a list of groups; some
+//! groups are shared.
 
 use crate::command_option::{CommandOption, WordOption};
 use crate::help;
@@ -7,7 +8,7 @@ use lapd_cli_values::{
     LISTEN, N200, ROOM, SEED, T200, T201, T202, T203, TERMINALS,
 };
 
-/// Those of `answer`.
+/// The options of `answer`.
 pub(crate) const ANSWER: &[&[CommandOption]] = &[
     EACH,
     &[
@@ -19,10 +20,10 @@ pub(crate) const ANSWER: &[&[CommandOption]] = &[
     &[CommandOption::Word(RECOVERY)],
 ];
 
-/// Those of `bus`.
+/// The options of `bus`.
 pub(crate) const BUS: &[&[CommandOption]] = &[EACH, &[CommandOption::Number(TERMINALS)]];
 
-/// Those of `pair` and `loop`.
+/// The options of `pair` and `loop`.
 pub(crate) const ENDS: &[&[CommandOption]] = &[
     EACH,
     NUMBERS,
@@ -32,7 +33,7 @@ pub(crate) const ENDS: &[&[CommandOption]] = &[
     ],
 ];
 
-/// Those of `net`.
+/// The options of `net`.
 pub(crate) const NET: &[&[CommandOption]] = &[
     EACH,
     &[
@@ -48,7 +49,7 @@ pub(crate) const NET: &[&[CommandOption]] = &[
     ],
 ];
 
-/// Those of `user`.
+/// The options of `user`.
 pub(crate) const USER: &[&[CommandOption]] = &[
     EACH,
     &[
@@ -60,7 +61,7 @@ pub(crate) const USER: &[&[CommandOption]] = &[
     LIVE,
 ];
 
-/// Those of `decode`.
+/// The options of `decode`.
 pub(crate) const DECODE: &[&[CommandOption]] = &[
     EACH,
     &[
@@ -73,7 +74,7 @@ pub(crate) const DECODE: &[&[CommandOption]] = &[
     ],
 ];
 
-/// The option of each command.
+/// The option that all commands have.
 const EACH: &[CommandOption] = &[CommandOption::Flag("strict", help::STRICT)];
 
 /// The numbers of a link's parameters.
@@ -83,7 +84,7 @@ const NUMBERS: &[CommandOption] = &[
     CommandOption::Number(ROOM),
 ];
 
-/// What an interface has behind its TEIs.
+/// The options of an interface, after its TEIs.
 const INTERFACE: &[CommandOption] = &[
     CommandOption::Flag("sapi16", help::SAPI16),
     CommandOption::BareNumber(LINKS_K),
@@ -97,7 +98,7 @@ const INTERFACE: &[CommandOption] = &[
     CommandOption::BareNumber(SEED),
 ];
 
-/// What a side prints, its clock, and what goes with the real one.
+/// The options of a side's output, of its clock, and of the real clock.
 const LIVE: &[CommandOption] = &[
     CommandOption::Flag("json", help::SIDE_JSON),
     CommandOption::Word(CLOCK),
@@ -109,7 +110,7 @@ const LIVE: &[CommandOption] = &[
     CommandOption::Address(GSMTAP),
 ];
 
-/// The side of the link that answers.
+/// The side of the link of `answer`.
 const SIDE: WordOption = WordOption {
     name: "side",
     value_name: "SIDE",
@@ -118,7 +119,7 @@ const SIDE: WordOption = WordOption {
     default: "net",
 };
 
-/// The side that `decode` takes for the sender.
+/// The sender that `decode` assumes.
 const SENDER: WordOption = WordOption {
     name: "sender",
     help: help::SENDER,
@@ -143,14 +144,14 @@ const RECOVERY: WordOption = WordOption {
     default: "enquiry",
 };
 
-/// The recovery of the user side of two.
+/// The recovery of the user side of `pair` and `loop`.
 const RECOVERY_USER: WordOption = WordOption {
     name: "recovery-user",
     help: help::RECOVERY_USER,
     ..RECOVERY
 };
 
-/// The recovery of the network side of two.
+/// The recovery of the network side of `pair` and `loop`.
 const RECOVERY_NET: WordOption = WordOption {
     name: "recovery-net",
     help: help::RECOVERY_NET,

@@ -1,4 +1,4 @@
-//! The parser of the program's words: its commands, their options, and the texts of the help.
+//! The parser of the program's words: its commands, their options, and the help texts.
 
 use crate::command_option::{CommandOption, arg_of};
 use crate::help;
@@ -12,7 +12,7 @@ use strsim::osa_distance;
 /// The version of the program.
 pub const VERSION: &str = "0.1.0";
 
-/// The text for a word in the place of a command that is none, with the command that may be meant.
+/// The text for an unknown command, with the closest known command.
 pub(crate) fn unknown_command<'a>(
     alloc: Global,
     program: &mut Command<'a>,
@@ -43,7 +43,7 @@ fn unknown_text(alloc: Global, word: &str) -> Result<String, AllocError> {
     }
 }
 
-// The first command that is written like this word but for one letter in three.
+// The first command that differs from this word in at most one of three letters.
 fn near_command(alloc: Global, word: &str) -> Result<Option<&'static str>, AllocError> {
     for command in COMMANDS {
         if osa_distance(alloc, word, command.name())? <= word.len() / 3 {
@@ -53,7 +53,8 @@ fn near_command(alloc: Global, word: &str) -> Result<Option<&'static str>, Alloc
     Ok(None)
 }
 
-/// The parser of all words. It takes any word for a command, so that one that is none is told in words of our own.
+/// The parser of all words. It accepts any word as a command; an unknown one is reported later, in
+/// this crate's own words.
 pub(crate) fn program<'a>(alloc: Global) -> Result<Command<'a>, AllocError> {
     let mut commands = Vec::new(alloc);
     push_commands(alloc, &mut commands)?;
@@ -61,7 +62,7 @@ pub(crate) fn program<'a>(alloc: Global) -> Result<Command<'a>, AllocError> {
     with_commands(program, commands)?.bin_name("lapd")
 }
 
-// The program with its texts, which wants a command.
+// The program with its texts; it requires a command.
 fn with_texts<'a>(program: Command<'a>) -> Command<'a> {
     program
         .about(help::ABOUT)
@@ -106,7 +107,7 @@ fn command_of<'a>(alloc: Global, command: ScriptCommand) -> Result<Command<'a>, 
     )
 }
 
-// A command of this name, with what it does and the text that ends its help, and no options yet.
+// A command without options: its name, its description and the text that ends its help.
 fn described<'a>(
     alloc: Global,
     name: &'static str,
@@ -145,7 +146,7 @@ fn push_group<'a>(
     Ok(())
 }
 
-/// Whether the exit status is to tell of lines that were refused.
+/// Whether the exit status reports refused lines.
 pub(crate) fn is_strict(given: &ArgMatches<'_>) -> bool {
     given.get_flag("strict")
 }

@@ -1,4 +1,4 @@
-//! The words that the program is called with.
+//! The words of the program's command line.
 
 use std::alloc::Global;
 use std::env::{Env, FillError};
@@ -7,10 +7,10 @@ use thiserror::Error;
 /// Why the words could not be read.
 #[derive(Clone, Copy, Debug, PartialEq, Eq, Error)]
 pub enum WordsFault {
-    /// The word at this place is not UTF-8. The program's name has place 0.
+    /// The word at this index is not UTF-8. The program's name has index 0.
     #[error("error: argument {0} is not valid UTF-8")]
     NotText(usize),
-    /// Memory ran out.
+    /// An allocation failed.
     #[error("out of memory")]
     Memory,
 }
@@ -19,7 +19,7 @@ pub enum WordsFault {
 ///
 /// # Errors
 ///
-/// `NotText` at the first word that is not UTF-8, and `Memory`.
+/// `NotText` at the first word that is not UTF-8, `Memory` if an allocation fails.
 pub fn words<E: Env>(alloc: Global, env: &E) -> Result<Vec<String>, WordsFault> {
     let mut words = Vec::new(alloc);
     for place in 0..usize::MAX {
@@ -32,7 +32,7 @@ pub fn words<E: Env>(alloc: Global, env: &E) -> Result<Vec<String>, WordsFault> 
     Ok(words)
 }
 
-// The octets of the word at this place, where there is one. The room for them is doubled until they fit.
+// The octets of the word at this index, if it exists. The buffer is doubled until they fit.
 fn octets_at<E: Env>(alloc: Global, env: &E, place: usize) -> Result<Option<Vec<u8>>, WordsFault> {
     let mut octets = Vec::new(alloc);
     let mut room = 256usize;

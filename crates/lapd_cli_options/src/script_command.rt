@@ -1,9 +1,9 @@
-//! The commands that do a script: how they are called, what their help says, and which options they take.
+//! The commands that execute a script: their names, their help and their options.
 
 use crate::command_option::CommandOption;
 use crate::{help, option_tables};
 
-/// A command that does a script.
+/// A command that executes a script.
 #[derive(Clone, Copy, PartialEq, Eq)]
 pub(crate) enum ScriptCommand {
     Answer,
@@ -15,7 +15,7 @@ pub(crate) enum ScriptCommand {
     Decode,
 }
 
-/// All of them, in the order of the help.
+/// All commands, in the order of the help.
 pub(crate) const COMMANDS: [ScriptCommand; 7] = [
     ScriptCommand::Answer,
     ScriptCommand::Bus,
@@ -27,7 +27,7 @@ pub(crate) const COMMANDS: [ScriptCommand; 7] = [
 ];
 
 impl ScriptCommand {
-    /// The command of this name, where there is one.
+    /// The command with this name, if it exists.
     pub(crate) fn named(name: &str) -> Option<ScriptCommand> {
         for command in COMMANDS {
             if command.name() == name {
@@ -37,7 +37,7 @@ impl ScriptCommand {
         None
     }
 
-    /// The word that chooses it.
+    /// The command's name on the command line.
     pub(crate) fn name(self) -> &'static str {
         match self {
             ScriptCommand::Answer => "answer",
@@ -50,7 +50,7 @@ impl ScriptCommand {
         }
     }
 
-    /// What it does.
+    /// The command's description.
     pub(crate) fn about(self) -> &'static str {
         match self {
             ScriptCommand::Answer => help::ANSWER_ABOUT,
@@ -63,7 +63,7 @@ impl ScriptCommand {
         }
     }
 
-    /// The text that ends its long help.
+    /// The text that ends the command's long help.
     pub(crate) fn after_long_help(self) -> &'static str {
         match self {
             ScriptCommand::Answer => help::ANSWER,
@@ -76,7 +76,7 @@ impl ScriptCommand {
         }
     }
 
-    /// Its options in the order of the help, in groups that commands share.
+    /// The command's options in the order of the help, in groups that commands share.
     pub(crate) fn options(self) -> &'static [&'static [CommandOption]] {
         match self {
             ScriptCommand::Answer => option_tables::ANSWER,

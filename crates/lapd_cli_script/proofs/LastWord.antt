@@ -1,4 +1,5 @@
--- The last words of a line, read as one: a space is no hexadecimal digit, so octets are written by what is left, or by nothing.
+-- The last words of a line, read as one. A space is not a hexadecimal digit, so the rest of the
+-- line either is one word of digits or does not spell octets.
 use Rattle.std.proofs.Common.{◌≡◌, ◌≢◌, ℕ, ◌==◌, ◌+◌, ◌*◌, ◌⊎◌, inl, inr, Bool, true, false, List, [], ◌∷◌, None, Result, Ok, Err, if◌then◌else◌, refl, sym, ◌∙◌}
 use Rattle.std.specs.Result.{result_ok}
 use Rattle.std.proofs.Math.Dec.{eqb}
@@ -10,16 +11,16 @@ use Rattle.lapd_cli_script.specs.Line.{HasNoSpace, octets_behind, octets_of, wor
 use Rattle.lapd_cli_script.specs.Script.{with_first}
 use Rattle.lapd_cli_script.proofs.WordsOf.{one_word}
 
--- there is a space among these octets
+-- one of these octets is a space
 abbrev has_space : List ℕ → Bool
 has_space [] = false
 has_space (octet ∷ octets) = if octet == 32 then true else has_space octets
 
--- an octet is a space, or it is none
+-- whether an octet is a space is decidable
 abbrev Tells : ℕ → Type 0
 Tells octet = ((eqb octet 32 ≡ true) × (octet ≡ 32)) ⊎ ((eqb octet 32 ≡ false) × (octet ≢ 32))
 
--- ---- Where there is none, they are one word.
+-- ---- Without a space, the rest is one word.
 
 no_space_behind : (octet : ℕ) (octets : List ℕ) → has_space (octet ∷ octets) ≡ false → (has_space octets ≡ false → HasNoSpace octets) → Tells octet → HasNoSpace (octet ∷ octets)
 no_space_behind octet octets h rest (inl is) = let same = is.0 in absurd (cc)
@@ -29,7 +30,7 @@ no_space : (octets : List ℕ) → has_space octets ≡ false → HasNoSpace oct
 no_space [] h = tt
 no_space (octet ∷ octets) h = no_space_behind octet octets h (no_space octets) (eqb_tells octet 32)
 
--- ---- Where there is one, they are two words at least.
+-- ---- With a space, the rest is at least two words.
 
 abbrev AreSome : List (List ℕ) → Type 0
 AreSome words = (first : List ℕ) × (more : List (List ℕ)) × (words ≡ first ∷ more)
@@ -59,7 +60,7 @@ two_words (octet ∷ octets) h = two_words_behind octet octets h (two_words octe
 none_behind : (words : List (List ℕ)) → AreTwo words → octets_behind words ≡ None
 none_behind words w = rw w.3 refl
 
--- ---- And they write no octets.
+-- ---- Two words or more spell no octets.
 
 bad_second : (high : Result ℕ FromHexError) (i : ℕ) (more : ℕ → Result (List ℕ) FromHexError) → result_ok ((high >>= (λ h. value_at 32 (i + 1) >>= (λ l. Ok (h * 16 + l)))) >>= more) ≡ None
 bad_second (Ok h) i more = refl
@@ -90,7 +91,7 @@ either_way : (test : Bool) (octets : List ℕ) → result_ok (decode_pairs 0 oct
 either_way true octets h = refl
 either_way false octets h = h
 
--- ---- So what is left is one text.
+-- ---- So the rest of a line can be decoded as one text.
 
 by_space : (test : Bool) (octets : List ℕ) → has_space octets ≡ test → octets_behind (words_of octets) ≡ octets_of octets
 by_space false octets h = rw (one_word octets (no_space octets h)) refl

@@ -1,4 +1,4 @@
--- Lemmas on the lines of a script, and on those without their comments.
+-- Lemmas on the lines of a script, with and without the text of comments.
 use Rattle.std.specs.Prelude.{⊤}
 use Rattle.std.proofs.Common.{◌≡◌, ◌≢◌, ◌==◌, ℕ, ◌+◌, List, [], ◌∷◌, ◌++◌, map, drop, Bool, true, false, cond, Option, None, Some, Result, Ok, Err, refl, sym, ap, ◌∙◌, subst, append_assoc}
 use Rattle.std.specs.Io.KnownBytes.{Appends}
@@ -20,12 +20,12 @@ passed-without_comment : (line : List ℕ) → is_passed_over line ≡ true → 
 passed-without_comment [] e = refl
 passed-without_comment (octet ∷ octets) e = ap (λ b. is_passed_over (cond b (octet ∷ []) (octet ∷ octets))) e ∙ e
 
--- a line that is not passed over stays
+-- a line that is not skipped is unchanged
 not_passed-without_comment : (line : List ℕ) → is_passed_over line ≡ false → without_comment line ≡ line
 not_passed-without_comment [] e = cc
 not_passed-without_comment (octet ∷ octets) e = ap (λ b. cond b (octet ∷ []) (octet ∷ octets)) e
 
--- what a line calls for is the same without its comment
+-- a line has the same outcome without its comment
 pub outcome_of-without_comment : {S : Type 0} (step : Step S) (s : S) (line : List ℕ) → outcome_of step s (without_comment line) ≡ outcome_of step s line
 outcome_of-without_comment step s line = by_test (is_passed_over line) refl
   where
@@ -65,7 +65,7 @@ state_after-without_comments step s (line ∷ lines) =
     ap (λ o. state_or s o (λ t. state_after step t (map without_comment lines))) (outcome_of-without_comment step s line)
     ∙ state_or-same s (outcome_of step s line) (λ t. state_after step t (map without_comment lines)) (λ t. state_after step t lines) (λ t. state_after-without_comments step t lines)
 
--- the front of a list that is mapped comes from a front of the list
+-- a prefix of a mapped list is the map of a prefix of that list
 front_of-map : {X Y : Type 0} (f : X → Y) (xs : List X) (a b : List Y) → map f xs ≡ a ++ b → (c : List X) × (d : List X) × (xs ≡ c ++ d) × (map f c ≡ a)
 front_of-map f xs [] b h = ([], xs, refl, refl)
 front_of-map f [] (y ∷ a) b h = absurd cc
@@ -73,7 +73,7 @@ front_of-map f (x ∷ xs) (y ∷ a) b h =
     let w = front_of-map f xs a b (ap (drop 1) h) in
     (x ∷ w.0, w.1, ap (λ z. x ∷ z) w.2, let same = w.3 in cc)
 
--- a command that goes over the lines without their comments goes over the lines
+-- if a command has executed the lines without their comments, it has executed the lines
 pub EndsAs-without_comments : {S : Type 0} (step : Step S) (s : S) (result : Result ⊤ ScriptFault) (lines : List (List ℕ)) (a b : Option (List ℕ))
     → EndsAs step s result (map without_comment lines) a b → EndsAs step s result lines a b
 EndsAs-without_comments step s (Ok done) lines a b h =
@@ -102,7 +102,7 @@ HasNoFeed-without_comment (octet ∷ octets) h = by_test (octet == 35)
     by_test true = (h.0, tt)
     by_test false = h
 
--- an octet that is no line feed goes to the front of the first line
+-- an octet other than a line feed becomes the first octet of the first line
 lines_of-other : (o : ℕ) (octets : List ℕ) → o ≢ 10 → lines_of (o ∷ octets) ≡ with_first o (lines_of octets)
 lines_of-other o octets h = ap (λ b. cond b ([] ∷ lines_of octets) (with_first o (lines_of octets))) (ne_eqb o 10 h)
 
@@ -118,19 +118,19 @@ lines_of-last o (p ∷ line) h = lines_of-other o (p ∷ line) h.0 ∙ ap (with_
 pub walk_lines-last : (o : ℕ) (line : List ℕ) → HasNoFeed (o ∷ line) → walk_lines (o ∷ line) ≡ without_comment (o ∷ line) ∷ []
 walk_lines-last o line h = ap (map without_comment) (lines_of-last o line h)
 
--- what was cut off, and a line with its line feed, is the first line
+-- the part cut off before, joined with a line and its line feed, is the first line
 pub walk_lines-whole : (cut line left after : List ℕ) → HasNoFeed cut → HasNoFeed line → walk_lines (cut ++ (line ++ 10 ∷ left) ++ after) ≡ without_comment (cut ++ line) ∷ walk_lines (left ++ after)
 walk_lines-whole cut line left after h k =
     let e : cut ++ (line ++ 10 ∷ left) ++ after ≡ (cut ++ line) ++ 10 ∷ (left ++ after) = simp append_assoc in
     ap walk_lines e ∙ ap (map without_comment) (lines_of-line (cut ++ line) (left ++ after) (HasNoFeed-append cut line h k))
 
--- ---- a comment that is cut off
+-- ---- a comment that is cut short
 
 behind-with_first : (o : ℕ) (lines : List (List ℕ)) → drop 1 (with_first o lines) ≡ drop 1 lines
 behind-with_first o [] = refl
 behind-with_first o (line ∷ lines) = refl
 
--- the lines behind the first do not hang on what it begins with
+-- the lines after the first one do not depend on octets without a line feed that precede them
 behind-append : (octets after : List ℕ) → HasNoFeed octets → drop 1 (lines_of (octets ++ after)) ≡ drop 1 (lines_of after)
 behind-append [] after h = refl
 behind-append (o ∷ octets) after h =
@@ -144,7 +144,7 @@ comment_lines : (octets after : List ℕ) → HasNoFeed octets → walk_lines (3
 comment_lines octets after h =
     comment_first (lines_of (octets ++ after)) ∙ ap (λ x. (35 ∷ []) ∷ map without_comment x) (behind-append octets after h) ∙ sym (comment_first (lines_of after))
 
--- of a comment that is cut off, the first octet is enough
+-- only the first octet of a comment is needed
 pub walk_lines-shorter : (cut after : List ℕ) → HasNoFeed cut → walk_lines (without_comment cut ++ after) ≡ walk_lines (cut ++ after)
 walk_lines-shorter [] after h = refl
 walk_lines-shorter (o ∷ cut) after h = by_test (o == 35) refl

@@ -1,4 +1,4 @@
--- A line that was done, and what it called for printed whole.
+-- A line that was executed, with its output printed in full.
 use Rattle.std.specs.Prelude.{⊤}
 use Rattle.std.proofs.Common.{ℕ, List, Option, Some, Result, Ok, Err, OnOk, IsOkUnless}
 use Rattle.std.specs.Io.KnownBytes.{Appends}
@@ -6,7 +6,7 @@ use Rattle.lapd_cli_script.specs.Script.{LineEndsAs}
 use Rattle.lapd_cli_script.specs.declared.script.LineFault.{LineFault}
 use Rattle.lapd_cli_script.specs.declared.script.LineFault.TheVariants.{Bad, Device, Memory}
 
--- only the writer may fail, and the command stands for the next state
+-- if only the writer can fail, the line ends as specified and the command is in the next state
 pub printed : {C S : Type 0} (stands_for : C → S → Type 0) (text : List ℕ) (next : S) (result : Result ⊤ LineFault) (command : C) (old new : Option (List ℕ))
     → stands_for command next → OnOk result (Appends old new text) → IsOkUnless result Device → LineEndsAs stands_for (Some (text, next)) result command old new
 printed stands_for text next (Ok done) command old new h ok err = (h, ok)

@@ -1,4 +1,4 @@
--- Lemmas on walks over the lines of a script.
+-- Lemmas on executing the lines of a script.
 use Rattle.std.specs.Prelude.{⊤}
 use Rattle.std.proofs.Common.{◌≡◌, ℕ, ◌+◌, ◌<◌, List, [], ◌∷◌, ◌++◌, true, false, Option, None, Some, length, Result, Ok, Err, inl, inr, IsNone, IsSomeAnd, OnOk, IsErrAnd, IfSome, refl, sym, ap, ◌∙◌, subst, append_assoc, append-nil, length-append, arith}
 use Rattle.std.specs.Io.KnownBytes.{Appends, Keeps, Consumes, IsAtEnd}
@@ -22,7 +22,7 @@ none_of : {X : Type 0} (o : Option X) → IsNone o → o ≡ None
 none_of None h = refl
 none_of (Some x) h = cc
 
--- ---- lines that ran
+-- ---- lines that were executed
 
 Ran-one : {S : Type 0} (step : Step S) (s : S) (line : List ℕ) (next : List ℕ × S) → outcome_of step s line ≡ Some next → Ran step s (line ∷ []) next.0 next.1
 Ran-one step s line next e = some_at (outcome_of step s line) _ next e ([], sym (append-nil next.0), (refl, refl))
@@ -57,7 +57,7 @@ state_after-ran step s (line ∷ a) text t h =
     let w = some_of (outcome_of step s line) _ h in
     ap (λ o. state_or s o (λ x. state_after step x a)) w.1 ∙ state_after-ran step w.0.1 a w.2.0 t w.2.2
 
--- ---- walks, one after the other
+-- ---- one run of lines after another
 
 pub Walk-none : {S : Type 0} (step : Step S) (s : S) (lines : List (List ℕ)) (n : ℕ) (old new : Option (List ℕ)) → Keeps old new → Walk step s lines lines s n n old new
 Walk-none step s lines n old new h = record {
@@ -101,13 +101,13 @@ Walk-one step s line more next n a b e h = record {
 
 -- ---- one line
 
--- a line that is passed over
+-- a line that is skipped
 pub line_passed : {C S : Type 0} (stands_for : C → S → Type 0) (step : Step S) (s : S) (line : List ℕ) (more : List (List ℕ)) (command : C) (n : ℕ) (a : Option (List ℕ))
     → is_passed_over line ≡ true → stands_for command s → WalkEnds stands_for step s (Ok tt) (without_comment line ∷ more) more command n (n + 1) a a
 line_passed stands_for step s line more command n a e h =
     (s, h, Walk-one step s (without_comment line) more ([], s) n a a (outcome_of-without_comment step s line ∙ outcome_of-passed step s line e) (Appends-nil a))
 
--- a line that is done
+-- a line that is executed
 pub line_done : {C S : Type 0} (stands_for : C → S → Type 0) (step : Step S) (s : S) (line : List ℕ) (more : List (List ℕ)) (command : C) (n : ℕ) (a b : Option (List ℕ))
     → is_passed_over line ≡ false → IsSomeAnd (step s line) (λ next. stands_for command next.1 × Appends a b next.0) → WalkEnds stands_for step s (Ok tt) (without_comment line ∷ more) more command n (n + 1) a b
 line_done stands_for step s line more command n a b e h =
@@ -120,14 +120,14 @@ pub line_bad : {C S : Type 0} (stands_for : C → S → Type 0) (step : Step S) 
 line_bad stands_for step s line more command n a b e h =
     (s, without_comment line, more, n, Walk-none step s (without_comment line ∷ more) n a b h.1, outcome_of-without_comment step s line ∙ outcome_of-not_passed step s line e ∙ none_of (step s line) h.0, refl)
 
--- memory ran out
+-- an allocation failed
 pub memory_out : {C S : Type 0} (stands_for : C → S → Type 0) (step : Step S) (s : S) (lines more : List (List ℕ)) (command : C) (n m : ℕ) (a b : Option (List ℕ))
     → Keeps a b → WalkEnds stands_for step s (Err Memory) lines more command n m a b
 memory_out stands_for step s lines more command n m a b h = (s, lines, n, Walk-none step s lines n a b h)
 
--- ---- how walks end
+-- ---- how a run ends
 
--- a walk that goes on from another
+-- a run that continues another
 pub WalkEnds-after : {C S : Type 0} (stands_for : C → S → Type 0) (step : Step S) (s t : S) (result : Result ⊤ ScriptFault) (lines mid last : List (List ℕ)) (command : C) (n i m : ℕ) (a b c : Option (List ℕ))
     → Walk step s lines mid t n i a b → WalkEnds stands_for step t result mid last command i m b c → WalkEnds stands_for step s result lines last command n m a c
 WalkEnds-after stands_for step s t (Ok done) lines mid last command n i m a b c p q =
@@ -139,7 +139,7 @@ WalkEnds-after stands_for step s t (Err Memory) lines mid last command n i m a b
 WalkEnds-after stands_for step s t (Err Device) lines mid last command n i m a b c p q = tt
 WalkEnds-after stands_for step s t (Err (Port fault)) lines mid last command n i m a b c p q = q
 
--- a walk whose output was handed out
+-- a run whose output was flushed
 pub WalkEnds-kept : {C S : Type 0} (stands_for : C → S → Type 0) (step : Step S) (s : S) (result : Result ⊤ ScriptFault) (lines last : List (List ℕ)) (command : C) (n m : ℕ) (a b c : Option (List ℕ))
     → WalkEnds stands_for step s result lines last command n m a b → Keeps b c → WalkEnds stands_for step s result lines last command n m a c
 WalkEnds-kept stands_for step s (Ok done) lines last command n m a b c q k =
@@ -151,7 +151,7 @@ WalkEnds-kept stands_for step s (Err Memory) lines last command n m a b c q k =
 WalkEnds-kept stands_for step s (Err Device) lines last command n m a b c q k = tt
 WalkEnds-kept stands_for step s (Err (Port fault)) lines last command n m a b c q k = q
 
--- a walk to the end of a script
+-- a run to the end of a script
 EndsAs-walk : {C S : Type 0} (stands_for : C → S → Type 0) (step : Step S) (s : S) (result : Result ⊤ ScriptFault) (lines : List (List ℕ)) (command : C) (m : ℕ) (a b : Option (List ℕ))
     → WalkEnds stands_for step s result lines [] command 0 m a b → EndsAs step s result lines a b
 EndsAs-walk stands_for step s (Ok done) lines command m a b q =
@@ -178,7 +178,7 @@ EndsAs-walk stands_for step s (Err Memory) lines command m a b q =
 EndsAs-walk stands_for step s (Err Device) lines command m a b q = tt
 EndsAs-walk stands_for step s (Err (Port fault)) lines command m a b q = q
 
--- the walk ends as it did, or with a device fault
+-- the run ends as before, or with a device fault
 pub WalkEnds-handed : {C S : Type 0} (stands_for : C → S → Type 0) (step : Step S) (s : S) (ended result : Result ⊤ ScriptFault) (lines : List (List ℕ)) (command : C) (m : ℕ) (a b c : Option (List ℕ))
     → WalkEnds stands_for step s ended lines [] command 0 m a b → Keeps b c → KeepsFault ended result → EndsAs step s result lines a c
 WalkEnds-handed {C} {S} stands_for step s ended result lines command m a b c q k (inl same) =
@@ -188,7 +188,7 @@ WalkEnds-handed {C} {S} stands_for step s ended result lines command m a b c q k
     let F : Result ⊤ ScriptFault → Type 0 = λ x. EndsAs step s x lines a c in
     subst F (sym fault) tt
 
--- at its end the command stands for the state after the lines
+-- at the end the command is in the state after the lines
 stands_after : {C S : Type 0} (stands_for : C → S → Type 0) (step : Step S) (s : S) (ended : Result ⊤ ScriptFault) (lines : List (List ℕ)) (command : C) (m : ℕ) (a b : Option (List ℕ))
     → WalkEnds stands_for step s ended lines [] command 0 m a b → OnOk ended (stands_for command (state_after step s lines))
 stands_after {C} {S} stands_for step s (Ok done) lines command m a b q =
@@ -197,9 +197,9 @@ stands_after {C} {S} stands_for step s (Ok done) lines command m a b q =
     subst (stands_for command) (sym e) q.1
 stands_after stands_for step s (Err fault) lines command m a b q = tt
 
--- ---- walks that fail
+-- ---- runs that fail
 
--- how a walk fails does not hang on what it was to leave
+-- how a run fails does not depend on which lines it was to leave
 pub fails_after : {C S : Type 0} (stands_for : C → S → Type 0) (step : Step S) (s t : S) (result : Result ⊤ ScriptFault) (fault : ScriptFault) (lines mid last other : List (List ℕ)) (command : C) (n i m k : ℕ) (a b c : Option (List ℕ))
     → IsErrAnd result (λ e. e ≡ fault) → Walk step s lines mid t n i a b → WalkEnds stands_for step t (Err fault) mid other command i k b c → WalkEnds stands_for step s result lines last command n m a c
 fails_after stands_for step s t (Ok done) fault lines mid last other command n i m k a b c is p q = absurd is
@@ -214,7 +214,7 @@ fails_after {C} {S} stands_for step s t (Err e) fault lines mid last other comma
     left_open stands_for step s Memory lines other last command n k m a c q = q
     left_open stands_for step s (Port fault) lines other last command n k m a c q = q
 
--- memory ran out after a walk
+-- an allocation failed after a run
 pub memory_after : {C S : Type 0} (stands_for : C → S → Type 0) (step : Step S) (s t : S) (result : Result ⊤ ScriptFault) (fault : ScriptFault) (lines mid last : List (List ℕ)) (command : C) (n i m : ℕ) (a b : Option (List ℕ))
     → IsErrAnd result (λ e. e ≡ fault) → fault ≡ Memory → Walk step s lines mid t n i a b → WalkEnds stands_for step s result lines last command n m a b
 memory_after stands_for step s t (Ok done) fault lines mid last command n i m a b is out p = absurd is
@@ -224,7 +224,7 @@ memory_after {C} {S} stands_for step s t (Err e) fault lines mid last command n 
 
 -- ---- a part of the script
 
--- a whole line whose front may have been cut off
+-- a whole line whose beginning may have been read before
 pub whole_done : {C S : Type 0} (stands_for : C → S → Type 0) (step : Step S) (s : S) (result : Result ⊤ ScriptFault) (cut line joined left after : List ℕ) (command : C) (n m : ℕ) (a b : Option (List ℕ))
     → joined ≡ cut ++ line → HasNoFeed cut → HasNoFeed line → WalkEnds stands_for step s result (without_comment joined ∷ walk_lines (left ++ after)) (walk_lines (left ++ after)) command n m a b
     → WalkEnds stands_for step s result (walk_lines (cut ++ (line ++ 10 ∷ left) ++ after)) (walk_lines (left ++ after)) command n m a b
@@ -232,12 +232,12 @@ whole_done {C} {S} stands_for step s result cut line joined left after command n
     let F : List (List ℕ) → Type 0 = λ x. WalkEnds stands_for step s result x (walk_lines (left ++ after)) command n m a b in
     subst F (ap (λ x. without_comment x ∷ walk_lines (left ++ after)) e ∙ sym (walk_lines-whole cut line left after h k)) q
 
--- the walk so far, with what is left in another spelling
+-- the run so far, with the remaining octets written in another form
 pub Walk-same : {S : Type 0} (step : Step S) (s : S) (lines : List (List ℕ)) (x y : List ℕ) (t : S) (n m : ℕ) (a b : Option (List ℕ)) → x ≡ y → Walk step s lines (walk_lines x) t n m a b → Walk step s lines (walk_lines y) t n m a b
 Walk-same {S} step s lines x y t n m a b e p =
     let F : List ℕ → Type 0 = λ z. Walk step s lines (walk_lines z) t n m a b in subst F e p
 
--- the walk so far, with what is left cut off in part
+-- the run so far, with the unfinished line cut to the part that is kept
 pub Walk-cut : {S : Type 0} (step : Step S) (s : S) (lines : List (List ℕ)) (cut new after : List ℕ) (t : S) (n m : ℕ) (a b : Option (List ℕ))
     → HasNoFeed cut → new ≡ without_comment cut → Walk step s lines (walk_lines (cut ++ after)) t n m a b → Walk step s lines (walk_lines (new ++ after)) t n m a b
 Walk-cut {S} step s lines cut new after t n m a b h e p =
@@ -252,7 +252,7 @@ last_ends {C} {S} stands_for step s result (o ∷ line) command n m a b some h q
     let F : List (List ℕ) → Type 0 = λ x. WalkEnds stands_for step s result x [] command n m a b in
     subst F (sym (walk_lines-last o line h)) q
 
--- no last line
+-- no unfinished line is left
 pub none_last : {C S : Type 0} (stands_for : C → S → Type 0) (step : Step S) (s : S) (cut : List ℕ) (command : C) (n : ℕ) (a : Option (List ℕ))
     → length cut ≡ 0 → stands_for command s → WalkEnds stands_for step s (Ok tt) (walk_lines cut) [] command n n a a
 none_last stands_for step s [] command n a none h = (s, h, Walk-none step s [] n a a (Keeps-refl a))
@@ -264,7 +264,7 @@ consumes_some : (rest part : List ℕ) (new : Option (List ℕ)) → Consumes (S
 consumes_some rest part None h = absurd h
 consumes_some rest part (Some ys) h = (ys, refl, h)
 
--- the output is handed out
+-- the output is flushed
 pub Came-kept : {C S : Type 0} (stands_for : C → S → Type 0) (step : Step S) (s : S) (initial now : Option (List ℕ)) (command : C) (cut : List ℕ) (n : ℕ) (a b c : Option (List ℕ)) → Came stands_for step s initial now command cut n a b → Keeps b c → Came stands_for step s initial now command cut n a c
 Came-kept stands_for step s None now command cut n a b c p k = tt
 Came-kept stands_for step s (Some octets) now command cut n a b c p k =
@@ -281,7 +281,7 @@ Came-unread stands_for step s (Some octets) now new command cut n a b p k =
     same_kept rest None h = absurd h
     same_kept rest (Some ys) h = ap Some h
 
--- a part is read, and its lines are done
+-- a part is read, and its lines are executed
 pub Came-read : {C S : Type 0} (stands_for : C → S → Type 0) (step : Step S) (s : S) (initial now new : Option (List ℕ)) (command command' : C) (cut part cut' : List ℕ) (n m : ℕ) (a b c : Option (List ℕ))
     → Came stands_for step s initial now command cut n a b → Consumes now new part
     → ((t : S) (after : List ℕ) → stands_for command t → WalkEnds stands_for step t (Ok tt) (walk_lines (cut ++ part ++ after)) (walk_lines (cut' ++ after)) command' n m b c)
@@ -293,7 +293,7 @@ Came-read stands_for step s (Some octets) now new command command' cut part cut'
     let q = f p.1 w.0 p.3 in
     (w.0, q.0, w.1, q.1, Walk-trans step s (walk_lines octets) (walk_lines (cut ++ part ++ w.0)) (walk_lines (cut' ++ w.0)) p.1 q.0 0 n m a b c (Walk-same step s (walk_lines octets) _ _ p.1 0 n a b e p.4) q.2)
 
--- a part is read, and the walk fails at it
+-- a part is read, and a line of it fails
 pub Came-fails : {C S : Type 0} (stands_for : C → S → Type 0) (step : Step S) (s : S) (initial now new : Option (List ℕ)) (command command' : C) (result : Result ⊤ ScriptFault) (fault : ScriptFault) (cut part cut' : List ℕ) (n m : ℕ) (a b c : Option (List ℕ))
     → IsErrAnd result (λ e. e ≡ fault) → Came stands_for step s initial now command cut n a b → Consumes now new part
     → ((t : S) (after : List ℕ) → stands_for command t → WalkEnds stands_for step t (Err fault) (walk_lines (cut ++ part ++ after)) (walk_lines (cut' ++ after)) command' n m b c)
@@ -329,18 +329,18 @@ device_ends {C} {S} stands_for step s (Some octets) result command a b e =
     let F : Result ⊤ ScriptFault → Type 0 = λ x. WalkEnds stands_for step s x (walk_lines octets) [] command 0 0 a b in
     (0, subst F (sym e) tt)
 
--- nothing but a device fault comes from handing out
+-- flushing adds no fault but a device fault
 pub handed_fails : (result : Result ⊤ ScriptFault) (fault : ScriptFault) → IsErrAnd result (λ e. e ≡ fault) → KeepsFault (Ok tt) (Err fault) → result ≡ Err Device
 handed_fails (Ok done) fault is k = absurd is
 handed_fails (Err e) fault is (inl k) = absurd cc
 handed_fails (Err e) fault is (inr k) = ap Err is ∙ k
 
--- under known bytes of the script
+-- a consequence for the script's bytes, if they are known
 pub if_known : (o : Option (List ℕ)) (P Q : List ℕ → Type 0) → ((octets : List ℕ) → P octets → Q octets) → IfSome o P → IfSome o Q
 if_known None P Q f h = tt
 if_known (Some octets) P Q f h = f octets h
 
--- the walk is done where handing out is
+-- the command is in the state after the lines if the flush succeeds
 pub stands_handed : {C S : Type 0} (stands_for : C → S → Type 0) (step : Step S) (s : S) (ended result : Result ⊤ ScriptFault) (lines : List (List ℕ)) (command : C) (m : ℕ) (a b : Option (List ℕ))
     → WalkEnds stands_for step s ended lines [] command 0 m a b → KeepsFault ended result → OnOk result (stands_for command (state_after step s lines))
 stands_handed {C} {S} stands_for step s ended result lines command m a b q (inl same) =

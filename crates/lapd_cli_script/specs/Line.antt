@@ -1,4 +1,4 @@
--- The words of a script's line and of what is printed.
+-- The words of a script's line, and the text of printed lines.
 use Rattle.std.specs.Prelude.{◌≡◌, ◌≢◌, ℕ, ◌==◌, ◌+◌, ◌*◌, ◌-◌, ◌^◌, ◌&&◌, nat_le, nat_lt, Bool, List, [], ◌∷◌, ◌++◌, length, if◌then◌else◌, Option, Some, None, option_and_then, Result, Ok, Err, ⊤}
 use Rattle.std.specs.List.{AllByRecursion}
 use Rattle.std.specs.Result.{result_ok}
@@ -7,12 +7,12 @@ use Rattle.lapd_cli_script.specs.Script.{with_first}
 use Rattle.lapd_cli_script.specs.declared.script.LineFault.{LineFault}
 use Rattle.lapd_cli_script.specs.declared.script.LineFault.TheVariants.{Bad, Device, Memory}
 
--- octets that are written in hexadecimal digits of either case, at least two of them
+-- the octets that at least two hexadecimal digits spell, in either case
 abbrev pub octets_of : List ℕ → Option (List ℕ)
 octets_of [] = None
 octets_of (digit ∷ digits) = result_ok (decode_of (digit ∷ digits))
 
--- the words of a line, which single spaces part
+-- the words of a line, separated by single spaces
 abbrev pub words_of : List ℕ → List (List ℕ)
 words_of [] = [] ∷ []
 words_of (octet ∷ octets) = if octet == 32 then [] ∷ words_of octets
@@ -22,19 +22,19 @@ words_of (octet ∷ octets) = if octet == 32 then [] ∷ words_of octets
 abbrev pub HasNoSpace : List ℕ → Type 0
 HasNoSpace octets = AllByRecursion (λ octet. octet ≢ 32) octets
 
--- the words of what is left of a line, none where nothing is left
+-- the words of the rest of a line; an empty list at the line's end
 abbrev pub words_left : Option (List ℕ) → List (List ℕ)
 words_left None = []
 words_left (Some rest) = words_of rest
 
--- ---- What the last words of a line say.
+-- ---- The meaning of a line's last words.
 
--- nothing, where no word is left
+-- succeeds only if no word is left
 abbrev pub nothing_of : List (List ℕ) → Option ⊤
 nothing_of [] = Some tt
 nothing_of (word ∷ words) = None
 
--- octets: no word stands for none
+-- the octets in the last word; no word means no octets
 abbrev pub octets_behind : List (List ℕ) → Option (List ℕ)
 octets_behind [] = Some []
 octets_behind (digits ∷ words) = option_and_then (λ none. octets_of digits) (nothing_of words)
@@ -43,39 +43,39 @@ octets_behind (digits ∷ words) = option_and_then (λ none. octets_of digits) (
 abbrev pub is_digit : ℕ → Bool
 is_digit octet = nat_le 48 octet && nat_le octet 57
 
--- the number that decimal digits write behind those of n; none where one is no digit
+-- the number n continued by these decimal digits; `None` if one of them is not a digit
 abbrev pub digits_behind : ℕ → List ℕ → Option ℕ
 digits_behind n [] = Some n
 digits_behind n (digit ∷ digits) = if is_digit digit
     then digits_behind (n * 10 + (digit - 48)) digits else None
 
--- a number below 2^64
+-- the number if it is below 2^64
 abbrev pub below_2_64 : ℕ → Option ℕ
 below_2_64 n = if nat_lt n (2 ^ 64) then Some n else None
 
--- the number below 2^64 that decimal digits write, at least one of them
+-- the number below 2^64 that these decimal digits spell; `None` without a digit
 abbrev pub number_said : List ℕ → Option ℕ
 number_said digits = if length digits == 0 then None
     else option_and_then below_2_64 (digits_behind 0 digits)
 
--- such a number in the last word
+-- the number below 2^64 in the last word
 abbrev pub number_behind : List (List ℕ) → Option ℕ
 number_behind [] = None
 number_behind (digits ∷ words) = option_and_then (λ none. number_said digits) (nothing_of words)
 
--- a function's value, seen by `view`, is what the line says, or its fault is that the line says nothing, unless memory
--- ran out
+-- a function returns the parsed value, seen by `view`; it fails with `Bad` if parsing yields
+-- `None`, and it may fail with `Memory`
 abbrev pub Reads : {X Y : Type 0} → (X → Y) → Result X LineFault → Option Y → Type 0
 Reads view (Ok x) said = said ≡ Some (view x)
 Reads view (Err Bad) said = said ≡ None
 Reads view (Err Memory) said = ⊤
 Reads view (Err Device) said = ⊥
 
--- a line of this text
+-- this text followed by a line feed
 abbrev pub text_line : List ℕ → List ℕ
 text_line text = text ++ 10 ∷ []
 
--- a space and the digits of octets, nothing for no octets
+-- a space and the hexadecimal digits of the octets; nothing if there are no octets
 abbrev pub digits_of : List ℕ → List ℕ
 digits_of [] = []
 digits_of (octet ∷ octets) = 32 ∷ encode_lower (octet ∷ octets)

@@ -1,4 +1,4 @@
--- A script, and what a command that goes over it prints.
+-- A script, and what a command that executes it prints.
 use Rattle.std.specs.Prelude.{◌≡◌, ℕ, ◌+◌, List, [], ◌∷◌, ◌++◌, Bool, true, Option, None, Some, if◌then◌else◌, ◌==◌, Result, Ok, Err, ⊤, IsNone, IsSomeAnd}
 use Rattle.std.specs.Io.KnownBytes.{Appends, Keeps}
 use Rattle.lapd_cli_script.specs.declared.script.ScriptFault.{ScriptFault}
@@ -6,12 +6,12 @@ use Rattle.lapd_cli_script.specs.declared.script.ScriptFault.TheVariants.{BadLin
 use Rattle.lapd_cli_script.specs.declared.script.LineFault.{LineFault}
 use Rattle.lapd_cli_script.specs.declared.script.LineFault.TheVariants.{Bad, Device as LineDevice, Memory as LineMemory}
 
--- the octet at the front of the first line
+-- prepends an octet to the first line
 abbrev pub with_first : ℕ → List (List ℕ) → List (List ℕ)
 with_first octet [] = (octet ∷ []) ∷ []
 with_first octet (line ∷ lines) = (octet ∷ line) ∷ lines
 
--- the lines of a script: each ends with a line feed, which the last may lack
+-- the lines of a script: each ends with a line feed, except perhaps the last
 abbrev pub lines_of : List ℕ → List (List ℕ)
 lines_of [] = []
 lines_of (octet ∷ octets) = if octet == 10 then [] ∷ lines_of octets
@@ -22,15 +22,16 @@ abbrev pub is_passed_over : List ℕ → Bool
 is_passed_over [] = true
 is_passed_over (octet ∷ octets) = octet == 35
 
--- what a line calls for in a state: the text that is printed and the next state, or nothing, where it is no line of the command
+-- the result of a line in a state: the printed text and the next state, or `None` if the line is
+-- not valid
 abbrev pub Outcome : Type 0 → Type 0
 Outcome S = Option (List ℕ × S)
 
--- what each line calls for in each state
+-- the result of each line in each state
 abbrev pub Step : Type 0 → Type 0
 Step S = S → List ℕ → Outcome S
 
--- the step of a whole script: a line that is passed over prints nothing and changes nothing
+-- the step of a whole script: an empty line or a comment prints nothing and changes nothing
 abbrev pub outcome_of : {S : Type 0} → Step S → S → List ℕ → Outcome S
 outcome_of step s line = if is_passed_over line then Some ([], s) else step s line
 
@@ -47,7 +48,7 @@ abbrev pub number_or : {S : Type 0} → ℕ → Outcome S → (S → Option ℕ)
 number_or number None rest = Some number
 number_or number (Some (text, t)) rest = rest t
 
--- the number of the first bad line, where the first of these lines has this number
+-- the number of the first bad line, if the first of these lines has number n
 abbrev pub bad_from : {S : Type 0} → ℕ → Step S → S → List (List ℕ) → Option ℕ
 bad_from number step s [] = None
 bad_from number step s (line ∷ lines) = number_or number (outcome_of step s line)
@@ -67,14 +68,14 @@ state_after step s [] = s
 state_after step s (line ∷ lines) = state_or s (outcome_of step s line)
     (λ t. state_after step t lines)
 
--- all lines before some place are good, and the writer grew by their texts
+-- all lines up to some place are valid, and the writer received their texts
 abbrev pub PrintsFront : {S : Type 0} → Step S → S → List (List ℕ) → Option (List ℕ)
     → Option (List ℕ) → Type 0
 PrintsFront step s lines old new =
     (before : List (List ℕ)) × (after : List (List ℕ)) × (lines ≡ before ++ after)
     × (bad_line step s before ≡ None) × Appends old new (output_of step s before)
 
--- how a command that goes over these lines and no port ends, and what the writer that it was given holds
+-- how a command that executes these lines without a port ends, and the writer's contents after that
 abbrev pub EndsAs : {S : Type 0} → Step S → S → Result ⊤ ScriptFault → List (List ℕ)
     → Option (List ℕ) → Option (List ℕ) → Type 0
 EndsAs step s (Ok done) lines old new = (bad_line step s lines ≡ None)
@@ -85,7 +86,7 @@ EndsAs step s (Err Memory) lines old new = PrintsFront step s lines old new
 EndsAs step s (Err Device) lines old new = ⊤
 EndsAs step s (Err (Port fault)) lines old new = ⊥
 
--- how one line of a command ends, where this is what it calls for
+-- how one line of a command ends, from the specified result of the line
 abbrev pub LineEndsAs : {C S : Type 0} → (C → S → Type 0) → Outcome S → Result ⊤ LineFault → C
     → Option (List ℕ) → Option (List ℕ) → Type 0
 LineEndsAs stands_for outcome (Ok done) command old new =
@@ -94,7 +95,7 @@ LineEndsAs stands_for outcome (Err Bad) command old new = IsNone outcome × Keep
 LineEndsAs stands_for outcome (Err LineMemory) command old new = Keeps old new
 LineEndsAs stands_for outcome (Err LineDevice) command old new = ⊤
 
--- the exit status of the program after a fault; 2 is a fault of the command line
+-- the program's exit status after a fault; status 2 is a fault in the command line
 abbrev pub status_of : ScriptFault → ℕ
 status_of (BadLine number) = 1
 status_of Device = 3

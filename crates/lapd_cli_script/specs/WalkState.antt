@@ -1,4 +1,4 @@
--- What a walk over a script has done so far.
+-- The lines of a script that have been executed so far.
 use Rattle.std.specs.Prelude.{◌≡◌, ◌≢◌, ℕ, ◌+◌, ◌==◌, Bool, false, if◌then◌else◌, List, [], ◌∷◌, ◌++◌, map, take, Option, None, Some, length, Result, Ok, Err, ⊤, ◌⊎◌, IsSomeAnd, IfSome}
 use Rattle.std.specs.List.{AllByRecursion}
 use Rattle.std.specs.Io.KnownBytes.{Appends}
@@ -15,21 +15,22 @@ abbrev pub is_comment : List ℕ → Bool
 is_comment [] = false
 is_comment (octet ∷ octets) = octet == 35
 
--- what a walk has to know of a line: of one that begins with `#`, which is passed over, the first octet alone
+-- the part of a line that the run must keep: a comment is skipped, so only its first octet
 abbrev pub without_comment : List ℕ → List ℕ
 without_comment line = if is_comment line then take 1 line else line
 
--- what a walk has to know of a script's lines
+-- the lines of a script, with comments cut to their first octet
 abbrev pub walk_lines : List ℕ → List (List ℕ)
 walk_lines octets = map without_comment (lines_of octets)
 
--- the lines, all of them good, print this text and lead to the state t
+-- the lines are all valid, print this text and lead to state t
 abbrev pub Ran : {S : Type 0} → Step S → S → List (List ℕ) → List ℕ → S → Type 0
 Ran step s [] text t = (text ≡ []) × (t ≡ s)
 Ran {S} step s (line ∷ lines) text t = IsSomeAnd (outcome_of step s line)
     (λ next. (rest : List ℕ) × (text ≡ next.0 ++ rest) × Ran step next.1 lines rest t)
 
--- a walk came from the lines to more of them and from the count n to m, did each line between, and the writer grew by their texts
+-- the run has executed the lines before `more`, increased the line count from n to m, and appended
+-- their texts to the writer
 pub record Walk {S : Type 0} (step : Step S) (s : S) (lines more : List (List ℕ)) (t : S) (n m : ℕ)
     (old new : Option (List ℕ)) : Type 0 where
   pub finished : List (List ℕ)
@@ -39,7 +40,7 @@ pub record Walk {S : Type 0} (step : Step S) (s : S) (lines more : List (List �
   pub ran : Ran step s finished text t
   pub grew : Appends old new text
 
--- how a walk over the lines, which is to leave the last ones, ends
+-- how a run over the lines ends that is to leave the last ones
 abbrev pub WalkEnds : {C S : Type 0} → (C → S → Type 0) → Step S → S → Result ⊤ ScriptFault
     → List (List ℕ) → List (List ℕ) → C → ℕ → ℕ → Option (List ℕ) → Option (List ℕ) → Type 0
 WalkEnds {C} {S} stands_for step s (Ok done) lines last command n m old new = (t : S)
@@ -53,11 +54,12 @@ WalkEnds {C} {S} stands_for step s (Err Memory) lines last command n m old new =
 WalkEnds {C} {S} stands_for step s (Err Device) lines last command n m old new = ⊤
 WalkEnds stands_for step s (Err (Port fault)) lines last command n m old new = ⊥
 
--- the walk ends as it did, or with a device fault
+-- the run ends as before, or with a device fault
 abbrev pub KeepsFault : Result ⊤ ScriptFault → Result ⊤ ScriptFault → Type 0
 KeepsFault ended result = (result ≡ ended) ⊎ (result ≡ Err Device)
 
--- the walk came to what was cut off and what the reader has left
+-- the run has executed all lines before the unfinished line in `cut` and the bytes left in the
+-- reader
 abbrev pub Came : {C S : Type 0} → (C → S → Type 0) → Step S → S → Option (List ℕ) → Option (List ℕ)
     → C → List ℕ → ℕ → Option (List ℕ) → Option (List ℕ) → Type 0
 Came {C} {S} stands_for step s initial now command cut n a b = IfSome initial

@@ -1,11 +1,12 @@
-//! Scripts of commands: the walk over a script's lines, the words of a line, and the lines that are printed.
+//! Scripts of commands: executing a script's lines, the words of a line, and printed lines.
 //!
-//! Begin with [`walk`], which reads a script from any reader and has each line done by a [`Command`]. Each line is done,
-//! and what it prints handed to the writer's device, before more is read. A command reads a line's [`Words`] one by one,
-//! and prints by [`put_line`], [`put_word`], [`put_number`] and [`put_octets`].
+//! Begin with [`walk`], which reads a script from any reader and executes each line by a
+//! [`Command`]. It executes each line and flushes the line's output before it reads more. A command
+//! reads a line's [`Words`] one by one, and prints with [`put_line`], [`put_word`], [`put_number`]
+//! and [`put_octets`].
 //!
-//! A line ends with a line feed, which the last may lack. Empty lines and lines that begin with `#` are passed over, and
-//! counted. Single spaces part the words of a line.
+//! A line ends with a line feed, which the last line may lack. Empty lines and lines that begin
+//! with `#` are skipped but counted. Single spaces separate the words of a line.
 #![tactic(auto)]
 
 mod print;

@@ -1,4 +1,4 @@
-//! What commands print, a line at a time.
+//! Printing of lines.
 
 ghost use Rattle.std.specs.Prelude.{◌≡◌, ◌≤◌, ◌++◌, ◌∷◌, [], length, OnOk, IsOkUnless};
 ghost use Rattle.std.specs.Fmt.{decimal};
@@ -10,11 +10,11 @@ use crate::script::LineFault;
 use std::io;
 use std::io::Write;
 
-/// Prints a line of two texts, one behind the other.
+/// Prints two texts as one line.
 ///
 /// # Errors
 ///
-/// `Device`, where the writer fails: the front of the line may be written then.
+/// `Device` if the writer fails: part of the line may have been written.
 pub fn put_line<W: Write>(front: &[u8], back: &[u8], out: &mut W) -> Result<(), LineFault>
     ensures ok { OnOk result (Appends (W.contents out.old) (W.contents out.new)
         (text_line (front.now ++ back.now))) }
@@ -26,11 +26,11 @@ pub fn put_line<W: Write>(front: &[u8], back: &[u8], out: &mut W) -> Result<(), 
     Ok(())
 }
 
-/// Prints a line of words, a space and a word.
+/// Prints a line: the words, a space and one more word.
 ///
 /// # Errors
 ///
-/// `Device`, where the writer fails: the front of the line may be written then.
+/// `Device` if the writer fails: part of the line may have been written.
 pub fn put_word<W: Write>(words: &[u8], word: &[u8], out: &mut W) -> Result<(), LineFault>
     ensures ok { OnOk result (Appends (W.contents out.old) (W.contents out.new)
         (text_line (words.now ++ 32 ∷ word.now))) }
@@ -40,11 +40,11 @@ pub fn put_word<W: Write>(words: &[u8], word: &[u8], out: &mut W) -> Result<(), 
     put_line(b" ", word, out)
 }
 
-/// Prints a line of words, a space and a number in decimal digits.
+/// Prints a line: the words, a space and a number in decimal digits.
 ///
 /// # Errors
 ///
-/// `Device`, where the writer fails: the front of the line may be written then.
+/// `Device` if the writer fails: part of the line may have been written.
 pub fn put_number<W: Write>(words: &[u8], number: u64, out: &mut W) -> Result<(), LineFault>
     ensures ok { OnOk result (Appends (W.contents out.old) (W.contents out.new)
         (text_line (words.now ++ 32 ∷ decimal number))) }
@@ -53,11 +53,12 @@ pub fn put_number<W: Write>(words: &[u8], number: u64, out: &mut W) -> Result<()
     put_word(words, itoa::Buffer::new().format(number).as_bytes(), out)
 }
 
-/// Prints a line of a word, a space and octets in lower case hexadecimal, of the word alone where there are no octets.
+/// Prints a line: the word, a space and the octets in lower case hexadecimal. Without octets it
+/// prints the word alone.
 ///
 /// # Errors
 ///
-/// `Device`, where the writer fails: the front of the line may be written then.
+/// `Device` if the writer fails: part of the line may have been written.
 pub fn put_octets<W: Write>(word: &[u8], octets: &[u8], out: &mut W) -> Result<(), LineFault>
     ensures ok { OnOk result (Appends (W.contents out.old) (W.contents out.new)
         (text_line (word.now ++ digits_of octets.now))) }
@@ -77,7 +78,7 @@ pub fn put_octets<W: Write>(word: &[u8], octets: &[u8], out: &mut W) -> Result<(
     Ok(())
 }
 
-// Writes a space, the digits of at most `CHUNK` octets and the line's end, all at once.
+// Writes a space, the digits of at most `CHUNK` octets and a line feed, in one write.
 fn put_digits<W: Write>(octets: &[u8], out: &mut W) -> io::Result<()>
     requires { length octets.now ≤ CHUNK }
     ensures { OnOk result (Appends (W.contents out.old) (W.contents out.new)
@@ -92,14 +93,14 @@ fn put_digits<W: Write>(octets: &[u8], out: &mut W) -> io::Result<()>
     out.write_all(&text[..=end])
 }
 
-/// How many octets are printed at a time.
+/// The number of octets printed in one write.
 const CHUNK: usize = 64;
 
-/// Prints octets in lower case hexadecimal, without spaces or a line's end. No memory is taken.
+/// Writes octets in lower case hexadecimal, without spaces or a line feed. Does not allocate.
 ///
 /// # Errors
 ///
-/// The writer's. Some digits may be written then.
+/// The writer's error. Some digits may have been written.
 pub fn put_hex<W: Write>(octets: &[u8], out: &mut W) -> io::Result<()>
     ensures { OnOk result (Appends (W.contents out.old) (W.contents out.new)
         (encode_lower octets.now)) }

@@ -1,4 +1,4 @@
-//! The walk over a script, which every command shares.
+//! The execution of a script, which all commands share.
 
 ghost use Rattle.std.specs.Prelude.{◌≡◌, ℕ, ◌+◌, ◌<◌, ◌≤◌, ◌^◌, [], ◌∷◌, ◌++◌, List, Option, length, take, IfSome, IfNone, OnOk, IsOkUnless};
 ghost use Rattle.std.specs.Io.KnownBytes.{Appends, Keeps};
@@ -12,25 +12,26 @@ use std::alloc::Global;
 use std::io::{self, ErrorKind, Read, Write};
 use thiserror::Error;
 
-/// How a script ends that is not done to its end.
+/// Why a script ended early.
 #[derive(Clone, Copy, Debug, PartialEq, Eq, Error)]
 pub enum ScriptFault {
-    /// The line of this number, from 1, is no line of the command.
+    /// The line with this number, counted from 1, is not valid for the command.
     #[error("line {0}: bad command")]
     BadLine(u64),
     /// A read, a write or a flush failed, or the script's end was not reached.
     #[error("device fault")]
     Device,
-    /// Memory ran out.
+    /// An allocation failed.
     #[error("out of memory")]
     Memory,
-    /// A port answered this in place of a frame. Only a command over a port ends so, and no [`walk`].
+    /// A port returned this fault instead of a frame. Only commands with a port end so; [`walk`]
+    /// itself does not.
     #[error("port {0}")]
     Port(PortFault),
 }
 
 impl ScriptFault {
-    /// The exit status of a program whose script ends so: 1, 3 or 4.
+    /// The program's exit status after this fault: 1, 3 or 4.
     pub fn status(self) -> u8
         ensures { result ≡ status_of self }
     {
@@ -42,14 +43,14 @@ impl ScriptFault {
     }
 }
 
-/// How a command fails at a line.
+/// Why a line failed.
 #[derive(Clone, Copy, PartialEq, Eq)]
 pub enum LineFault {
-    /// The line is no line of the command.
+    /// The line is not valid for the command.
     Bad,
     /// The writer failed.
     Device,
-    /// Memory ran out.
+    /// An allocation failed.
     Memory,
 }
 
@@ -61,43 +62,45 @@ impl From<io::Error> for LineFault {
     }
 }
 
-/// A command, which does a script line by line.
+/// A command that executes a script line by line.
 pub trait Command {
     /// The states of the command in the specification.
     ghost State: { Type 0 };
 
-    /// What each line calls for in each state.
+    /// The specified result of each line in each state.
     ghost step: { Step State };
 
-    /// The value stands for the state.
+    /// The value represents the state.
     ghost stands_for: { Self → State → Type 0 };
 
-    /// Does what one line calls for, and prints its text. The line comes without its line feed, and is not one that is
-    /// passed over. What memory this takes it takes before it writes.
+    /// Executes one line, and prints its text. The line has no line feed and is neither empty nor a
+    /// comment. All allocations precede the first write.
     ///
     /// # Errors
     ///
-    /// `Bad`, where the line is no line of the command; `Device`, where a write failed; `Memory`.
+    /// `Bad` if the line is not valid for the command, `Device` if a write fails, `Memory` if an
+    /// allocation fails.
     fn run<W: Write>(&mut self, line: &[u8], out: &mut W) -> Result<(), LineFault>
         ensures { (s : State) → stands_for self.old s
             → LineEndsAs stands_for (step s line.now) result self.new (W.contents out.old)
             (W.contents out.new) };
 }
 
-/// How many reads of a script are made.
+/// The most reads of one script.
 const MOST_READS: u64 = 1_000_000;
 
-/// How many octets one read takes at most.
+/// The most octets per read.
 const PART: usize = 8192;
 
-/// Goes over the script, and writes what its lines call for. Each whole line that was read is done, and the writer
-/// flushed, before more is read.
+/// Executes a script, and writes the output of its lines. It executes each whole line that was
+/// read, and flushes the writer, before it reads more.
 ///
 /// # Errors
 ///
-/// `BadLine` at the first line that is no line of the command, and `Memory` where memory runs out: what came before is
-/// printed then, and nothing of that line. `Device`, where a read, a write or a flush fails, or a million reads, each of
-/// at most 8,192 octets, do not reach the script's end.
+/// - `BadLine` at the first line that is not valid for the command, and `Memory` if an allocation
+///   fails: the output of the earlier lines has been written, and nothing of that line.
+/// - `Device` if a read, a write or a flush fails, or if a million reads of at most 8,192 octets
+///   each do not reach the script's end.
 pub fn walk<C: Command, R: Read, W: Write>(
     alloc: Global,
     command: &mut C,
@@ -115,7 +118,7 @@ pub fn walk<C: Command, R: Read, W: Write>(
     hand_out(ended, out)
 }
 
-// Goes over the script, and flushes before each read.
+// Executes the script, and flushes before each read.
 fn walk_script<C: Command, R: Read, W: Write>(
     alloc: Global,
     command: &mut C,
@@ -145,8 +148,8 @@ fn walk_script<C: Command, R: Read, W: Write>(
     Err(ScriptFault::Device)
 }
 
-// Does each line that ends in these octets, which follow what was cut off so far, and keeps what is cut off at their
-// end.
+// Executes each line that ends in these octets, which follow `cut`, and keeps the rest of them in
+// `cut`.
 fn walk_part<C: Command, W: Write>(
     command: &mut C,
     number: &mut u64,
@@ -172,7 +175,7 @@ fn walk_part<C: Command, W: Write>(
     Ok(())
 }
 
-// Does a whole line, whose front may have been cut off.
+// Executes a whole line, whose beginning may be in `cut`.
 fn walk_whole<C: Command, W: Write>(
     command: &mut C,
     number: &mut u64,
@@ -200,7 +203,7 @@ fn walk_whole<C: Command, W: Write>(
     Ok(())
 }
 
-// Does the last line, if it lacks its line feed.
+// Executes the last line if it lacks its line feed.
 fn walk_last<C: Command, W: Write>(
     command: &mut C,
     number: &mut u64,
@@ -220,7 +223,7 @@ fn walk_last<C: Command, W: Write>(
     walk_line(command, number, cut, out)
 }
 
-// Counts a line, and does it unless it is passed over.
+// Counts a line, and executes it unless it is skipped.
 fn walk_line<C: Command, W: Write>(
     command: &mut C,
     number: &mut u64,
@@ -246,7 +249,7 @@ fn walk_line<C: Command, W: Write>(
     }
 }
 
-// Whether the line is empty, or begins with `#`.
+// Whether the line is empty or a comment.
 fn is_passed_over(line: &[u8]) -> bool
     ensures { result ≡ passed_over line.now }
 {
@@ -263,8 +266,8 @@ fn first_line(octets: &[u8]) -> Option<(&[u8], &[u8])>
     Some((&octets[..end], &octets[end + 1..]))
 }
 
-// Puts the octets behind those that were cut off. Of a line that begins with `#` the first octet alone is kept: it is passed
-// over, whatever follows.
+// Appends octets to the unfinished line. Of a comment it keeps only the first octet, because the
+// rest is skipped.
 fn keep_cut(cut: &mut Vec<u8>, octets: &[u8]) -> Result<(), ScriptFault>
     ensures ok { OnOk result (cut.new.items ≡ without_comment (cut.old.items ++ octets.now)) }
     ensures err { IsOkUnless result ScriptFault.Memory }
@@ -276,14 +279,14 @@ fn keep_cut(cut: &mut Vec<u8>, octets: &[u8]) -> Result<(), ScriptFault>
     Ok(())
 }
 
-// Whether the line begins with `#`.
+// Whether the line is a comment: it begins with `#`.
 fn is_comment(line: &[u8]) -> bool
     ensures { result ≡ is_comment line.now }
 {
     matches!(line, [b'#', ..])
 }
 
-// Puts the octets behind those that were cut off.
+// Appends octets to the unfinished line.
 fn keep(cut: &mut Vec<u8>, octets: &[u8]) -> Result<(), ScriptFault>
     ensures ok { OnOk result (cut.new.items ≡ cut.old.items ++ octets.now) }
     ensures err { IsOkUnless result ScriptFault.Memory }
@@ -292,7 +295,7 @@ fn keep(cut: &mut Vec<u8>, octets: &[u8]) -> Result<(), ScriptFault>
         .map_err(|_| ScriptFault::Memory)
 }
 
-// Hands what was written to the device, and returns how the walk ended, unless that fails.
+// Flushes the writer, and returns how the run ended unless the flush fails.
 fn hand_out<W: Write>(ended: Result<(), ScriptFault>, out: &mut W) -> Result<(), ScriptFault>
     ensures bytes { Keeps (W.contents out.old) (W.contents out.new) }
     ensures ended { KeepsFault ended result }

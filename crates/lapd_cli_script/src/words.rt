@@ -8,10 +8,11 @@ use memchr::memchr;
 use std::alloc::Global;
 use std::marker::Model;
 
-/// The words of a line that are still to be read. Single spaces part them, so a word may be empty.
+/// The words of a line that have not been read yet. Single spaces separate them, so a word may be
+/// empty.
 ///
-/// [`Words::next_word`] reads the next one. [`Words::nothing`], [`Words::octets`] and [`Words::number`] read to the end of
-/// the line, so each consumes the words.
+/// [`Words::next_word`] reads the next word. [`Words::nothing`], [`Words::octets`] and
+/// [`Words::number`] read to the line's end, so each consumes the words.
 #[derive(Drop)]
 pub struct Words<'a> {
     rest: Option<&'a [u8]>,
@@ -27,14 +28,14 @@ impl<'a> Model for Words<'a> {
 }
 
 impl<'a> Words<'a> {
-    /// The words of a line, which comes without its line feed. There is always one.
+    /// The words of a line, which has no line feed. There is always at least one.
     pub fn of(line: &'a [u8]) -> Words<'a>
         ensures { result ≡ words_of line.now }
     {
         Words { rest: Some(line) }
     }
 
-    /// Reads the next word. `None` where the line has no more.
+    /// Reads the next word. Returns `None` if no word is left.
     pub fn next_word(&mut self) -> Option<&'a [u8]>
         ensures { MatchOption result (self.old ≡ []) (λ word. self.old ≡ word.now ∷ self.new) }
     {
@@ -43,11 +44,11 @@ impl<'a> Words<'a> {
         Some(word)
     }
 
-    /// Reads the end of the line.
+    /// Checks that no word is left.
     ///
     /// # Errors
     ///
-    /// `Bad` where a word is left.
+    /// `Bad` if a word is left.
     pub fn nothing(mut self) -> Result<(), LineFault>
         ensures { Reads (λ done. done) result (nothing_of self.entry) }
     {
@@ -57,12 +58,13 @@ impl<'a> Words<'a> {
         }
     }
 
-    /// Reads the octets that the last word writes in hexadecimal digits of either case, at least two digits. Where no
-    /// word is left, there are no octets.
+    /// Reads the last word as octets: at least two hexadecimal digits, in either case. If no word
+    /// is left, there are no octets.
     ///
     /// # Errors
     ///
-    /// `Bad` where the word writes no octets, or is not the last one, and `Memory`.
+    /// `Bad` if the word does not spell octets or is not the last one, `Memory` if an allocation
+    /// fails.
     pub fn octets(self, alloc: Global) -> Result<Vec<u8>, LineFault>
         ensures { Reads (λ v. v.items) result (octets_behind self.entry) }
     {
@@ -71,11 +73,12 @@ impl<'a> Words<'a> {
         Ok(octets)
     }
 
-    /// As [`Words::octets`], in place of what these octets were. So one room serves for many lines.
+    /// Like [`Words::octets`], but replaces the contents of `octets`, so one buffer serves many
+    /// lines.
     ///
     /// # Errors
     ///
-    /// As [`Words::octets`]. There are no octets then.
+    /// As for [`Words::octets`]; `octets` is then empty.
     pub fn octets_into(self, octets: &mut Vec<u8>) -> Result<(), LineFault>
         ensures octets { Reads (λ done. octets.new.items) result (octets_behind self.entry) }
         ensures empty { OnErr result (octets.new.items ≡ []) }
@@ -83,16 +86,17 @@ impl<'a> Words<'a> {
         octets.clear();
         match self.rest {
             None => Ok(()),
-            // A space is no digit, so the words that are left need not be parted.
+            // A space is not a digit, so the remaining words need not be separated.
             Some(digits) => fill_with(octets, digits),
         }
     }
 
-    /// Reads the number below 2^64 that the last word writes in decimal digits alone. It may begin with zeros.
+    /// Reads the last word as a number below 2^64, in decimal digits only. Leading zeros are
+    /// allowed.
     ///
     /// # Errors
     ///
-    /// `Bad` where no word is left, and where the word writes no such number or is not the last one.
+    /// `Bad` if no word is left, or if the word is not such a number or not the last one.
     pub fn number(mut self) -> Result<u64, LineFault>
         ensures { Reads (λ n. n) result (number_behind self.entry) }
     {
@@ -107,7 +111,7 @@ impl<'a> Words<'a> {
     }
 }
 
-/// The first word, and what stands behind its space, where there is one.
+/// The first word, and the rest of the line after its space, if it has one.
 #[tactic(auto, using(crate::proofs::WordsOf::words_behind, crate::proofs::WordsOf::one_word))]
 fn first_word(line: &[u8]) -> (&[u8], Option<&[u8]>)
     ensures { MatchOption result.1 (words_of line.now ≡ result.0.now ∷ [])
@@ -116,7 +120,7 @@ fn first_word(line: &[u8]) -> (&[u8], Option<&[u8]>)
     cut_at_space(line)
 }
 
-/// The octets before the first space, and those behind it.
+/// The octets before the first space, and those after it.
 fn cut_at_space(line: &[u8]) -> (&[u8], Option<&[u8]>)
     ensures word { HasNoSpace result.0.now }
     ensures parts { MatchOption result.1 (line.now ≡ result.0.now)
@@ -128,11 +132,12 @@ fn cut_at_space(line: &[u8]) -> (&[u8], Option<&[u8]>)
     }
 }
 
-/// Puts the octets that are written in hexadecimal digits of either case, at least two of them, in the place of none.
+/// Decodes at least two hexadecimal digits, in either case, into `octets`, which must be empty.
 ///
 /// # Errors
 ///
-/// `Bad` where they are not, and `Memory`. There are none then.
+/// `Bad` if the digits do not spell octets, `Memory` if an allocation fails; `octets` is then
+/// empty.
 fn fill_with(octets: &mut Vec<u8>, digits: &[u8]) -> Result<(), LineFault>
     requires { octets.old.items ≡ [] }
     ensures octets { Reads (λ done. octets.new.items) result (octets_of digits.now) }
@@ -153,8 +158,8 @@ fn fill_with(octets: &mut Vec<u8>, digits: &[u8]) -> Result<(), LineFault>
     }
 }
 
-/// The number below 2^64 that these decimal digits write, at least one of them. It may begin with zeros. `None` where they write
-/// none.
+/// The number below 2^64 that these decimal digits spell. Leading zeros are allowed. Returns `None`
+/// if the digits are not such a number, or if there are none.
 pub fn number_of(digits: &[u8]) -> Option<u64>
     ensures { result ≡ number_said digits.now }
 {
@@ -168,7 +173,7 @@ pub fn number_of(digits: &[u8]) -> Option<u64>
     Some(number)
 }
 
-/// What a decimal digit counts.
+/// The value of a decimal digit.
 fn digit_of(octet: u8) -> Option<u64>
     ensures { result ≡ (if is_digit octet then Some (octet - 48) else None) }
 {

@@ -1,4 +1,4 @@
--- The clock of a side goes on to its last moment.
+-- The clock of a side stops at its last moment.
 use Rattle.std.proofs.Common.{◌≡◌, ℕ, ◌<◌, ◌≤◌, Some, None, refl}
 use Rattle.std.proofs.lemmas.Bool.{le-leb, lt-leb}
 use Rattle.lapd_cli_side_commands.specs.Clocks.{moment_at}

@@ -1,4 +1,4 @@
--- What a side at work does, line after line.
+-- The behaviour of a side, line after line.
 use Rattle.std.proofs.Common.{◌≡◌, ◌<◌, ℕ, ◌+◌, List, [], ◌∷◌, ◌++◌, get_or, length, map, take, Option, None, Some, OnOk, Result, Ok, Err, inl, inr, refl, sym, ap, subst, ◌∙◌, append_assoc}
 use Rattle.std.specs.Prelude.{IsSomeAnd, flat_map, option_and_then, option_map}
 use Rattle.std.proofs.lemmas.Grind.{flat_map-append}
@@ -27,7 +27,7 @@ use Rattle.lapd_cli_side_lines.proofs.Calls.{AreExpired, one_more, then_none}
 
 -- ---- Frames.
 
--- what one more gives stands behind what the others give
+-- the output of one element more is appended to the output of the others
 flat_more : {X Y : Type 0} (f : X → List Y) (xs : List X) (x : X) → flat_map f (xs ++ x ∷ []) ≡ flat_map f xs ++ f x
 flat_more f [] x = append-nil (f x)
 flat_more f (first ∷ xs) x = ap (λ ys. f first ++ ys) (flat_more f xs x) ∙ sym (append_assoc (f first) (flat_map f xs) (f x))
@@ -40,7 +40,7 @@ one_of_all : {F : Type 0} (octets : F → List ℕ) (frames : List F) (at : ℕ)
 one_of_all octets frames at frame item within is says =
     ap (map octets) (one_taken frames at frame within is) ∙ map-append octets (take at frames) (frame ∷ []) ∙ ap (λ x. map octets (take at frames) ++ x ∷ []) (sym says)
 
--- one frame more of some is kept
+-- one frame more of a list is kept
 pub one_kept : {F : Type 0} (octets : F → List ℕ) (frames : List F) (at : ℕ) (frame : F) (item : List ℕ) (before mid after : List (List ℕ)) → at < length frames
     → frame ≡ get_or frames at frame → item ≡ octets frame → mid ≡ before ++ map octets (take at frames) → after ≡ mid ++ item ∷ []
     → after ≡ before ++ map octets (take (at + 1) frames)
@@ -48,7 +48,7 @@ one_kept octets frames at frame item before mid after within is says so more =
     more ∙ ap (λ (kept : List (List ℕ)). kept ++ item ∷ []) so ∙ append_assoc before (map octets (take at frames)) (item ∷ [])
     ∙ ap (λ (kept : List (List ℕ)). before ++ kept) (sym (one_of_all octets frames at frame item within is says))
 
--- and its text
+-- its text is kept
 pub one_traced : {F : Type 0} (line : List ℕ → List ℕ) (octets : F → List ℕ) (frames : List F) (at : ℕ) (frame : F) (item : List ℕ) (before mid after : List ℕ) → at < length frames
     → frame ≡ get_or frames at frame → item ≡ octets frame → mid ≡ before ++ flat_map line (map octets (take at frames)) → after ≡ mid ++ line item
     → after ≡ before ++ flat_map line (map octets (take (at + 1) frames))
@@ -62,7 +62,7 @@ text_more [] frame = append-nil (frame_text frame)
 text_more (first ∷ frames) frame =
     ap (λ (text : List ℕ). frame_text first ++ text) (text_more frames frame) ∙ sym (append_assoc (frame_text first) (socket_text frames) (frame_text frame))
 
--- and is written
+-- it is written
 pub one_written : {F : Type 0} (octets : F → List ℕ) (frames : List F) (at : ℕ) (frame : F) (item : List ℕ) (written more grown : Option (List ℕ)) → at < length frames
     → frame ≡ get_or frames at frame → item ≡ octets frame → Appends written more (socket_text (map octets (take at frames))) → Appends more grown (frame_text item)
     → Appends written grown (socket_text (map octets (take (at + 1) frames)))
@@ -70,7 +70,7 @@ one_written octets frames at frame item written more grown within is says before
     let text = ap socket_text (one_of_all octets frames at frame item within is says) ∙ text_more (map octets (take at frames)) item in
     subst (Appends written grown) (sym text) (Appends-trans written more grown _ _ before now)
 
--- and is printed
+-- it is printed
 pub one_printed : {F : Type 0} (line : F → List ℕ) (frames : List F) (at : ℕ) (frame : F) (text : List ℕ) (printed more grown : Option (List ℕ)) → at < length frames
     → frame ≡ get_or frames at frame → text ≡ line frame → Appends printed more (flat_map line (take at frames)) → Appends more grown text
     → Appends printed grown (flat_map line (take (at + 1) frames))
@@ -78,7 +78,7 @@ one_printed line frames at frame text printed more grown within is says before n
     let all = ap (flat_map line) (one_taken frames at frame within is) ∙ flat_more line (take at frames) frame ∙ ap (λ (last : List ℕ). flat_map line (take at frames) ++ last) (sym says) in
     subst (Appends printed grown) (sym all) (Appends-trans printed more grown _ _ before now)
 
--- what a writer hands to its device stays as it is
+-- flushing the writer does not change its contents
 pub appends_kept : (a b c : Option (List ℕ)) (text : List ℕ) → Appends a b text → Keeps b c → Appends a c text
 appends_kept None b c text p q = tt
 appends_kept (Some x) None c text p q = absurd p
@@ -91,7 +91,7 @@ on_both (Err fault) P Q R f p q = tt
 
 -- ---- Expiries.
 
--- so far, and what these gave is kept
+-- the timers that expired so far, with their output kept
 pub record ExpiresSome (style : LineStyle) (now : ℕ) (side : Side) (old new : EitherSide) (kept : List (List ℕ)) (traced told : List ℕ) : Type 0 where
   pub calls : List Effects
   pub are : AreExpired now calls old new
@@ -122,7 +122,7 @@ some_more style now side old mid new acts before after traced lines told words s
           ∙ sym (ap (primitives_text style) all_primitives ∙ flat_map-append (primitive_line style) primitives acts.primitives);
     }
 
--- and then nothing is due, and what is kept is sent and printed
+-- no timer is due any more, and the kept output is sent and printed
 pub all_expired : (now at : ℕ) (old mid rested new : EitherSide) (kept : List (List ℕ)) (traced told : List ℕ) (start here end : Devices) → at ≡ now
     → ExpiresSome start.style now (side_of old) old mid kept traced told → Rests at mid rested → new ≡ rested → end.style ≡ start.style → here.written ≡ start.written → here.printed ≡ start.printed
     → Appends here.written end.written (socket_text kept) → Appends here.printed end.printed (traced ++ told) → ExpiresAll now old new start end
@@ -144,7 +144,7 @@ all_expired now at old mid rested new kept traced told start here end same some 
 
 -- ---- Requests.
 
--- a refusal gives nothing
+-- a refused request has no output
 pub refused_nothing : (r : Request) (now : ℕ) (fault : SideFault) (old new : EitherSide) (acts : Effects) → Answers r now (Err fault) old new acts → acts ≡ no_effects
 refused_nothing r now fault (either.Network old) (either.Network new) acts answers = answers.nothing
 refused_nothing r now fault (either.User old) (either.User new) acts answers = answers.nothing
@@ -166,7 +166,7 @@ pub lines_more : (wishes : List Wish) (wish : Wish) (a mid b : AtWork) → Lines
 lines_more [] wish a mid b lines does = (b, subst (λ (at : AtWork). LineDoes wish at b) lines does, refl)
 lines_more (first ∷ wishes) wish a mid b lines does = (lines.0, lines.1, lines_more wishes wish lines.0 mid b lines.2 does)
 
--- and lines are printed as before
+-- the style of lines does not change
 style_kept : (wish : Wish) (a b : AtWork) → LineDoes wish a b → b.around.style ≡ a.around.style
 style_kept Read a b (inl h) = h.takes.puts.style
 style_kept Read a b (inr h) = h.puts.style
@@ -183,7 +183,7 @@ pub styles_kept : (wishes : List Wish) (a b : AtWork) → LinesDo wishes a b →
 styles_kept [] a b same = ap (λ (at : AtWork). at.around.style) same
 styles_kept (wish ∷ wishes) a b h = styles_kept wishes h.0 b h.2 ∙ style_kept wish a h.0 h.1
 
--- a side that has come so far has come one line further
+-- a side that has executed the lines so far has executed one line more
 pub line_done : (s : Progress) (line : List ℕ) (asked : SideLine) (a b : AtWork) (old new : Option (List ℕ)) → HasComeTo s a
     → wish_of_line (side_of a.side) line ≡ Some (wish_of asked) → moment_after a.now (wish_of asked) ≡ Some b.now → side_of b.side ≡ side_of a.side
     → LineDoes (wish_of asked) a b → Appends old new [] → IsSomeAnd (side_step s line) (λ next. HasComeTo next.1 b × Appends old new next.0)

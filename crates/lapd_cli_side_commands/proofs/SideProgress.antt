@@ -1,4 +1,4 @@
--- How far a side has come after the lines of a script.
+-- The progress of a side after the lines of a script.
 use Rattle.std.proofs.Common.{◌≡◌, ℕ, ◌+◌, List, [], ◌∷◌, ◌++◌, Bool, true, false, Option, Some, None, refl, sym, ap, subst, ◌∙◌, append_assoc}
 use Rattle.std.specs.Prelude.{option_map, option_and_then, if◌then◌else◌}
 use Rattle.std.proofs.lemmas.List.{append-nil}
@@ -8,9 +8,9 @@ use Rattle.lapd_cli_side_commands.specs.Served.{Progress, after_line, line_wishe
 use Rattle.lapd_cli_side_commands.specs.Clocks.{Clocked, clock_step, clocked, moment_after}
 use Rattle.lapd_cli_side_lines.specs.Wishes.{Wish, wish_of_line}
 
--- ---- Which lines are bad, is said by the clock alone.
+-- ---- Only the clock determines which lines are bad.
 
--- ---- A line that is not passed over.
+-- ---- A line that is not skipped.
 
 line_outcome : {S : Type 0} (step : Step S) (s : S) (line : List ℕ) (o : Outcome S) → is_passed_over line ≡ false → step s line ≡ o → outcome_of step s line ≡ o
 line_outcome step s line o good h = ap (λ (passed : Bool). if passed then Some ([], s) else step s line) good ∙ h
@@ -29,7 +29,7 @@ bad_there : {S : Type 0} (step : Step S) (s : S) (line : List ℕ) (lines : List
     → bad_from n step s (line ∷ lines) ≡ Some n
 bad_there step s line lines n good h = ap (λ (o : Outcome _). number_or n o (λ u. bad_from (n + 1) step u lines)) (line_outcome step s line None good h)
 
--- one that is passed over changes nothing
+-- a line that is skipped changes nothing
 passed_outcome : {S : Type 0} (step : Step S) (s : S) (line : List ℕ) → is_passed_over line ≡ true → outcome_of step s line ≡ Some ([], s)
 passed_outcome step s line passed = ap (λ (is : Bool). if is then Some ([], s) else step s line) passed
 
@@ -39,7 +39,7 @@ after_passed step s line lines passed = sym (ap (λ (o : Outcome _). state_or s 
 bad_passed : {S : Type 0} (step : Step S) (s : S) (line : List ℕ) (lines : List (List ℕ)) (n : ℕ) → is_passed_over line ≡ true → bad_from (n + 1) step s lines ≡ bad_from n step s (line ∷ lines)
 bad_passed step s line lines n passed = sym (ap (λ (o : Outcome _). number_or n o (λ u. bad_from (n + 1) step u lines)) (passed_outcome step s line passed))
 
--- ---- Which lines are bad, is said by the clock alone.
+-- ---- Only the clock determines which lines are bad.
 
 side_stepped : (s : Progress) (line : List ℕ) (o : Outcome Clocked) → clock_step s.clock line ≡ o → side_step s line ≡ option_map (after_line s line) o
 side_stepped s line o h = ap (option_map (after_line s line)) h
@@ -61,7 +61,7 @@ pub same_from : (n : ℕ) (s : Progress) (lines : List (List ℕ)) → Same s li
 same_from n s [] = refl
 same_from n s (line ∷ lines) = same_line s line lines n (is_passed_over line) (clock_step s.clock line) refl refl (λ t. same_from (n + 1) t lines)
 
--- ---- What the lines asked for, where none is bad.
+-- ---- The requests of the lines, if none is bad.
 
 abbrev side_in : Side → Outcome Clocked → Side
 side_in side None = side

@@ -22,7 +22,7 @@ use Rattle.lapd_cli_side_lines.specs.declared.line_style.LineStyle.{LineStyle}
 use Rattle.lapd_cli_side_commands.proofs.Serving.{styles_kept}
 use Rattle.lapd_cli_side_commands.proofs.SideProgress.{progress_after, same_from}
 
--- how the walk over a script ends
+-- how the run of a script ends
 ended_so : (s : Progress) (result : Result ⊤ ScriptFault) (lines : List (List ℕ)) (a b : Option (List ℕ)) → s.clock ≡ new_clock s.clock.side
     → EndsAs side_step s result lines a b → SideEndsAs s.clock.side result lines
 ended_so s (Ok done) lines a b new q = ap (λ (clock : Clocked). bad_line clock_step clock lines) (sym new) ∙ sym (same_from 1 s lines) ∙ q.0
@@ -37,7 +37,7 @@ pub ended : (side : EitherSide) (before : Devices) (known : Option (List ℕ)) (
 ended side before None result a b q = tt
 ended side before (Some octets) result a b q = ended_so (new_progress side before) result (lines_of octets) a b refl q
 
--- and what was done then
+-- and what the side has done by then
 served_so : (side : EitherSide) (before : Devices) (kept : LineStyle) (rest written printed : Option (List ℕ)) (now : ℕ) (after : EitherSide) (result : Result ⊤ ScriptFault) (lines : List (List ℕ)) (a b : Option (List ℕ))
     → EndsAs side_step (new_progress side before) result lines a b
     → OnOk result (HasComeTo (state_after side_step (new_progress side before) lines) (at_work after now (devices kept rest written printed)))
@@ -80,7 +80,7 @@ user_served side config fixed None result before behind new served = tt
 user_served side config fixed (Some octets) (Ok done) before behind new served = record { began = side; new = new; served = served }
 user_served side config fixed (Some octets) (Err fault) before behind new served = tt
 
--- a fault that names no line says nothing of the script
+-- a fault without a line number says nothing about the script
 pub unsaid : (known : Option (List ℕ)) → IfSome known (λ octets. ⊤)
 unsaid None = tt
 unsaid (Some octets) = tt

@@ -1,4 +1,4 @@
--- What the output of a line holds.
+-- The output of a line.
 use Rattle.std.specs.Prelude.{ℕ, List, map, take, flat_map}
 use Rattle.std.specs.String.{string_bytes}
 use Rattle.lapd_cli_side_commands.specs.declared.line_output.LineOutput.{LineOutput}
@@ -10,7 +10,7 @@ octets_of traced = traced.octets.items
 abbrev pub line_of : TracedFrame → List ℕ
 line_of traced = string_bytes traced.line
 
--- the frames that are to be sent, in order
+-- the frames to send, in order
 abbrev pub sent_of : LineOutput → List (List ℕ)
 sent_of output = map octets_of (take output.count output.frames.items)
 
@@ -18,6 +18,6 @@ sent_of output = map octets_of (take output.count output.frames.items)
 abbrev pub traced_of : LineOutput → List ℕ
 traced_of output = flat_map line_of (take output.count output.frames.items)
 
--- what the layers above are told
+-- the printed primitives
 abbrev pub told_of : LineOutput → List ℕ
 told_of output = string_bytes output.primitives

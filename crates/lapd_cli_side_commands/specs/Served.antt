@@ -1,5 +1,5 @@
--- What `net` and `user` do, line by line: what is read of the port, what the side is called with, what is written to the port,
--- and what is printed.
+-- The behaviour of `net` and `user`, line by line: what they read from the port, how they call the
+-- side, what they write to the port, and what they print.
 use Rattle.std.specs.Prelude.{◌≡◌, ◌⊎◌, ℕ, ◌+◌, List, [], ◌∷◌, ◌++◌, flat_map, if◌then◌else◌, true, Option, Some, None, option_map, Result, Ok, Err, ⊤}
 use Rattle.std.specs.Io.KnownBytes.{Appends, Consumes}
 use Rattle.lapd_timers.specs.Durations.{standard_lengths}
@@ -30,8 +30,9 @@ use Rattle.lapd_cli_side_lines.specs.SideTexts.{acts_text, answer_text, end_line
 use Rattle.lapd_cli_side_lines.specs.Wishes.{Wish, Read, Tick, wish_of_line, wish_of_request}
 use Rattle.lapd_cli_side_commands.specs.Clocks.{Clocked, clock_step, new_clock}
 
--- What is around a side: how its lines are printed; the octets that the source of its port has left, and those that the sink of
--- its port and the writer have taken, each where it tells them.
+-- The surroundings of a side: the style of its lines, the octets that its port's source has left,
+-- and the octets that its port's sink and the writer have received. Each is `None` if unknown, as
+-- for a socket.
 pub record Devices : Type 0 where
   pub style : LineStyle
   pub rest : Option (List ℕ)
@@ -46,7 +47,7 @@ devices style rest written printed = record {
   printed = printed;
 }
 
--- A side at work: its clock, and what is around it.
+-- A running side: its clock, and its surroundings.
 pub record AtWork : Type 0 where
   pub side : EitherSide
   pub now : ℕ
@@ -55,7 +56,7 @@ pub record AtWork : Type 0 where
 abbrev pub at_work : EitherSide → ℕ → Devices → AtWork
 at_work side now around = record { side = side; now = now; around = around }
 
--- these frames are sent and this text is printed, and lines are printed as before
+-- these frames are sent, this text is printed, and the style of lines is unchanged
 pub record Puts (frames : List (List ℕ)) (text : List ℕ) (a b : Devices) : Type 0 where
   pub style : b.style ≡ a.style
   pub sent : Appends a.written b.written (socket_text frames)
@@ -63,21 +64,21 @@ pub record Puts (frames : List (List ℕ)) (text : List ℕ) (a b : Devices) : T
 
 -- ---- Lines.
 
--- a frame of the other side is printed and taken, once, and what this gives is sent and printed
+-- a frame of the other side is printed and processed once; the output is sent and printed
 pub record TakesNow (frame : List ℕ) (now : ℕ) (old new : EitherSide) (a b : Devices) : Type 0 where
   pub acts : Effects
   pub takes : Takes frame now (Ok tt) old new acts
   pub puts : Puts acts.frames (frame_text_line a.style (other_side (side_of old)) frame
       ++ acts_text a.style (side_of old) acts.frames acts.primitives) a b
 
--- `read`: it is the next one of the source
+-- `read`: the frame is the source's next one
 pub record TakesNext (a b : AtWork) : Type 0 where
   pub frame : List ℕ
   pub read : Consumes a.around.rest b.around.rest (frame_text frame)
   pub takes : TakesNow frame a.now a.side b.side a.around b.around
   pub clock : b.now ≡ a.now
 
--- or the source is at its end, and the side is not called
+-- `read` at the end of the source: the side is not called
 pub record FindsNone (a b : AtWork) : Type 0 where
   pub ended : Shows a.around.rest (Err End)
   pub read : Consumes a.around.rest b.around.rest []
@@ -85,20 +86,21 @@ pub record FindsNone (a b : AtWork) : Type 0 where
   pub clock : b.now ≡ a.now
   pub puts : Puts [] (end_line a.around.style) a.around b.around
 
--- all that is due at a moment is done, and what this gives is sent and printed
+-- all timers due at a moment expire; the output is sent and printed
 pub record ExpiresAll (now : ℕ) (old new : EitherSide) (a b : Devices) : Type 0 where
   pub calls : List Effects
   pub in_turn : ExpireInTurn now calls old new
   pub puts : Puts (frames_given calls)
       (acts_text a.style (side_of old) (frames_given calls) (primitives_given calls)) a b
 
--- `tick`: the clock goes on, all that is then due is done in turn, and nothing else
+-- `tick`: the clock advances and all timers then due expire, one after another; nothing else
+-- happens
 pub record GoesOn (ms : ℕ) (a b : AtWork) : Type 0 where
   pub due : ExpiresAll (a.now + ms) a.side b.side a.around b.around
   pub clock : b.now ≡ a.now + ms
   pub read : Consumes a.around.rest b.around.rest []
 
--- another word is one request, and what it gives is sent and printed; of one that is refused it is printed why
+-- any other word is one request; the output is sent and printed, or the reason if it is refused
 pub record Asks (wish : Wish) (a b : AtWork) : Type 0 where
   pub request : Request
   pub is : wish_of_request request ≡ wish
@@ -122,7 +124,7 @@ LinesDo (wish ∷ wishes) a b = (mid : AtWork) × LineDoes wish a mid × LinesDo
 
 -- ---- A script.
 
--- what the lines of a script ask for
+-- the requests of a script's lines
 abbrev pub wish_list : Option Wish → List Wish
 wish_list None = []
 wish_list (Some wish) = wish ∷ []
@@ -133,14 +135,15 @@ line_wishes side line = if is_passed_over line then [] else wish_list (wish_of_l
 abbrev pub wishes_of : Side → List (List ℕ) → List Wish
 wishes_of side lines = flat_map (line_wishes side) lines
 
--- A side has done all lines of a script, from moment 0 on, with this around it before and afterwards.
+-- A side has executed all lines of a script from time 0 on, with these surroundings before and
+-- after.
 pub record HasServed (side : EitherSide) (wishes : List Wish) (before after : Devices) : Type 0
   where
     pub ended : EitherSide
     pub moment : ℕ
     pub did : LinesDo wishes (at_work side 0 before) (at_work ended moment after)
 
--- ---- The commands. Where no option is given, the interface is at basic access (Q.921 5.9), and no TEI is known.
+-- ---- The commands. By default: an interface at basic access (Q.921 5.9), no known TEI.
 
 abbrev pub basic_access : Config
 basic_access = record {
@@ -151,23 +154,24 @@ basic_access = record {
   seed = 921;
 }
 
--- `net`: a new network side made so, which knows these TEIs, has done so
+-- `net`: a new network side with this configuration, which knows these TEIs, has executed the lines
 pub record NetHasServed (config : Config) (known : List ℕ) (wishes : List Wish)
     (before after : Devices) : Type 0 where
   pub began : NetSide
   pub new : ShowNetwork began config (new_network config known)
   pub served : HasServed (either.Network began) wishes before after
 
--- `user`: a new user side made so, with this fixed TEI or none, has done so
+-- `user`: a new user side with this configuration, with this fixed TEI or none, has executed the
+-- lines
 pub record UserHasServed (config : Config) (fixed : Option ℕ) (wishes : List Wish)
     (before after : Devices) : Type 0 where
   pub began : UserSide
   pub new : ShowUser began config (new_user config fixed (seeded config.seed))
   pub served : HasServed (either.User began) wishes before after
 
--- ---- A walk over a script.
+-- ---- The run of a script.
 
--- the clock of a side that goes over a script, what its lines asked for so far, and where it began
+-- the clock of the running side, the requests so far, and the state it began in
 pub record Progress : Type 0 where
   pub clock : Clocked
   pub wishes : List Wish
@@ -193,7 +197,7 @@ new_progress side before = record {
   begun = at_work side 0 before;
 }
 
--- this side at work, with its clock, has come so far
+-- this running side, with its clock, has executed the requests so far
 pub record HasComeTo (s : Progress) (at : AtWork) : Type 0 where
   pub of_side : side_of at.side ≡ s.clock.side
   pub moment : at.now ≡ s.clock.now

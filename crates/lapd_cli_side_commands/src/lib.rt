@@ -1,8 +1,10 @@
-//! Commands of the program `lapd` over a script, a writer and a port, which is a socket in the program.
+//! The commands of the program `lapd` that run a whole side over a script, a writer and a port (a
+//! socket in the program).
 //!
-//! [`net`] and [`user`] are the commands of their names: a whole side of an interface, with the other one behind the port.
-//! `lapd_cli_side_lines` has their request lines and the lines that they print. `HasServed` in specs/Served.antt defines, line by
-//! line, what they read, call, send and print.
+//! [`net`] and [`user`] are the commands with these names. Each runs one side of an interface; the
+//! other side is at the far end of the port. `lapd_cli_side_lines` has their request lines and the
+//! lines that they print. `HasServed` in specs/Served.antt defines, line by line, what they read,
+//! call, send and print.
 #![tactic(auto)]
 
 mod line_output;

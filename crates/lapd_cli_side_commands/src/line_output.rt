@@ -1,4 +1,4 @@
-//! What the calls of a side give for one line of its script.
+//! The output of one line of a side's script.
 
 ghost use Rattle.std.specs.Prelude.{◌≡◌, ◌≤◌, [], ◌∷◌, ◌++◌, length, IfNone, IfOk, IsOkUnless, OnOk};
 ghost use Rattle.std.specs.Io.KnownBytes.{Appends};
@@ -15,14 +15,14 @@ use lapd_sides::Acts;
 use std::alloc::Global;
 use std::io::Write;
 
-/// The frames that are to be sent, and the text of what the layers above are told. All memory that they take is taken
-/// before the first frame is sent, and its room serves for the next line.
+/// The frames to send, and the printed primitives. All allocations precede the first send, and the
+/// buffers are reused for the next line.
 #[derive(Drop)]
 pub(crate) struct LineOutput {
     alloc: Global,
-    /// The frames of this line, and behind them frames of lines before, whose room is used again.
+    /// The frames of this line, followed by unused frames of earlier lines, whose memory is reused.
     frames: Vec<TracedFrame>,
-    /// How many frames are of this line.
+    /// The number of this line's frames.
     count: usize,
     primitives: String,
     ghost within: { count ≤ length frames.items },
@@ -31,7 +31,7 @@ pub(crate) struct LineOutput {
 impl LineOutput {
     ghost use Rattle.lapd_cli_side_commands.specs.LineOutputs.{sent_of, told_of, traced_of};
 
-    /// Nothing.
+    /// An empty output.
     pub(crate) fn new(alloc: Global) -> LineOutput {
         LineOutput {
             alloc,
@@ -41,7 +41,7 @@ impl LineOutput {
         }
     }
 
-    /// Forgets all, and keeps the room for it.
+    /// Empties the output and keeps its memory.
     pub(crate) fn clear(&mut self)
         ensures sent { sent_of self.new ≡ [] }
         ensures traced { traced_of self.new ≡ [] }
@@ -51,11 +51,11 @@ impl LineOutput {
         self.primitives.clear();
     }
 
-    /// Puts what a call of this side gave behind all that came before, with its lines in this style.
+    /// Appends the output of a call of this side, with its lines in this style.
     ///
     /// # Errors
     ///
-    /// `Memory`.
+    /// `Memory` if an allocation fails.
     pub(crate) fn gather(
         &mut self,
         style: LineStyle,
@@ -78,12 +78,12 @@ impl LineOutput {
         }
     }
 
-    /// Sends the frames, each in one write, and prints each once it is sent; then prints what the layers above are told, and
-    /// hands all to the device. Where the port fails, nothing more is sent or printed, and how it failed is handed back.
+    /// Sends the frames, each in one write, and prints each once it is sent. Then prints the
+    /// primitives and flushes the writer. If the port fails, it stops and returns the port's fault.
     ///
     /// # Errors
     ///
-    /// `Device`, where the writer fails.
+    /// `Device` if the writer fails.
     pub(crate) fn hand_on<W: Write, S: Source, K: Sink>(
         &self,
         port: &mut Port<S, K>,

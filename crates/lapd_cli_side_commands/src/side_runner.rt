@@ -1,4 +1,4 @@
-//! A side that goes over a script, with the other side behind a port.
+//! A side that executes a script, with the other side at the far end of a port.
 
 ghost use Rattle.std.specs.Prelude.{◌≡◌, ◌+◌, ◌++◌, IfSome, OnOk};
 ghost use Rattle.lapd_cli_script.specs.Script.{lines_of};
@@ -14,11 +14,10 @@ use lapd_sides::{Acts, EitherSide, Request, SideKind};
 use std::alloc::Global;
 use std::io::{self, Read, Write};
 
-/// The last moment of the clock, in milliseconds.
+/// The last time of the clock, in milliseconds.
 const LAST_MOMENT: u64 = 1_000_000_000_000_000;
 
-/// A side, its clock, and what it is given and gives: a port and a writer. It has room for what a line gives, which is used
-/// again for the next.
+/// A side with its clock, its port and its writer. It reuses its buffers for the output of a line.
 #[derive(Drop)]
 struct SideRunner<W, S, K> {
     alloc: Global,
@@ -26,32 +25,33 @@ struct SideRunner<W, S, K> {
     side: EitherSide,
     now: u64,
     acts: Acts,
-    /// The line of the frame that was read.
+    /// The line of the received frame.
     heard: String,
     output: LineOutput,
     out: W,
     port: Port<S, K>,
-    /// How the port failed.
+    /// Why the port failed, if it did.
     fault: Option<PortFault>,
 }
 
-/// How a side went over a script, with what it was given for that.
+/// The result of running a script on a side, with its port and writer returned.
 #[derive(Drop)]
 pub struct SideRun<W, S, K> {
-    /// Whether it came to the script's end.
+    /// Whether the script ran to its end.
     pub ended: Result<(), ScriptFault>,
-    /// The port, with the other side behind it.
+    /// The port to the other side.
     pub port: Port<S, K>,
-    /// What was printed on.
+    /// The writer with the printed lines.
     pub out: W,
 }
 
-/// Goes over a script as this side, from moment 0 on.
+/// Executes a script on this side, from time 0 on.
 ///
 /// # Errors
 ///
-/// `BadLine` at the first line that is none of the side's, `Device` where a read or a write fails, `Memory`, and `Port`
-/// where the port answers another fault than the end of its input.
+/// `BadLine` at the first line that is not valid for the side, `Device` if a read or a write fails,
+/// `Memory` if an allocation fails, and `Port` if the port reports a fault other than the end of
+/// its input.
 pub(crate) fn run_side<R: Read, W: Write, S: Source, K: Sink>(
     alloc: Global,
     style: LineStyle,
@@ -107,7 +107,7 @@ impl<W: Write, S: Source, K: Sink> SideRunner<W, S, K> {
     ghost use Rattle.lapd_cli_side_commands.specs.Clocks.{Moves, moment_after};
     ghost use Rattle.lapd_cli_side_lines.specs.Wishes.{IsGood, Read, wish_of, wish_of_request};
 
-    /// The side at moment 0, with nothing heard yet.
+    /// The side at time 0, before it receives anything.
     fn new(
         alloc: Global,
         style: LineStyle,
@@ -136,7 +136,7 @@ impl<W: Write, S: Source, K: Sink> SideRunner<W, S, K> {
         }
     }
 
-    /// Goes over a script from moment 0 on.
+    /// Executes a script from time 0 on, and returns the port and the writer.
     fn run_script<R: Read>(self, script: &mut R) -> SideRun<W, S, K>
         requires { self.now ≡ 0 }
         ensures ended { IfSome (R.remaining script.old) (λ octets.
@@ -154,7 +154,7 @@ impl<W: Write, S: Source, K: Sink> SideRunner<W, S, K> {
         SideRun { ended, port, out }
     }
 
-    /// Goes over a script from moment 0 on.
+    /// Executes a script from time 0 on.
     fn go_over<R: Read>(&mut self, script: &mut R) -> Result<(), ScriptFault>
         requires { self.old.now ≡ 0 }
         ensures ended { IfSome (R.remaining script.old) (λ octets.
@@ -173,7 +173,7 @@ impl<W: Write, S: Source, K: Sink> SideRunner<W, S, K> {
         }
     }
 
-    /// Does what a line asks for.
+    /// Executes a line's request.
     fn obey(&mut self, line: SideLine) -> Result<(), LineFault>
         ensures side { side_of self.new.side ≡ side_of self.old.side }
         ensures clock { Moves (moment_after self.old.now (wish_of line)) result self.new.now }
@@ -192,7 +192,7 @@ impl<W: Write, S: Source, K: Sink> SideRunner<W, S, K> {
         }
     }
 
-    /// The next frame is read from the port and heard, or the input has ended.
+    /// Reads the next frame from the port and processes it, or prints that the input has ended.
     fn read(&mut self) -> Result<(), LineFault>
         ensures side { side_of self.new.side ≡ side_of self.old.side }
         ensures clock { self.new.now ≡ self.old.now }
@@ -213,7 +213,7 @@ impl<W: Write, S: Source, K: Sink> SideRunner<W, S, K> {
         }
     }
 
-    /// A frame is printed and heard.
+    /// Prints a received frame, and passes it to the side.
     fn hear(&mut self, frame: &[u8]) -> Result<(), LineFault>
         ensures side { side_of self.new.side ≡ side_of self.old.side }
         ensures clock { self.new.now ≡ self.old.now }
@@ -239,7 +239,7 @@ impl<W: Write, S: Source, K: Sink> SideRunner<W, S, K> {
         self.hand_on()
     }
 
-    /// The clock goes on, and all that is due then is done.
+    /// Advances the clock, and expires all timers that are then due.
     fn tick(&mut self, ms: u64) -> Result<(), LineFault>
         ensures side { side_of self.new.side ≡ side_of self.old.side }
         ensures clock { Moves (moment_at (self.old.now + ms)) result self.new.now }
@@ -260,8 +260,9 @@ impl<W: Write, S: Source, K: Sink> SideRunner<W, S, K> {
         }
     }
 
-    /// All that is due is done, one after another, until nothing is. No timer that is started at this moment is due at it, as
-    /// each runs a millisecond at least. The loop counts so far only that it be seen to end.
+    /// Expires all due timers, one after another. No timer started at this moment is due at it,
+    /// since each runs for at least a millisecond. The bound of the loop is never reached; it only
+    /// proves termination.
     fn do_due(&mut self) -> Result<(), LineFault>
         ensures side { side_of self.new.side ≡ side_of self.old.side }
         ensures clock { self.new.now ≡ self.old.now }
@@ -284,7 +285,7 @@ impl<W: Write, S: Source, K: Sink> SideRunner<W, S, K> {
         Err(LineFault::Device)
     }
 
-    /// The side is asked for something.
+    /// Makes a request of the side.
     fn ask(&mut self, request: Request) -> Result<(), LineFault>
         ensures side { side_of self.new.side ≡ side_of self.old.side }
         ensures clock { self.new.now ≡ self.old.now }
@@ -327,7 +328,7 @@ impl<W: Write, S: Source, K: Sink> SideRunner<W, S, K> {
         }
     }
 
-    /// Sends and prints what the line gave.
+    /// Sends and prints the output of the line.
     fn hand_on(&mut self) -> Result<(), LineFault>
         ensures side { side_of self.new.side ≡ side_of self.old.side }
         ensures clock { self.new.now ≡ self.old.now }
@@ -346,7 +347,7 @@ impl<W: Write, S: Source, K: Sink> SideRunner<W, S, K> {
         }
     }
 
-    /// The port has failed, so the script ends. What was printed before is handed to the device.
+    /// Ends the script because the port failed, and flushes what was printed.
     fn fail(&mut self, fault: PortFault) -> Result<(), LineFault>
         ensures side { side_of self.new.side ≡ side_of self.old.side }
         ensures clock { self.new.now ≡ self.old.now }
@@ -362,7 +363,7 @@ impl<W: Write, S: Source, K: Sink> SideRunner<W, S, K> {
     }
 }
 
-/// The moment so many milliseconds after another; none past the last one.
+/// The time `ms` milliseconds after `now`; `None` if it is past the last time.
 #[tactic(auto, using(crate::proofs::Clocks::too_late, crate::proofs::Clocks::in_time))]
 fn moment_behind(now: u64, ms: u64) -> Option<u64>
     ensures { result ≡ moment_at (now + ms) }

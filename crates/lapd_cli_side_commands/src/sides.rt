@@ -15,14 +15,14 @@ use lapd_sides::{Config, Durations, EitherSide, NetSide, Params, Sapi, Tei, User
 use std::alloc::Global;
 use std::io::{Read, Write};
 
-/// Goes over a script as the network side of an interface made so, with the user side behind a port. It knows these TEIs from
-/// the start, each 0 to 126. Lines are printed in this style. The port and the
-/// writer are handed back.
+/// Executes a script on the network side of an interface with this configuration. The user side is
+/// at the far end of the port. The network side knows these TEIs, each 0 to 126, from the start.
+/// Lines are printed in this style. Returns the port and the writer.
 ///
 /// # Errors
 ///
-/// `BadLine` at the first line that is none of the command's, `Device` where a read of the script or a write fails, `Memory`,
-/// and `Port` where the port answers S2 to S6.
+/// `BadLine` at the first line that is not valid, `Device` if a read of the script or a write
+/// fails, `Memory` if an allocation fails, and `Port` if the port reports S2 to S6.
 pub fn net<R: Read, W: Write, S: Source, K: Sink>(
     alloc: Global,
     script: &mut R,
@@ -48,13 +48,13 @@ pub fn net<R: Read, W: Write, S: Source, K: Sink>(
     run_side(alloc, style, EitherSide::Network(side), script, out, port)
 }
 
-/// Goes over a script as the user side of an interface made so, with the network side behind a port. It has this fixed TEI, 0
-/// to 126, or none. Lines are printed in this style. The port and the
-/// writer are handed back.
+/// Executes a script on the user side of an interface with this configuration. The network side is
+/// at the far end of the port. The user side has this fixed TEI, 0 to 126, or none. Lines are
+/// printed in this style. Returns the port and the writer.
 ///
 /// # Errors
 ///
-/// As [`net`].
+/// As for [`net`].
 pub fn user<R: Read, W: Write, S: Source, K: Sink>(
     alloc: Global,
     script: &mut R,
@@ -80,7 +80,7 @@ pub fn user<R: Read, W: Write, S: Source, K: Sink>(
     run_side(alloc, style, EitherSide::User(side), script, out, port)
 }
 
-/// What a side of an interface at basic access is made with (Q.921 5.9).
+/// The configuration of a side at basic access (Q.921 5.9).
 pub fn basic_access() -> Config
     ensures { result ≡ basic_access }
 {

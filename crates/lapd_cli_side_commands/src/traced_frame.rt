@@ -13,7 +13,7 @@ use lapd_frame::{MOST_OCTETS, Side};
 use lapd_port::{Port, PortFault, Sink, Source};
 use std::alloc::Global;
 
-/// A frame that is to be sent, of at least three octets, and its line, with the line's end.
+/// A frame to send, of at least three octets, and its printed line with a line feed.
 #[derive(Drop)]
 pub(crate) struct TracedFrame {
     octets: ArrayVec<u8, MOST_OCTETS>,
@@ -26,7 +26,7 @@ impl TracedFrame {
     ///
     /// # Errors
     ///
-    /// `Memory`.
+    /// `Memory` if an allocation fails.
     pub(crate) fn new(
         alloc: Global,
         style: LineStyle,
@@ -51,11 +51,11 @@ impl TracedFrame {
         Ok(TracedFrame { octets, line })
     }
 
-    /// Becomes the frame with these octets, in the room that is there.
+    /// Replaces the frame by these octets, and reuses its memory.
     ///
     /// # Errors
     ///
-    /// `Memory`. The octets are as before.
+    /// `Memory` if an allocation fails. The octets are then unchanged.
     pub(crate) fn replace(
         &mut self,
         alloc: Global,
@@ -81,11 +81,11 @@ impl TracedFrame {
         Ok(())
     }
 
-    /// Sends it, in one write.
+    /// Sends the frame in one write.
     ///
     /// # Errors
     ///
-    /// As the port.
+    /// The port's fault.
     pub(crate) fn send<S: Source, K: Sink>(&self, port: &mut Port<S, K>) -> Result<(), PortFault>
         ensures text { OnOk result (Appends (K.written port.old.sink) (K.written port.new.sink)
             (frame_text self.now.octets.items)) }

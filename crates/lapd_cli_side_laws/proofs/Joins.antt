@@ -1,4 +1,4 @@
--- What two programs do over a line is moves of an interface.
+-- Two programs joined by a line perform moves of an interface.
 use Rattle.std.proofs.Common.{◌≡◌, ℕ, ◌+◌, ◌*◌, ◌/◌, ◌%◌, List, [], ◌∷◌, ◌++◌, length, take, drop, Option, Some, None, refl, sym, ap, subst, ◌∙◌, append_assoc}
 use Rattle.std.specs.Prelude.{IsSome}
 use Rattle.std.specs.Io.KnownBytes.{Appends, Consumes}
@@ -20,7 +20,7 @@ use Rattle.lapd_cli_side_laws.specs.Deeds.{AreFor, ShowsNetwork, ShowsUser, does
 use Rattle.lapd_cli_side_laws.specs.Joined.{Programs, ProgramLine, WritesTo, ProgramDoes, ProgramsDo, AreAt, AreMovesFor, ArePlayed, ArePlayedSafely, clock_of, network_clock, user_clock, wishes_behind, wishes_of_side}
 use Rattle.lapd_cli_side_laws.proofs.Lines.{moment_is, network_line, network_moves, text_of_both, user_line, user_moves}
 
--- ---- The text of frames says which frames they are.
+-- ---- The octets of frames determine the frames.
 
 same_length : (n m : ℕ) → n / 256 ≡ m / 256 → n % 256 ≡ m % 256 → n ≡ m
 same_length n m high low =
@@ -57,7 +57,8 @@ parted (first ∷ xs) (frame ∷ heard) ys h =
 same_octets : (x y : List ℕ) → Some x ≡ Some y → x ≡ y
 same_octets x y h = cc
 
--- What a source loses is of the frames that were on their way, where it has what is yet to come; and the text of the others is left.
+-- If a source holds frames on their way and then later octets, it can only lose the first of these
+-- frames, and the octets of the others are left.
 rest_left : (old new : Option (List ℕ)) (xs heard : List (List ℕ)) (left later : List ℕ) → old ≡ Some (socket_text xs ++ later) → new ≡ Some (left ++ later) → Consumes old new (socket_text heard)
     → (others : List (List ℕ)) × (xs ≡ heard ++ others) × (new ≡ Some (socket_text others ++ later))
 rest_left old None xs heard left later is ends taken = let no : ⊥ = cc in absurd no
@@ -81,7 +82,7 @@ still_known None new text known p = let no : ⊥ = cc in absurd no
 still_known (Some x) None text known p = absurd p
 still_known (Some x) (Some y) text known p = refl
 
--- what is written is the next of what is on its way
+-- the octets written are the next ones that the other program reads
 grows : (rest after : Option (List ℕ)) (line sent : List (List ℕ)) (octets before later : List ℕ) → after ≡ rest → rest ≡ Some (socket_text line ++ before) → before ≡ octets ++ later
     → octets ≡ socket_text sent → after ≡ Some (socket_text (line ++ sent) ++ later)
 grows rest after line sent octets before later stays is comes same =
@@ -89,7 +90,7 @@ grows rest after line sent octets before later stays is comes same =
     stays ∙ is ∙ ap (λ (t : List ℕ). Some (socket_text line ++ t)) text
     ∙ ap Some (sym (append_assoc (socket_text line) (socket_text sent) later) ∙ ap (λ (t : List ℕ). t ++ later) (sym (text_of_both line sent)))
 
--- ---- A line of one of them.
+-- ---- A line of one program.
 
 record IsTurned (c : Configs) (s : Side) (wish : Wish) (a b : Programs) (i : Interface) : Type 0 where
   deeds : List Deed
@@ -181,7 +182,7 @@ both_played c (line ∷ lines) a b i at h =
       are = subst (AreAt c b) (sym (run_of_both c (moves_of line.side t.deeds) more.moves i)) more.are;
     }
 
--- the lines of each are done by its program alone
+-- the lines of one side are executed by its program alone
 network_first : (s : Side) (wish : Wish) (wishes : List Wish) (a mid : Programs) (b : AtWork) → ProgramDoes s wish a mid → LinesDo wishes mid.network.at b
     → LinesDo (wishes_behind side.Network s wish wishes) a.network.at b
 network_first side.Network wish wishes a mid b w more = (mid.network.at, w.does, more)

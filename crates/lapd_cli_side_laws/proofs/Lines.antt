@@ -1,4 +1,4 @@
--- A line of `net` or `user` is deeds of its side.
+-- A line of `net` or `user` is a sequence of side events.
 use Rattle.std.proofs.Common.{◌≡◌, ℕ, ◌+◌, List, [], ◌∷◌, ◌++◌, drop, Option, Result, Ok, Err, inl, inr, refl, sym, ap, subst, ◌∙◌, append_assoc}
 use Rattle.std.specs.Prelude.{⊤}
 use Rattle.std.specs.List.{AllByRecursion}
@@ -29,14 +29,15 @@ use Rattle.lapd_cli_side_commands.specs.Served.{AtWork, Asks, FindsNone, GoesOn,
 use Rattle.lapd_cli_side_lines.specs.Wishes.{Wish, Read, Tick, Establish, Release, Give, Unit, Busy, AskTei, Check, wish_of_request}
 use Rattle.lapd_cli_side_laws.specs.Deeds.{AreFor, AreForAll, ArePartedFor, IsByDeeds, IsExpiryAt, LeadTo, ShowsNetwork, ShowsUser, does_all, moment_behind, moves_of}
 
--- ---- A call of a side of either kind is a deed.
+-- ---- A call of a side of either kind is a side event.
 
--- the side that is shown after the deed is so, and what the call put is what the deed sent and told
+-- the code shows the side after the event, and the call's output is what the event sent and
+-- reported
 record Did {S : Type 0} (w : Behaviour S) (IsSo : S → Type 0) (acts : Effects) (deed : Deed) (v : SideView S) : Type 0 where
   is_so : IsSo (does w deed v).now
   puts : Puts w acts deed v
 
--- the calls of a side are deeds of this behaviour
+-- the calls of a side are events of this behaviour
 pub record HasDeeds {S : Type 0} (w : Behaviour S) (Shows : EitherSide → S → Type 0) : Type 0 where
   takes : (octets : List ℕ) (now : ℕ) (old new : EitherSide) (acts : Effects) → Takes octets now (Ok tt) old new acts
       → (v : SideView S) (rest : List (List ℕ)) → Shows old v.now → v.incoming ≡ octets ∷ rest → Did w (Shows new) acts (Take now) v
@@ -128,7 +129,7 @@ user_has config = record {
 
 -- ---- One line.
 
--- nothing, or one deed
+-- no event, or one
 none_lead : {S : Type 0} (w : Behaviour S) (IsSo : S → Type 0) (left : List (List ℕ)) (v : SideView S) → IsSo v.now → v.incoming ≡ left → LeadTo w IsSo left [] [] v
 none_lead w IsSo left v is are = record { is_so = is; incoming = are; outgoing = sym (append-nil v.outgoing) }
 
@@ -142,7 +143,7 @@ ask_leads : {S : Type 0} (w : Behaviour S) (IsSo : S → Type 0) (acts : Effects
 unfolding does
 ask_leads w IsSo acts request now v left are d = record { is_so = d.is_so; incoming = are; outgoing = d.puts.sent }
 
--- an expiry, and then others
+-- an expiry, and then other events
 expiry_leads : {S : Type 0} (w : Behaviour S) (IsSo Mid : S → Type 0) (acts : Effects) (timer : Timer) (of : Option LinkId) (now : ℕ) (v : SideView S) (left sent : List (List ℕ))
     (deeds : List Deed) → Did w Mid acts (Expire timer of now) v → LeadTo w IsSo left sent deeds (does w (Expire timer of now) v)
     → LeadTo w IsSo left (acts.frames ++ sent) (Expire timer of now ∷ deeds) v
@@ -201,7 +202,7 @@ goes_on w Shows has ms a b h = record {
   are = λ v left shown are. all_expire w Shows has (a.now + ms) h.due.calls a.side b.side h.due.in_turn v left shown are;
 }
 
--- one request, and the one that the line names
+-- exactly one request: the one the line names
 abbrev IsOneRequest : Wish → ℕ → List Deed → Type 0
 IsOneRequest wish now deeds = (request : Request) × (wish_of_request request ≡ wish) × (deeds ≡ Ask request now ∷ [])
 
@@ -302,7 +303,7 @@ lines w Shows has (wish ∷ wishes) a b h =
     subst (λ (now : ℕ). IsByDeeds w Shows (AreForAll wishes now) mid b) (moment_is wish a mid h.1) (lines w Shows has wishes mid b h.2) in
     two_parts w Shows wish (AreForAll wishes (moment_behind wish a.now)) a mid b (line w Shows has wish a mid h.1) others
 
--- ---- Of either side.
+-- ---- For either side.
 
 pub network_line : (config : Config) (wish : Wish) (a b : AtWork) → LineDoes wish a b → IsByDeeds (network_behaviour config) (ShowsNetwork config) (AreFor wish a.now) a b
 network_line config = line (network_behaviour config) (ShowsNetwork config) (network_has config)
@@ -316,7 +317,7 @@ user_line config = line (user_behaviour config) (ShowsUser config) (user_has con
 pub user_lines : (config : Config) (wishes : List Wish) (a b : AtWork) → LinesDo wishes a b → IsByDeeds (user_behaviour config) (ShowsUser config) (AreForAll wishes a.now) a b
 user_lines config = lines (user_behaviour config) (ShowsUser config) (user_has config)
 
--- ---- Deeds of one side are moves.
+-- ---- The events of one side are moves of an interface.
 
 pub network_moves : (c : Configs) (deeds : List Deed) (i : Interface) → run c (moves_of side.Network deeds) i ≡ with_network (does_all (network_behaviour c.network) deeds (by_network i)) i
 network_moves c [] i = refl

@@ -1,5 +1,5 @@
--- What `net` and `user` do, as deeds of a side: the frames that they read of their source come to it, and those that it sends are
--- what they write to their sink.
+-- The events (`Deed`) that `net` and `user` perform on a side: the side receives the frames that
+-- they read from the source, and they write the frames that it sends to the sink.
 use Rattle.std.specs.Prelude.{◌≡◌, ◌⊎◌, ℕ, ◌+◌, List, [], ◌∷◌, ◌++◌, map, Option}
 use Rattle.std.specs.List.{AllByRecursion}
 use Rattle.std.specs.Io.KnownBytes.{Appends, Consumes}
@@ -20,14 +20,15 @@ use Rattle.lapd_sides_laws.specs.SideView.{Behaviour, SideView, Deed, Take, Expi
 use Rattle.lapd_cli_side_commands.specs.Served.{AtWork}
 use Rattle.lapd_cli_side_lines.specs.Wishes.{Wish, Read, Tick, wish_of_request}
 
--- ---- Which deeds a line asks for.
+-- ---- The events that a line requests.
 
 -- a timer expires at this moment
 abbrev pub IsExpiryAt : ℕ → Deed → Type 0
 IsExpiryAt now deed = (timer : Timer) × (of : Option LinkId) × (deed ≡ Expire timer of now)
 
--- At this moment: `read` takes what comes, once, or nothing where the source has ended; `tick` is expiries alone, at the moment
--- to which the clock goes on; any other line is one request, and the one that it names.
+-- The events of a line at this moment. `read` takes the next frame once, or does nothing if the
+-- source has ended. `tick` consists only of expiries, at the moment to which it advances the clock.
+-- Any other line is exactly the request it names.
 abbrev pub AreFor : Wish → ℕ → List Deed → Type 0
 AreFor Read now deeds = (deeds ≡ []) ⊎ (deeds ≡ Take now ∷ [])
 AreFor (Tick ms) now deeds = AllByRecursion (IsExpiryAt (now + ms)) deeds
@@ -39,7 +40,7 @@ abbrev pub moment_behind : Wish → ℕ → ℕ
 moment_behind (Tick ms) now = now + ms
 moment_behind wish now = now
 
--- what the first line asks for, then what the others do
+-- the events of the first line, followed by those of the other lines
 pub record ArePartedFor (wish : Wish) (now : ℕ) (AreForOthers : List Deed → Type 0)
     (deeds : List Deed) : Type 0 where
   pub first : List Deed
@@ -48,30 +49,32 @@ pub record ArePartedFor (wish : Wish) (now : ℕ) (AreForOthers : List Deed → 
   pub for_first : AreFor wish now first
   pub for_others : AreForOthers others
 
--- of all lines, from this moment on
+-- the events of all lines, from this moment on
 abbrev pub AreForAll : List Wish → ℕ → List Deed → Type 0
 AreForAll [] now deeds = deeds ≡ []
 AreForAll (wish ∷ wishes) now deeds =
     ArePartedFor wish now (AreForAll wishes (moment_behind wish now)) deeds
 
--- ---- What they lead to.
+-- ---- The result of the events.
 
--- these deeds, one after another
+-- these events, one after another
 abbrev pub does_all : {S : Type 0} → Behaviour S → List Deed → SideView S → SideView S
 does_all w [] v = v
 does_all w (deed ∷ deeds) v = does_all w deeds (does w deed v)
 
--- The side is so after these deeds; of what was on its way to it this is left, and these frames it sent.
+-- After these events the side satisfies `IsSo`, has sent the frames `sent`, and the frames `left`
+-- are still on their way to it.
 pub record LeadTo {S : Type 0} (w : Behaviour S) (IsSo : S → Type 0) (left sent : List (List ℕ))
     (deeds : List Deed) (v : SideView S) : Type 0 where
   pub is_so : IsSo (does_all w deeds v).now
   pub incoming : (does_all w deeds v).incoming ≡ left
   pub outgoing : (does_all w deeds v).outgoing ≡ v.outgoing ++ sent
 
--- From one moment of a program to another: the source lost the text of the frames that were heard, and the sink got that of those
--- that were sent. And of whatever side was shown before, with the frames heard as the first on their way to it, there are
--- deeds, of those that were asked for, that lead to a side which is shown now: just the frames heard are taken off, and just
--- the frames sent are put on the line.
+-- A program gets from a to b by requested events. The source lost the octets of the frames in
+-- `heard`, and the sink received those of the frames in `sent`. Take any side that the code showed
+-- before, with the frames of `heard` first on their way to it: some requested events lead it to a
+-- side that the code shows now. They consume exactly the frames of `heard`, and put exactly the
+-- frames of `sent` on the line.
 pub record IsByDeeds {S : Type 0} (w : Behaviour S) (Shows : EitherSide → S → Type 0)
     (AreAskedFor : List Deed → Type 0) (a b : AtWork) : Type 0 where
   pub heard : List (List ℕ)
@@ -82,7 +85,7 @@ pub record IsByDeeds {S : Type 0} (w : Behaviour S) (Shows : EitherSide → S �
       → v.incoming ≡ heard ++ left
       → (deeds : List Deed) × AreAskedFor deeds × LeadTo w (Shows b.side) left sent deeds v
 
--- ---- Of either side.
+-- ---- For either side.
 
 abbrev pub ShowsNetwork : Config → EitherSide → Network → Type 0
 ShowsNetwork config (either.Network code) s = ShowNetwork code config s
@@ -92,6 +95,6 @@ abbrev pub ShowsUser : Config → EitherSide → User → Type 0
 ShowsUser config (either.User code) s = ShowUser code config s
 ShowsUser config (either.Network code) s = ⊥
 
--- deeds of one side, as moves of an interface
+-- the events of one side, as moves of an interface
 abbrev pub moves_of : Side → List Deed → List Move
 moves_of side deeds = map (λ (deed : Deed). record { side = side; deed = deed }) deeds

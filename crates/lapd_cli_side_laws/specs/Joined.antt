@@ -1,5 +1,6 @@
--- `net` and `user` over a line that loses nothing: the octets that the one's source gives are those that the other writes, and each
--- reads only what was written. What they do are moves of an interface.
+-- `net` and `user` over a lossless line: each source delivers the octets that the other program
+-- writes, and each program reads only what was written. Together they perform moves of an
+-- interface.
 use Rattle.std.specs.Prelude.{◌≡◌, ℕ, ◌<◌, ◌≤◌, List, [], ◌∷◌, ◌++◌, Some, IsSome}
 use Rattle.std.specs.Io.KnownBytes.{Appends}
 use Rattle.lapd_frame.specs.declared.Side.{Side}
@@ -17,7 +18,8 @@ use Rattle.lapd_cli_side_laws.specs.Deeds.{AreFor, ShowsNetwork, ShowsUser, mome
 
 -- ---- Two programs.
 
--- A program, and what the other is yet to write: octets that its source has behind those which are on their way.
+-- A program, and `later`: the octets that the other program has not written yet. The program's
+-- source holds them after the octets on their way.
 pub record Program : Type 0 where
   pub at : AtWork
   pub later : List ℕ
@@ -26,7 +28,8 @@ pub record Programs : Type 0 where
   pub network : Program
   pub user : Program
 
--- A program does a line, and reads no more than was written; what it writes is the next of what the other's source gives.
+-- A program executes a line and reads no more than was written; the octets it writes are the next
+-- ones that the other's source delivers.
 pub record WritesTo (wish : Wish) (a b other after : Program) : Type 0 where
   pub does : LineDoes wish a.at b.at
   pub later : b.later ≡ a.later
@@ -41,7 +44,7 @@ abbrev pub ProgramDoes : Side → Wish → Programs → Programs → Type 0
 ProgramDoes side.Network wish a b = WritesTo wish a.network b.network a.user b.user
 ProgramDoes side.User wish a b = WritesTo wish a.user b.user a.network b.network
 
--- lines of the one or of the other, in any order
+-- a line of one of the programs; the lines of both run in any order
 pub record ProgramLine : Type 0 where
   pub side : Side
   pub wish : Wish
@@ -51,7 +54,7 @@ ProgramsDo [] a b = b ≡ a
 ProgramsDo (line ∷ lines) a b =
     (mid : Programs) × ProgramDoes line.side line.wish a mid × ProgramsDo lines mid b
 
--- those of one side
+-- the lines of one side
 abbrev pub wishes_behind : Side → Side → Wish → List Wish → List Wish
 wishes_behind side.Network side.Network wish wishes = wish ∷ wishes
 wishes_behind side.User side.User wish wishes = wish ∷ wishes
@@ -61,10 +64,11 @@ abbrev pub wishes_of_side : Side → List ProgramLine → List Wish
 wishes_of_side of [] = []
 wishes_of_side of (line ∷ lines) = wishes_behind of line.side line.wish (wishes_of_side of lines)
 
--- ---- The interface that they are at.
+-- ---- The interface that the programs represent.
 
--- The sides of the programs show those of the interface. The source of each has the text of the frames on their way to its side,
--- and then what is yet to be written; and what each sink has taken is known.
+-- The programs' sides show the sides of the interface. Each source holds the octets of the frames
+-- on their way to its side, and then those yet to be written. The octets that each sink received
+-- are known.
 pub record AreAt (c : Configs) (p : Programs) (i : Interface) : Type 0 where
   pub network : ShowsNetwork c.network p.network.at.side i.network
   pub user : ShowsUser c.user p.user.at.side i.user
@@ -74,14 +78,14 @@ pub record AreAt (c : Configs) (p : Programs) (i : Interface) : Type 0 where
   pub by_network : IsSome p.network.at.around.written
   pub by_user : IsSome p.user.at.around.written
 
--- ---- Which moves the lines ask for.
+-- ---- The moves that the lines request.
 
--- the clock of this side, of two: the network's and the user's
+-- of the network's and the user's clock, the one of this side
 abbrev pub clock_of : Side → ℕ → ℕ → ℕ
 clock_of side.Network network user = network
 clock_of side.User network user = user
 
--- the clock of the one side after a line of this side
+-- the network's clock after a line of this side; likewise the user's
 abbrev pub network_clock : Side → Wish → ℕ → ℕ
 network_clock side.Network wish now = moment_behind wish now
 network_clock side.User wish now = now
@@ -90,7 +94,7 @@ abbrev pub user_clock : Side → Wish → ℕ → ℕ
 user_clock side.Network wish now = now
 user_clock side.User wish now = moment_behind wish now
 
--- what the first line asks for, then what the others do
+-- the events of the first line, followed by the moves of the other lines
 pub record ArePartedAs (side : Side) (wish : Wish) (now : ℕ) (AreForOthers : List Move → Type 0)
     (moves : List Move) : Type 0 where
   pub first : List Deed
@@ -106,8 +110,8 @@ AreMovesFor (line ∷ lines) network user moves =
     (AreMovesFor lines (network_clock line.side line.wish network)
     (user_clock line.side line.wish user)) moves
 
--- What both did is moves of the interface, those that their lines asked for; and where these keep the premises of a link, that
--- link is safe.
+-- Both programs performed exactly the moves that their lines requested. In `ArePlayedSafely`, every
+-- link is safe whose premises these moves keep.
 pub record ArePlayed (c : Configs) (lines : List ProgramLine) (a b : Programs) (i : Interface)
     : Type 0 where
   pub moves : List Move

@@ -1,4 +1,4 @@
-//! Laws of the programs. They do nothing when they are called.
+//! Laws of the programs. The functions do nothing when they are called.
 
 ghost use Rattle.std.specs.Prelude.{◌≡◌, List, Option, ℕ};
 ghost use Rattle.rand_pcg.specs.Lcg.{Lcg};
@@ -13,13 +13,13 @@ ghost use Rattle.lapd_cli_side_lines.specs.Wishes.{Wish};
 ghost use Rattle.lapd_cli_side_laws.specs.Joined.{AreAt, ArePlayed, ArePlayedSafely, ProgramLine, Programs, ProgramsDo, wishes_of_side};
 ghost use Rattle.lapd_cli_side_laws.specs.Deeds.{AreFor, AreForAll, IsByDeeds, ShowsNetwork, ShowsUser, does_all, moves_of};
 
-/// What a line of `net` or `user` does is deeds of its side, and so is what all lines of a script do. The frames that it reads of
-/// the source are the first on their way to the side, and the side takes just these; what it sends is written to the sink, and
-/// nothing else is. So where two programs are joined, what the one does is moves of the interface that both show
-/// (`network_moves`, `user_moves`).
+/// A line of `net` or `user`, and so a whole script, performs exactly the side events that it
+/// requests. The side receives the frames read from the source, in order, and all frames that it
+/// sends are written to the sink. If two programs are joined, the events of one are moves of the
+/// interface that both represent (`network_moves`, `user_moves`).
 ///
-/// `network_line`, `user_line`: of one line. `network_lines`, `user_lines`: of all lines of a script, as `net` and `user` do
-/// them.
+/// `network_line`, `user_line`: one line. `network_lines`, `user_lines`: all lines of a script, as
+/// `net` and `user` execute them.
 pub fn lines_are_deeds()
     ensures network_line { (config : Config) (wish : Wish) (a b : AtWork) → LineDoes wish a b
         → IsByDeeds (network_behaviour config) (ShowsNetwork config) (AreFor wish a.now) a b }
@@ -39,13 +39,14 @@ pub fn lines_are_deeds()
         ≡ with_user (does_all (user_behaviour c.user) deeds (by_user i)) i }
 {}
 
-/// Whatever lines `net` and `user` do, in whatever order, over a line that loses nothing: where the octets that the one's source
-/// gives are those that the other writes, and each reads only what was written, it is moves of an interface. So each of its
-/// links is safe, where these moves keep the premises of that link.
+/// If `net` and `user` are joined by a lossless line, whatever their lines do, in any order, is a
+/// sequence of moves of an interface. Lossless means: each source delivers the octets that the
+/// other program writes, and each program reads only what was written. So each link of the
+/// interface is safe if these moves keep the premises of that link.
 ///
-/// `played`: from any interface that both are at. `safe`: from two sides as they are made, the user with a fixed TEI or with
-/// none, the network with any that it knows. `network_lines`, `user_lines`: of each program it is what `net` and `user`
-/// promise.
+/// `played`: from any interface that both represent. `safe`: from two new sides, the user with or
+/// without a fixed TEI, the network with any known TEIs. `network_lines`, `user_lines`: for each
+/// program, this is what `net` and `user` promise.
 pub fn joined_programs_are_safe()
     ensures played { (c : Configs) (lines : List ProgramLine) (a b : Programs) (i : Interface)
         → AreAt c a i → ProgramsDo lines a b → ArePlayed c lines a b i }

@@ -1,18 +1,18 @@
--- Calls of a side, one after another, and what they give together.
+-- Successive calls of a side, and their combined output.
 use Rattle.std.specs.Prelude.{ℕ, List, [], ◌∷◌, flat_map}
 use Rattle.lapd_sides_links.specs.declared.primitive.Primitive.{Primitive}
 use Rattle.lapd_sides_links.specs.Effects.{Effects}
 use Rattle.lapd_sides.specs.declared.either_side.EitherSide.{EitherSide}
 use Rattle.lapd_sides.specs.Either.{Expires, Rests}
 
--- the frames that some calls gave, in order, and the primitives
+-- the frames that the calls return, in order; likewise the primitives
 abbrev pub frames_given : List Effects → List (List ℕ)
 frames_given calls = flat_map (λ acts. acts.frames) calls
 
 abbrev pub primitives_given : List Effects → List Primitive
 primitives_given calls = flat_map (λ acts. acts.primitives) calls
 
--- these timers were due and expired, one after another, and then none is due
+-- these timers were due and expired, one after another, until no timer was due
 abbrev pub ExpireInTurn : ℕ → List Effects → EitherSide → EitherSide → Type 0
 ExpireInTurn now [] old new = Rests now old new
 ExpireInTurn now (acts ∷ more) old new =

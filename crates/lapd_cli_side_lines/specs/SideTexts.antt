@@ -1,5 +1,6 @@
--- The lines that the commands `net` and `user` print: frames, primitives, refusals, and the end of the input. In words, a frame is
--- its trace line and a primitive its own words; else each line is a JSON object.
+-- The lines that the commands `net` and `user` print: frames, primitives, refusals, and the end of
+-- the input. With the style `Text`, a frame is printed as its trace line and a primitive in words.
+-- With `Json`, each line is a JSON object.
 use Rattle.std.specs.Prelude.{ℕ, List, [], ◌++◌, flat_map, codes, Result, Ok, Err, ⊤}
 use Rattle.lapd_frame.specs.declared.Side.{Side}
 use Rattle.lapd_trace.specs.Trace.{trace_line}
@@ -38,7 +39,7 @@ refused_line Json why = text_line (object_text (text_members (codes "refused") w
 abbrev pub refusal_line : LineStyle → SideKind → List ℕ
 refusal_line style kind = refused_line style (kind_text kind)
 
--- of `read`, when the input has ended
+-- `read` found the end of the input
 abbrev pub end_line : LineStyle → List ℕ
 end_line style = refused_line style (codes "S1 End")
 
@@ -55,7 +56,7 @@ abbrev pub acts_text : LineStyle → Side → List (List ℕ) → List Primitive
 acts_text style side frames primitives =
     frames_text style side frames ++ primitives_text style primitives
 
--- or the refusal, if the side refuses
+-- the output of the call, or the refusal if the side refuses
 abbrev pub answer_text : LineStyle → Side → Result ⊤ SideFault → Effects → List ℕ
 answer_text style side (Ok done) acts = acts_text style side acts.frames acts.primitives
 answer_text style side (Err fault) acts = refusal_line style fault.kind

@@ -14,8 +14,9 @@ use Rattle.lapd_sides.specs.declared.request.Request.TheVariants as request
 use Rattle.lapd_cli_side_lines.specs.declared.side_lines.SideLine.{SideLine}
 use Rattle.lapd_cli_side_lines.specs.declared.side_lines.SideLine.TheVariants as line
 
--- What a line requests: read one frame; advance the clock by some milliseconds; establish or release a link, or give a message
--- or unit data for it; assign a TEI to this terminal, or check one.
+-- The request of a line: read one frame; advance the clock by some milliseconds; establish or
+-- release a link; send a message or unit data on a link; assign a TEI to this terminal, or check
+-- one.
 pub data Wish : Type 0 where
   Read : Wish
   Tick : (ms : ℕ) → Wish
@@ -29,7 +30,7 @@ pub data Wish : Type 0 where
 
 -- ---- Numbers.
 
--- a word in decimal digits: a number below 256, a TEI, 0 to 127, or a SAPI, 0, 16 or 63
+-- a number below 256 in decimal digits; likewise a TEI, 0 to 127, and a SAPI, 0, 16 or 63
 abbrev pub octet_at : ℕ → Option ℕ
 octet_at n = if nat_le n 255 then Some n else None
 
@@ -55,7 +56,7 @@ span_at ms = if nat_le 1 ms && nat_le ms 3600000 then Some ms else None
 
 -- ---- The words of a line.
 
--- a word with nothing behind it
+-- a word with nothing after it
 abbrev pub bare_wish : Wish → List (List ℕ) → Option Wish
 bare_wish wish behind = option_map (λ none. wish) (nothing_of behind)
 
@@ -70,7 +71,7 @@ abbrev pub check_wish : List (List ℕ) → Option Wish
 check_wish [] = None
 check_wish (word ∷ behind) = check_said word behind
 
--- what a word requests of a link, with the words behind its SAPI and TEI
+-- what a word requests of a link, with the words after its SAPI and TEI
 abbrev pub link_wish : List ℕ → LinkId → List (List ℕ) → Option Wish
 link_wish word id behind =
     if bytes_eq word (codes "establish") then bare_wish (Establish id) behind else (
@@ -87,7 +88,7 @@ abbrev pub with_sapi : List ℕ → List (List ℕ) → Option Wish
 with_sapi word [] = None
 with_sapi word (sapi ∷ behind) = with_tei word sapi behind
 
--- `ask` is a word of the user side only, and `check` of the network side only
+-- only the user side has the word `ask`, only the network side the word `check`
 abbrev pub own_wish : Side → List ℕ → List (List ℕ) → Option Wish
 own_wish User word behind = if bytes_eq word (codes "ask") then bare_wish AskTei behind
     else with_sapi word behind
@@ -109,7 +110,7 @@ wish_of_line side octets = wish_of_words side (words_of octets)
 
 -- ---- How a line ends.
 
--- the line is not bad, whether or not it could be done
+-- the line is valid, whether or not it could be executed
 abbrev pub IsGood : Result ⊤ LineFault → Type 0
 IsGood (Ok done) = ⊤
 IsGood (Err Bad) = ⊥

@@ -13,7 +13,7 @@ use std::alloc::{AllocError, Global};
 ///
 /// # Errors
 ///
-/// `AllocError`. A part of the line may have been appended.
+/// `AllocError` if an allocation fails. Part of the line may have been appended.
 pub fn push_frame(
     alloc: Global,
     text: &mut String,
@@ -34,7 +34,7 @@ pub fn push_frame(
 ///
 /// # Errors
 ///
-/// `AllocError`. A part of the line may have been appended.
+/// `AllocError` if an allocation fails. Part of the line may have been appended.
 pub fn push_trace(
     alloc: Global,
     text: &mut String,

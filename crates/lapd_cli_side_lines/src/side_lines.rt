@@ -13,12 +13,13 @@ use std::alloc::Global;
 /// The longest step of the clock in one line, in milliseconds: an hour.
 const MOST_MS: u64 = 3_600_000;
 
-/// What a line of a side's script requests.
+/// The request of a line of a side's script.
 #[derive(Drop)]
 pub enum SideLine {
     /// Read one frame from the port, and pass it to the side.
     Read,
-    /// Advance the clock by this many milliseconds, 1 to 3,600,000, and expire each timer that is then due.
+    /// Advance the clock by this many milliseconds, 1 to 3,600,000, and expire each timer that is
+    /// then due.
     Tick(u64),
     /// Make this request of the side.
     Ask(Request),
@@ -39,7 +40,7 @@ pub fn read_line(alloc: Global, side: Side, line: &[u8]) -> Result<SideLine, Lin
     line_by(alloc, side, word, words)
 }
 
-/// Parses the line of this first word, with the words behind it.
+/// Parses a line from its first word and the words after it.
 fn line_by(alloc: Global, side: Side, word: &[u8], behind: Words<'_>) -> Result<SideLine, LineFault>
     ensures { Reads wish_of result (wish_of_word side word.now behind.entry) }
 {
@@ -52,7 +53,8 @@ fn line_by(alloc: Global, side: Side, word: &[u8], behind: Words<'_>) -> Result<
     }
 }
 
-/// Parses a line whose word only one side has (`ask` of the user side, `check` of the network side), or a line of a link.
+/// Parses a line that only one side has (`ask` on the user side, `check` on the network side), or a
+/// line for a link.
 fn own_line(
     alloc: Global,
     side: Side,
@@ -84,7 +86,7 @@ fn alone(behind: Words<'_>, line: SideLine) -> Result<SideLine, LineFault>
     Ok(line)
 }
 
-/// Parses the number of milliseconds behind `tick`.
+/// Parses the number of milliseconds after `tick`.
 fn tick(behind: Words<'_>) -> Result<SideLine, LineFault>
     ensures { Reads wish_of result (tick_wish behind.entry) }
 {
@@ -96,7 +98,7 @@ fn tick(behind: Words<'_>) -> Result<SideLine, LineFault>
     }
 }
 
-/// Parses the TEI behind `check`.
+/// Parses the TEI after `check`.
 fn check(mut behind: Words<'_>) -> Result<SideLine, LineFault>
     ensures { Reads wish_of result (check_wish behind.entry) }
 {
@@ -122,11 +124,12 @@ fn of_link(alloc: Global, word: &[u8], mut behind: Words<'_>) -> Result<SideLine
     link_line(alloc, word, id, behind)
 }
 
-/// Parses what `word` requests of this link, with the words behind its SAPI and TEI.
+/// Parses what `word` requests of this link, with the words after its SAPI and TEI.
 ///
 /// # Errors
 ///
-/// `Bad` if the word is not a request of a link or the words behind it do not match, and `Memory` if an allocation fails.
+/// `Bad` if the word is not a request for a link or the words after it do not match, and `Memory`
+/// if an allocation fails.
 pub fn link_line(
     alloc: Global,
     word: &[u8],

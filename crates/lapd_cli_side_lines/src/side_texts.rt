@@ -21,7 +21,7 @@ use std::io::Write;
 ///
 /// # Errors
 ///
-/// `AllocError`. A part of the text may have been appended.
+/// `AllocError` if an allocation fails. Part of the text may have been appended.
 pub fn push_primitives(
     alloc: Global,
     style: LineStyle,
@@ -37,11 +37,12 @@ pub fn push_primitives(
     Ok(())
 }
 
-/// Appends the line of a primitive, in this style. Messages and timers of TEI management have no line.
+/// Appends the line of a primitive, in this style. Messages and timers of TEI management have no
+/// line.
 ///
 /// # Errors
 ///
-/// `AllocError`. A part of the text may have been appended.
+/// `AllocError` if an allocation fails. Part of the text may have been appended.
 pub fn push_primitive(
     alloc: Global,
     style: LineStyle,
@@ -66,7 +67,7 @@ pub fn push_primitive(
     }
 }
 
-/// Appends the line of a primitive that has one.
+/// Appends the line of a primitive that is printed.
 fn push_told(
     alloc: Global,
     style: LineStyle,
@@ -101,7 +102,7 @@ fn push_words(alloc: Global, primitive: &Primitive, text: &mut String) -> Result
     }
 }
 
-/// Appends the SAPI and the TEI of a link, with a space behind each.
+/// Appends the SAPI and the TEI of a link, with a space after each.
 fn push_id(id: &LinkId, text: &mut String) -> Result<(), AllocError>
     ensures { OnOk result (string_bytes text.new ≡ string_bytes text.old ++ id_text id.now) }
 {
@@ -110,7 +111,7 @@ fn push_id(id: &LinkId, text: &mut String) -> Result<(), AllocError>
     text.push(' ')
 }
 
-/// The number of a SAPI, with a space behind it.
+/// The number of a SAPI, with a space after it.
 fn sapi_words(sapi: Sapi) -> &'static str
     ensures { result.now ≡ decimal (sapi_value sapi) ++ 32 ∷ [] }
 {
@@ -188,7 +189,7 @@ pub fn put_refused<W: Write>(
 ///
 /// # Errors
 ///
-/// As [`put_refused`].
+/// As for [`put_refused`].
 pub fn put_refusal<W: Write>(
     alloc: Global,
     style: LineStyle,

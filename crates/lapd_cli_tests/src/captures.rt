@@ -1,4 +1,5 @@
-//! Captures, and `decode` over them and over loose lines. The rows are what Wireshark's programs write.
+//! Tests of captures, and of `decode` with captures and with loose lines. The rows were written by
+//! Wireshark's programs.
 
 mod lines;
 mod objects;

@@ -1,4 +1,4 @@
-//! What the program's words choose, and what is said of words that choose nothing.
+//! The meaning of the program's words, and the report of invalid words.
 
 mod words;
 
@@ -12,10 +12,14 @@ use lapd_timers::Timer;
 use std::alloc::Global;
 use std::test::Fail;
 
-/// Words, between spaces or bars, and what they come to, in which a `~` stands for a line feed. Of a link's parameters the window,
-/// N200, the room and the recovery are said, of an interface those of SAPI 0 and of SAPI 16, T200 to T203, whether SAPI 16 is
-/// served, the seed, `-` if none is given, and the TEIs, and of the real clock the terminals, the file, the address of GSMTAP and what
-/// else is set.
+/// Words, separated by spaces or bars, and their meaning, in which `~` means a line feed. The
+/// meaning lists:
+///
+/// - for a link: the window, N200, the capacity of the I queue and the recovery;
+/// - for an interface: the same for SAPI 0 and for SAPI 16, T200 to T203, whether SAPI 16 is
+///   served, the seed (`-` without one), and the TEIs;
+/// - for the real clock: the number of terminals, the file, the address of GSMTAP and the other
+///   flags.
 const ROWS: &str = "\
 lapd => answer net 0 64 1 3 512 enquiry
 lapd answer => answer net 0 64 1 3 512 enquiry
@@ -189,7 +193,7 @@ lapd user --connect 127.0.0.1:4000 --t203 3600001 => error: invalid value '36000
 lapd user --connect 127.0.0.1:4000 --seed 18446744073709551616 => error: invalid value '18446744073709551616' for '--seed <NUMBER>': not a number from 0 to 18446744073709551615 in decimal digits~
 lapd answer --tei 127 => error: invalid value '127' for '--tei <TEI>': not a number from 0 to 126 in decimal digits~";
 
-/// How scripts end, and the exit status of each.
+/// Results of scripts, and the exit status of each.
 const ENDS: &[(ScriptFault, &str)] = &[
     (ScriptFault::BadLine(7), "line 7: bad command, status 1"),
     (ScriptFault::Device, "device fault, status 3"),
@@ -205,7 +209,7 @@ const ENDS: &[(ScriptFault, &str)] = &[
     ),
 ];
 
-/// What these words come to, as far as there is memory for it.
+/// The meaning of these words, as text, as far as it can be allocated.
 fn shown_words(alloc: Global, words: &[&str]) -> String {
     let mut text = String::new(alloc);
     let chosen = parse_words(alloc, words);
@@ -307,7 +311,8 @@ fn show_durations(text: &mut String, durations: &Durations) {
     }
 }
 
-/// Whether the words of a row come to what it says. Of those that the parser refuses it is left open how it says so.
+/// Whether the words of a row have the meaning in the row. For words that the parser refuses, its
+/// text is not compared.
 fn row_holds(alloc: Global, row: &str) -> bool {
     let (words, wanted) = row.split_once(" => ").unwrap_or((row, ""));
     let words = words_of(alloc, words);
@@ -316,7 +321,7 @@ fn row_holds(alloc: Global, row: &str) -> bool {
         || wanted == "refused" && shown.starts_with("refused error: ")
 }
 
-/// Whether this is said of a fault, with its status.
+/// Whether a fault has this text and status.
 fn is_end(alloc: Global, fault: ScriptFault, wanted: &str) -> bool {
     match format!(in alloc; "{fault}, status {}", fault.status()) {
         Ok(text) => text.as_str() == wanted,

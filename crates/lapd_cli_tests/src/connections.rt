@@ -1,5 +1,6 @@
-//! Plays over a connection of the process to itself: `loop` as `pair`, and both ends of the dialogue of the help. What the user
-//! sends there is on its way before, so that neither waits for the other.
+//! Scenarios over a connection of the process to itself: `loop` like `pair`, and both ends of the
+//! dialogue in the help. All that the user sends there is written before, so that neither end waits
+//! for the other.
 
 use crate::examples::{example_goes, text_of};
 use crate::plays::{Trial, pairs, row_goes};
@@ -17,7 +18,7 @@ fn to_itself(rt: &HostRuntime) -> io::Result<(TcpStream, TcpStream)> {
     Ok((near, far))
 }
 
-/// Whether a play of `pair`, of which this stands behind the first word, goes as it says, as `loop`.
+/// Whether a scenario of `pair`, without its first word, runs as written with `loop`.
 fn loops(rt: &HostRuntime, row: &str) -> io::Result<bool> {
     let (near, far) = to_itself(rt)?;
     Ok(loops_over(rt.alloc(), row, &near, &far))
@@ -30,12 +31,12 @@ fn loops_over(alloc: Global, row: &str, near: &TcpStream, far: &TcpStream) -> bo
     }
 }
 
-/// What the user sends.
+/// The octets that the user sends.
 const FROM_USER: &[u8; 34] =
     b"\x00\x08\xfc\xff\x03\x0f\x61\x99\x01\xff\x00\x03\x00\x81\x7f\x00\x06\x00\x81\x00\x00\x08\x01\
     \x00\x04\x02\x81\x01\x02\x00\x03\x00\x81\x53";
 
-/// Whether both ends go as the help says, and the user sends these octets.
+/// Whether both ends run as in the help, and the user sends these octets.
 fn both_go(rt: &HostRuntime) -> io::Result<bool> {
     let (near, far) = to_itself(rt)?;
     Ok(both_go_over(rt.alloc(), &near, &far))

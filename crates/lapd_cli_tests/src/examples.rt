@@ -1,11 +1,11 @@
-//! The examples of the help are plays.
+//! The examples in the help are scenarios.
 
 use crate::plays::{Trial, words_go};
 use lapd_cli_console::Script;
 use lapd_cli_options::help;
 use std::alloc::Global;
 
-/// A text of the help. The texts are long, so they are named here alone.
+/// A help text. The texts are long, so only this function names them.
 pub(crate) fn text_of(script: Script) -> &'static str {
     match script {
         Script::Answer => help::ANSWER,
@@ -18,8 +18,9 @@ pub(crate) fn text_of(script: Script) -> &'static str {
     }
 }
 
-/// The words, whose help has the example, and how the line begins that parts it in two, where the example stands before that
-/// line, or behind it. What `loop` prints is what `pair` prints.
+/// The words of a command; the script whose help has the example; the beginning of the line that
+/// divides that help; and whether the example follows that line or precedes it. `loop` prints the
+/// same as `pair`.
 const EXAMPLES: &[(&str, Script, &str, bool)] = &[
     (
         "lapd answer --side user",
@@ -45,7 +46,7 @@ const EXAMPLES: &[(&str, Script, &str, bool)] = &[
     ("lapd decode", Script::Decode, "\nExample. ", true),
 ];
 
-/// The words of the first example that goes otherwise.
+/// The words of the first example that does not run as written.
 pub(crate) fn wrong_example(alloc: Global) -> Option<&'static str> {
     for (words, script, parted_by, behind) in EXAMPLES {
         let (front, rest) = text_of(*script).split_once(*parted_by).unwrap_or(("", ""));
@@ -57,13 +58,14 @@ pub(crate) fn wrong_example(alloc: Global) -> Option<&'static str> {
     None
 }
 
-/// Whether the example of a text is a play, and goes as it says, as the command that these words choose.
+/// Whether the example in a text is a scenario and runs as written, as the command of these words.
 pub(crate) fn example_goes(alloc: Global, words: &str, text: &str, trial: Trial<'_>) -> bool {
     let play = example_of(alloc, text);
     !play.is_empty() && words_go(alloc, words, play.as_str(), trial)
 }
 
-/// The play of an example, whose lines stand behind `  < ` and `  > `. What is known of both ends is printed behind the script.
+/// The scenario of an example, whose lines begin with `  < ` and `  > `. The closing lines of
+/// `pair` are printed after the script.
 fn example_of(alloc: Global, text: &str) -> String {
     let mut play = String::new(alloc);
     for line in text.lines() {

@@ -1,11 +1,17 @@
-//! Tests of the program: of its commands, of frames over devices, and of the command line. What the words of the command line
-//! choose goes over plays: scripts, with what they print and what goes through the port, in this order. So do the fronts of each
-//! play behind which a device fails, and plays of `loop`, `net` and `user` over a connection. Lines of each command, drawn ones
-//! too, have a reason just where the command calls them bad. Standard streams are told of, and hostile octets come out of a port.
-//! Captures are read and written as Wireshark's programs do. Sides are served in real time, by a clock that goes on as they wait.
+//! Tests of the program: of its commands, of frames over streams, and of the command line.
 //!
-//! They stand apart so that each crate is proved once. What a contract says is not tested again. A row shows that the
-//! definitions say what is meant, that a call can succeed, and what is printed.
+//! - Scenarios are scripts with their output and the octets on the port, in order. They run with
+//!   the command that their words name. Their prefixes are tested with a failing stream after them,
+//!   and scenarios of `loop`, `net` and `user` over a connection.
+//! - Lines of each command, some of them random, have a reported reason exactly if the command
+//!   refuses them.
+//! - The failures of standard streams are reported, and hostile octets arrive at a port.
+//! - Captures are read and written as by Wireshark's programs.
+//! - Sides run in real time, with a clock that advances while they wait.
+//!
+//! The tests are a crate of their own so that each crate is proved once. Contracts are not tested
+//! again. A row shows that the definitions have the intended meaning, that a call can succeed, and
+//! what is printed.
 #![tactic(auto)]
 
 #[cfg(test)]

@@ -1,4 +1,5 @@
-//! Sides that are served in real time, over what is around them in memory, with a clock that advances while they wait.
+//! Sides that run in real time, with their surroundings in memory and a clock that advances while
+//! they wait.
 
 mod bad_lines;
 mod dialogues;

@@ -1,5 +1,5 @@
-//! Memory that is refused. No test can refuse an allocation itself: `tools/refuse-memory` refuses each of a run in turn, and
-//! a test prints that it met it (docs/DEVELOPING.md).
+//! Failed allocations. A test can't make an allocation fail: `tools/refuse-memory` refuses each
+//! allocation of a run in turn, and a test prints that it met the refusal (docs/DEVELOPING.md).
 
 use crate::play::{Console, Line, Play, mark_of};
 use crate::run::run;
@@ -12,8 +12,9 @@ use lapd_cli_side_commands::{FromRead, FromWrite, Port};
 use std::alloc::Global;
 use std::test::Fail;
 
-/// Fails the test where a play goes otherwise, with ample memory. Without memory the lines before are answered, and nothing of
-/// the line under way; of a side whole lines are printed.
+/// Fails the test unless a scenario runs as written. If an allocation fails, the earlier lines must
+/// be answered, and nothing of the current line's answer printed. A side may have printed a part of
+/// it, in whole lines.
 fn keeps(rt: &HostRuntime, job: Job, text: &str) -> Result<(), Fail> {
     let is_side = matches!(job, Job::Net(_) | Job::User(_));
     let chosen = Invocation {
@@ -46,7 +47,7 @@ fn ended_of(alloc: Global, chosen: &Invocation<'_>, play: &Play<'_>) -> Result<(
     ended
 }
 
-/// Whether no printed line is under way, and, of a script alone, none of those that its last line calls for.
+/// Whether nothing of the last answer was printed or, on a side, only whole lines.
 fn is_kept(play: &Play<'_>, text: &str, is_side: bool) -> bool {
     if play.mark() != b"    ".as_slice() {
         return true;
@@ -88,7 +89,7 @@ settle
     net: state 7, given 0, received 1, acknowledged 0, dropped 0
 ";
 
-/// An end of the link of SAPI 0 and TEI 64.
+/// An end of the link with SAPI 0 and TEI 64.
 fn end_of(side: Side) -> Job {
     Job::Answer(LinkEnd {
         side,

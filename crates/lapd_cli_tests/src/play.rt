@@ -1,10 +1,17 @@
-//! What happens at the devices of a command, line by line: a play. All that the command reads, prints and sends has to come in
-//! this order, and nothing else.
+//! A scenario: the calls of a command's reader, writer and port, line by line. The command must
+//! read, print and send exactly this, in this order.
 //!
-//! A line of a play is a line of the script; or what is printed, set in by four spaces; or what goes through the port, in
-//! hexadecimal digits: a `<` stands before what one read gives, and a `>` before what one write takes. A `.` alone is the end of
-//! the script, where something is printed behind it. At a `*` the device fails, and at a `%` the call is interrupted. A line
-//! that begins with `!` is the last: by which fault the command ends, or none. No device is called from there on.
+//! A line of a scenario is one of these:
+//!
+//! - a line of the script;
+//! - a printed line, indented by four spaces;
+//! - octets on the port, in hexadecimal digits: `<` before the octets of one read, `>` before the
+//!   octets of one write;
+//! - `.` alone: the end of the script, if something is printed after it;
+//! - `!` and a fault, or nothing: the result of the command. This line is the last; nothing may be
+//!   read or written after it.
+//!
+//! At a `*` the call fails, and at a `%` it is interrupted.
 
 ghost use Rattle.std.specs.Prelude.{◌≤◌, IfOk, length};
 
@@ -14,33 +21,33 @@ use std::alloc::Global;
 use std::cell::Cell;
 use std::io::{self, ErrorKind, Read, Write};
 
-/// A play under way.
+/// The rest of a scenario that is running.
 #[derive(Drop)]
 pub(crate) struct Play<'a> {
-    /// What is left of it from the line on that is under way.
+    /// The rest of it, from the beginning of the current line.
     line: Cell<&'a [u8]>,
-    /// What is left of it.
+    /// The rest of it.
     pub(crate) left: Cell<&'a [u8]>,
-    /// How many octets a call moves at most.
+    /// The most octets per call.
     most: usize,
-    /// How the script or what is printed on failed.
+    /// The kind of the last failure of the script's reader or of the writer.
     pub(crate) fault: Cell<Option<ErrorKind>>,
 }
 
-/// How lines begin that are none of the script.
+/// The beginnings of lines that are not lines of the script.
 const MARKS: &[&[u8]] = &[b"    ", b"<", b">", b".", b"!"];
 
-/// How failures are told in turn.
+/// The kinds of failures, which the scenario uses in turn.
 const KINDS: &[ErrorKind] = &[
     ErrorKind::WouldBlock,
     ErrorKind::BrokenPipe,
     ErrorKind::PermissionDenied,
 ];
 
-/// What is left when something came that is not of the play.
+/// The rest of a scenario after a call that was not expected.
 const WRONG: &[u8] = b"!?";
 
-/// How a line of a play begins.
+/// The mark at the beginning of a line.
 pub(crate) fn mark_of(line: &[u8]) -> &'static [u8] {
     for mark in MARKS {
         if line.starts_with(mark) {
@@ -50,7 +57,8 @@ pub(crate) fn mark_of(line: &[u8]) -> &'static [u8] {
     b""
 }
 
-/// The front that one call may move: up to this octet, or to the line's end, and that with it.
+/// The front of the rest that one call may move: up to the octet `stop`, or to the line feed, which
+/// is included.
 fn part_of(left: &[u8], stop: u8) -> &[u8] {
     let end = memchr2(b'\n', stop, left).unwrap_or(left.len());
     match left.get(end) {
@@ -60,7 +68,7 @@ fn part_of(left: &[u8], stop: u8) -> &[u8] {
 }
 
 impl<'a> Play<'a> {
-    /// A play that begins.
+    /// A scenario at its beginning.
     pub(crate) fn new(text: &'a str, most: usize) -> Play<'a> {
         Play {
             line: Cell::new(text.as_bytes()),
@@ -70,14 +78,14 @@ impl<'a> Play<'a> {
         }
     }
 
-    /// Nothing that comes from now on is of the play.
+    /// Makes every further call unexpected.
     fn wrong(&self) -> io::Error {
         self.line.set(WRONG);
         self.left.set(WRONG);
         io::Error::from(ErrorKind::Other)
     }
 
-    /// What one call moves of a line that begins with this mark, up to this octet.
+    /// The octets that one call moves of a line with this mark, up to the octet `stop`.
     fn due(&self, mark: &'static [u8], stop: u8) -> io::Result<&'a [u8]> {
         if mark_of(self.line.get()) != mark {
             return Err(self.wrong());
@@ -93,7 +101,7 @@ impl<'a> Play<'a> {
         }
     }
 
-    /// The device fails.
+    /// Makes the call fail.
     fn failure(&self, stop: u8) -> io::Error {
         let left = self.left.get();
         let kind = KINDS
@@ -107,13 +115,13 @@ impl<'a> Play<'a> {
         io::Error::from(kind)
     }
 
-    /// The call is interrupted, for which so many octets stand.
+    /// Makes the call fail as interrupted; its mark has `count` octets.
     fn interruption(&self, count: usize) -> io::Error {
         self.go_on(count);
         io::Error::from(ErrorKind::Interrupted)
     }
 
-    /// So many octets have gone.
+    /// Removes `count` octets from the rest.
     fn go_on(&self, count: usize) {
         let left = self.left.get();
         let (gone, left) = left.split_at_checked(count).unwrap_or((b"", WRONG));
@@ -123,7 +131,8 @@ impl<'a> Play<'a> {
         }
     }
 
-    /// Puts the octets here that one call moves through the port, and tells how many they are.
+    /// Writes the octets that one call moves through the port into `octets`, and returns their
+    /// number.
     fn octets(&self, mark: &'static [u8], stop: u8, octets: &mut [u8]) -> io::Result<usize>
         ensures { IfOk result (λ count. count ≤ length octets.new) }
     {
@@ -145,7 +154,7 @@ impl<'a> Play<'a> {
         Ok(count)
     }
 
-    /// Whether all of it came, and it is said that a command ends so.
+    /// Whether the scenario is complete, and ends with this result.
     pub(crate) fn ends(&self, alloc: Global, ended: Result<(), ScriptFault>) -> bool {
         let left = self.left.get();
         match ended {
@@ -157,18 +166,18 @@ impl<'a> Play<'a> {
         }
     }
 
-    /// How the line begins that is under way, or comes next.
+    /// The mark of the current line, or of the next one.
     pub(crate) fn mark(&self) -> &'static [u8] {
         mark_of(self.line.get())
     }
 
-    /// Whether a line is under way.
+    /// Whether the current line is incomplete.
     pub(crate) fn is_within_line(&self) -> bool {
         self.line.get().len() != self.left.get().len()
     }
 }
 
-/// The script of a play, and what is printed.
+/// The script's reader and the writer of a scenario.
 #[derive(Drop)]
 pub(crate) struct Console<'b, 'a>(pub(crate) &'b Play<'a>);
 
@@ -202,7 +211,7 @@ impl Write for Console<'_, '_> {
     }
 }
 
-/// What goes through the port of a play.
+/// The port of a scenario.
 #[derive(Drop)]
 pub(crate) struct Line<'b, 'a>(pub(crate) &'b Play<'a>);
 

@@ -1,6 +1,7 @@
-//! Plays, as tables. The first line of each has the words that choose its command, and between two stands an empty line. Each
-//! goes as it says, however many octets a call moves; and so does each front of the first two of a table, behind which a device
-//! fails, or the input of the port ends within a frame.
+//! Tables of scenarios, separated by empty lines. The first line of each has the words that choose
+//! its command. Each must run as written, however many octets a call moves. The prefixes of the
+//! first two of a table must run too, with a failing stream after them, or with the end of the
+//! port's input within a frame.
 
 pub(crate) mod answers;
 pub(crate) mod buses;
@@ -20,14 +21,14 @@ use std::alloc::{AllocError, Global};
 use std::net::TcpStream;
 use std::test::Fail;
 
-/// How a play is tried.
+/// How to run a scenario.
 #[derive(Clone, Copy)]
 pub(crate) enum Trial<'a> {
-    /// Over a port of its own.
+    /// With a port of its own.
     Alone,
-    /// So, and its fronts.
+    /// With a port of its own, and then each of its prefixes.
     Fronts,
-    /// Where what goes through the port comes from one stream and goes to another.
+    /// With a port that reads from one stream and writes to another.
     Over(&'a TcpStream, &'a TcpStream),
 }
 
@@ -55,7 +56,8 @@ fn plays_are_as_said(rt: HostRuntime) -> Result<(), Fail> {
     }
 }
 
-/// The first play of a table that goes otherwise. Of the first two the fronts are tried.
+/// The first scenario of a table that does not run as written. Of the first two, the prefixes are
+/// run as well.
 fn wrong_row(alloc: Global, table: &'static str) -> Option<&'static str> {
     for (number, row) in table.split("\n\nlapd").enumerate() {
         let trial = if number < 2 && row.len() < 2000 {
@@ -70,13 +72,13 @@ fn wrong_row(alloc: Global, table: &'static str) -> Option<&'static str> {
     None
 }
 
-/// Whether a play goes as it says, as the command that the words of its first line choose.
+/// Whether a scenario runs as written, as the command of the words on its first line.
 pub(crate) fn row_goes(alloc: Global, row: &str, trial: Trial<'_>) -> bool {
     let (words, play) = row.split_once('\n').unwrap_or((row, ""));
     words_go(alloc, words, play, trial)
 }
 
-/// Whether a play goes as it says, as the command that these words choose.
+/// Whether a scenario runs as written, as the command of these words.
 pub(crate) fn words_go(alloc: Global, words: &str, play: &str, trial: Trial<'_>) -> bool {
     let words = words_of(alloc, words);
     match filled(alloc, play) {
@@ -85,7 +87,8 @@ pub(crate) fn words_go(alloc: Global, words: &str, play: &str, trial: Trial<'_>)
     }
 }
 
-/// The program's words, which single spaces part, or bars, where there are any. The first is its name.
+/// The program's words, separated by bars if there are any, else by single spaces. The first word
+/// is the program's name.
 pub(crate) fn words_of<'a>(alloc: Global, row: &'a str) -> Vec<&'a str> {
     let mut words = Vec::new(alloc);
     let _ = words.push("lapd");
@@ -101,7 +104,8 @@ pub(crate) fn words_of<'a>(alloc: Global, row: &'a str) -> Vec<&'a str> {
     words
 }
 
-/// What stands for a text that is repeated so often: 260 octets of information, and calls that are interrupted or take nothing.
+/// Names of repeated texts, with the number of repetitions: 260 octets of information, and calls
+/// that are interrupted or move nothing.
 const REPEATED: &[(&str, &str, usize)] = &[
     ("MOST", "aa", 260),
     ("TURNS", "<%", 4091),
@@ -109,7 +113,7 @@ const REPEATED: &[(&str, &str, usize)] = &[
     ("NOTHING", ">", 4096),
 ];
 
-/// A play with these texts.
+/// A scenario with these texts in place of their names.
 fn filled(alloc: Global, play: &str) -> Result<String, AllocError> {
     let mut filled = format!(in alloc; "{play}\n")?;
     for (name, text, count) in REPEATED {
@@ -139,7 +143,7 @@ fn is_tried(alloc: Global, chosen: &Invocation<'_>, play: &str, trial: Trial<'_>
     }
 }
 
-/// Whether a play goes as it says, where a call moves so many octets at most, by each of these numbers.
+/// Whether a scenario runs as written with each of these numbers as the most octets per call.
 fn goes(alloc: Global, chosen: &Invocation<'_>, play: &str, numbers: &[usize]) -> bool {
     for most in numbers {
         let play = Play::new(play, *most);
@@ -160,7 +164,8 @@ fn fronts_go(alloc: Global, chosen: &Invocation<'_>, play: &str) -> bool {
     true
 }
 
-/// Whether a play goes as it says over this port, where the script and what is printed are watched as in the program.
+/// Whether a scenario runs as written with this port. The reader and the writer are wrapped as in
+/// the program.
 fn goes_over<S: Source + Drop, K: Sink + Drop>(
     alloc: Global,
     chosen: &Invocation<'_>,
@@ -178,7 +183,7 @@ fn goes_over<S: Source + Drop, K: Sink + Drop>(
     is_failed && fault == play.fault.get() && play.ends(alloc, ended)
 }
 
-/// Whether a port has failed, and its devices did where this fault says so.
+/// Whether a port has failed, and its streams have failed exactly if the fault says so.
 fn has_failed<S: Source, K: Sink>(port: &mut Port<S, K>, fault: PortFault) -> bool {
     let failures = port
         .source()
@@ -191,7 +196,8 @@ fn has_failed<S: Source, K: Sink>(port: &mut Port<S, K>, fault: PortFault) -> bo
         && written == Err(PortFault::Failed)
 }
 
-/// Whether a front of a play goes as it says, behind which the device fails, or the input of the port ends within a frame.
+/// Whether a prefix of a scenario runs as written if the call after it fails, or if the port's
+/// input ends within a frame.
 fn front_goes(alloc: Global, chosen: &Invocation<'_>, play: &str, place: usize) -> bool {
     let (front, rest) = play.split_at_checked(place).unwrap_or((play, ""));
     let begun = front.rsplit('\n').next().unwrap_or(front);
@@ -214,14 +220,14 @@ fn front_goes(alloc: Global, chosen: &Invocation<'_>, play: &str, place: usize) 
         && (!is_cut || ends_by(alloc, chosen, front, "<", cut))
 }
 
-/// Whether this front of a line of the port ends behind an octet that is not the last, or is none.
+/// Whether this prefix of a port's line ends after an octet that is not the last, or is empty.
 fn is_within(begun: &str, rest: &str) -> bool {
     let digits = begun.rsplit(['<', '>']).next().unwrap_or("");
     let is_whole = digits.len() % 2 == 0 && !digits.is_empty() && !rest.starts_with('\n');
     begun.is_empty() || is_whole
 }
 
-/// Whether a front of a play goes as it says, and ends by this fault where that comes behind it.
+/// Whether a prefix of a scenario runs as written, followed by `behind`, and ends with this fault.
 fn ends_by(alloc: Global, chosen: &Invocation<'_>, front: &str, behind: &str, fault: &str) -> bool {
     match format!(in alloc; "{front}{behind}\n! {fault}\n") {
         Ok(play) if behind == "*" => goes(alloc, chosen, play.as_str(), &[512]),

@@ -1,5 +1,6 @@
-//! Why a line is none of its command's: worked lines, and drawn ones, of each command. What calls a line bad is the command,
-//! which prints nothing for it; with the real clock, `read_live_line`.
+//! Why a line is not valid for its command: chosen lines and random ones, for each command. The
+//! command itself decides whether a line is bad, and prints nothing for it; with the real clock,
+//! `read_live_line` decides.
 
 mod lines;
 
@@ -31,7 +32,7 @@ const COMMANDS: &[(Script, &str)] = &[
     (Script::User, "lapd user --connect a:1"),
 ];
 
-/// Octets that are no text, and lines in which they don't show.
+/// Octets that are not UTF-8, and lines whose fault is not visible.
 const UNSEEN: &[(&[u8], &str)] = &[
     (b"user 00\r", "the line ends with a carriage return"),
     (
@@ -46,27 +47,27 @@ const UNSEEN: &[(&[u8], &str)] = &[
     ),
 ];
 
-/// Words of which lines are put together.
+/// Words from which random lines are put together.
 const WORDS: &str =
     "frame|t200|t203|establish|release|give|unit|busy|state|deliver|lose|expire200|expire203|restart|settle|\
     read|tick|check|ask|t202|hear|drop|hear-up|drop-up|t201|leave|user|net|user|net|on|off|0|1|16|63|64|127|128|255|256|320|\
     3600000|3600001|18446744073709551615|18446744073709551616|00|000|ab|0g|abc|12aB|0000|+1|-1||#|frame 00|\t|\r|é|\
     run|wait|expect|stats|impair|read|state|busy|expect é 5|100%|101%|20%|%|100|101";
 
-/// How many these are.
+/// The number of these words.
 const WORD_COUNT: usize = 76;
 
-/// How many good lines there are of which some are changed.
+/// The number of valid lines from which changed lines are made.
 const GOOD_COUNT: usize = 94;
 
-/// Octets that are put into lines.
+/// Octets that are inserted into lines.
 const OCTETS: &[u8] = b" 0g1#\t\r\xff";
 
-/// A command, and what the words chose for it.
+/// A command, and the invocation that chose it.
 type Command<'a> = (Script, &'a Invocation<'a>);
 
-/// Whether a line has a reason just where its command calls it bad, and it is this one; `?` stands for any reason, and `*` for
-/// any or none.
+/// Whether a line has a reason exactly if its command refuses it, and the reason is `wanted`. There
+/// `?` means any reason, and `*` means any or none.
 fn has_reason(alloc: Global, command: Command<'_>, line: &[u8], wanted: &str) -> bool {
     let is_bad = is_bad(alloc, command, line);
     match reason(alloc, command.0, line) {
@@ -78,7 +79,7 @@ fn has_reason(alloc: Global, command: Command<'_>, line: &[u8], wanted: &str) ->
     }
 }
 
-/// The name of a command before its rows.
+/// The name of a command in the rows.
 fn name_of(script: Script) -> &'static str {
     match script {
         Script::LiveNet => "live net",
@@ -87,7 +88,7 @@ fn name_of(script: Script) -> &'static str {
     }
 }
 
-/// Whether a command calls a line bad.
+/// Whether a command refuses a line.
 fn is_bad(alloc: Global, (script, chosen): Command<'_>, line: &[u8]) -> bool {
     match script {
         Script::LiveNet => is_bad_live(alloc, Side::Network, line),
@@ -96,14 +97,14 @@ fn is_bad(alloc: Global, (script, chosen): Command<'_>, line: &[u8]) -> bool {
     }
 }
 
-/// Whether a line is none of a side's with the real clock.
+/// Whether a line is not valid for a side with the real clock.
 fn is_bad_live(alloc: Global, side: Side, line: &[u8]) -> bool {
     let is_passed_over = matches!(line, [] | [b'#', ..]);
     let read = read_live_line(alloc, side, Tei::group(), line);
     !is_passed_over && matches!(&read, Err(LineFault::Bad))
 }
 
-/// Whether a command calls a script of this line bad, and prints nothing.
+/// Whether a command refuses a script of this line, and prints nothing.
 fn is_bad_script(alloc: Global, chosen: &Invocation<'_>, mut line: &[u8]) -> bool {
     let mut printed = Vec::new(alloc);
     let port = Port::new(FromRead::new(b"".as_slice()), FromWrite::new(io::sink()));
@@ -123,7 +124,7 @@ fn wrong_row(alloc: Global, command: Command<'_>) -> Option<&'static str> {
     None
 }
 
-/// The first of the lines that are none of a command's, and has no reason or is not bad.
+/// The first row of invalid lines with a line that the command accepts, or that has no reason.
 fn good_line(alloc: Global, command: Command<'_>) -> Option<&'static str> {
     for row in lines::NONE.lines() {
         let (name, row) = row.split_once(": ").unwrap_or((row, ""));
@@ -138,7 +139,7 @@ fn good_line(alloc: Global, command: Command<'_>) -> Option<&'static str> {
     None
 }
 
-/// The first of the lines in which octets are no text, or don't show, that has another reason.
+/// The first line with invalid or invisible octets that has another reason.
 fn wrong_octets(alloc: Global, command: Command<'_>) -> Option<&'static str> {
     for (line, wanted) in UNSEEN {
         if command.0 == Script::Decode && !has_reason(alloc, command, *line, *wanted) {
@@ -148,16 +149,16 @@ fn wrong_octets(alloc: Global, command: Command<'_>) -> Option<&'static str> {
     None
 }
 
-/// A number below this one.
+/// A random number below this one.
 fn below(random: &mut Pcg32, limit: usize) -> usize {
     let drawn = random.next_u32() as usize;
     drawn.checked_rem(limit).unwrap_or(0)
 }
 
-/// A line that is drawn.
+/// A random line.
 type Drawn = ArrayVec<u8, 256>;
 
-/// Draws a line of one to five words.
+/// Makes a random line of one to five words.
 fn draw_words(random: &mut Pcg32, line: &mut Drawn) {
     line.clear();
     for _word in 0..=below(random, 5) {
@@ -171,7 +172,8 @@ fn draw_words(random: &mut Pcg32, line: &mut Drawn) {
     let _ = line.pop();
 }
 
-/// Draws a good line of any command, of which an octet is changed, left out or put in.
+/// Makes a random line from a valid line of any command, by changing, removing or inserting an
+/// octet.
 fn draw_changed(random: &mut Pcg32, line: &mut Drawn) {
     let row = lines::GOOD
         .lines()
@@ -190,7 +192,8 @@ fn draw_changed(random: &mut Pcg32, line: &mut Drawn) {
     }
 }
 
-/// Whether drawn lines have a reason just where a command calls them bad. The last that was drawn is kept.
+/// Whether random lines have a reason exactly if a command refuses them. The last random line is
+/// kept.
 fn agrees(alloc: Global, command: Command<'_>, line: &mut Drawn) -> bool {
     let mut random = Pcg32::seed_from_u64(921);
     for _draw in 0..1000 {
@@ -206,7 +209,7 @@ fn agrees(alloc: Global, command: Command<'_>, line: &mut Drawn) -> bool {
     true
 }
 
-/// Fails the test at the first line of a command that is not as is said.
+/// Fails the test at the first line of a command that is not as the rows say.
 fn lines_hold(alloc: Global, command: Command<'_>) -> Result<(), Fail> {
     let mut drawn = Drawn::new();
     let wrong = wrong_row(alloc, command)
@@ -235,7 +238,7 @@ fn lines_have_reasons(rt: HostRuntime) -> Result<(), Fail> {
     Ok(())
 }
 
-/// Whether a typed line of a command is meant so.
+/// Whether a typed line of a command is tidied to this line.
 fn is_meant(alloc: Global, script: Script, typed: &str, meant: &str) -> bool {
     match tidied(alloc, script, typed.as_bytes()) {
         Ok(line) => line.as_slice() == meant.as_bytes(),
@@ -243,15 +246,15 @@ fn is_meant(alloc: Global, script: Script, typed: &str, meant: &str) -> bool {
     }
 }
 
-/// Whether the command of `script` takes the typed line of `row` as `row` says. A row of another
-/// command says nothing of this one.
+/// Whether the command of `script` tidies the typed line of `row` as `row` says. Rows of other
+/// commands always hold.
 fn typed_row_holds(alloc: Global, script: Script, row: &str) -> bool {
     let (name, row) = row.split_once(": ").unwrap_or((row, ""));
     let (typed, meant) = row.split_once(" => ").unwrap_or((row, ""));
     name != name_of(script) || is_meant(alloc, script, typed, meant)
 }
 
-/// Fails the test at the first typed line of a command that is meant otherwise.
+/// Fails the test at the first typed line of a command that is tidied otherwise.
 fn typed_lines_hold(alloc: Global, script: Script) -> Result<(), Fail> {
     for row in lines::TYPED.lines() {
         if !typed_row_holds(alloc, script, row) {

@@ -1,4 +1,4 @@
-//! What a command does over any devices.
+//! Running a command over any reader, writer and port.
 
 use lapd_cli_decode::{LineForm, Style, decode_lines};
 use lapd_cli_link_commands::{answer, bus, loop_over, pair};
@@ -9,10 +9,10 @@ use lapd_cli_side_lines::LineStyle;
 use std::alloc::Global;
 use std::io::{Read, Write};
 
-/// How a command ended, and its port.
+/// The result of a command, and its port.
 pub(crate) type Run<S, K> = (Result<(), ScriptFault>, Port<S, K>);
 
-/// Goes over a script as the words chose.
+/// Executes a script with the chosen command.
 pub(crate) fn run<R: Read, W: Write, S: Source, K: Sink>(
     alloc: Global,
     chosen: &Invocation<'_>,

@@ -1,4 +1,4 @@
-//! What is remembered of standard streams, and lines that are typed.
+//! The memory of the wrappers of standard streams, and typed lines.
 
 use crate::play::{Console, Play};
 use crate::plays::words_of;
@@ -11,7 +11,7 @@ use std::alloc::{AllocError, Global};
 use std::io::{self, BufReader, ErrorKind, Read, Write};
 use std::test::Fail;
 
-/// Gives so many octets at each read, and then the end, or fails so.
+/// A reader that returns at most `most` octets per read, and at the end nothing or this fault.
 #[derive(Drop)]
 pub(crate) struct Parts<'a> {
     pub(crate) octets: &'a [u8],
@@ -32,7 +32,7 @@ impl Read for Parts<'_> {
     }
 }
 
-/// So many lines of 0 to 88 letters.
+/// A text of `lines` lines with 0 to 88 letters each.
 fn long_text(alloc: Global, lines: u32) -> Result<String, AllocError> {
     let letters = "abcdefghijklmnopqrstuvwxyz".repeat(alloc, 4)?;
     let mut text = String::new(alloc);
@@ -44,7 +44,8 @@ fn long_text(alloc: Global, lines: u32) -> Result<String, AllocError> {
     Ok(text)
 }
 
-/// Whether a text is handed on in parts of so many octets, and its last lines are kept as long as they should be.
+/// Whether a text is passed on in parts of at most `most` octets, and its last lines are kept as
+/// long as they should be.
 fn keeps(text: &str, most: usize) -> bool {
     let mut kept = KeptLines::new(Parts {
         octets: text.as_bytes(),
@@ -69,8 +70,8 @@ fn keeps(text: &str, most: usize) -> bool {
     read == text.len()
 }
 
-/// Whether what is kept has the last line of what was read so far, the one before where it ended in the last part, and none
-/// behind them.
+/// Whether the reader has kept the last line read so far, and the line before it if that ended in
+/// the last part, and no line after them.
 fn has_last_lines(kept: &KeptLines<Parts<'_>>, front: &str, part: usize) -> bool {
     let feeds = front.split('\n').count().saturating_sub(1) as u64;
     let mut lines = front.rsplit('\n');
@@ -82,7 +83,7 @@ fn has_last_lines(kept: &KeptLines<Parts<'_>>, front: &str, part: usize) -> bool
         && kept.line(0).is_none()
 }
 
-/// Whether the last lines of long texts are kept, where parts have these lengths.
+/// Whether the last lines of long texts are kept, with parts of these lengths.
 fn keeps_long(alloc: Global) -> Result<bool, AllocError> {
     let (short, long) = (long_text(alloc, 30)?, long_text(alloc, 400)?);
     Ok(
@@ -94,10 +95,11 @@ fn keeps_long(alloc: Global) -> Result<bool, AllocError> {
     )
 }
 
-/// Notes are passed over, one of which is no text, and the last line lacks its line feed.
+/// Comments that are skipped, one of which is not UTF-8. The last line lacks its line feed.
 const NOTES: &[u8] = b"\n# note\n\n#\xff\nstate\n\nframe 008153";
 
-/// Whether such notes are passed over, and the front of a bad line behind them is kept, and the next one.
+/// Whether such comments are skipped, and the beginning of a bad line after them is kept, with the
+/// line after it.
 fn cuts(alloc: Global, chosen: &Invocation<'_>) -> Result<bool, AllocError> {
     let mut text = NOTES.to_vec(alloc)?;
     let mut printed = Vec::new(alloc);
@@ -127,14 +129,15 @@ fn ends<R: Read, W: Write>(
     ended
 }
 
-/// Texts, and the first refusal of each, in which `~` stands for a line feed.
+/// Texts, and the first refusal in each, with `~` for a line feed.
 const REFUSED: &str = "\
 state 4~refused L1 NotEstablished~send 00~refused L2 QueueFull~ => refused L1 NotEstablished
 state 4~data refused ~refuse d~refused~5x refused L1~7 8 refused L1~~refused L1 => none
 12 0 64 established~1566 refused B1 NoLink~refused L2 QueueFull~ => 1566 refused B1 NoLink
 {\"line\":\"refused\"}~{\"refused\":\"B1 NoLink\",\"time\":1566}~ => {\"refused\":\"B1 NoLink\",\"time\":1566}";
 
-/// Whether the first refusal of each text is noted, however long the parts are in which it is written.
+/// Whether the first refusal of each text is noted, however long the parts are in which it is
+/// written.
 fn are_refused(alloc: Global) -> Result<bool, AllocError> {
     for row in REFUSED.lines() {
         let (text, first) = row.split_once(" => ").unwrap_or((row, ""));
@@ -148,7 +151,8 @@ fn are_refused(alloc: Global) -> Result<bool, AllocError> {
     Ok(true)
 }
 
-/// Whether this is the first refusal of a text that is written in such parts, and none is told where it is not wanted.
+/// Whether this is the first noted refusal of a text written in such parts, and none is noted if
+/// not requested.
 fn refuses(text: &[u8], most: usize, first: &str) -> bool {
     let mut wanted = Refusals::new(io::sink(), true);
     let mut unwanted = Refusals::new(io::sink(), false);
@@ -159,7 +163,7 @@ fn refuses(text: &[u8], most: usize, first: &str) -> bool {
     wanted.first().unwrap_or(b"none") == first.as_bytes() && unwanted.first().is_none()
 }
 
-/// What is typed, what is told of it, and what `answer` prints. Nothing is read behind `quit`.
+/// Typed lines, the reports about them, and the output of `answer`. Nothing is read after `quit`.
 const TYPED: &str = "\
 state
     state 4
@@ -193,8 +197,8 @@ quit
 !
 ";
 
-/// Whether a session of `answer` goes so, where a call moves so many octets at most. At the second `state` it is answered before
-/// more is read.
+/// Whether a session of `answer` runs so, with at most `most` octets per call. At the second
+/// `state` the answer must be printed before more is read.
 fn is_typed(alloc: Global, chosen: &Invocation<'_>, most: usize) -> bool {
     let play = Play::new(TYPED, most);
     let Ok(typed) = BufReader::new(alloc, Console(&play)) else {
@@ -205,8 +209,8 @@ fn is_typed(alloc: Global, chosen: &Invocation<'_>, most: usize) -> bool {
     play.ends(alloc, ended)
 }
 
-/// Whether a million reads of a script are made, of which the last has to reach its end. A read that is interrupted is made again,
-/// and is no fault.
+/// Whether a script may take a million reads, if the last one reaches its end. Interrupted reads
+/// are repeated, and are not faults.
 fn reads_a_million(alloc: Global, chosen: &Invocation<'_>) -> Result<bool, AllocError> {
     let feeds = "\n".repeat(alloc, 1_500_000)?;
     let mut few = Parts {
@@ -236,7 +240,7 @@ fn reads_a_million(alloc: Global, chosen: &Invocation<'_>) -> Result<bool, Alloc
     )
 }
 
-/// What does not hold of `answer`, where anything doesn't.
+/// The first check of `answer` that fails; empty if none does.
 fn wrong(alloc: Global, chosen: &Invocation<'_>) -> Result<&'static str, AllocError> {
     for most in [1, 5, 64, 512] {
         if !is_typed(alloc, chosen, most) {

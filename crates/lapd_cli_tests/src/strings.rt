@@ -1,5 +1,5 @@
-//! Hostile octets as a stream: strings of any length come out of a port as they are where a frame may have so many octets, and
-//! what is shorter or longer is a bad length.
+//! Hostile octets as a stream. A port must read strings of any length unchanged if a frame may have
+//! that length; a shorter or longer one is a bad length.
 
 use crate::streams::Parts;
 use lapd_port::{FromRead, FromWrite, Port, PortFault};
@@ -9,18 +9,18 @@ use std::alloc::{AllocError, Global};
 use std::io;
 use std::test::Fail;
 
-/// The most octets that are drawn.
+/// The most octets of a random string.
 const MOST: usize = 300;
 
-/// Puts octets into a stream, behind their length.
+/// Appends octets to a stream, after their length.
 fn put(stream: &mut Vec<u8>, octets: &[u8]) -> Result<(), AllocError> {
     let len = u16::try_from(octets.len()).unwrap_or(u16::MAX);
     stream.extend_from_slice(&len.to_be_bytes())?;
     stream.extend_from_slice(octets)
 }
 
-/// Whether a port reads each string of a stream that a frame may be, and answers S2 at the first other one, or S1 at the end,
-/// where the source gives so many octets a turn at most.
+/// Whether a port reads each string of a stream that may be a frame, and reports S2 at the first
+/// other one, or S1 at the end. The source returns at most `most` octets per read.
 fn is_read(stream: &[u8], most: usize) -> bool {
     let source = Parts {
         octets: stream,
@@ -47,8 +47,8 @@ fn is_read(stream: &[u8], most: usize) -> bool {
     true
 }
 
-/// Whether each octet alone, and each two, are a bad length, behind frames of the TEI 64 that have each two octets behind their
-/// address.
+/// Whether each single octet, and each pair, is a bad length. They follow frames of TEI 64 that
+/// have two octets after their address.
 fn pairs_are_read(stream: &mut Vec<u8>) -> Result<bool, AllocError> {
     for number in 0..=u16::MAX {
         let both = number.to_be_bytes();
@@ -64,7 +64,8 @@ fn pairs_are_read(stream: &mut Vec<u8>) -> Result<bool, AllocError> {
     Ok(true)
 }
 
-/// Whether streams are read of ten strings, of which the first has each length in turn and the others are drawn.
+/// Whether streams of ten strings are read. The first string has each length once, the others are
+/// random.
 fn drawn_are_read(stream: &mut Vec<u8>) -> Result<bool, AllocError> {
     let mut random = Pcg32::seed_from_u64(921);
     for number in 0..100_000 {

@@ -1,9 +1,9 @@
-//! How a row fails.
+//! Failing a test with a row.
 
 use std::alloc::Global;
 use std::test::Fail;
 
-/// Fails with the row's name, unless this is so.
+/// Fails with the row's name and with `what` unless `so`.
 pub(crate) fn wants(so: bool, name: &str, what: &str) -> Result<(), Fail> {
     if so {
         Ok(())
@@ -12,7 +12,7 @@ pub(crate) fn wants(so: bool, name: &str, what: &str) -> Result<(), Fail> {
     }
 }
 
-/// Fails at the first of these rows that is not so, each with what is then wrong with it.
+/// Fails at the first row that is not so. Each row has a name and what is wrong if it fails.
 pub(crate) fn all_hold(rows: &[(bool, &str, &str)]) -> Result<(), Fail> {
     for (so, name, what) in rows {
         wants(*so, name, what)?;
@@ -20,7 +20,7 @@ pub(crate) fn all_hold(rows: &[(bool, &str, &str)]) -> Result<(), Fail> {
     Ok(())
 }
 
-/// Whether this is said of it.
+/// Whether the value has this text.
 pub(crate) fn is_said<T: ToString>(alloc: Global, told: &T, text: &str) -> bool {
     let said = told.to_string(alloc);
     match &said {

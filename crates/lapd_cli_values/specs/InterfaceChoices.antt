@@ -1,4 +1,4 @@
--- What was written for the options of `net` and `user`, and what it chooses.
+-- The texts of the options of `net` and `user`, and the interface they choose.
 use Rattle.std.specs.Prelude.{◌≡◌, ℕ, List, option_map, ◌||◌, not, ⊤}
 use Rattle.lapd_frame.specs.declared.Sapi.{Sapi}
 use Rattle.lapd_frame.specs.declared.Sapi.TheVariants.{Call, Packet}
@@ -14,8 +14,8 @@ use Rattle.lapd_cli_values.specs.Options.{IsNumberFrom}
 abbrev pub window_of : InterfaceOptions → Sapi → List ℕ
 window_of options sapi = window_meant options.pri sapi (option_map (λ k. k.now) options.k)
 
--- every number is of its option's range, and the interface has those numbers; it serves SAPI 16 at basic access, and at primary
--- rate where that was asked for
+-- every number is in its option's range, and the interface has these numbers; it serves SAPI 16 at
+-- basic access, and at primary rate if requested
 pub record IsChosenBy (options : InterfaceOptions) (teis : List (List ℕ)) (interface : Interface)
     : Type 0 where
   pub links0 : AreWritten (window_of options Call) options.n200.now options.room.now
@@ -34,7 +34,7 @@ pub record IsChosenBy (options : InterfaceOptions) (teis : List (List ℕ)) (int
   pub seed : interface.seed ≡ seed_meant (option_map (λ s. s.now) options.seed)
   pub known : interface.teis.items ≡ teis_meant options.pri (teis_written teis)
 
--- what is refused is none of the range that is told
+-- the refused text is not in the range that the fault names
 abbrev pub IsNoneOfItsRange : InterfaceFault → Type 0
 IsNoneOfItsRange (OutOfRange fault) =
     ¬ IsNumberFrom fault.option.least fault.option.most fault.written.now

@@ -1,4 +1,4 @@
--- What the options of `net` and `user` choose, and how a TEI is written.
+-- The values chosen by the options of `net` and `user`, and the text of a TEI.
 use Rattle.std.specs.Prelude.{ℕ, List, [], ◌∷◌, map, codes, Bool, true, false, Option, Some, None, option_map, ⊤}
 use Rattle.std.specs.List.{All}
 use Rattle.std.specs.Str.Parse.{digits_value}
@@ -10,7 +10,8 @@ use Rattle.lapd_link_definition.specs.Parameters.{Parameters}
 use Rattle.lapd_cli_values.specs.Numerals.{parameters_written}
 use Rattle.lapd_cli_values.specs.Options.{IsNumberFrom}
 
--- the window where none is written (Q.921 5.9.5): 7 at primary rate; at basic access 3 for packet communication, and else 1
+-- the default window (Q.921 5.9.5): 7 at primary rate; at basic access 3 for packet communication,
+-- else 1
 abbrev pub usual_window : Bool → Sapi → List ℕ
 usual_window true sapi = codes "7"
 usual_window false Packet = codes "3"
@@ -34,7 +35,7 @@ lengths_written t200 t201 t202 t203 = record {
   t203 = digits_value 10 t203;
 }
 
--- each is written in decimal digits alone, and lies from a millisecond to an hour
+-- each is in decimal digits, from a millisecond to an hour
 pub record AreLengths (t200 t201 t202 t203 : List ℕ) : Type 0 where
   pub t200_is : IsNumberFrom 1 3600000 t200
   pub t201_is : IsNumberFrom 1 3600000 t201
@@ -52,14 +53,14 @@ seed_meant seed = option_map (digits_value 10) seed
 
 -- ---- TEIs.
 
--- the numbers that some texts write, and that each is a TEI which a terminal may have (Q.921 3.3.4)
+-- the numbers that these texts spell; each must be a TEI that a terminal may have (Q.921 3.3.4)
 abbrev pub teis_written : List (List ℕ) → List ℕ
 teis_written texts = map (digits_value 10) texts
 
 abbrev pub AreTeis : List (List ℕ) → Type 0
 AreTeis texts = All (IsNumberFrom 0 126) texts
 
--- those that are written, in that order; at primary rate TEI 0, where none is
+-- the listed TEIs, in order; at primary rate TEI 0 if the list is empty
 abbrev pub teis_meant : Bool → List ℕ → List ℕ
 teis_meant true [] = 0 ∷ []
 teis_meant pri teis = teis

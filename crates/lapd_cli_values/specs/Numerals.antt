@@ -4,7 +4,7 @@ use Rattle.std.specs.Str.Parse.{digits_value, IsNumeral}
 use Rattle.lapd_link_definition.specs.declared.recovery.Recovery.TheVariants.{Enquiry}
 use Rattle.lapd_link_definition.specs.Parameters.{Parameters, AreInRange}
 
--- the parameters with the numbers that these texts, which are decimal digits, write
+-- the parameters with the numbers that these texts spell in decimal digits
 abbrev pub parameters_written : List ℕ → List ℕ → List ℕ → Parameters
 parameters_written k n200 room = record {
   k = digits_value 10 k;
@@ -13,7 +13,7 @@ parameters_written k n200 room = record {
   recovery = Enquiry;
 }
 
--- all three are written in decimal digits alone, and in their ranges
+-- all three are in decimal digits, and in their ranges
 pub record AreWritten (k n200 room : List ℕ) : Type 0 where
   pub k_digits : IsNumeral 10 k
   pub n200_digits : IsNumeral 10 n200

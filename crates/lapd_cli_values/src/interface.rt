@@ -1,4 +1,4 @@
-//! What `net` and `user` are made with.
+//! The configuration of `net` and `user`.
 
 ghost use Rattle.std.specs.Prelude.{◌<◌};
 ghost use Rattle.std.specs.List.{All};
@@ -6,22 +6,23 @@ ghost use Rattle.std.specs.List.{All};
 use lapd_link_definition::{Params, Tei};
 use lapd_timers::Durations;
 
-/// What a side of an interface is made with.
+/// The configuration of one side of an interface.
 #[derive(Drop)]
 pub struct Interface {
-    /// Whether it is one at primary rate.
+    /// Whether the interface is at primary rate; otherwise it is at basic access.
     pub pri: bool,
-    /// What the links of SAPI 0 are made with.
+    /// The parameters of the links of SAPI 0.
     pub params0: Params,
-    /// What those of SAPI 16 are made with.
+    /// The parameters of the links of SAPI 16.
     pub params16: Params,
-    /// How long the timers run.
+    /// The durations of the timers.
     pub durations: Durations,
-    /// Whether SAPI 16 is served beside SAPI 0.
+    /// Whether SAPI 16 is served in addition to SAPI 0.
     pub sapi16: bool,
-    /// Where the references of the user side begin, if `--seed` was given.
+    /// The seed of the user side's reference numbers (Ri), if set by `--seed`.
     pub seed: Option<u64>,
-    /// The TEIs that are known, each 0 to 126: of the network side all, and of the user side its fixed one.
+    /// The known TEIs, each 0 to 126: on the network side all of them, on the user side its fixed
+    /// TEI.
     pub teis: Vec<Tei>,
     ghost own: { All (λ tei. tei < 127) teis.items },
 }
@@ -30,7 +31,7 @@ impl Interface {
     ghost use Rattle.std.specs.Prelude.{◌≡◌, ◌<◌, IfSome, option_map};
     ghost use Rattle.lapd_cli_values.specs.Interfaces.{first_of};
 
-    /// The fixed TEI of a user side, 0 to 126: the first that is known.
+    /// The fixed TEI of a user side, 0 to 126: the first known TEI.
     pub fn fixed(&self) -> Option<Tei>
         ensures first { result ≡ first_of self.now.teis.items }
         ensures own { IfSome result (λ tei. tei < 127) }

@@ -1,4 +1,4 @@
-//! What was written for the options of `net` and `user`, and what it chooses.
+//! The texts of the options of `net` and `user`, and the interface they choose.
 
 ghost use Rattle.std.specs.Prelude.{◌≡◌, ◌<◌, [], ◌∷◌, map, option_map, IfOk, MatchResult};
 ghost use Rattle.std.specs.List.{All};
@@ -15,48 +15,48 @@ use lapd_link_definition::{Params, Recovery, Sapi, Tei};
 use lapd_timers::Durations;
 use std::alloc::{AllocError, Global};
 
-/// What was written for the options of an interface that each are given once at most, or the options' defaults.
+/// The texts of the options of an interface that may be given once, or their defaults.
 #[derive(Clone, Copy)]
 pub struct InterfaceOptions<'a> {
-    /// Whether it is one at primary rate.
+    /// Whether the interface is at primary rate.
     pub pri: bool,
-    /// Whether SAPI 16 is to be served at primary rate.
+    /// Whether to serve SAPI 16 at primary rate.
     pub sapi16: bool,
-    /// The window of all links.
+    /// The window k of all links.
     pub k: Option<&'a str>,
-    /// Their N200.
+    /// N200 of all links.
     pub n200: &'a str,
-    /// The room of their I queues.
+    /// The capacity of the I queues of all links.
     pub room: &'a str,
-    /// What their T200 sends in state 7.
+    /// The frame that a link sends when T200 expires in state 7.
     pub recovery: Recovery,
-    /// How long T200 runs.
+    /// The duration of T200.
     pub t200: &'a str,
-    /// How long T201 runs.
+    /// The duration of T201.
     pub t201: &'a str,
-    /// How long T202 runs.
+    /// The duration of T202.
     pub t202: &'a str,
-    /// How long T203 runs.
+    /// The duration of T203.
     pub t203: &'a str,
-    /// Where the references of the user side begin.
+    /// The seed of the user side's reference numbers (Ri).
     pub seed: Option<&'a str>,
 }
 
-/// Why what was written for an interface chooses none.
+/// Why no interface could be configured.
 #[derive(Clone, Copy)]
 pub enum InterfaceFault<'a> {
-    /// A number that is none of its option's range.
+    /// A number is not in its option's range.
     OutOfRange(OutOfRange<'a>),
-    /// Memory ran out.
+    /// An allocation failed.
     Memory,
 }
 
-/// What these texts choose: those of the options that are given once, and those of the TEIs. At primary rate, where no TEI is
-/// written, it is TEI 0.
+/// The interface configured by the options that may be given once and by the TEIs. At primary rate
+/// without a TEI, TEI 0 is known.
 ///
 /// # Errors
 ///
-/// `OutOfRange` at a number that is none of its option's range, and `Memory`.
+/// `OutOfRange` at a number that is not in its option's range, `Memory` if an allocation fails.
 pub fn interface_written<'a>(
     alloc: Global,
     options: &InterfaceOptions<'a>,
@@ -92,7 +92,7 @@ pub fn interface_written<'a>(
     }
 }
 
-// What the links of this SAPI are made with.
+// The parameters of the links of this SAPI.
 fn links_written<'a>(options: &InterfaceOptions<'a>, sapi: Sapi) -> Result<Params, OutOfRange<'a>>
     ensures { MatchResult result
         (λ params. AreWritten (window_of options.now sapi) options.now.n200.now options.now.room.now
@@ -107,7 +107,7 @@ fn links_written<'a>(options: &InterfaceOptions<'a>, sapi: Sapi) -> Result<Param
     }
 }
 
-// The window that is written, or the usual one.
+// The window in the options, or the default.
 fn window<'a>(pri: bool, sapi: Sapi, k: Option<&'a str>) -> &'a str
     ensures { result.now ≡ window_meant pri sapi (option_map (λ k. k.now) k.entry) }
 {
@@ -117,7 +117,7 @@ fn window<'a>(pri: bool, sapi: Sapi, k: Option<&'a str>) -> &'a str
     }
 }
 
-// The window where none is written (Q.921 5.9.5).
+// The default window (Q.921 5.9.5).
 fn usual_window(pri: bool, sapi: Sapi) -> &'static str
     ensures { result.now ≡ usual_window pri sapi }
 {
@@ -130,11 +130,11 @@ fn usual_window(pri: bool, sapi: Sapi) -> &'static str
     }
 }
 
-/// How long the timers run that these texts write in milliseconds.
+/// The durations of the timers, from texts in milliseconds.
 ///
 /// # Errors
 ///
-/// The first of the four that is not from 1 to 3,600,000.
+/// `OutOfRange` at the first of the four that is not from 1 to 3,600,000.
 pub fn durations_written<'a>(
     t200: &'a str,
     t201: &'a str,
@@ -156,7 +156,7 @@ pub fn durations_written<'a>(
     }
 }
 
-// The seed, if one is written.
+// The seed, if present.
 fn seed_written<'a>(written: Option<&'a str>) -> Result<Option<u64>, OutOfRange<'a>>
     ensures { MatchResult result
         (λ seed. IsSeed (option_map (λ s. s.now) written.entry)
@@ -172,7 +172,7 @@ fn seed_written<'a>(written: Option<&'a str>) -> Result<Option<u64>, OutOfRange<
     }
 }
 
-// How long a timer runs, by what was written for its option.
+// The duration of a timer, from its option's text.
 fn milliseconds(option: NumberOption, written: &str) -> Result<u32, OutOfRange<'_>>
     requires { option.most < 4294967296 }
     ensures { MatchResult result
@@ -187,11 +187,11 @@ fn milliseconds(option: NumberOption, written: &str) -> Result<u32, OutOfRange<'
     }
 }
 
-/// The TEI that this writes for an option.
+/// The TEI of an option, from its text.
 ///
 /// # Errors
 ///
-/// Where it is not from 0 to 126.
+/// `OutOfRange` if the text is not a number from 0 to 126.
 pub fn tei_written(option: NumberOption, written: &str) -> Result<Tei, OutOfRange<'_>>
     requires { option.most < 127 }
     ensures { MatchResult result
@@ -206,7 +206,7 @@ pub fn tei_written(option: NumberOption, written: &str) -> Result<Tei, OutOfRang
     }
 }
 
-// The TEIs that are known.
+// The known TEIs.
 fn known_teis<'a>(
     alloc: Global,
     pri: bool,
@@ -227,7 +227,7 @@ fn known_teis<'a>(
     }
 }
 
-// These TEIs; at primary rate TEI 0, where there is none.
+// These TEIs; at primary rate TEI 0 if there is none.
 fn or_tei_zero(pri: bool, mut known: Vec<Tei>) -> Result<Vec<Tei>, AllocError>
     requires { All (λ tei. tei < 127) known.items }
     ensures { IfOk result (λ meant. (meant.items ≡ teis_meant pri known.items)
@@ -239,7 +239,7 @@ fn or_tei_zero(pri: bool, mut known: Vec<Tei>) -> Result<Vec<Tei>, AllocError>
     Ok(known)
 }
 
-// The TEIs that these texts write, in that order.
+// The TEIs that these texts spell, in order.
 fn listed_teis<'a>(alloc: Global, teis: &[&'a str]) -> Result<Vec<Tei>, InterfaceFault<'a>>
     ensures { MatchResult result
         (λ known. AreTeis (map (λ t. t.now) teis.now)

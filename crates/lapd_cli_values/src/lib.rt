@@ -1,7 +1,8 @@
-//! The options of the program `lapd`: what numbers and addresses they take, and what is said of others.
+//! The values of the program `lapd`'s options: which numbers and addresses they accept, and the
+//! error for any other text.
 //!
-//! It stands apart from the command line, so that neither its proofs nor its edits read the parser. Begin with
-//! [`params_written`].
+//! This crate does not depend on the command line, so its proofs and edits do not read the parser.
+//! Begin with [`params_written`].
 #![tactic(auto)]
 
 mod address_option;

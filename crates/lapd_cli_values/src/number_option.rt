@@ -1,20 +1,20 @@
-//! The options that take a number.
+//! The options whose value is a number.
 
 ghost use Rattle.std.specs.Prelude.{◌↔◌, IsTrue};
 ghost use Rattle.lapd_cli_values.specs.Options.{IsNumberFrom};
 
 use crate::numbers::number_of;
 
-/// An option that takes a number of a range, written in decimal digits alone.
+/// An option whose value is a number in a range, in decimal digits.
 #[derive(Clone, Copy, Debug)]
 pub struct NumberOption {
-    /// Its long name, without the hyphens.
+    /// The long name, without the hyphens.
     pub name: &'static str,
-    /// What stands for the number in the help.
+    /// The placeholder for the number in the help.
     pub value_name: &'static str,
-    /// What it is for, with its range.
+    /// The help text, with the range.
     pub help: &'static str,
-    /// The number where the option is not given.
+    /// The number if the option is absent.
     pub default: &'static str,
     /// The first number of its range.
     pub least: u64,
@@ -42,7 +42,7 @@ pub const N200: NumberOption = NumberOption {
     most: 100,
 };
 
-/// The room of the I queue.
+/// The capacity of the I queue.
 pub const ROOM: NumberOption = NumberOption {
     name: "room",
     value_name: "MESSAGES",
@@ -52,7 +52,7 @@ pub const ROOM: NumberOption = NumberOption {
     most: 1024,
 };
 
-/// The terminals of the command `bus`.
+/// The number of terminals of the command `bus`.
 pub const TERMINALS: NumberOption = NumberOption {
     name: "terminals",
     value_name: "TERMINALS",
@@ -62,7 +62,7 @@ pub const TERMINALS: NumberOption = NumberOption {
     most: 127,
 };
 
-/// The terminals that the network side takes. Its default is one.
+/// The number of terminals that the network side accepts. The default is one.
 pub const CONNECTED_TERMINALS: NumberOption = NumberOption {
     name: "terminals",
     value_name: "TERMINALS",
@@ -72,7 +72,8 @@ pub const CONNECTED_TERMINALS: NumberOption = NumberOption {
     most: 127,
 };
 
-/// How long a terminal may send no whole frame before its connection is closed. By default there is no limit.
+/// How long a terminal may go without sending a whole frame before its connection is closed. By
+/// default there is no limit.
 pub const IDLE_LIMIT: NumberOption = NumberOption {
     name: "idle-limit",
     value_name: "MS",
@@ -112,7 +113,8 @@ pub const FIXED_TEI: NumberOption = NumberOption {
     most: 126,
 };
 
-/// The window of all links of an interface (Q.921 5.9.5). Its default is that of the rate and the SAPI.
+/// The window of all links of an interface (Q.921 5.9.5). The default depends on the rate and the
+/// SAPI.
 pub const LINKS_K: NumberOption = NumberOption {
     name: "k",
     value_name: "FRAMES",
@@ -122,7 +124,7 @@ pub const LINKS_K: NumberOption = NumberOption {
     most: 127,
 };
 
-/// How long T200 runs (Q.921 5.9.1).
+/// The duration of T200 (Q.921 5.9.1).
 pub const T200: NumberOption = NumberOption {
     name: "t200",
     value_name: "MS",
@@ -132,7 +134,7 @@ pub const T200: NumberOption = NumberOption {
     most: 3_600_000,
 };
 
-/// How long T201 runs (Q.921 5.9.6).
+/// The duration of T201 (Q.921 5.9.6).
 pub const T201: NumberOption = NumberOption {
     name: "t201",
     value_name: "MS",
@@ -142,7 +144,7 @@ pub const T201: NumberOption = NumberOption {
     most: 3_600_000,
 };
 
-/// How long T202 runs (Q.921 5.9.7).
+/// The duration of T202 (Q.921 5.9.7).
 pub const T202: NumberOption = NumberOption {
     name: "t202",
     value_name: "MS",
@@ -152,7 +154,7 @@ pub const T202: NumberOption = NumberOption {
     most: 3_600_000,
 };
 
-/// How long T203 runs (Q.921 5.9.8).
+/// The duration of T203 (Q.921 5.9.8).
 pub const T203: NumberOption = NumberOption {
     name: "t203",
     value_name: "MS",
@@ -162,7 +164,8 @@ pub const T203: NumberOption = NumberOption {
     most: 3_600_000,
 };
 
-/// Where the references of TEI management begin (Q.921 5.3.1.1). Its default depends on the clock.
+/// The seed of the reference numbers of TEI management (Q.921 5.3.1.1). The default depends on the
+/// clock.
 pub const SEED: NumberOption = NumberOption {
     name: "seed",
     value_name: "NUMBER",
@@ -173,7 +176,7 @@ pub const SEED: NumberOption = NumberOption {
 };
 
 impl NumberOption {
-    /// Whether this is a number of its range, written in decimal digits alone.
+    /// Whether the text is a number in the option's range, in decimal digits.
     pub fn takes(self, written: &str) -> bool
         ensures { IsTrue result ↔ IsNumberFrom self.least self.most written.now }
     {

@@ -1,4 +1,4 @@
-//! The numbers that were written for options, or the fault of one that is out of its option's range.
+//! Reading the numbers of options, or reporting the first that is out of its option's range.
 
 ghost use Rattle.std.specs.Prelude.{◌≡◌, MatchResult, SomeIff};
 ghost use Rattle.std.specs.Str.Parse.{digits_value};
@@ -10,7 +10,7 @@ use crate::numbers::{number_of, params_of};
 use lapd_link_definition::Params;
 use thiserror::Error;
 
-/// What was written for an option that takes a number is none of its range.
+/// The value of an option is not a number in its range.
 #[derive(Clone, Copy, Debug, Error)]
 #[error("error: invalid value '{shown}' for '--{name} <{value_name}>': not a number from {least} to {most} in decimal digits", shown = .written.escape_debug(), name = .option.name, value_name = .option.value_name, least = .option.least, most = .option.most)]
 pub struct OutOfRange<'a> {
@@ -18,11 +18,11 @@ pub struct OutOfRange<'a> {
     written: &'a str,
 }
 
-/// The parameters of a link that these texts write, as [`params_of`] reads them.
+/// The parameters of a link from these texts, as [`params_of`] reads them.
 ///
 /// # Errors
 ///
-/// The first of the three that is none of its option's range.
+/// `OutOfRange` at the first of the three that is not in its option's range.
 pub fn params_written<'a>(
     k: &'a str,
     n200: &'a str,
@@ -40,7 +40,8 @@ pub fn params_written<'a>(
     }
 }
 
-// The fault of the first of these numbers that is not in the range of its option, where one is not.
+// The fault of the first of these texts that is not in its option's range. At least one must not
+// be.
 fn first_out_of_range<'a>(k: &'a str, n200: &'a str, room: &'a str) -> OutOfRange<'a>
     requires { ¬ AreWritten k.now n200.now room.now }
     ensures named { IsRangeOf k.now n200.now room.now result.option.most result.written.now }
@@ -55,18 +56,18 @@ fn first_out_of_range<'a>(k: &'a str, n200: &'a str, room: &'a str) -> OutOfRang
     }
 }
 
-// The fault of what was written for this option.
+// The fault of this text of this option.
 fn refused(option: NumberOption, written: &str) -> OutOfRange<'_>
     ensures { result ≡ record { option = option; written = written.entry } }
 {
     OutOfRange { option, written }
 }
 
-/// The number that this writes for an option.
+/// The number of an option, from its text.
 ///
 /// # Errors
 ///
-/// Where it is none of the option's range.
+/// `OutOfRange` if the text is not a number in the option's range.
 pub fn number_written(option: NumberOption, written: &str) -> Result<u64, OutOfRange<'_>>
     ensures { MatchResult result
         (λ number. IsNumberFrom option.least option.most written.now
@@ -80,11 +81,11 @@ pub fn number_written(option: NumberOption, written: &str) -> Result<u64, OutOfR
     }
 }
 
-/// How many terminals this writes in decimal digits alone, 1 to 127.
+/// The number of terminals, 1 to 127, from a text in decimal digits.
 ///
 /// # Errors
 ///
-/// Where it is none of the range.
+/// `OutOfRange` if the text is not such a number.
 pub fn terminals_written(written: &str) -> Result<u8, OutOfRange<'_>>
     ensures { MatchResult result
         (λ terminals. IsNumberFrom 1 127 written.now × (terminals ≡ digits_value 10 written.now))

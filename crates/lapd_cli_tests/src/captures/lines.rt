@@ -1,4 +1,4 @@
-//! Lines of loose forms, and what is printed for them; and lines that are passed over.
+//! Lines of loose forms and their output; and lines that are skipped.
 
 use crate::wants::{all_hold, wants};
 use lapd_cli_decode::{LineForm, Side, Style, decode_good_lines, decode_lines};
@@ -6,7 +6,8 @@ use lapd_cli_script::ScriptFault;
 use std::alloc::Global;
 use std::test::Fail;
 
-// A loose line that the user printed, and the line for it; nothing where it is none, also where loose ones are taken.
+// A loose line printed by the user side, and its trace line; nothing if even the loose form does
+// not allow it.
 const LINES: &str = "\
 user 00817f|U>N SAPI 0 TEI 64 C SABME P=1
 user 00 81 7f|U>N SAPI 0 TEI 64 C SABME P=1
@@ -29,7 +30,7 @@ fn loose_lines_are_decoded(rt: HostRuntime) -> Result<(), Fail> {
     rows_hold(rt.alloc(), LINES, LineForm::Loose(Side::User), Style::Plain)
 }
 
-/// Each row is a line and what is printed for it, with its end left out; nothing where the line is bad.
+/// Each row is a line and its output without the line feed; nothing if the line is bad.
 pub(crate) fn rows_hold(
     alloc: Global,
     rows: &str,
@@ -67,7 +68,7 @@ fn prints(
     ended == end && is_line(printed.as_slice(), wanted)
 }
 
-// Whether this line was printed, or nothing where it is empty.
+// Whether this line was printed, or nothing if it is empty.
 fn is_line(printed: &[u8], line: &str) -> bool {
     match printed.strip_suffix(b"\n") {
         Some(text) => !line.is_empty() && text == line.as_bytes(),
@@ -77,7 +78,7 @@ fn is_line(printed: &[u8], line: &str) -> bool {
 
 const PASSED_OVER: &str = "user 00817f\nuser  00817f\n\nnet 008173\n";
 
-// Whether its good lines are printed, and the other one is told.
+// Whether the valid lines are printed, and the other one is reported.
 fn passes_over(alloc: Global, printed: &mut Vec<u8>, told: &mut Vec<u8>) -> Result<(), Fail> {
     let (form, style) = (LineForm::Strict, Style::Plain);
     let mut script = PASSED_OVER.as_bytes();

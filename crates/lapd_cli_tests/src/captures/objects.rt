@@ -1,4 +1,4 @@
-//! JSON objects for octets, as docs/SPECIFICATION.md has them.
+//! JSON objects for octets, as in docs/SPECIFICATION.md.
 
 use crate::captures::lines::rows_hold;
 use lapd_cli_decode::{LineForm, Style};
@@ -20,7 +20,7 @@ user 0081af|{"direction":"U>N","frame":"XID","p":0,"role":"command","sapi":0,"te
 user 04817f|{"direction":"U>N","fault":"F3 SapiNotServed","octets":"04817f"}
 net|{"direction":"N>U","fault":"F1 TooShort"}"#;
 
-// The same where messages are named.
+// The same with named messages.
 const NAMED: &str =
     r#"user 00817f|{"direction":"U>N","frame":"SABME","p":1,"role":"command","sapi":0,"tei":64}
 user fcff030f619901ff|{"direction":"U>N","frame":"UI","info":"0f619901ff","message":"identity request Ri=6199 Ai=127","p":0,"role":"command","sapi":63,"tei":127}

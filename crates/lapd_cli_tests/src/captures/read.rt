@@ -1,12 +1,12 @@
-//! Captures that were read, by what is printed of them.
+//! Reading captures, compared by the printed lines.
 
 use crate::wants::{is_said, wants};
 use lapd_cli_decode::{Capture, CaptureStop, CaptureStyle, Side, Style, decode_capture};
 use std::alloc::Global;
 use std::test::Fail;
 
-// A name, a capture, and the lines that are printed. The first seven were written by editcap and text2pcap of Wireshark 4.0, the
-// others after the definitions of their formats.
+// A name, a capture, and the printed lines. The first seven captures were written by editcap and
+// text2pcap of Wireshark 4.0, the others by the definitions of their formats.
 const CAPTURES: &str = "\
 link type 177, little endian, microseconds|d4c3b2a102000400000000000000000000000400b100000001000000d007000013000000130000000000000000000000000000000000003000817f01000000d007000013000000130000000000000000000100000000000000003000817f01000000d0070000180000001800000000040000000000000000000000000030fcff030f619901ff01000000d00700001c0000001c000000000000000000000000000000000000300281000008010105040388a2|N>U F4 Undefined 00817f/U>N SAPI 0 TEI 64 C SABME P=1/U>N SAPI 63 TEI 127 C UI P=0 info=0f619901ff identity request Ri=6199 Ai=127/N>U SAPI 0 TEI 64 C I N(S)=0 N(R)=0 P=0 info=08010105040388a2 SETUP cr=1 from origin
 link type 177, little endian, nanoseconds|4d3cb2a102000400000000000000000000000400b10000000100000080841e0013000000130000000000000000000000000000000000003000817f0100000080841e0013000000130000000000000000000100000000000000003000817f0100000080841e00180000001800000000040000000000000000000000000030fcff030f619901ff0100000080841e001c0000001c000000000000000000000000000000000000300281000008010105040388a2|N>U F4 Undefined 00817f/U>N SAPI 0 TEI 64 C SABME P=1/U>N SAPI 63 TEI 127 C UI P=0 info=0f619901ff identity request Ri=6199 Ai=127/N>U SAPI 0 TEI 64 C I N(S)=0 N(R)=0 P=0 info=08010105040388a2 SETUP cr=1 from origin
@@ -22,7 +22,7 @@ another interface, another block|0a0d0d0a1c0000004d3c2b1a01000000fffffffffffffff
 another terminal, and nobody|d4c3b2a102000400000000000000000000000400b100000001000000d00700001300000013000000000320fd00010000000000000000003000817f01000000d00700001300000013000000000920fd00010100000000000000003000817f|U>N SAPI 0 TEI 64 C SABME P=1/U>N SAPI 0 TEI 64 C SABME P=1
 no record|d4c3b2a102000400000000000000000000000400b1000000|";
 
-// A name, a capture, how it ends, and the line that is printed before.
+// A name, a capture, the fault it ends with, and the line printed before.
 const FAULTS: &str = "\
 empty||octet 0: no pcap or pcapng|
 other magic|0a0d0d0b00000000000000000000000000000000000000000000000000000000000000000000000000000000|octet 0: no pcap or pcapng|
@@ -50,14 +50,14 @@ UDP below its header|d4c3b2a10200040000000000000000000000040001000000ffd9066b010
 GSMTAP header longer than its datagram|d4c3b2a10200040000000000000000000000040001000000ffd9066b010000003d0000003d0000002052454356002053454e440008004500002f12340000ff1192840a0101010a02020212791279001bee3a02ff130040000000000000000100000000817fffd9066b0300000042000000420000002052454356002053454e440008004500003412340000ff11927f0a0101010a0202021279127900200a0b02041300400000000000000001000000fcff030f619901ffffd9066b0400000046000000460000002052454356002053454e440008004500003812340000ff11927b0a0101010a020202127912790024157e020413000000000000000000010000000281000008010105040388a2|octet 24: packet: bad length|
 GSMTAP header of 12|d4c3b2a10200040000000000000000000000040001000000ffd9066b010000003d0000003d0000002052454356002053454e440008004500002f12340000ff1192840a0101010a02020212791279001bee3a0203130040000000000000000100000000817fffd9066b0300000042000000420000002052454356002053454e440008004500003412340000ff11927f0a0101010a0202021279127900200a0b02041300400000000000000001000000fcff030f619901ffffd9066b0400000046000000460000002052454356002053454e440008004500003812340000ff11927b0a0101010a020202127912790024157e020413000000000000000000010000000281000008010105040388a2|octet 24: packet: bad length|";
 
-// A name, a capture, and the objects that are printed, by the definitions of the formats.
+// A name, a capture, and the printed objects, by the definitions of the formats.
 const OBJECTS: &str =
     r#"microseconds|d4c3b2a102000400000000000000000000000400b100000001000000d00700001300000013000000000420fd00010000000000000000003000817f020000003f420f001300000013000000000420fd00010000000000000000003000817f|{"direction":"U>N","frame":"SABME","p":1,"packet":1,"role":"command","sapi":0,"tei":64,"time":"1.002000"}/{"direction":"U>N","frame":"SABME","p":1,"packet":2,"role":"command","sapi":0,"tei":64,"time":"2.999999"}
 nanoseconds|4d3cb2a102000400000000000000000000000400b100000000000000ffc99a3b1300000013000000000420fd00010000000000000000003000817f|{"direction":"U>N","frame":"SABME","p":1,"packet":1,"role":"command","sapi":0,"tei":64,"time":"0.999999"}
 the greatest|d4c3b2a102000400000000000000000000000400b1000000ffffffffffffffff1300000013000000000420fd00010000000000000000003000817f|{"direction":"U>N","frame":"SABME","p":1,"packet":1,"role":"command","sapi":0,"tei":64,"time":"4294971589.967295"}
 pcapng, another packet and another block before it|0a0d0d0a1c0000004d3c2b1a01000000ffffffffffffffff1c00000001000000140000006900000000000000140000000100000014000000b10000000000000014000000060000002400000000000000000000000000000003000000030000006162630024000000050000000c0000000c00000006000000340000000100000000000000000000001300000013000000000420fd00010000000000000000003000817f0034000000|{"direction":"U>N","frame":"SABME","p":1,"packet":2,"role":"command","sapi":0,"tei":64}"#;
 
-// A name, a capture, and the lines that are printed where packets that can't be read are passed over.
+// A name, a capture, and the printed lines if unreadable packets are skipped.
 const PASSED_OVER: &str = "\
 captured in part|d4c3b2a102000400000000000000000000000400b100000001000000d00700001300000013000000000420fd00010000000000000000003000817f01000000d00700001300000028000000000420fd00010000000000000000003000817f01000000d00700001300000013000000000420fd00010000000000000000003000817f|U>N SAPI 0 TEI 64 C SABME P=1/U>N SAPI 0 TEI 64 C SABME P=1";
 
@@ -91,7 +91,7 @@ fn rows_hold(alloc: Global, rows: &str, how: CaptureStyle) -> Result<(), Fail> {
     Ok(())
 }
 
-// Whether a row holds: a name, a capture, how it ends where it does not end well, and the lines that are printed.
+// Whether a row holds: a name, a capture, the fault it ends with or nothing, and the printed lines.
 fn row_holds(alloc: Global, row: &str, how: CaptureStyle) -> bool {
     let mut fields = row.split('|');
     let _name = fields.next();
@@ -130,7 +130,7 @@ fn print_capture(
     }
 }
 
-// Whether a capture ended by this fault, or well where it is none.
+// Whether a capture ended with this fault, or without one if it is empty.
 fn ends_by(alloc: Global, ended: Result<(), CaptureStop>, fault: &str) -> bool {
     match ended {
         Ok(()) => fault.is_empty(),
@@ -138,7 +138,7 @@ fn ends_by(alloc: Global, ended: Result<(), CaptureStop>, fault: &str) -> bool {
     }
 }
 
-// Whether these lines were printed, between which a slash stands here.
+// Whether these lines were printed, here separated by slashes.
 fn are_lines(printed: &[u8], lines: &str) -> bool {
     let mut rest = printed;
     if lines.is_empty() {

@@ -1,4 +1,4 @@
-//! What is written for frames, as the definitions of the formats have it.
+//! The octets written for frames, by the definitions of the formats.
 
 use crate::wants::all_hold;
 use lapd_capture::{CaptureWriter, FILE_HEADER, Side, gsmtap_of, record_of};
@@ -16,7 +16,7 @@ const CAPTURE: &str = "a1b2c3d400020004000000000000000000040000000000b1\
 
 const DATAGRAM: &str = "0204130040000000000000000100000000817f";
 
-// Whether these digits write these octets.
+// Whether these digits spell these octets.
 fn are_octets(alloc: Global, octets: &[u8], digits: &str) -> bool {
     match hex::decode(alloc, digits.as_bytes()) {
         Ok(written) => written.as_slice() == octets,

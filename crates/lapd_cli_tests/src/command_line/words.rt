@@ -1,10 +1,10 @@
-//! The words that a system hands over.
+//! The words that a system passes to the program.
 
 use lapd_cli_options::words;
 use std::alloc::Global;
 use std::env::{Env, FillError};
 
-/// A system that hands over these words.
+/// A system that passes these words.
 #[derive(Drop)]
 struct Words<'a> {
     words: &'a [&'a [u8]],
@@ -31,7 +31,8 @@ impl Env for Words<'_> {
     }
 }
 
-/// What is read of these words: how many they are, and the octets of the last, or what is said in their place.
+/// The result of reading these words: their number and the octets of the last one, or the reported
+/// fault.
 fn read_words(alloc: Global, found: &[&[u8]]) -> String {
     let mut text = String::new(alloc);
     let read = words(alloc, &Words { words: found });
@@ -45,8 +46,8 @@ fn read_words(alloc: Global, found: &[&[u8]]) -> String {
     text
 }
 
-/// What is wrong where three words are not read, of which the second is empty and the third long, or are read where the third is
-/// no text.
+/// Checks that three words are read, the second empty and the third long, and that they are refused
+/// if the third is not UTF-8. Returns what is wrong.
 pub(crate) fn wrong_words(alloc: Global) -> Option<&'static str> {
     let read = read_words(alloc, &[b"lapd", b"", &[b'1'; 1000]]);
     let unread = read_words(alloc, &[b"lapd", b"answer", b"--k=\xff"]);

@@ -1,4 +1,4 @@
-//! Lines that are invalid while a side is served, and lines that are valid.
+//! Lines that are invalid with the real clock, and lines that are valid.
 
 use crate::live::made::{Arrivals, Input, Made, Trouble};
 use crate::live::played::{Who, play};
@@ -9,7 +9,7 @@ use lapd_cli_script::ScriptFault;
 use std::alloc::Global;
 use std::test::Fail;
 
-/// Of the network side.
+/// Lines of the network side.
 const BAD: &str =
     "tick 5|read 0|read 3600001|read 1 1|read |run 0|run x|wait|wait 0|expect|expect 5|expect  5|expect a 0|\
     expect a|expect a 3600001|state 0|state 0 128|state 1 64|state 0 64 1|stats 1|ask|establish 0|give 0 0801|\
@@ -21,7 +21,7 @@ const GOOD: &str =
     check 64|unit 0 127 01|# tick||run|read|busy 0 64 on|busy 16 5 off|impair 0|impair 100%|impair 20% 0|\
     impair 20 3600000";
 
-/// Of the user side.
+/// Lines of the user side.
 const BAD_OF_USER: &str =
     "tick 5|check 64|establish 0 64|give 0 64 0801|state 0 64|ask 1|release|establish 1|\
     busy 0 64 on|busy 0|busy on|impair -1%";
@@ -40,7 +40,7 @@ const ARRIVALS: Arrivals<'_> = Arrivals {
     answers: "",
 };
 
-/// Whether a line is bad, or good.
+/// Whether a line is bad, or valid if `bad` is `false`.
 fn is(alloc: Global, who: Who, line: &str, bad: bool) -> bool {
     let reads = Reads::new();
     let keys = Keys::new(line, &reads);
@@ -54,7 +54,7 @@ fn is(alloc: Global, who: Who, line: &str, bad: bool) -> bool {
     }
 }
 
-/// Each of these lines is bad, or each is good.
+/// Fails unless all these lines are bad, or all valid if `bad` is `false`.
 fn are(alloc: Global, who: Who, lines: &str, bad: bool) -> Result<(), Fail> {
     for line in lines.split('|') {
         let so = is(alloc, who, line, bad);

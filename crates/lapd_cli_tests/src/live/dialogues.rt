@@ -1,4 +1,4 @@
-//! Scripts from files: what is printed, and when.
+//! Scripts from files: the printed lines, and their times.
 
 use crate::live::played::all_rows;
 use std::test::Fail;
@@ -329,7 +329,7 @@ state 0 64
 0 0 64 state 4 V(S)=0 V(A)=0 V(R)=0 RC=0 queue=0
 "#;
 
-/// Control characters, which are not printed as they are.
+/// Control characters are escaped when they are printed.
 const CONTROLS: &str = "
 === control characters in awaited words are escaped
 net file unmet
@@ -345,7 +345,7 @@ expect \u{1b}[2J é 10
 {\"expected\":\"\\\\x1b[2J é\",\"time\":10}
 ";
 
-/// The rows, which are named here alone.
+/// The rows. They are long, so only this function names them.
 fn rows() -> [&'static str; 2] {
     [ROWS, CONTROLS]
 }

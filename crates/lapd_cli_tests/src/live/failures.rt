@@ -1,4 +1,4 @@
-//! Each call of the outside fails in turn.
+//! Each call of the surroundings fails once.
 
 use crate::live::made::{Arrivals, Input, Made, Trouble};
 use crate::live::played::{Played, Who, hold, play};
@@ -23,7 +23,8 @@ const STYLE: Style = Style {
     lines: LineStyle::Text,
 };
 
-/// How often the outside is called by a script or a session with this trouble, and how it ends; `None` if an allocation fails.
+/// How often a script or a session calls the surroundings with this trouble, and how it ends;
+/// `None` if an allocation fails.
 fn calls_with(
     alloc: Global,
     is_script: bool,
@@ -52,7 +53,7 @@ fn played_with<'s>(
     }
 }
 
-/// How often it is called if no call fails, and the input ends well.
+/// The number of calls if none fails and the input ends without a fault.
 fn calls_in_all(alloc: Global, is_script: bool) -> u64 {
     match calls_with(alloc, is_script, Trouble::Never) {
         Some((calls, Ok(()))) => calls,
@@ -60,7 +61,8 @@ fn calls_in_all(alloc: Global, is_script: bool) -> u64 {
     }
 }
 
-/// Whether the input ends by the fault of the call of this number, and no call follows.
+/// Whether the script or session ends with the fault of the call with this number, and makes no
+/// further call.
 fn ends_at(alloc: Global, is_script: bool, call: u64) -> bool {
     let fault = LiveStop::Script(ScriptFault::Port(PortFault::Device));
     match calls_with(alloc, is_script, Trouble::FailsAt(call)) {

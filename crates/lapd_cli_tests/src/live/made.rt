@@ -1,4 +1,4 @@
-//! What is around a side, in memory.
+//! The surroundings of a side, in memory.
 
 ghost use Rattle.std.specs.Prelude.{◌≤◌, IfOk};
 
@@ -9,36 +9,38 @@ use lapd_sides::LinkId;
 use std::alloc::{AllocError, Global};
 use std::collections::VecDeque;
 
-/// How long a call stalls, in milliseconds: longer than T200, T201 and T202 (Q.921 5.9).
+/// The duration of a stalled call, in milliseconds: longer than T200, T201 and T202 (Q.921 5.9).
 const STALL: u64 = 3000;
 
-/// What arrives at a side, and when.
+/// The events at a side, and their times.
 #[derive(Clone, Copy)]
 pub(crate) struct Arrivals<'s> {
-    /// Events in the order of their moments, one a line: a moment in milliseconds, and what happens then.
+    /// Events ordered by time, one a line: a time in milliseconds, and the event.
     ///
-    /// - `5 00817f`: a frame has arrived.
-    /// - `5 flood 00817f`: from then on such a frame has always arrived. Each takes 1 ms to receive.
-    /// - `5 wake`: a wait ends as if a frame had arrived, as after a part of a frame.
-    /// - `5 line`: another part of the input can be read, or its end.
-    /// - `5 stall 700`: the wait or the send that is under way, or else the next one, takes 700 ms longer.
+    /// - `5 00817f`: a frame arrives.
+    /// - `5 flood 00817f`: from then on there is always such a frame to receive. Receiving one
+    ///   takes 1 ms.
+    /// - `5 wake`: a wait ends as if a frame had arrived, as it does after a part of a frame.
+    /// - `5 line`: the next part of the input, or its end, can be read.
+    /// - `5 stall 700`: the current wait or send, or else the next one, takes 700 ms longer.
     /// - `5 close`: the other side closes the connection. It also does so after the last event.
     pub(crate) events: &'s str,
-    /// Frames that the other side answers at once, one a line: the frame, a space and the answer.
+    /// Frames that the other side answers immediately, one a line: the frame, a space and the
+    /// answer.
     pub(crate) answers: &'s str,
 }
 
-/// The call that goes wrong, by its number from 1.
+/// The call that fails or stalls, by its number from 1.
 #[derive(Clone, Copy)]
 pub(crate) enum Trouble {
     Never,
-    /// It fails.
+    /// The call fails.
     FailsAt(u64),
     /// The program is stopped for 3 s before it.
     StallsAt(u64),
 }
 
-/// Where lines of input come from.
+/// The source of lines of input.
 #[derive(Clone, Copy)]
 pub(crate) enum Input<'s> {
     /// A file, which can always be read.
@@ -47,7 +49,7 @@ pub(crate) enum Input<'s> {
     Typed(&'s Reads),
 }
 
-/// What happens at a moment.
+/// An event at some time.
 #[derive(Clone, Copy)]
 enum Event<'s> {
     Frame(&'s str),
@@ -58,7 +60,7 @@ enum Event<'s> {
     Close,
 }
 
-/// A clock that advances while the side waits, and the other side behind a line.
+/// A clock that advances while the side waits, and the other side of a line.
 #[derive(Drop)]
 pub(crate) struct Made<'s> {
     now: u64,
@@ -66,18 +68,18 @@ pub(crate) struct Made<'s> {
     /// Answers that have arrived and were not received yet.
     answered: VecDeque<&'s str>,
     input: Input<'s>,
-    /// How many parts of the input could be read so far.
+    /// The number of parts of the input that have become readable.
     parts: u64,
     is_all_lost: bool,
     trouble: Trouble,
-    /// How often it was called.
+    /// The number of calls.
     pub(crate) calls: u64,
-    /// What the side reported, one a line: `discarded SAPI TEI` and `impair LOSS DELAY`.
+    /// The side's reports, one a line: `discarded SAPI TEI` and `impair LOSS DELAY`.
     pub(crate) told: String,
 }
 
 impl<'s> Made<'s> {
-    /// At moment 0.
+    /// The surroundings at time 0.
     pub(crate) fn new(
         alloc: Global,
         arrivals: Arrivals<'s>,
@@ -97,7 +99,7 @@ impl<'s> Made<'s> {
         }
     }
 
-    /// Counts a call, which fails or stalls if its number says so.
+    /// Counts a call, and fails or stalls if it is the one chosen.
     fn meet(&mut self) -> Result<(), PortFault> {
         self.calls = self.calls.saturating_add(1);
         match self.trouble {
@@ -110,7 +112,7 @@ impl<'s> Made<'s> {
         }
     }
 
-    /// The next event and its moment.
+    /// The next event and its time.
     fn next_event(&self) -> Option<(u64, Event<'s>)> {
         let (line, _rest) = self.arrivals.events.split_once('\n')?;
         let (moment, what) = line.split_once(' ')?;
@@ -122,7 +124,8 @@ impl<'s> Made<'s> {
         self.arrivals.events = behind_line(self.arrivals.events);
     }
 
-    /// The next event, if its moment has come. Lines of input that can be read before it are counted.
+    /// The next event, if its time is reached. Parts of the input that become readable before it
+    /// are counted.
     fn present_event(&mut self) -> Option<Event<'s>> {
         for _line in 0..u64::MAX {
             match self.next_event() {
@@ -163,7 +166,8 @@ impl<'s> Made<'s> {
         }
     }
 
-    /// What ends a wait at this moment. A wait whose moment has come ends as due, also if a frame has arrived.
+    /// The reason to end a wait at this time. If the end of the wait is reached, it ends as due,
+    /// even if a frame has arrived.
     fn woken(&mut self, until: Option<u64>, lines: Lines) -> Option<Woken> {
         let event = self.present_event();
         if matches!(lines, Lines::Awaited) && self.is_readable() {
@@ -186,7 +190,8 @@ impl<'s> Made<'s> {
         }
     }
 
-    /// Advances the clock to the next event or to `until`, whichever comes first. `false` if there is neither.
+    /// Advances the clock to the next event or to `until`, whichever is first. Returns `false` if
+    /// there is neither.
     fn advance(&mut self, until: Option<u64>) -> bool {
         let next = self.next_event().map(|(moment, _event)| moment);
         let Some(moment) = sooner(next, until) else {
@@ -197,7 +202,7 @@ impl<'s> Made<'s> {
         true
     }
 
-    /// Stalls if the next event says so and its moment has come.
+    /// Stalls if the next event is a stall whose time is reached.
     fn stall(&mut self) {
         if let Some(Event::Stall(ms)) = self.present_event() {
             self.pass();
@@ -205,7 +210,7 @@ impl<'s> Made<'s> {
         }
     }
 
-    /// The other side answers this frame, if it has an answer.
+    /// The other side answers this frame, if it has an answer to it.
     fn answer(&mut self, frame: &[u8]) -> Result<(), PortFault> {
         for line in self.arrivals.answers.lines() {
             let (digits, answer) = line.split_once(' ').unwrap_or(("", ""));
@@ -231,7 +236,7 @@ impl<'s> Made<'s> {
     }
 }
 
-/// An event behind its moment.
+/// The event on a line, without its time.
 fn event_of(what: &str) -> Option<Event<'_>> {
     match what.split_once(' ') {
         Some(("stall", ms)) => Some(Event::Stall(ms.parse().ok()?)),
@@ -244,7 +249,7 @@ fn event_of(what: &str) -> Option<Event<'_>> {
     }
 }
 
-/// What follows the first line of a text.
+/// The text after the first line.
 fn behind_line(text: &str) -> &str {
     match text.split_once('\n') {
         Some((_line, behind)) => behind,
@@ -252,7 +257,7 @@ fn behind_line(text: &str) -> &str {
     }
 }
 
-/// The sooner of two moments that may be set.
+/// The earlier of two times, each of which may be unset.
 fn sooner(one: Option<u64>, other: Option<u64>) -> Option<u64> {
     match (one, other) {
         (Some(one), Some(other)) => Some(one.min(other)),
@@ -261,7 +266,7 @@ fn sooner(one: Option<u64>, other: Option<u64>) -> Option<u64> {
     }
 }
 
-/// Writes the octets of these digits to the front, and returns how many they are.
+/// Writes the octets of these digits to the front of `frame`, and returns their number.
 fn put(digits: &str, frame: &mut [u8; MOST_OCTETS]) -> Result<usize, PortFault>
     ensures { IfOk result (λ count. count ≤ 264) }
 {
@@ -275,7 +280,7 @@ fn put(digits: &str, frame: &mut [u8; MOST_OCTETS]) -> Result<usize, PortFault>
     }
 }
 
-/// Whether these digits are those of a frame.
+/// Whether these digits spell the frame.
 fn is_written(digits: &str, frame: &[u8]) -> bool {
     let mut room = [0; MOST_OCTETS];
     match put(digits, &mut room) {

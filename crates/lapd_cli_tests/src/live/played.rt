@@ -1,13 +1,15 @@
 //! Rows: a dialogue of a side over time.
 //!
-//! Rows begin with `=== `. A row has a name, a line of words, and four texts, each ended by `---`: what arrives ([`Arrivals`]), the
-//! lines of input, what is printed, and what is reported to the outside and to a person ([`Made::told`], [`Reader::told`]). The
-//! last text may be left out. The words:
+//! Rows begin with `=== `. A row has a name, a line of words, and four texts, each ended by `---`:
+//! the events ([`Arrivals`]), the lines of input, the output, and the reports to the surroundings
+//! and to a person ([`Made::told`], [`Reader::told`]). The last text may be left out. The words:
 //!
-//! - `net`: the network side, to which TEI 64 is known, or `user`: a user side without a TEI; both at basic access with SAPI 16
-//! - `file`: a script in a file, `pipe`: one over a pipe, or `session`: lines that a person types
-//! - `quiet`, `json`: the style; each line has its moment
-//! - `serve`: the side is served behind the end of the input
+//! - `net`: the network side, which knows TEI 64, or `user`: a user side without a TEI; both at
+//!   basic access with SAPI 16
+//! - `file`: a script in a file, `pipe`: a script over a pipe, or `session`: lines that a person
+//!   types
+//! - `quiet`, `json`: the style; each line has its time
+//! - `serve`: the side runs on after the end of the input
 //! - how it ends: `done`, `unmet`, `bad N`, `device` or another fault
 
 use crate::live::made::{Arrivals, Input, Made, Trouble};
@@ -18,10 +20,10 @@ use lapd_sides::{Acts, Config, EitherSide, NetSide, Tei, UserSide};
 use std::alloc::{AllocError, Global};
 use std::test::Fail;
 
-/// Which side it is.
+/// The side under test.
 #[derive(Clone, Copy)]
 pub(crate) enum Who {
-    /// The network side, to which TEI 64 is known.
+    /// The network side, which knows TEI 64.
     Net,
     /// A user side without a TEI.
     User,
@@ -38,7 +40,8 @@ struct Row {
     told: &'static str,
 }
 
-/// How lines of input ended, what was around the side, what was printed, and what was reported to a person.
+/// The result of the lines of input, the surroundings afterwards, the output, and the reports to a
+/// person.
 #[derive(Drop)]
 pub(crate) struct Played<'s> {
     pub(crate) ended: Result<(), LiveStop>,
@@ -62,7 +65,7 @@ fn side_of(alloc: Global, who: Who) -> Result<EitherSide, AllocError> {
     }
 }
 
-/// This side with this around it, which prints into memory.
+/// This side in these surroundings, which prints into memory.
 fn made_live<'s>(
     alloc: Global,
     who: Who,
@@ -75,7 +78,7 @@ fn made_live<'s>(
     Ok(LiveSide::new(alloc, side, acts, made, printer))
 }
 
-/// Executes a script as this side.
+/// Executes a script on this side.
 pub(crate) fn play<'s>(
     alloc: Global,
     who: Who,
@@ -95,7 +98,7 @@ pub(crate) fn play<'s>(
     })
 }
 
-/// Holds a session as this side.
+/// Runs a session on this side.
 pub(crate) fn hold<'s>(
     alloc: Global,
     who: Who,
@@ -121,7 +124,7 @@ fn has(words: &str, word: &str) -> bool {
     words.split(' ').any(|other| other == word)
 }
 
-/// Plays a row.
+/// Runs a row.
 fn play_row<'s>(alloc: Global, row: &Row, reads: &'s Reads) -> Result<Played<'s>, AllocError> {
     let who = if has(row.words, "net") {
         Who::Net
@@ -156,7 +159,7 @@ fn play_row<'s>(alloc: Global, row: &Row, reads: &'s Reads) -> Result<Played<'s>
     }
 }
 
-/// The words for how lines of input ended.
+/// The word for the result of the lines of input.
 fn end_text(alloc: Global, ended: Result<(), LiveStop>) -> Result<String, AllocError> {
     match ended {
         Ok(()) => format!(in alloc; "done"),
@@ -167,7 +170,7 @@ fn end_text(alloc: Global, ended: Result<(), LiveStop>) -> Result<String, AllocE
     }
 }
 
-/// A row behind its mark.
+/// Reads a row, which begins after its mark.
 fn row_of(text: &'static str) -> Option<Row> {
     let (name, behind) = text.split_once('\n')?;
     let (words, behind) = behind.split_once('\n')?;
@@ -184,7 +187,7 @@ fn row_of(text: &'static str) -> Option<Row> {
     })
 }
 
-/// What was reported to a person and to the outside.
+/// The reports to a person and to the surroundings.
 fn told_text(alloc: Global, played: &Played<'_>) -> Result<String, AllocError> {
     let mut text = String::new(alloc);
     text.push_str(played.told.as_str())?;
@@ -192,7 +195,7 @@ fn told_text(alloc: Global, played: &Played<'_>) -> Result<String, AllocError> {
     Ok(text)
 }
 
-/// What differs from the row, if anything does.
+/// The difference from the row, if there is one.
 fn other_than(alloc: Global, row: &Row, played: &Played<'_>) -> Result<Option<String>, AllocError> {
     let printed = String::from_utf8_lossy(alloc, played.printed.as_slice())?;
     let printed = printed.as_str();
@@ -212,7 +215,7 @@ fn other_than(alloc: Global, row: &Row, played: &Played<'_>) -> Result<Option<St
     Ok(None)
 }
 
-/// Plays a row, and returns what differs from it.
+/// Runs a row, and returns what differs from it.
 fn difference<'s>(
     alloc: Global,
     row: &Row,

@@ -1,4 +1,4 @@
-//! Scripts over pipes, and sessions: lines of input come while a side is served.
+//! Scripts over pipes, and sessions: lines of input arrive while a side is running.
 
 use crate::live::played::all_rows;
 use std::test::Fail;
@@ -420,7 +420,7 @@ greet
 discarded 16 65
 "#;
 
-/// The rows, which are named here alone.
+/// The rows. They are long, so only this function names them.
 fn rows() -> &'static str {
     ROWS
 }

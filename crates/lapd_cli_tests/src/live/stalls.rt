@@ -1,5 +1,6 @@
-//! A program that is stopped for longer than its timers run, or a writer that blocks for so long: no timer expires whose answer has
-//! arrived meanwhile. And a flood of frames, which does not stop the timers.
+//! The program is stopped for longer than its timers run, or a writer blocks for that long: no
+//! timer may expire whose answer has arrived meanwhile. And a flood of frames must not stop the
+//! timers.
 
 use crate::live::made::{Arrivals, Input, Made, Trouble};
 use crate::live::played::{Who, all_rows, play};
@@ -179,7 +180,7 @@ stats
 16384 0 64 released
 "#;
 
-/// What a terminal answers at once.
+/// The immediate answers of a terminal.
 const BY_USER: &str = "\
 02817f 028173
 42817f 428173
@@ -189,7 +190,7 @@ const BY_USER: &str = "\
 feff030f00000481 fcff030f12340581
 ";
 
-/// A dialogue of the network side, in which each frame is answered at once.
+/// A dialogue of the network side, in which each frame is answered immediately.
 const OF_NET: &str = "\
 establish 0 64
 establish 16 64
@@ -201,7 +202,7 @@ run 10500
 run 1
 ";
 
-/// What the network side answers at once.
+/// The immediate answers of the network side.
 const BY_NET: &str = "\
 fcff030f619901ff feff030f61990281
 00817f 008173
@@ -225,7 +226,7 @@ const STYLE: Style = Style {
     lines: LineStyle::Text,
 };
 
-/// What is printed without moments, and how often the outside was called.
+/// The printed lines without their times, and the number of calls of the surroundings.
 fn printed(
     alloc: Global,
     who: Who,
@@ -247,7 +248,7 @@ fn printed(
     }
 }
 
-/// Fails unless the same is printed if the program is stopped before any one call.
+/// Fails unless the output is the same if the program is stopped before any one call.
 fn is_steady(alloc: Global, name: &str, who: Who) -> Result<(), Fail> {
     let Some((wanted, calls)) = printed(alloc, who, Trouble::Never)? else {
         return wants(false, name, "the script fails");
@@ -267,7 +268,7 @@ fn is_steady(alloc: Global, name: &str, who: Who) -> Result<(), Fail> {
     Ok(())
 }
 
-/// The rows, which are named here alone.
+/// The rows. They are long, so only this function names them.
 fn rows() -> &'static str {
     ROWS
 }

@@ -1,31 +1,32 @@
-//! Lines of input that come part by part, and a person who types them.
+//! Lines of input that arrive in parts, and a person who types them.
 
 use lapd_cli_live::Person;
 use std::alloc::{AllocError, Global};
 use std::cell::Cell;
 use std::io::{self, ErrorKind, Read};
 
-/// How often input was read.
+/// A counter of reads of the input.
 #[derive(Drop)]
 pub(crate) struct Reads {
     count: Cell<u64>,
 }
 
 impl Reads {
-    /// Not at all.
+    /// No read yet.
     pub(crate) fn new() -> Reads {
         Reads {
             count: Cell::new(0),
         }
     }
 
-    /// The number.
+    /// The number of reads.
     pub(crate) fn count(&self) -> u64 {
         self.count.get()
     }
 }
 
-/// Input that is read in parts, each up to the next `|`. The read of a part `%` is interrupted, and that of a part `*` fails.
+/// Input that is read in parts, each up to the next `|`. The read of a part `%` is interrupted, and
+/// that of a part `*` fails.
 #[derive(Drop)]
 pub(crate) struct Keys<'s> {
     rest: &'s str,
@@ -33,7 +34,7 @@ pub(crate) struct Keys<'s> {
 }
 
 impl<'s> Keys<'s> {
-    /// Input of which nothing was read, and which counts its reads here.
+    /// Unread input that counts its reads in `reads`.
     pub(crate) fn new(text: &'s str, reads: &'s Reads) -> Keys<'s> {
         Keys { rest: text, reads }
     }
@@ -57,7 +58,7 @@ impl Read for Keys<'_> {
     }
 }
 
-/// A person who records what is reported, one a line: `greet`, `help` and `refuse LINE`.
+/// A person who records the reports, one a line: `greet`, `help` and `refuse LINE`.
 #[derive(Drop)]
 pub(crate) struct Reader {
     alloc: Global,
@@ -65,7 +66,7 @@ pub(crate) struct Reader {
 }
 
 impl Reader {
-    /// A person to whom nothing was reported.
+    /// A person without reports.
     pub(crate) fn new(alloc: Global) -> Reader {
         Reader {
             alloc,

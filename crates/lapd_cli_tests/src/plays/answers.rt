@@ -1,6 +1,6 @@
-//! Plays of `answer`.
+//! Scenarios of `answer`.
 
-/// Of a link of SAPI 0 and TEI 64 mostly.
+/// Most are for a link with SAPI 0 and TEI 64.
 pub(crate) const PLAYS: &str = "\
 lapd answer
 # a link comes and goes
@@ -355,8 +355,8 @@ t200
     report G
     released";
 
-/// With long frames. 260 octets of information pass, and one more is reported; 261 octets are refused in every state, and 260 of unit
-/// data go out.
+/// Long frames. 260 octets of information are accepted, and one more is reported. 261 octets are
+/// refused in every state, and 260 octets of unit data are sent.
 pub(crate) const LONG: &str = "\
 lapd answer
 # long frames

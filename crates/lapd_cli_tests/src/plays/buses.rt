@@ -1,6 +1,6 @@
-//! Plays of `bus`.
+//! Scenarios of `bus`.
 
-/// Of one terminal and of two.
+/// One terminal, and two.
 pub(crate) const PLAYS: &str = "\
 lapd bus --terminals 1
 # a check that is answered

@@ -1,6 +1,6 @@
-//! Plays of `decode`.
+//! Scenarios of `decode`.
 
-/// What was sent, and its trace line.
+/// Sent octets, and their trace lines.
 pub(crate) const PLAYS: &str = "\
 lapd decode
 # octets and their trace lines

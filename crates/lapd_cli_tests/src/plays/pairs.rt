@@ -1,6 +1,7 @@
-//! Plays of `pair` and `loop`.
+//! Scenarios of `pair` and `loop`.
 
-/// Of two ends; most have a window of one frame. `loop` goes over those without `settle` too, as a connection takes the frames.
+/// Two ends; most have a window of one frame. `loop` runs the scenarios without `settle` too, over
+/// a connection.
 pub(crate) const PAIRS: &str = "\
 lapd pair
 # a message is received and acknowledged
@@ -590,7 +591,7 @@ deliver net
     user: state 7, given 1, received 0, acknowledged 0, dropped 0
     net: state 7, given 0, received 1, acknowledged 0, dropped 0";
 
-/// With the frames that go out and come back.
+/// Scenarios with the frames on the port.
 pub(crate) const LOOPS: &str = "\
 lapd loop
 # the worked message

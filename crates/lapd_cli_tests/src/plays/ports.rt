@@ -1,6 +1,7 @@
-//! Plays of sides in which the port is what is tried.
+//! Scenarios of sides that test the port.
 
-/// Lengths, turns and the longest frame. Octets that are read or written by one call stand behind one mark.
+/// Lengths, repeated calls and the longest frame. The octets after one mark are read or written by
+/// one call.
 pub(crate) const PLAYS: &str = "\
 lapd net --listen a:1
 # a length of 2

@@ -1,6 +1,6 @@
-//! Plays of `net` and `user`.
+//! Scenarios of `net` and `user`.
 
-/// What comes through the port, what goes, and what is printed.
+/// The octets received and sent on the port, and the printed lines.
 pub(crate) const PLAYS: &str = "\
 lapd net --listen a:1
 # the network side assigns a TEI

@@ -1,6 +1,6 @@
 //! Lines of each command: a command, a line of it, and what is wrong with it, if anything is.
 
-/// Lines that are bad, and why.
+/// Bad lines, and why they are bad.
 pub(crate) const BAD: &str = "\
 answer: frame 0 => frame HEX: an odd number of digits
 answer: frame 0g => frame HEX: 'g' is no hexadecimal digit
@@ -73,7 +73,7 @@ bus: up 0 => 'up' is no line of bus; its lines are: ask T RI, t202 T RI, hear I 
 decode: net 0 => net HEX: an odd number of digits
 decode: 00 => '00' is no line of decode; its lines are: user HEX, net HEX";
 
-/// Lines that are good, at least one of each form.
+/// Valid lines, at least one of each form.
 pub(crate) const GOOD: &str = "\
 answer: frame 00817f
 answer: frame
@@ -170,7 +170,7 @@ bus: leave 1
 decode: user
 decode: net 00817f";
 
-/// Lines that are typed, and how they are meant.
+/// Typed lines, and their tidied form.
 pub(crate) const TYPED: &str = "\
 answer:   frame 00 81 7f  => frame 00817f
 answer: frame 0x00817f => frame 00817f
@@ -196,7 +196,7 @@ live net: expect 0x 0 :  5 => expect 0x 0 :  5
 live user: give 0 08 01 => give 0 0801
 live user: state  => state";
 
-/// Commands, and lines that are none of theirs, between bars.
+/// Commands, and lines that are not valid for them, separated by bars.
 pub(crate) const NONE: &str = "\
 answer: frame |frame 0|frame 00 81|frame  00817f|frame 00817g|frames|Frame 00817f| state|state |state  |state 1|\
     state\r|t200 1|t203 1|t201|t202|T200|establish user|release user|give 0|give |give 01 02|give user 01|unit 0|unit 0x|\

@@ -6,11 +6,11 @@ use Rattle.lapd_frame.specs.Address.{sapi_value}
 use Rattle.lapd_frame.specs.declared.Sapi.{Sapi}
 use Rattle.lapd_cli_side_lines.proofs.side_texts.sapi_words.Goals as goal
 
--- with these digits
+-- these digits and a space
 abbrev words : List ℕ → List ℕ
 words digits = digits ++ 32 ∷ []
 
--- of a SAPI
+-- the number of a SAPI and a space
 abbrev words_of : Sapi → List ℕ
 words_of sapi = words (decimal (sapi_value sapi))
 
