@@ -179,13 +179,10 @@ uint32_t lapd_side_check_tei(lapd_side *side, uint8_t tei, uint64_t now);
  * receives a second SABME, or a message again. */
 uint32_t lapd_side_tick(lapd_side *side, uint64_t now, uint8_t *expired);
 
-/* The next moment at which lapd_side_tick has something to do; before it, it has not. LAPD_NEVER where no timer runs, and where
- * the handle owns no side. It changes with the calls that hand something in. */
+/* The next moment at which lapd_side_tick has something to do. LAPD_NEVER if no timer runs or the handle owns no side. Calls that pass
+ * something in change it. Wait until then, or until a frame arrives; then take every frame that has arrived, and only then call
+ * lapd_side_tick. */
 uint32_t lapd_side_deadline(lapd_side *side, uint64_t *moment);
-
-/* The moment of lapd_side_deadline. Wait until then, or until a frame arrives; then take every frame that has arrived, and only then
- * call lapd_side_tick. */
-uint32_t lapd_side_quiet_until(lapd_side *side, uint64_t *moment);
 
 /* How many frames lapd_side_take has discarded since the side was made; it stays at UINT64_MAX. 0 where there is no side. */
 uint32_t lapd_side_discarded(lapd_side *side, uint64_t *count);

@@ -81,12 +81,3 @@ pub record IsNextMoment (s : Served) (moment : ℕ) : Type 0 where
 abbrev pub IsNextDeadline : Served → Option ℕ → Type 0
 IsNextDeadline s None = (now : ℕ) → IsDue now s None
 IsNextDeadline s (Some moment) = IsNextMoment s moment
-
--- a moment that may be none as a number: the greatest where there is none
-abbrev pub or_last : Option ℕ → ℕ
-or_last None = 18446744073709551615
-or_last (Some moment) = moment
-
--- so the next moment at which something is due
-abbrev pub IsQuietUntil : Served → ℕ → Type 0
-IsQuietUntil s moment = (next : Option ℕ) × IsNextDeadline s next × (moment ≡ or_last next)
