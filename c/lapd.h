@@ -208,14 +208,10 @@ uint32_t lapd_side_check_tei(lapd_side *side, uint8_t tei, uint64_t now);
  * SABME, or a message again. */
 uint32_t lapd_side_tick(lapd_side *side, uint64_t now, uint8_t *expired);
 
-/* The next moment at which lapd_side_tick has something to do; before it, there is nothing to do.
- * The result is LAPD_NEVER if no timer runs, or if the handle owns no side. Only calls that pass
- * something in change it. */
+/* The next moment at which lapd_side_tick has something to do. LAPD_NEVER if no timer runs or the
+ * handle owns no side. Only calls that pass something in change it. Wait until then, or until a
+ * frame arrives; then take every frame that has arrived, and only then call lapd_side_tick. */
 uint32_t lapd_side_deadline(lapd_side *side, uint64_t *moment);
-
-/* The moment of lapd_side_deadline. Wait until then, or until a frame arrives; then take every
- * frame that has arrived, and only then call lapd_side_tick. */
-uint32_t lapd_side_quiet_until(lapd_side *side, uint64_t *moment);
 
 /* The number of frames that lapd_side_take has discarded since the side was created. It stops at
  * UINT64_MAX, and is 0 if the handle owns no side. */

@@ -64,7 +64,7 @@ static void wait_for_octets(struct terminal *t)
 	struct pollfd line = { t->line.socket, POLLIN, 0 };
 	uint64_t now = clock_now(), moment;
 
-	check(lapd_side_quiet_until(&t->side, &moment), "quiet_until");
+	check(lapd_side_deadline(&t->side, &moment), "deadline");
 	moment = moment <= now ? 0 : moment - now;
 	poll(&line, 1, moment < 1000000 ? (int)moment : 1000000);
 }

@@ -99,7 +99,6 @@ static void call(const char *what)
 	case 'p': poll(); break;
 	case 't': DONE(lapd_side_tick(&network, 1, &expired)); break;
 	case 'd': DONE(lapd_side_deadline(&network, &moment)); break;
-	case 'q': DONE(lapd_side_quiet_until(&network, &moment)); break;
 	}
 }
 
@@ -109,7 +108,7 @@ int main(int count, char **words)
 	const uint8_t tei = 64;
 	long times = count == 3 ? atol(words[2]) : 0, at;
 
-	WANT(times > 0 && strchr("mptdq", words[1][0]) != NULL);
+	WANT(times > 0 && strchr("mptd", words[1][0]) != NULL);
 	DONE(lapd_side_network(&network, &settings, &tei, 1));
 	DONE(lapd_side_user(&user, &settings, tei));
 	DONE(lapd_side_establish(&user, 0, 0, 0));

@@ -11,9 +11,8 @@ use Rattle.lapd_sides_links.specs.declared.side_fault.SideKind.TheVariants.{NoLi
 use Rattle.lapd_sides_links.specs.declared.primitive.Primitive.{Primitive}
 use Rattle.lapd_sides_links.specs.declared.side_fault.SideFault.{SideFault}
 use Rattle.lapd_sides_links.specs.Effects.{Effects, and_then, no_effects}
-use Rattle.lapd_sides_links.specs.Expiries.{or_last}
 use Rattle.lapd_sides.specs.declared.either_side.EitherSide.{EitherSide}
-use Rattle.lapd_sides.specs.Either.{Expires, Rests, HasNextDeadline, HasQuietUntil, HasDiscarded, HasTable}
+use Rattle.lapd_sides.specs.Either.{Expires, Rests, HasNextDeadline, HasDiscarded, HasTable}
 use Rattle.lapd_c.specs.declared.flat_primitive.FlatPrimitive.{FlatPrimitive}
 use Rattle.lapd_c.specs.declared.held_side.HeldSide.{HeldSide}
 use Rattle.lapd_c.specs.declared.link_state.LinkState.{LinkState}
@@ -86,17 +85,17 @@ pub record Ticks (now expired : ℕ) (old new : HeldSide) (code : ℕ) : Type 0 
 
 -- ---- Queries.
 
+-- a moment as a number: the greatest if there is none, which is LAPD_NEVER in C
+abbrev pub or_never : Option ℕ → ℕ
+or_never None = 18446744073709551615
+or_never (Some moment) = moment
+
 pub record TellsDeadline (moment : ℕ) (old new : HeldSide) (code : ℕ) : Type 0 where
   pub done : code ≡ done
   pub same : new ≡ old
   pub deadline : Option ℕ
   pub next : HasNextDeadline old.side deadline
-  pub is : moment ≡ or_last deadline
-
-pub record TellsQuiet (moment : ℕ) (old new : HeldSide) (code : ℕ) : Type 0 where
-  pub done : code ≡ done
-  pub same : new ≡ old
-  pub quiet : HasQuietUntil old.side moment
+  pub is : moment ≡ or_never deadline
 
 pub record TellsDiscarded (count : ℕ) (old new : HeldSide) (code : ℕ) : Type 0 where
   pub done : code ≡ done

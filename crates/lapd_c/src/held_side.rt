@@ -3,8 +3,7 @@
 ghost use Rattle.std.specs.Prelude.{◌≡◌, ◌<◌, ◌≤◌, length, slice_get, option_copied, IfOk, OnOk, OnErr, false};
 ghost use Rattle.lapd_sides_links.specs.Effects.{no_effects};
 ghost use Rattle.lapd_sides.specs.Either.{Takes, Answers};
-ghost use Rattle.lapd_c.specs.Calls.{waiting, gives_nothing, is_full, without_first_frame, without_first_primitive, Asks, Ticks, TellsDeadline, TellsQuiet, TellsDiscarded, TellsState, FetchesFrame, FetchesPrimitive, overwritten};
-ghost use Rattle.lapd_sides_links.specs.Expiries.{or_last};
+ghost use Rattle.lapd_c.specs.Calls.{or_never, waiting, gives_nothing, is_full, without_first_frame, without_first_primitive, Asks, Ticks, TellsDeadline, TellsDiscarded, TellsState, FetchesFrame, FetchesPrimitive, overwritten};
 
 use crate::codes::{DONE, MEMORY, NO_LINK, OUT_OF_RANGE, PENDING, code_of};
 use crate::flat_primitive::{FlatPrimitive, octets_of};
@@ -127,15 +126,7 @@ impl HeldSide {
     pub(crate) fn next_deadline(&self, moment: &mut u64) -> u32
         ensures { TellsDeadline moment.new self.now self.now result }
     {
-        *moment = moment_or_last(self.side.next_deadline());
-        DONE
-    }
-
-    /// Sets `moment` to the same moment.
-    pub(crate) fn quiet_until(&self, moment: &mut u64) -> u32
-        ensures { TellsQuiet moment.new self.now self.now result }
-    {
-        *moment = self.side.quiet_until();
+        *moment = moment_or_never(self.side.next_deadline());
         DONE
     }
 
@@ -256,8 +247,8 @@ impl HeldSide {
 }
 
 /// The moment, or the greatest moment if there is none.
-fn moment_or_last(moment: Option<u64>) -> u64
-    ensures { result ≡ or_last moment }
+fn moment_or_never(moment: Option<u64>) -> u64
+    ensures { result ≡ or_never moment }
 {
     match moment {
         Some(moment) => moment,

@@ -12,8 +12,7 @@ ghost use Rattle.std.specs.Prelude.{◌≡◌, ◌==◌, Some, None, not};
 ghost use Rattle.lapd_sides.specs.Either.{Takes, Answers};
 ghost use Rattle.lapd_frame.specs.Address.{number_at};
 ghost use Rattle.lapd_c.specs.Border.{AsksSide, AsksTei, AsksLink, AsksLinkWith, Makes, TellsStateOf, Through};
-ghost use Rattle.lapd_c.specs.Calls.{Ticks, TellsDeadline, TellsQuiet, TellsDiscarded, FetchesFrame, FetchesPrimitive, TellsTextOrNothing};
-ghost use Rattle.lapd_sides_links.specs.Expiries.{or_last};
+ghost use Rattle.lapd_c.specs.Calls.{or_never, Ticks, TellsDeadline, TellsDiscarded, FetchesFrame, FetchesPrimitive, TellsTextOrNothing};
 ghost use Rattle.lapd_trace.specs.Trace.{trace_line};
 ghost use Rattle.lapd_c.specs.FlatPrimitives.{link_of, nothing, sender};
 ghost use Rattle.lapd_c.specs.Settings.{IsNewNetwork, IsNewUser, network_config, user_config};
@@ -278,29 +277,13 @@ pub extern "C" fn lapd_side_tick(
 #[unsafe(no_mangle)]
 pub extern "C" fn lapd_side_deadline(handle: &mut Handle, moment: &mut u64, alloc: Global) -> u32
     ensures { Through (λ old new. TellsDeadline moment.new old new result)
-        ((result ≡ 1) × (moment.new ≡ or_last None)) handle.old.held handle.new.held }
+        ((result ≡ 1) × (moment.new ≡ or_never None)) handle.old.held handle.new.held }
 {
     let Some(side) = opened(handle, alloc) else {
         *moment = u64::MAX;
         return NO_SIDE;
     };
     let code = side.next_deadline(moment);
-    shut(handle, side);
-    code
-}
-
-/// Sets `moment` to that of [`lapd_side_deadline`], or to the greatest moment if the handle owns no
-/// side.
-#[unsafe(no_mangle)]
-pub extern "C" fn lapd_side_quiet_until(handle: &mut Handle, moment: &mut u64, alloc: Global) -> u32
-    ensures { Through (λ old new. TellsQuiet moment.new old new result)
-        ((result ≡ 1) × (moment.new ≡ or_last None)) handle.old.held handle.new.held }
-{
-    let Some(side) = opened(handle, alloc) else {
-        *moment = u64::MAX;
-        return NO_SIDE;
-    };
-    let code = side.quiet_until(moment);
     shut(handle, side);
     code
 }

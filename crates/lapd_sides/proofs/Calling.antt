@@ -7,7 +7,7 @@ use Rattle.lapd_sides_links.specs.declared.config.Config.{Config}
 use Rattle.lapd_sides_links.specs.declared.running_timer.RunningTimer.{RunningTimer}
 use Rattle.lapd_sides_links.specs.declared.side_fault.SideKind.{SideKind}
 use Rattle.lapd_sides_links.specs.Effects.{Effects}
-use Rattle.lapd_sides_links.specs.Expiries.{IsDue, IsNextDeadline, IsQuietUntil}
+use Rattle.lapd_sides_links.specs.Expiries.{IsDue, IsNextDeadline}
 use Rattle.lapd_sides_links.specs.Links.{Reaction, Served}
 use Rattle.lapd_sides.specs.Calls.{HasDone, HasGranted, HasExpired, Expiry, Hears, LacksMemory}
 use Rattle.lapd_sides.specs.Shows.{Step}
@@ -28,9 +28,6 @@ due_so now s timers result e same is due = subst (λ (t : Timers). IsDue now (re
 
 pub next_so : (s : Served) (timers : Timers) (deadline : Option ℕ) → timers ≡ s.timers → IsNextDeadline (record { links = s.links; timers = timers }) deadline → IsNextDeadline s deadline
 next_so s timers deadline same next = subst (λ (t : Timers). IsNextDeadline (record { links = s.links; timers = t }) deadline) same next
-
-pub quiet_so : (s : Served) (timers : Timers) (moment : ℕ) → timers ≡ s.timers → IsQuietUntil (record { links = s.links; timers = timers }) moment → IsQuietUntil s moment
-quiet_so s timers moment same quiet = subst (λ (t : Timers). IsQuietUntil (record { links = s.links; timers = t }) moment) same quiet
 
 pub expired_so : {C S : Type 0} {Show : C → Config → S → Type 0} {served : S → Served} {expires : Expiry S} (code : C) (config : Config) (acts : Effects) (now : ℕ) (s : S) (e : RunningTimer) (of : Option LinkId)
     → IsDue now (served s) (Some e) → e.of ≡ of → HasDone Show code config acts (expires config now e.timer of s) → HasExpired Show served expires code config acts now s

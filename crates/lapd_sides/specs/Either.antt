@@ -7,7 +7,7 @@ use Rattle.lapd_table.specs.declared.link_id.LinkId.{LinkId}
 use Rattle.lapd_table.specs.declared.link_table.LinkTable.{LinkTable}
 use Rattle.lapd_sides_links.specs.declared.side_fault.SideFault.{SideFault}
 use Rattle.lapd_sides_links.specs.Effects.{Effects}
-use Rattle.lapd_sides_links.specs.Expiries.{IsNextDeadline, IsQuietUntil, of_served}
+use Rattle.lapd_sides_links.specs.Expiries.{IsNextDeadline, of_served}
 use Rattle.lapd_sides.specs.declared.request.Request.{Request}
 use Rattle.lapd_sides.specs.declared.either_side.EitherSide.{EitherSide}
 use Rattle.lapd_sides.specs.declared.either_side.EitherSide.TheVariants as either
@@ -61,13 +61,6 @@ HasNextDeadline (either.Network code) deadline =
     network.EachShown code (λ s. IsNextDeadline s.served deadline)
 HasNextDeadline (either.User code) deadline =
     user.EachShown code (λ s. IsNextDeadline s.served deadline)
-
--- the same, or the greatest moment if nothing will be due
-abbrev pub HasQuietUntil : EitherSide → ℕ → Type 0
-HasQuietUntil (either.Network code) moment =
-    network.EachShown code (λ s. IsQuietUntil s.served moment)
-HasQuietUntil (either.User code) moment =
-    user.EachShown code (λ s. IsQuietUntil s.served moment)
 
 -- the links
 abbrev pub HasTable : EitherSide → LinkTable → Type 0

@@ -20,7 +20,7 @@ pub enum EitherSide {
 }
 
 impl EitherSide {
-    ghost use Rattle.lapd_sides.specs.Either.{side_of, Takes, Answers, Expires, Rests, HasNextDeadline, HasQuietUntil, HasTable, HasTimers, HasDiscarded};
+    ghost use Rattle.lapd_sides.specs.Either.{side_of, Takes, Answers, Expires, Rests, HasNextDeadline, HasTable, HasTimers, HasDiscarded};
 
     /// Whether this is the network side or the user side.
     pub fn side(&self) -> Side
@@ -87,17 +87,6 @@ impl EitherSide {
         match self {
             EitherSide::Network(side) => side.next_deadline(),
             EitherSide::User(side) => side.next_deadline(),
-        }
-    }
-
-    /// The moment of [`EitherSide::next_deadline`], in milliseconds, or `u64::MAX` if no timer
-    /// runs.
-    pub fn quiet_until(&self) -> u64
-        ensures { HasQuietUntil self.now result }
-    {
-        match self {
-            EitherSide::Network(side) => side.quiet_until(),
-            EitherSide::User(side) => side.quiet_until(),
         }
     }
 

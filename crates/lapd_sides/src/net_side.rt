@@ -8,7 +8,7 @@ ghost use Rattle.lapd_tei.specs.Out.{tei_given};
 ghost use Rattle.lapd_table.specs.LinkTable.{IsFor};
 ghost use Rattle.lapd_frame.specs.Fault.{is_for_link};
 ghost use Rattle.lapd_sides_links.specs.Effects.{no_effects};
-ghost use Rattle.lapd_sides_links.specs.Expiries.{IsNextDeadline, IsQuietUntil, of_served};
+ghost use Rattle.lapd_sides_links.specs.Expiries.{IsNextDeadline, of_served};
 ghost use Rattle.lapd_sides.specs.Requests.{message_of, without_message};
 ghost use Rattle.lapd_sides.specs.Shows.{ShowEnds};
 ghost use Rattle.lapd_sides_links.specs.Links.{IsOfLink};
@@ -20,7 +20,7 @@ use lapd_frame::{
     Address, Control, FaultKind, Frame, FrameFault, N201, Role, Sapi, Side, Tei, read,
 };
 use lapd_link::{Event, LinkFault};
-use lapd_sides_links::{due, next_deadline, quiet_until, refused};
+use lapd_sides_links::{due, next_deadline, refused};
 use lapd_table::{LinkId, LinkTable};
 use lapd_tei::{Assigner, AssignerEvent, TeiMessage};
 use lapd_timers::{Timer, TimerSet};
@@ -195,7 +195,7 @@ impl NetSide {
         acts.clear();
         let Some(RunningTimer { timer, of, .. }) = due(
             &self.served.timers,
-            &mut self.served.links,
+            &self.served.links,
             now,
         ) else {
             return false;
@@ -217,13 +217,6 @@ impl NetSide {
         ensures { EachShown self.now (λ s. IsNextDeadline s.served result) }
     {
         next_deadline(&self.served.timers, &self.served.links)
-    }
-
-    /// The moment of [`NetSide::next_deadline`], in milliseconds, or `u64::MAX` if no timer runs.
-    pub fn quiet_until(&self) -> u64
-        ensures { EachShown self.now (λ s. IsQuietUntil s.served result) }
-    {
-        quiet_until(&self.served.timers, &self.served.links)
     }
 
     /// Expires this timer of the link with this id.

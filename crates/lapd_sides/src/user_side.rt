@@ -12,7 +12,7 @@ ghost use Rattle.lapd_frame.specs.Fault.{is_for_link};
 ghost use Rattle.lapd_sides_links.specs.declared.side_fault.SideKind.TheVariants.{NoLink, Link};
 ghost use Rattle.lapd_sides_links.specs.declared.acts.TheConstants.{MOST_PRIMITIVES};
 ghost use Rattle.lapd_sides_links.specs.Effects.{no_effects};
-ghost use Rattle.lapd_sides_links.specs.Expiries.{IsNextDeadline, IsQuietUntil, of_served};
+ghost use Rattle.lapd_sides_links.specs.Expiries.{IsNextDeadline, of_served};
 ghost use Rattle.lapd_sides_links.specs.Links.{IsOfLink, of_sapi};
 ghost use Rattle.lapd_sides_links.specs.Rooms.{HasRoomFor, AddsAtMost};
 ghost use Rattle.lapd_sides.specs.Requests.{message_of, without_message};
@@ -27,7 +27,7 @@ use crate::references::References;
 use crate::{Acts, Config, Octets, Primitive, Request, RunningTimer, SideFault, SideKind, What};
 use lapd_frame::{FaultKind, Frame, FrameFault, N201, Sapi, Side, Tei, read};
 use lapd_link::{Event, LinkFault};
-use lapd_sides_links::{due, next_deadline, quiet_until, refused};
+use lapd_sides_links::{due, next_deadline, refused};
 use lapd_table::{LinkId, LinkTable};
 use lapd_tei::{TeiMessage, TeiOut, Terminal, TerminalEvent};
 use lapd_timers::{Timer, TimerSet};
@@ -213,7 +213,7 @@ impl UserSide {
         acts.clear();
         let Some(RunningTimer { timer, of, .. }) = due(
             &self.served.timers,
-            &mut self.served.links,
+            &self.served.links,
             now,
         ) else {
             return false;
@@ -235,13 +235,6 @@ impl UserSide {
         ensures { EachShown self.now (λ s. IsNextDeadline s.served result) }
     {
         next_deadline(&self.served.timers, &self.served.links)
-    }
-
-    /// The moment of [`UserSide::next_deadline`], in milliseconds, or `u64::MAX` if no timer runs.
-    pub fn quiet_until(&self) -> u64
-        ensures { EachShown self.now (λ s. IsQuietUntil s.served result) }
-    {
-        quiet_until(&self.served.timers, &self.served.links)
     }
 
     /// Expires this timer of the link with this id.

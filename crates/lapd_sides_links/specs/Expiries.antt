@@ -84,12 +84,3 @@ pub record IsNextMoment (s : Served) (moment : ℕ) : Type 0 where
 abbrev pub IsNextDeadline : Served → Option ℕ → Type 0
 IsNextDeadline s None = (now : ℕ) → IsDue now s None
 IsNextDeadline s (Some moment) = IsNextMoment s moment
-
--- an optional moment as a number: the greatest number if there is none
-abbrev pub or_last : Option ℕ → ℕ
-or_last None = 18446744073709551615
-or_last (Some moment) = moment
-
--- the next moment at which something is due, as such a number
-abbrev pub IsQuietUntil : Served → ℕ → Type 0
-IsQuietUntil s moment = (next : Option ℕ) × IsNextDeadline s next × (moment ≡ or_last next)

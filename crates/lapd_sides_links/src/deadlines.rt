@@ -2,7 +2,7 @@
 
 ghost use Rattle.std.specs.Prelude.{◌≡◌, IfSome, option_map};
 ghost use Rattle.lapd_frame.specs.declared.Side.{Side};
-ghost use Rattle.lapd_sides_links.specs.Expiries.{IsDue, IsFirst, IsNextDeadline, IsPast, IsQuietUntil, IsTimerOf, of_management};
+ghost use Rattle.lapd_sides_links.specs.Expiries.{IsDue, IsFirst, IsNextDeadline, IsPast, IsTimerOf, of_management};
 ghost use Rattle.lapd_sides_links.specs.Links.{Links};
 ghost use Rattle.lapd_sides_links.specs.Places.{earlier};
 ghost use Rattle.lapd_sides_links.specs.Shown.{ShowLinks};
@@ -12,14 +12,12 @@ use crate::link_set::LinkSet;
 use crate::running_timer::sooner;
 use lapd_timers::{Timer, TimerSet};
 
-/// The first timer of a side that is due at the time `now`: one of these TEI management timers or
-/// of a link. The links are unchanged.
-pub fn due(management: &TimerSet, links: &mut LinkSet, now: u64) -> Option<RunningTimer>
-    ensures due { (side : Side) (shown : Links) → ShowLinks side links.old shown
+/// Returns the first timer of a side that is due at the moment `now`, if any: a timer of TEI
+/// management or of a link.
+pub fn due(management: &TimerSet, links: &LinkSet, now: u64) -> Option<RunningTimer>
+    ensures due { (side : Side) (shown : Links) → ShowLinks side links.now shown
         → IsDue now (record { links = shown; timers = management.now }) result }
     ensures own { IfSome result (λ e. IsTimerOf e.of e.timer) }
-    ensures shown { (side : Side) (shown : Links) → ShowLinks side links.old shown
-        → ShowLinks side links.new shown }
 {
     let own = due_of_management(management, now);
     let of_link = links.due(now);
@@ -36,18 +34,7 @@ pub fn next_deadline(management: &TimerSet, links: &LinkSet) -> Option<u64>
     earlier(least_deadline(management), deadline_of(links.first()))
 }
 
-/// The moment of [`next_deadline`], in milliseconds, or `u64::MAX` if no timer runs.
-#[inline(always)]
-pub fn quiet_until(management: &TimerSet, links: &LinkSet) -> u64
-    ensures { (side : Side) (shown : Links) → ShowLinks side links.now shown
-        → IsQuietUntil (record { links = shown; timers = management.now }) result }
-{
-    match next_deadline(management, links) {
-        Some(moment) => moment,
-        None => u64::MAX,
-    }
-}
-
+/// The deadline of a timer, if it runs.
 #[inline(always)]
 fn deadline_of(expiry: Option<RunningTimer>) -> Option<u64>
     ensures { result ≡ option_map (λ e. e.deadline) expiry }

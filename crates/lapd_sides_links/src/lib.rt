@@ -22,7 +22,7 @@ mod tournament;
 pub use acts::Acts;
 pub use backlog::Backlog;
 pub use config::Config;
-pub use deadlines::{due, next_deadline, quiet_until};
+pub use deadlines::{due, next_deadline};
 pub use lapd_link::{Letter, LinkFault, Params, Sapi, Side, Tei};
 pub use lapd_table::{LinkId, LinkTable};
 pub use lapd_tei::{TeiMessage, TeiOut};

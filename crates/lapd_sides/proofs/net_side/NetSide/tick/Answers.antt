@@ -10,7 +10,7 @@ use Rattle.lapd_sides.proofs.net_side.NetSide.tick.Goals as goal
 pub returns-in_default-clause-none : goal.returns-in_default-clause-none
 returns-in_default-clause-none c = λ is config s shown. (
   due_so c.args.now s.served c.args.self.now.served.timers c.due.result _ shown.served.timers c.in_default.is (c.due.ensures.due side.Network s.served.links shown.served.links),
-  kept _ config s shown.configured shown.assigner shown.discarded shown.served.timers (c.due.ensures.shown side.Network s.served.links shown.served.links),
+  shown,
 )
 
 pub returns-in-None-clause-due : goal.returns-in-None-clause-due
@@ -20,10 +20,10 @@ returns-in-None-clause-due c = λ is config s shown.
     let due = due_so c.args.now s.served c.args.self.now.served.timers c.due.result _ shown.served.timers c.in-Some.is (c.due.ensures.due side.Network s.served.links shown.served.links) in
     let after : Network = record s { served = record { links = s.served.links; timers = stopped e.timer s.served.timers } } in
     expired_so _ config c.manage.new.acts c.args.now s e _ due c.in-None.is
-    (c.manage.ensures config after (kept _ config after shown.configured shown.assigner shown.discarded (c.stop.ensures ∙ ap (λ (t : Timers). stopped e.timer t) shown.served.timers) (c.due.ensures.shown side.Network s.served.links shown.served.links)))
+    (c.manage.ensures config after (kept _ config after shown.configured shown.assigner shown.discarded (c.stop.ensures ∙ ap (λ (t : Timers). stopped e.timer t) shown.served.timers) shown.served.links))
 
 pub returns-in-Some-of-clause-due : goal.returns-in-Some-of-clause-due
 returns-in-Some-of-clause-due c = λ is config s shown.
     let due = due_so c.args.now s.served c.args.self.now.served.timers c.due.result _ shown.served.timers c.in-Some.is (c.due.ensures.due side.Network s.served.links shown.served.links) in
     expired_so _ config c.expire.new.acts c.args.now s c.in-Some.field-0 _ due c.in-Some-of.is
-    (c.expire.ensures config s (kept _ config s shown.configured shown.assigner shown.discarded shown.served.timers (c.due.ensures.shown side.Network s.served.links shown.served.links)))
+    (c.expire.ensures config s shown)

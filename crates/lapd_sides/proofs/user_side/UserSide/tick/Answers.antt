@@ -4,13 +4,13 @@ use Rattle.lapd_frame.specs.declared.Side.TheVariants as side
 use Rattle.lapd_sides_links.specs.Effects.{stopped}
 use Rattle.lapd_sides.specs.User.{User, user_expires}
 use Rattle.lapd_sides.proofs.Calling.{due_so, expired_so}
-use Rattle.lapd_sides.proofs.Using.{links_kept, reshown_after}
+use Rattle.lapd_sides.proofs.Using.{reshown_after}
 use Rattle.lapd_sides.proofs.user_side.UserSide.tick.Goals as goal
 
 pub returns-in_default-clause-none : goal.returns-in_default-clause-none
 returns-in_default-clause-none c = λ is config s shown. (
   due_so c.args.now s.served c.args.self.now.served.timers c.due.result _ shown.served.timers c.in_default.is (c.due.ensures.due side.User s.served.links shown.served.links),
-  links_kept c.args.self.now c.due.new.links config s shown (c.due.ensures.shown side.User s.served.links shown.served.links),
+  shown,
 )
 
 pub returns-in-None-clause-due : goal.returns-in-None-clause-due
@@ -20,10 +20,10 @@ returns-in-None-clause-due c = λ is config s shown.
     let due = due_so c.args.now s.served c.args.self.now.served.timers c.due.result _ shown.served.timers c.in-Some.is (c.due.ensures.due side.User s.served.links shown.served.links) in
     let after : User = record s { served = record { links = s.served.links; timers = stopped e.timer s.served.timers } } in
     expired_so _ config c.ask_again.new.acts c.args.now s e _ due c.in-None.is
-    (c.ask_again.ensures config after (reshown_after c.args.self.now c.due.new.links c.stop.new.self config s (stopped e.timer s.served.timers) shown (c.stop.ensures ∙ ap (λ (t : Timers). stopped e.timer t) shown.served.timers) (c.due.ensures.shown side.User s.served.links shown.served.links)))
+    (c.ask_again.ensures config after (reshown_after c.args.self.now c.args.self.now.served.links c.stop.new.self config s (stopped e.timer s.served.timers) shown (c.stop.ensures ∙ ap (λ (t : Timers). stopped e.timer t) shown.served.timers) shown.served.links))
 
 pub returns-in-Some-of-clause-due : goal.returns-in-Some-of-clause-due
 returns-in-Some-of-clause-due c = λ is config s shown.
     let due = due_so c.args.now s.served c.args.self.now.served.timers c.due.result _ shown.served.timers c.in-Some.is (c.due.ensures.due side.User s.served.links shown.served.links) in
     expired_so _ config c.expire.new.acts c.args.now s c.in-Some.field-0 _ due c.in-Some-of.is
-    (c.expire.ensures config s (links_kept c.args.self.now c.due.new.links config s shown (c.due.ensures.shown side.User s.served.links shown.served.links)))
+    (c.expire.ensures config s shown)
