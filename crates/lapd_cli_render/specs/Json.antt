@@ -1,5 +1,5 @@
--- Octets that a side sent as a JSON object: a frame by the names of its fields, or a fault. And what a side tells the layers above
--- it.
+-- Octets that a side sent as a JSON object: a frame by the names of its fields, or a fault. And the
+-- primitives of a side.
 use Rattle.std.specs.Prelude.{ℕ, ◌==◌, if◌then◌else◌, Bool, true, false, List, [], ◌∷◌, codes, Result, Ok, Err}
 use Rattle.hex.specs.Hex.{encode_lower}
 use Rattle.serde_json.specs.Data.{Members, number, no_members, object, put, string, unsigned}
@@ -84,7 +84,7 @@ with_control role (Ua f) members = with_unnumbered (codes "UA") role f members
 with_control role (Frmr f) members = with_unnumbered (codes "FRMR") role f members
 with_control role (Xid pf) members = with_unnumbered (codes "XID") role pf members
 
--- octets in hexadecimal, where there are any
+-- octets in hexadecimal, if there are any
 abbrev pub with_octets : List ℕ → List ℕ → Members → Members
 with_octets key [] members = members
 with_octets key (octet ∷ octets) members = with_text key (encode_lower (octet ∷ octets)) members
@@ -99,19 +99,19 @@ with_reading octets (Ok frame) members = with_frame frame members
 with_reading octets (Err fault) members = with_octets (codes "octets") octets
     (with_text (codes "fault") (fault_name fault.kind) members)
 
--- what the message is, by the text that stands behind a trace line: a space, and the words
+-- the name of the message, from the text after a trace line: a space, and the words
 abbrev pub with_message : List ℕ → Members → Members
 with_message [] members = members
 with_message (first ∷ words) members =
     if first == 32 then with_text (codes "message") words members else members
 
--- ---- What a side tells the layers above it.
+-- ---- Primitives.
 
--- what is told, in a word
+-- the word of a primitive
 abbrev pub with_primitive : List ℕ → Members → Members
 with_primitive word members = with_text (codes "primitive") word members
 
--- beside it: the octets, of how many messages, or the report
+-- its parameter: the octets, the number of messages, or the report
 abbrev pub with_rest : What → Members → Members
 with_rest (what.Up octets) members = with_octets (codes "info") octets members
 with_rest (what.UnitUp octets) members = with_octets (codes "info") octets members
@@ -133,7 +133,7 @@ with_link id members =
 abbrev pub with_tei : List ℕ → ℕ → Members → Members
 with_tei word value members = with_number (codes "tei") value (with_primitive word members)
 
--- what became of one; messages and timers of TEI management are not told
+-- the outcome of a procedure of TEI management; its messages and timers are not passed to layer 3
 abbrev pub with_outcome : TeiOut → Members → Members
 with_outcome (tei.Given value) members = with_tei (codes "tei given") value members
 with_outcome (tei.Got value) members = with_tei (codes "tei got") value members
@@ -155,7 +155,7 @@ abbrev pub frame_members : Side → List ℕ → Members
 frame_members from octets = with_reading octets (frame_at from octets)
     (with_text (codes "direction") (direction_text from) no_members)
 
--- and what their message is
+-- and the name of their message
 abbrev pub named_members : Side → List ℕ → Members
 named_members from octets = with_message (names_text from octets) (frame_members from octets)
 
@@ -163,7 +163,7 @@ named_members from octets = with_message (names_text from octets) (frame_members
 abbrev pub object_text : Members → List ℕ
 object_text members = compact_text (object members)
 
--- the members for what is told
+-- the members for a primitive
 abbrev pub primitive_members : Primitive → Members
 primitive_members primitive = with_told primitive no_members
 

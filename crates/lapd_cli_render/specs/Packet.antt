@@ -1,4 +1,4 @@
--- Objects for octets in a packet of a capture, with its number and when it was captured.
+-- Objects for octets in a packet of a capture, with its number and the time of the capture.
 use Rattle.std.specs.Prelude.{ℕ, ◌+◌, ◌*◌, ◌/◌, ◌%◌, List, [], ◌∷◌, ◌++◌, codes, Option, Some, None}
 use Rattle.std.specs.Fmt.{decimal}
 use Rattle.hex.specs.Hex.{encode_lower}
@@ -6,7 +6,7 @@ use Rattle.serde_json.specs.Data.{Members}
 use Rattle.lapd_cli_render.specs.declared.packet.Packet.{Packet}
 use Rattle.lapd_cli_render.specs.Json.{with_number, with_text}
 
--- two decimal digits as the two halves of an octet
+-- two decimal digits in BCD
 abbrev pub two_digits : ℕ → ℕ
 two_digits number = number / 10 * 16 + number % 10
 
@@ -15,17 +15,17 @@ abbrev pub six_digits : ℕ → List ℕ
 six_digits number = encode_lower (two_digits (number / 10000) ∷ two_digits (number / 100 % 100)
     ∷ two_digits (number % 100) ∷ [])
 
--- microseconds as seconds, with six digits behind a point
+-- microseconds as seconds with six decimals
 abbrev pub seconds_text : ℕ → List ℕ
 seconds_text moment = decimal (moment / 1000000)
     ++ (codes "." ++ six_digits (moment % 1000000))
 
--- when it was captured, where that is told
+-- the time of the capture, if known
 abbrev pub with_moment : Option ℕ → Members → Members
 with_moment None members = members
 with_moment (Some moment) members = with_text (codes "time") (seconds_text moment) members
 
--- the number of the packet, and when it was captured
+-- the number of the packet, and the time of its capture
 abbrev pub with_packet : Packet → Members → Members
 with_packet packet members =
     with_moment packet.moment (with_number (codes "packet") packet.number members)

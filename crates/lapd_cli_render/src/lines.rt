@@ -9,8 +9,8 @@ use crate::members::Members;
 use lapd_frame::{Address, Control, Frame, Number, Role, Side};
 use std::alloc::{AllocError, Global};
 
-/// The JSON object for octets that `from` sent, in one line with no space and no line feed. Its members stand in the order of
-/// their names.
+/// Returns the JSON object for octets that `from` sent, in one line without spaces and line feeds.
+/// Its members are in alphabetical order.
 ///
 /// ```text
 /// {"direction":"U>N","frame":"SABME","p":1,"role":"command","sapi":0,"tei":64}
@@ -21,7 +21,7 @@ use std::alloc::{AllocError, Global};
 ///
 /// # Errors
 ///
-/// `AllocError` where there was no memory for it.
+/// `AllocError` if an allocation fails.
 pub fn line(alloc: Global, from: Side, octets: &[u8]) -> Result<String, AllocError>
     ensures { IfOk result (λ text.
         string_bytes text ≡ object_text (frame_members from octets.now)) }
@@ -31,11 +31,12 @@ pub fn line(alloc: Global, from: Side, octets: &[u8]) -> Result<String, AllocErr
     members.into_text()
 }
 
-/// The same with a member `message`, in words, where the octets are a frame with a message of TEI management or of Q.931.
+/// Like [`line`], with a member `message` in words if the frame carries a message of TEI management
+/// or of Q.931.
 ///
 /// # Errors
 ///
-/// `AllocError` where there was no memory for it.
+/// `AllocError` if an allocation fails.
 pub fn named_line(alloc: Global, from: Side, octets: &[u8]) -> Result<String, AllocError>
     ensures { IfOk result (λ text.
         string_bytes text ≡ object_text (named_members from octets.now)) }
@@ -46,7 +47,7 @@ pub fn named_line(alloc: Global, from: Side, octets: &[u8]) -> Result<String, Al
     members.into_text()
 }
 
-/// Puts who sent octets, and their frame or their first fault.
+/// Adds the sender of octets, and their frame or their first fault.
 pub(crate) fn put_reading(
     alloc: Global,
     members: &mut Members,
@@ -67,7 +68,7 @@ pub(crate) fn put_reading(
     }
 }
 
-/// Puts what the message in octets is, where they are a frame with one.
+/// Adds the name of the message that a frame carries, if any.
 pub(crate) fn put_message(
     alloc: Global,
     members: &mut Members,
@@ -82,7 +83,7 @@ pub(crate) fn put_message(
     put_words(members, names.as_str())
 }
 
-/// Puts the words of a message, before which a space stands.
+/// Adds the words of a message, which begin with a space.
 fn put_words(members: &mut Members, text: &str) -> Result<(), AllocError>
     ensures { OnOk result (members_view members.new.map.entries
         ≡ with_message text.now (members_view members.old.map.entries)) }
@@ -93,7 +94,7 @@ fn put_words(members: &mut Members, text: &str) -> Result<(), AllocError>
     }
 }
 
-/// Puts address, control field and information.
+/// Adds address, control field and information.
 fn put_frame(alloc: Global, members: &mut Members, frame: &Frame<'_>) -> Result<(), AllocError>
     ensures { OnOk result (members_view members.new.map.entries
         ≡ with_frame frame.now (members_view members.old.map.entries)) }
@@ -104,7 +105,7 @@ fn put_frame(alloc: Global, members: &mut Members, frame: &Frame<'_>) -> Result<
     put_octets(alloc, members, "info", frame.info())
 }
 
-/// Puts SAPI, TEI and role.
+/// Adds SAPI, TEI and role.
 fn put_address(members: &mut Members, address: &Address) -> Result<(), AllocError>
     ensures { OnOk result (members_view members.new.map.entries
         ≡ with_address address.now (members_view members.old.map.entries)) }
@@ -114,7 +115,7 @@ fn put_address(members: &mut Members, address: &Address) -> Result<(), AllocErro
     members.put_text("role", role_name(address.role))
 }
 
-/// Puts the name of the frame, its sequence numbers and its P/F bit.
+/// Adds the name of the frame, its sequence numbers and its P/F bit.
 fn put_control(members: &mut Members, role: Role, control: Control) -> Result<(), AllocError>
     ensures { OnOk result (members_view members.new.map.entries
         ≡ with_control role control (members_view members.old.map.entries)) }
@@ -137,7 +138,7 @@ fn put_control(members: &mut Members, role: Role, control: Control) -> Result<()
     }
 }
 
-/// Puts the name of an I or supervisory frame, its N(R) and its P/F bit.
+/// Adds the name of an I or supervisory frame, its N(R) and its P/F bit.
 fn put_numbered(
     members: &mut Members,
     name: &str,
@@ -153,7 +154,7 @@ fn put_numbered(
     put_poll(members, role, pf)
 }
 
-/// Puts the name of an unnumbered frame and its P/F bit.
+/// Adds the name of an unnumbered frame and its P/F bit.
 fn put_unnumbered(members: &mut Members, name: &str, role: Role, pf: bool) -> Result<(), AllocError>
     ensures { OnOk result (members_view members.new.map.entries
         ≡ with_unnumbered name.now role pf (members_view members.old.map.entries)) }
@@ -162,7 +163,7 @@ fn put_unnumbered(members: &mut Members, name: &str, role: Role, pf: bool) -> Re
     put_poll(members, role, pf)
 }
 
-/// Puts the P/F bit.
+/// Adds the P/F bit.
 fn put_poll(members: &mut Members, role: Role, pf: bool) -> Result<(), AllocError>
     ensures { OnOk result (members_view members.new.map.entries
         ≡ with_poll role pf (members_view members.old.map.entries)) }
@@ -170,7 +171,7 @@ fn put_poll(members: &mut Members, role: Role, pf: bool) -> Result<(), AllocErro
     members.put_number(poll_name(role), bit(pf))
 }
 
-/// Puts octets in lower case hexadecimal, where there are any.
+/// Adds octets in lower case hexadecimal, if there are any.
 pub(crate) fn put_octets(
     alloc: Global,
     members: &mut Members,
@@ -186,7 +187,7 @@ pub(crate) fn put_octets(
     members.put_text(key, hex::encode(alloc, octets)?.as_str())
 }
 
-/// Who sent a frame, and to whom.
+/// The direction of a frame: its sender and its receiver.
 fn direction_name(from: Side) -> &'static str
     ensures { result.now ≡ direction_text from }
 {

@@ -10,7 +10,7 @@ ghost use Rattle.lapd_cli_render.specs.Json.{object_text, with_number, with_text
 use serde_json::{Map, Value, put};
 use std::alloc::{AllocError, Global};
 
-/// The members of an object, in the order of their names. Each is a text or a number.
+/// The members of an object in alphabetical order. Each is a text or a number.
 #[derive(Drop)]
 pub(crate) struct Members {
     alloc: Global,
@@ -19,7 +19,7 @@ pub(crate) struct Members {
 }
 
 impl Members {
-    /// None.
+    /// An object without members.
     pub(crate) fn new(alloc: Global) -> Members
         ensures { members_view result.map.entries ≡ no_members }
     {
@@ -46,7 +46,7 @@ impl Members {
         put(&mut self.map, self.alloc, key, Value::from(number))
     }
 
-    /// The object's text, in one line with no space.
+    /// The object's text, in one line without spaces.
     pub(crate) fn into_text(self) -> Result<String, AllocError>
         ensures { IfOk result (λ text.
             string_bytes text ≡ object_text (members_view self.map.entries)) }

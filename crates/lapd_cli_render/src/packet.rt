@@ -1,4 +1,4 @@
-//! The packet of a capture that octets stand in.
+//! The packet of a capture that contains octets.
 
 ghost use Rattle.std.specs.Prelude.{◌≡◌, ◌<◌, ◌++◌, codes, IfOk, OnOk};
 ghost use Rattle.std.specs.Fmt.{decimal};
@@ -12,17 +12,17 @@ use crate::members::Members;
 use lapd_frame::Side;
 use std::alloc::{AllocError, Global};
 
-/// The packet of a capture that octets stand in.
+/// The packet of a capture that contains octets.
 #[derive(Clone, Copy, Debug, PartialEq, Eq)]
 pub struct Packet {
     /// Its number, from 1.
     pub number: u64,
-    /// When it was captured, in microseconds since 1970, where the capture tells.
+    /// The time of the capture in microseconds since 1970, if known.
     pub moment: Option<u64>,
 }
 
-/// The object of [`crate::line`] for octets in a packet of a capture, with its number as `packet`, and as `time`, where it is
-/// told when it was captured, the seconds since 1970, with six digits behind a point.
+/// Like [`crate::line`], for octets in a packet of a capture. The member `packet` is its number, and
+/// `time` is the time of the capture, if known, in seconds since 1970 with six decimals.
 ///
 /// ```text
 /// {"direction":"U>N","frame":"SABME","p":1,"packet":2,"role":"command","sapi":0,"tei":64,"time":"1.002000"}
@@ -30,7 +30,7 @@ pub struct Packet {
 ///
 /// # Errors
 ///
-/// `AllocError` where there was no memory for it.
+/// `AllocError` if an allocation fails.
 pub fn packet_line(
     alloc: Global,
     from: Side,
@@ -46,11 +46,11 @@ pub fn packet_line(
     members.into_text()
 }
 
-/// The object of [`crate::named_line`], with the members that [`packet_line`] has besides.
+/// Like [`crate::named_line`], with the members that [`packet_line`] adds.
 ///
 /// # Errors
 ///
-/// `AllocError` where there was no memory for it.
+/// `AllocError` if an allocation fails.
 pub fn named_packet_line(
     alloc: Global,
     from: Side,
@@ -67,7 +67,7 @@ pub fn named_packet_line(
     members.into_text()
 }
 
-/// Puts the number of a packet, and when it was captured, where that is told.
+/// Adds the number of a packet, and the time of its capture, if known.
 fn put_packet(alloc: Global, members: &mut Members, packet: Packet) -> Result<(), AllocError>
     ensures { OnOk result (members_view members.new.map.entries
         ≡ with_packet packet (members_view members.old.map.entries)) }
@@ -79,7 +79,7 @@ fn put_packet(alloc: Global, members: &mut Members, packet: Packet) -> Result<()
     }
 }
 
-/// Microseconds as seconds, with six digits behind a point.
+/// Microseconds as seconds with six decimals.
 fn seconds_text(alloc: Global, moment: u64) -> Result<String, AllocError>
     ensures { IfOk result (λ text. string_bytes text ≡ seconds_text moment) }
 {
@@ -89,7 +89,7 @@ fn seconds_text(alloc: Global, moment: u64) -> Result<String, AllocError>
     Ok(text)
 }
 
-/// Appends seconds, and digits behind a point.
+/// Appends seconds, a point and the decimals.
 fn push_seconds(text: &mut String, seconds: u64, digits: &str) -> Result<(), AllocError>
     ensures { OnOk result (string_bytes text.new
         ≡ string_bytes text.old ++ (decimal seconds ++ (codes "." ++ digits.now))) }
@@ -110,7 +110,7 @@ fn six_digits(alloc: Global, number: u64) -> Result<String, AllocError>
     hex::encode(alloc, &digits)
 }
 
-/// Two decimal digits as the two halves of an octet.
+/// Two decimal digits in BCD.
 fn two_digits(number: u64) -> u8
     requires { number < 100 }
     ensures { result ≡ two_digits number }

@@ -1,4 +1,4 @@
-//! What a side tells the layers above it, as JSON objects.
+//! Primitives of a side as JSON objects.
 
 ghost use Rattle.std.specs.Prelude.{◌≡◌, IfOk, OnOk};
 ghost use Rattle.std.specs.String.{string_bytes};
@@ -10,8 +10,9 @@ use crate::members::Members;
 use lapd_sides_links::{LinkId, Primitive, Tei, TeiOut, What};
 use std::alloc::{AllocError, Global};
 
-/// The JSON object for what a side tells the layers above it, in one line with no space outside of its texts and no line feed.
-/// Its members stand in the order of their names. It is empty for messages and timers of TEI management, which are not told.
+/// Returns the JSON object for a primitive, in one line without line feeds and without spaces outside
+/// texts. Its members are in alphabetical order. The text is empty for messages and timers of TEI
+/// management, which are not passed to layer 3.
 ///
 /// ```text
 /// {"info":"0802","primitive":"data","sapi":0,"tei":64}
@@ -21,7 +22,7 @@ use std::alloc::{AllocError, Global};
 ///
 /// # Errors
 ///
-/// `AllocError` where there was no memory for it.
+/// `AllocError` if an allocation fails.
 pub fn primitive_line(alloc: Global, primitive: &Primitive) -> Result<String, AllocError>
     ensures { IfOk result (λ text.
         string_bytes text ≡ object_text (primitive_members primitive.now)) }
@@ -31,11 +32,11 @@ pub fn primitive_line(alloc: Global, primitive: &Primitive) -> Result<String, Al
     members.into_text()
 }
 
-/// The JSON object of one member, which is a text, in one line with no line feed.
+/// Returns the JSON object of one member, a text, in one line without line feeds.
 ///
 /// # Errors
 ///
-/// `AllocError` where there was no memory for it.
+/// `AllocError` if an allocation fails.
 pub fn text_line(alloc: Global, key: &str, text: &str) -> Result<String, AllocError>
     ensures { IfOk result (λ line.
         string_bytes line ≡ object_text (text_members key.now text.now)) }
@@ -45,7 +46,7 @@ pub fn text_line(alloc: Global, key: &str, text: &str) -> Result<String, AllocEr
     members.into_text()
 }
 
-/// Puts what is told, and of which link.
+/// Adds a primitive and its link.
 fn put_told(alloc: Global, members: &mut Members, told: &Primitive) -> Result<(), AllocError>
     ensures { OnOk result (members_view members.new.map.entries
         ≡ with_told told.now (members_view members.old.map.entries)) }
@@ -59,7 +60,7 @@ fn put_told(alloc: Global, members: &mut Members, told: &Primitive) -> Result<()
     }
 }
 
-/// Puts SAPI and TEI of a link.
+/// Adds SAPI and TEI of a link.
 fn put_link(members: &mut Members, id: &LinkId) -> Result<(), AllocError>
     ensures { OnOk result (members_view members.new.map.entries
         ≡ with_link id.now (members_view members.old.map.entries)) }
@@ -68,7 +69,7 @@ fn put_link(members: &mut Members, id: &LinkId) -> Result<(), AllocError>
     members.put_number("tei", u64::from(id.tei.value()))
 }
 
-/// Puts what is told of a link.
+/// Adds a primitive of a link.
 fn put_what(alloc: Global, members: &mut Members, what: &What) -> Result<(), AllocError>
     ensures { OnOk result (members_view members.new.map.entries
         ≡ with_what what.now (members_view members.old.map.entries)) }
@@ -86,7 +87,7 @@ fn put_what(alloc: Global, members: &mut Members, what: &What) -> Result<(), All
     }
 }
 
-/// Puts what became of a TEI.
+/// Adds the outcome of a procedure of TEI management.
 fn put_outcome(members: &mut Members, outcome: TeiOut) -> Result<(), AllocError>
     ensures { OnOk result (members_view members.new.map.entries
         ≡ with_outcome outcome (members_view members.old.map.entries)) }
@@ -103,7 +104,7 @@ fn put_outcome(members: &mut Members, outcome: TeiOut) -> Result<(), AllocError>
     }
 }
 
-/// Puts what is told, in a word.
+/// Adds the word of a primitive.
 fn put_primitive(members: &mut Members, word: &str) -> Result<(), AllocError>
     ensures { OnOk result (members_view members.new.map.entries
         ≡ with_primitive word.now (members_view members.old.map.entries)) }
@@ -111,7 +112,7 @@ fn put_primitive(members: &mut Members, word: &str) -> Result<(), AllocError>
     members.put_text("primitive", word)
 }
 
-/// Puts of which TEI this is told.
+/// Adds the TEI of an outcome.
 fn put_tei(members: &mut Members, word: &str, tei: Tei) -> Result<(), AllocError>
     ensures { OnOk result (members_view members.new.map.entries
         ≡ with_tei word.now tei (members_view members.old.map.entries)) }
