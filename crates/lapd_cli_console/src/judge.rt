@@ -3,7 +3,7 @@
 ghost use Rattle.std.specs.Prelude.{◌≡◌, ◌∷◌, [], drop, is_none, is_some, IfOk};
 ghost use Rattle.std.specs.Str.{is_utf8 as utf8_told};
 ghost use Rattle.lapd_cli_script.specs.Line.{HasNoSpace, words_of};
-ghost use Rattle.lapd_cli_script.specs.Script.{is_passed_over as passed_over, outcome_of};
+ghost use Rattle.lapd_cli_script.specs.Script.{outcome_of};
 ghost use Rattle.lapd_cli_link_commands.specs.Answer.{Session, answer_step};
 ghost use Rattle.lapd_cli_console.specs.Forms.{are_said, are_words_of, begin_with_words as arguments_begin_with_words, by_arguments, is_line_of, is_said, octet_said, octets_said, text_and_last, without_percent as digits_of_percent};
 
@@ -12,7 +12,7 @@ use crate::cuts::{behind_first_word, cut_at_last_space};
 use crate::form::{Argument, Form};
 use crate::line_forms::form_of;
 use crate::script::Script;
-use lapd_cli_script::{LineFault, Words, number_of};
+use lapd_cli_script::{LineFault, Words, is_passed_over, number_of};
 use lapd_frame::{Sapi, Tei};
 use memchr::memmem;
 use std::alloc::{AllocError, Global};
@@ -60,13 +60,6 @@ fn complaint<'a>(
         Some(complaint) => Ok(Some(of_spacing(line).unwrap_or(complaint))),
         None => Ok(None),
     }
-}
-
-/// Whether the line is empty or a comment.
-fn is_passed_over(line: &[u8]) -> bool
-    ensures { result ≡ passed_over line.now }
-{
-    matches!(line, [] | [b'#', ..])
 }
 
 /// Finds what is wrong with the words of a line.

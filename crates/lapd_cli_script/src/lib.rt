@@ -15,5 +15,5 @@ mod words;
 
 pub use lapd_port::PortFault;
 pub use print::{put_hex, put_line, put_number, put_octets, put_word};
-pub use script::{Command, LineFault, ScriptFault, walk};
+pub use script::{Command, LineFault, ScriptFault, is_passed_over, walk};
 pub use words::{Words, number_of};

@@ -249,8 +249,8 @@ fn walk_line<C: Command, W: Write>(
     }
 }
 
-// Whether the line is empty or a comment.
-fn is_passed_over(line: &[u8]) -> bool
+/// Whether a script skips the line: it is empty, or begins with `#`.
+pub fn is_passed_over(line: &[u8]) -> bool
     ensures { result ≡ passed_over line.now }
 {
     matches!(line, [] | [b'#', ..])
