@@ -1,4 +1,5 @@
--- The address field of a frame (Q.921 3.3): its octets as a function of its parts, and its parts as found in octets.
+-- The address field of a frame (Q.921 3.3): its octets as a function of its parts, and its parts
+-- read from octets.
 use Rattle.std.specs.Prelude.{ℕ, ◌+◌, ◌*◌, ◌/◌, ◌%◌, ◌≤◌, ◌==◌, ◌||◌, nat_le, if◌then◌else◌, Bool, true, false, List, [], ◌∷◌, codes, Option, Some, None, Result, Ok, Err}
 use Rattle.lapd_field.specs.declared.sapi.Sapi.{Sapi}
 use Rattle.lapd_field.specs.declared.sapi.Sapi.TheVariants.{Call, Packet, Management}
@@ -10,7 +11,7 @@ use Rattle.lapd_field.specs.declared.address.Address.{Address}
 use Rattle.lapd_field.specs.declared.field_fault.FieldFault.{FieldFault}
 use Rattle.lapd_field.specs.declared.field_fault.FieldFault.TheVariants.{BadAddress, SapiNotServed}
 
--- the side that hears what this one sends
+-- the side that receives what this side sends
 abbrev pub other_side : Side → Side
 other_side Network = User
 other_side User = Network
@@ -25,12 +26,12 @@ sapi_value Call = 0
 sapi_value Packet = 16
 sapi_value Management = 63
 
--- the service access point of a number, where it is served
+-- the service access point with this number, if it is served
 abbrev pub sapi_at : ℕ → Option Sapi
 sapi_at n = if n == 0 then Some Call else (if n == 16 then Some Packet
     else (if n == 63 then Some Management else None))
 
--- a TEI (Q.921 3.3.4) or a sequence number (Q.921 3.5.2.1) of this value: seven bits
+-- a TEI (Q.921 3.3.4) or a sequence number (Q.921 3.5.2.1) with this value: seven bits
 abbrev pub number_at : ℕ → Option ℕ
 number_at n = if nat_le n 127 then Some n else None
 
@@ -41,7 +42,7 @@ command_bit Network Answer = 0
 command_bit User Command = 0
 command_bit User Answer = 1
 
--- what a frame is whose C/R bit is set
+-- the role of a frame by its C/R bit, `true` if the bit is set
 abbrev pub role_of : Side → Bool → Role
 role_of Network true = Command
 role_of Network false = Answer
@@ -65,7 +66,7 @@ abbrev pub with_sapi : Option Sapi → ℕ → Role → Result Address FieldFaul
 with_sapi None tei role = Err SapiNotServed
 with_sapi (Some sapi) tei role = Ok (record { sapi = sapi; tei = tei; role = role })
 
--- the address that two octets of this sender are, or what is wrong with them
+-- the address in two octets that this side sent, or the fault
 abbrev pub address_at : Side → List ℕ → Result Address FieldFault
 address_at from [] = Err BadAddress
 address_at from (first ∷ []) = Err BadAddress

@@ -32,7 +32,7 @@ impl Tei {
         Tei { value: 127 }
     }
 
-    /// The TEI of this number, `None` where it is above 127.
+    /// The TEI with this number; `None` above 127.
     pub fn new(value: u8) -> Option<Tei>
         ensures { result ≡ number_at value }
     {

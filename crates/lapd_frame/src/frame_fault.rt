@@ -2,7 +2,7 @@ use crate::FaultKind;
 use lapd_field::Address;
 use thiserror::Error;
 
-/// Why octets are no frame, and for which link, where that can be told.
+/// Why octets do not form a valid frame, and the link that they are for, if it is known.
 #[derive(Clone, Copy, Debug, PartialEq, Eq, Error)]
 #[error("{kind}")]
 pub struct FrameFault {

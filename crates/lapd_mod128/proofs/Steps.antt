@@ -3,7 +3,7 @@ use Rattle.std.proofs.Common.{◌≡◌, ℕ, zero, suc, ◌+◌, ◌-◌, ◌%�
 use Rattle.std.proofs.lemmas.Bool.Decides.{nat_tests}
 use Rattle.lapd_mod128.specs.Counting.{Reading, Whole, Tagged, IsNumber, after, number_after, AreSteps, LiesFrom, InFewerSteps, reaches, steps, lies_within}
 
--- what the tests of the two readings tell, as orders
+-- the tests of the two readings, as orders
 pub reaches_tells : (a b : ℕ) → reaches Whole a b ≡ true → a ≤ b
 unfolding reaches
 reaches_tells a b h = grind (arith, nat_tests)
@@ -52,7 +52,7 @@ unfolding number_after after
 number_after_whole zero a = omega arith
 number_after_whole (suc n) a = omega (arith, number_after_whole n a)
 
--- counting tags is adding, and leaving out each 128
+-- counting tags is adding modulo 128
 pub number_after_tagged : (n a : ℕ) → a < 128 → number_after Tagged n a ≡ (a + n) % 128
 unfolding number_after after
 number_after_tagged zero a h = omega arith
@@ -76,7 +76,7 @@ steps_are_counted Tagged a b ha hb h = record {
   fewest = λ m less same. omega (arith, number_after_tagged m a ha, same, less);
 }
 
--- there is one number of steps at most
+-- the number of steps is unique
 pub steps_are_unique : (r : Reading) (n m a b : ℕ) → AreSteps r n a b → AreSteps r m a b → n ≡ m
 steps_are_unique r n m a b hn hm = grind (arith, hn.fewest m, hm.fewest n, hn.lead, hm.lead)
 
@@ -141,21 +141,22 @@ pub last_lies_within : (r : Reading) (a b : ℕ) → reaches r a b ≡ true → 
 last_lies_within Whole a b h = whole_within_holds a b b (reaches_tells a b h) (omega arith)
 last_lies_within Tagged a b h = tagged_within_holds a b b (omega arith)
 
--- what lies within two numbers lies within them also where the last goes one step on
+-- a number within two numbers is also within them if the last is one step further
 pub within_one_more : (r : Reading) (a x b : ℕ) → lies_within r a x b ≡ true → steps r a b < 127 → lies_within r a x (after r b) ≡ true
 unfolding reaches
 within_one_more Whole a x b h room = within_one_more_whole a x b h
 within_one_more Tagged a x b h room = tagged_within_holds a x (after Tagged b)
     (omega (arith, tagged_within_tells a x b h, one_more_step Tagged a b refl room))
 
--- of two numbers between, the later one lies within what the earlier one leaves: V(A) moves up to N(R), no further
+-- if two numbers lie within V(A) and V(S), the later lies within the earlier and V(S): V(A) never
+-- moves past N(R)
 pub within_the_rest : (r : Reading) (a x y b : ℕ) → lies_within r a y b ≡ true → lies_within r a x y ≡ true → lies_within r x y b ≡ true
 unfolding steps
 within_the_rest Whole a x y b hy hx = whole_within_holds x y b (whole_within_tells a x y hx).1 (whole_within_tells a y b hy).1
 within_the_rest Tagged a x y b hy hx = tagged_within_holds x y b
     (omega (arith, tagged_within_tells a y b hy, tagged_within_tells a x y hx))
 
--- what lies within a part lies within the whole
+-- a number within a part lies within the whole
 pub within_the_whole : (r : Reading) (a x y b : ℕ) → lies_within r a x b ≡ true → lies_within r x y b ≡ true → lies_within r a y b ≡ true
 unfolding steps
 within_the_whole Whole a x y b hx hy = within_the_whole_whole a x y b hx hy
@@ -190,7 +191,7 @@ counted_is_within Tagged a x b ha hx hb (n, m, to_x, to_b, order) = tagged_withi
       steps_are_unique Tagged m (steps Tagged a b) a b to_b (steps_are_counted Tagged a b ha hb refl),
     ))
 
--- there are fewer than `k` steps where fewer than `k` steps lead
+-- the subtraction is below `k` exactly if fewer than `k` steps lead there
 pub fewer_steps_are_counted : (r : Reading) (k a b : ℕ) → IsNumber r a → IsNumber r b → reaches r a b ≡ true → steps r a b < k → InFewerSteps r k a b
 fewer_steps_are_counted r k a b ha hb h fewer = (steps r a b, fewer, (steps_are_counted r a b ha hb h).lead)
 

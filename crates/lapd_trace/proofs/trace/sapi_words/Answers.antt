@@ -10,7 +10,7 @@ use Rattle.lapd_trace.proofs.trace.sapi_words.Goals as goal
 abbrev words : List ℕ → List ℕ
 words digits = codes "SAPI " ++ (digits ++ codes " TEI ")
 
--- of a SAPI
+-- for a SAPI
 abbrev words_of : Sapi → List ℕ
 words_of sapi = words (decimal (sapi_value sapi))
 
