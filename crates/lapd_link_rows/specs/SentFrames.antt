@@ -1,4 +1,4 @@
--- What goes to the peer is in the grammar of frames.
+-- Frames that are sent to the peer are in the grammar of frames.
 use Rattle.std.specs.Prelude.{◌≡◌, ℕ, ◌≤◌, List, [], ◌∷◌, length, None}
 use Rattle.lapd_frame.specs.declared.Role.TheVariants.{Command}
 use Rattle.lapd_frame.specs.Frame.{n201, content_fault}

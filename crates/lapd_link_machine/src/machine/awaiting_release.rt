@@ -44,7 +44,7 @@ impl Machine {
         self.state_to(State::TeiAssigned);
     }
 
-    /// T200 expires: the DISC is sent again, N200 times at most (Figure B.6).
+    /// T200 expires: the DISC is retransmitted, N200 times at most (Figure B.6).
     pub(crate) fn awaiting_release_t200(&mut self, outs: &mut Outs)
         requires room { HasRoom 2 outs.old }
         ensures step { Does self.old outs.old self.new outs.new awaiting_release_t200 }

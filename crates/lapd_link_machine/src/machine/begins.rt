@@ -1,4 +1,4 @@
-//! Where an establishment begins (Q.921 5.5.1.2).
+//! The steps in which an establishment begins (Q.921 5.5.1.2).
 
 ghost use Rattle.std.specs.Prelude.{◌≡◌, []};
 ghost use Rattle.lapd_link_rows.specs.Begins.{is_sabme, is_final_ua, begins};

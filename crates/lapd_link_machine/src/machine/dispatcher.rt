@@ -1,4 +1,4 @@
-//! The row of the state table for each event, in whatever state the link is.
+//! The row of the state table for each event, in any state of the link.
 
 ghost use Rattle.std.specs.Prelude.{◌≡◌, false};
 ghost use Rattle.lapd_mod128.specs.Counting.{Tagged};
@@ -39,7 +39,7 @@ impl Machine {
     ghost use Rattle.lapd_link_machine.specs.Sent.{IsBetweenSteps};
     ghost use Rattle.lapd_link_machine.specs.StandsFor.{Does, HasRoom, Grows};
 
-    /// An event.
+    /// Makes the row of an event.
     #[inline(always)]
     pub(crate) fn row(&mut self, event: Event, outs: &mut Outs)
         requires room { HasRoom 6 outs.old }
@@ -114,7 +114,7 @@ impl Machine {
         }
     }
 
-    /// T200 expires, where it runs.
+    /// T200 expires, if it runs.
     fn t200_expiry(&mut self, outs: &mut Outs)
         requires room { HasRoom 6 outs.old }
         requires between { IsBetweenSteps self.old }
@@ -144,7 +144,7 @@ impl Machine {
         }
     }
 
-    /// T203 expires, where it runs.
+    /// T203 expires, if it runs.
     fn t203_expiry(&mut self, outs: &mut Outs)
         requires room { HasRoom 6 outs.old }
         ensures step { Does self.old outs.old self.new outs.new

@@ -1,4 +1,4 @@
-//! A step from end to end.
+//! A whole step.
 
 ghost use Rattle.std.specs.Prelude.{◌≡◌, [], IfOk};
 ghost use Rattle.lapd_mod128.specs.Counting.{Tagged};
@@ -40,7 +40,7 @@ impl Machine {
         })
     }
 
-    /// A step that is not refused: its row, and what ends it.
+    /// A step that is not refused: its row, and the end of the step.
     #[inline(always)]
     pub fn step(&mut self, event: Event, outs: &mut Outs)
         requires empty { outs.old.items ≡ [] }

@@ -1,4 +1,4 @@
-//! The rows of state 8, timer recovery (Q.921 Figure B.8), that state 7 has otherwise.
+//! The rows of state 8, timer recovery (Q.921 Figure B.8), that differ from state 7.
 
 ghost use Rattle.std.specs.Prelude.{◌≡◌};
 ghost use Rattle.lapd_mod128.specs.Counting.{Tagged};
@@ -176,7 +176,7 @@ impl Machine {
         }
     }
 
-    /// T200 expires: the enquiry is sent again, N200 times at most (Figure B.8).
+    /// T200 expires: the enquiry is retransmitted, N200 times at most (Figure B.8).
     pub(crate) fn timer_recovery_t200(&mut self, outs: &mut Outs)
         requires room { HasRoom 4 outs.old }
         ensures step { Does self.old outs.old self.new outs.new timer_recovery_t200 }
