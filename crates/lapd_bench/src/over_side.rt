@@ -205,7 +205,8 @@ fn message_for(sapi: u8, tei: u8) -> Message {
     message
 }
 
-/// The two octets of the address of a command of the user: TEIs 0 to 126 of service access point 0, then those of 16.
+/// The two octets of the address of a command of the user: TEIs 0 to 126 of service access point 0,
+/// then those of 16.
 fn place_of(number: u32) -> Result<(u8, u8), BenchFault> {
     match number {
         0..127 => Ok((0, number as u8 * 2 + 1)),

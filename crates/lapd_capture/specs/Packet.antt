@@ -60,8 +60,8 @@ gsmtap_frame header start end octets = if nat_lt header 16 then Unreadable BadLe
       end = end;
     }))
 
--- GSMTAP of version 2: the length of its header in words of four octets, its type, 0x13 for E1 and T1 lines, and at 12 its
--- subtype, 1 for LAPD
+-- GSMTAP of version 2: the length of its header in words of four octets, its type, 0x13 for E1 and
+-- T1 lines, and at 12 its subtype, 1 for LAPD
 abbrev pub gsmtap : ℕ → ℕ → List ℕ → Found
 gsmtap start end octets = if nat_lt (end - start) 16 then Unreadable BadLength else (
     if not (slice_index octets start == 2) then Other else (

@@ -4,7 +4,8 @@ use Rattle.byteorder.specs.Endian.{big_bytes}
 use Rattle.lapd_field.specs.declared.side.Side.{Side}
 use Rattle.lapd_field.specs.declared.side.Side.TheVariants.{Network, User}
 
--- the head of a file: its magic number, version 2.4, two unused numbers, the greatest packet, and the link type
+-- the head of a file: its magic number, version 2.4, two unused numbers, the greatest packet, and
+-- the link type
 abbrev pub file_octets : List ℕ
 file_octets = 0xA1 ∷ 0xB2 ∷ 0xC3 ∷ 0xD4 ∷ 0 ∷ 2 ∷ 0 ∷ 4 ∷ 0 ∷ 0 ∷ 0 ∷ 0 ∷ 0 ∷ 0 ∷ 0 ∷ 0
     ∷ 0 ∷ 4 ∷ 0 ∷ 0 ∷ 0 ∷ 0 ∷ 0 ∷ 177 ∷ []
@@ -21,12 +22,14 @@ abbrev pub side_octet : Side → ℕ
 side_octet Network = 1
 side_octet User = 0
 
--- the 16 octets before each frame: packet type, ARPHRD_LAPD, the length of the address, the address, and ETH_P_LAPD
+-- the 16 octets before each frame: packet type, ARPHRD_LAPD, the length of the address, the
+-- address, and ETH_P_LAPD
 abbrev pub linux_header : Side → Side → List ℕ
 linux_header own from = 0 ∷ packet_type own from ∷ 0x20 ∷ 0xFD ∷ 0 ∷ 1 ∷ side_octet own
     ∷ 0 ∷ 0 ∷ 0 ∷ 0 ∷ 0 ∷ 0 ∷ 0 ∷ 0x00 ∷ 0x30 ∷ []
 
--- the 16 octets before a packet: seconds and microseconds of the moment in milliseconds, and its length twice
+-- the 16 octets before a packet: seconds and microseconds of the moment in milliseconds, and its
+-- length twice
 abbrev pub record_header : ℕ → ℕ → List ℕ
 record_header moment count = big_bytes 4 (moment / 1000 % 2 ^ 32)
     ++ big_bytes 4 (moment % 1000 * 1000) ++ big_bytes 4 count ++ big_bytes 4 count

@@ -17,8 +17,8 @@ pub const FILE_HEADER: [u8; 24] = [
 /// The greatest length of a frame that is written, in octets (Q.921 5.9.3: 4 and N201).
 pub const MOST_FRAME: usize = 264;
 
-/// The record of a frame in a pcap file of link type 177: the side `own` captured it and the side `from` sent it, at a
-/// moment in milliseconds. The frame has at most 264 octets.
+/// The record of a frame in a pcap file of link type 177: the side `own` captured it and the side
+/// `from` sent it, at a moment in milliseconds. The frame has at most 264 octets.
 pub fn record_of(own: Side, from: Side, moment: u64, frame: &[u8]) -> ArrayVec<u8, 296>
     requires { length frame.now ≤ MOST_FRAME }
     ensures { result.items ≡ record_octets own from moment frame.now }

@@ -35,7 +35,8 @@ sapi_at n = if n == 0 then Some Call else (if n == 16 then Some Packet
 abbrev pub number_at : ℕ → Option ℕ
 number_at n = if nat_le n 127 then Some n else None
 
--- The C/R bit (Q.921 3.3.2): the network sends its commands with 1 and its responses with 0, the user the reverse.
+-- The C/R bit (Q.921 3.3.2): the network sends its commands with 1 and its responses with 0, the
+-- user the reverse.
 abbrev pub command_bit : Side → Role → ℕ
 command_bit Network Command = 1
 command_bit Network Answer = 0

@@ -5,8 +5,8 @@ ghost use Rattle.lapd_field.specs.Address.{number_at};
 use std::fmt;
 use std::marker::Model;
 
-/// A terminal endpoint identifier, 0 to 127 (Q.921 3.3.4). 0 to 63 are assigned by the user, 64 to 126 by the
-/// network, and 127 is the group TEI for broadcast.
+/// A terminal endpoint identifier, 0 to 127 (Q.921 3.3.4). 0 to 63 are assigned by the user, 64 to
+/// 126 by the network, and 127 is the group TEI for broadcast.
 #[derive(Clone, Copy, Debug, PartialEq, Eq)]
 pub struct Tei {
     value: u8,

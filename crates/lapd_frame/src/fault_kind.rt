@@ -15,8 +15,8 @@ pub enum FaultKind {
     BadAddress,
     /// F3: the service access point is not served (Q.921 2.9 f).
     SapiNotServed,
-    /// F4: an undefined control field, a reserved bit that is set, or a command sent as a response or a response as
-    /// a command (Q.921 3.6.1).
+    /// F4: an undefined control field, a reserved bit that is set, or a command sent as a response
+    /// or a response as a command (Q.921 3.6.1).
     Undefined,
     /// F5: information in a SABME, DISC, DM or UA frame (Q.921 3.6.11).
     InfoNotPermitted,

@@ -13,7 +13,8 @@ use std::marker::Model;
 /// N201, the greatest number of octets of information in a frame (Q.921 5.9.3).
 pub const N201: usize = 260;
 
-/// The greatest length of a frame, in octets: two of address, two of control field and N201 of information.
+/// The greatest length of a frame, in octets: two of address, two of control field and N201 of
+/// information.
 pub const MOST_OCTETS: usize = 4 + N201;
 
 /// A frame in the grammar of Q.921 clause 3. It borrows its information.

@@ -8,6 +8,7 @@ use thiserror::Error;
 pub struct FrameFault {
     /// The first fault of the octets.
     pub kind: FaultKind,
-    /// The address, for F4 to F7. Octets with F1 to F3 are for no link, and are discarded (Q.921 2.9).
+    /// The address, for F4 to F7. Octets with F1 to F3 are for no link, and are discarded (Q.921
+    /// 2.9).
     pub address: Option<Address>,
 }

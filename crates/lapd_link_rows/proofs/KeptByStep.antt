@@ -132,9 +132,9 @@ short_both : (xs : List (List ℕ)) (message : List ℕ) → AreShort xs → len
 short_both [] message hx h = (h, tt)
 short_both (x ∷ xs) message hx h = (hx.0, short_both xs message hx.1 h)
 
--- ---- Properties that are kept since an end e with n messages delivered to layer 3. The marks say if a message is
--- accepted, an establishment begins, or an I frame is accepted. Fits says that an accepted message
--- has at most N201 octets.
+-- ---- Properties that are kept since an end e with n messages delivered to layer 3. The marks say
+-- if a message is accepted, an establishment begins, or an I frame is accepted. Fits says that an
+-- accepted message has at most N201 octets.
 
 pub record KeptByStep (e : End) (n : ℕ) (gives begins takes : Bool) (Fits : Type 0) (parameters : Parameters) (given : List (List ℕ)) (establishments : ℕ) (outs : List Out) : Type 0 where
   pub same_parameters : parameters ≡ e.parameters

@@ -80,8 +80,8 @@ dropped_where n false h = grind (arith, nat_tests)
 dropped_all : (n : ℕ) → leaving (counted n Dropped) ≡ n
 dropped_all n = dropped_where n (nat_lt 0 n) refl
 
--- ---- Properties that are kept: the first place is the place before the step plus the number of removed messages; until an
--- N(R) is acknowledged it is not after the last message.
+-- ---- Properties that are kept: the first place is the place before the step plus the number of
+-- removed messages; until an N(R) is acknowledged it is not after the last message.
 
 pub record IsPlaced (start first given : ℕ) (outs : List Out) : Type 0 where
   pub place : start + leaving outs ≡ first

@@ -33,8 +33,9 @@ use Rattle.lapd_link_rows.proofs.NumbersOfStep.{heard_is_tag}
 use Rattle.lapd_link_rows.proofs.Sending.{both_true}
 use Rattle.lapd_link_rows.proofs.TimersOfOuts.{then_follow, AreNoTimers, alone, put_is_no_timer, where_is_no_timer, response_is_no_timer, lost_are_no_timers, started_200, started_203, stopped_200, stopped_203, stopped_unless, started_unless}
 
--- ---- The facts within a row: the state is q; T200 and T203 run as t and u say; if numbers are of the reading, V(A) is one, and
--- with `level` V(S) = V(A); and T200 and T203 followed the outputs, from b and c on.
+-- ---- The facts within a row: the state is q; T200 and T203 run as t and u say; if numbers are of
+-- the reading, V(A) is one, and with `level` V(S) = V(A); and T200 and T203 followed the outputs,
+-- from b and c on.
 
 pub record Timed (r : Reading) (b c : Bool) (Numbers : Type 0) (q : State) (t u level : Bool) (state : State) (t200 t203 : Bool) (vs va : ℕ) (outs : List Out) : Type 0 where
   pub in_state : state ≡ q

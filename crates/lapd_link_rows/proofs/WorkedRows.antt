@@ -146,7 +146,8 @@ frames (suc n) place number = out.SendMessage place (I number 1 false) ∷ frame
 abbrev half_sent : End
 half_sent = record (new_end (parameters 127 512)) { state = MultipleFrameEstablished; window = record initial_variables { vs = 127 }; t200 = true; given = many 254; next = 127 }
 
--- the longest step: an I frame with P=1 that acknowledges 127 messages opens the window for the other 127
+-- the longest step: an I frame with P=1 that acknowledges 127 messages opens the window for the
+-- other 127
 pub longest_step : outputs half_sent (Heard (I 0 127 true) Command ∷ [])
     ≡ Ok (out.Up ∷ out.Send Answer (Rr 1 true) ∷ out.Acknowledged 127 ∷ out.Stop T200 ∷ out.Start T203
     ∷ out.SendMessage 0 (I 127 1 false) ∷ out.Stop T203 ∷ out.Start T200 ∷ frames 126 1 0) ∷ []

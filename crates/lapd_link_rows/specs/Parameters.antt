@@ -5,7 +5,8 @@ use Rattle.lapd_frame.specs.declared.Sapi.TheVariants.{Packet}
 use Rattle.lapd_link_rows.specs.declared.recovery.Recovery.{Recovery}
 use Rattle.lapd_link_rows.specs.declared.recovery.Recovery.TheVariants.{Enquiry}
 
--- the window k (5.9.5), N200 (5.9.2), how many messages the I queue has room for, and what T200 sends in state 7 (5.6.7)
+-- the window k (5.9.5), N200 (5.9.2), how many messages the I queue has room for, and what T200
+-- sends in state 7 (5.6.7)
 pub record Parameters : Type 0 where
   pub k : ℕ
   pub n200 : ℕ

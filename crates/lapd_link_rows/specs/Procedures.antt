@@ -179,7 +179,8 @@ discard_unacknowledged s = record {
       else counted (waiting s.end) Dropped ++ Established ∷ []);
 }
 
--- The N(S) of an I frame: the frame is accepted, rejected or discarded, and its poll is answered (5.6.2, 5.6.6, 5.8.1).
+-- The N(S) of an I frame: the frame is accepted, rejected or discarded, and its poll is answered
+-- (5.6.2, 5.6.6, 5.8.1).
 unfoldable pub i_frame_ns : Reading → ℕ → Bool → StepState → StepState
 i_frame_ns r ns p s = record {
   end = record (s.end) { window = after_i_frame r ns p s.end.window };

@@ -5,7 +5,8 @@ use Rattle.lapd_frame.specs.Frame.{n201, content_fault}
 use Rattle.lapd_link_rows.specs.declared.out.Out.{Out}
 use Rattle.lapd_link_rows.specs.declared.out.Out.TheVariants.{Send, SendMessage}
 
--- a frame without information, or a command with any information of up to N201 octets (Q.921 Table 5)
+-- a frame without information, or a command with any information of up to N201 octets (Q.921 Table
+-- 5)
 abbrev pub IsSpoken : Out → Type 0
 IsSpoken (Send role control) = content_fault role control 0 ≡ None
 IsSpoken (SendMessage place control) = (len : ℕ) → len ≤ n201

@@ -204,7 +204,8 @@ fn parts_of<'a>(place: &'a str, row: &'a str) -> [&'a str; 5] {
     [script, before, event, outs, after]
 }
 
-/// Whether a row holds over a new network link, with a window of two frames, N200 of 2 and room for three messages.
+/// Whether a row holds over a new network link, with a window of two frames, N200 of 2 and room for
+/// three messages.
 fn holds(alloc: Global, parts: [&str; 5]) -> bool {
     match Driven::new(alloc, "network 2 2 3") {
         Some(mut link) => link.keeps_to(parts),

@@ -2,7 +2,8 @@
 -- N(R) (Q.921 3.5.2). Each definition applies to two readings.
 use Rattle.std.specs.Prelude.{◌≡◌, ◌≢◌, ℕ, zero, suc, ◌+◌, ◌-◌, ◌%◌, ◌<◌, ◌≤◌, Bool, true, ◌&&◌, nat_le}
 
--- whole numbers without a bound, or the tags 0 to 127 that frames carry (Q.921 3.5.2.1: the modulus is 128)
+-- whole numbers without a bound, or the tags 0 to 127 that frames carry (Q.921 3.5.2.1: the modulus
+-- is 128)
 pub data Reading : Type 0 where
   Whole : Reading
   Tagged : Reading
@@ -41,7 +42,8 @@ pub record AreSteps (r : Reading) (n a b : ℕ) : Type 0 where
 abbrev pub LiesFrom : Reading → ℕ → ℕ → ℕ → Type 0
 LiesFrom r a x b = (n : ℕ) × (m : ℕ) × AreSteps r n a x × AreSteps r m a b × (n ≤ m)
 
--- fewer than `k` steps lead from `a` to `b`: fewer than k I frames are outstanding from V(A) to V(S) (Q.921 5.9.5)
+-- fewer than `k` steps lead from `a` to `b`: fewer than k I frames are outstanding from V(A) to
+-- V(S) (Q.921 5.9.5)
 abbrev pub InFewerSteps : Reading → ℕ → ℕ → ℕ → Type 0
 InFewerSteps r k a b = (n : ℕ) × (n < k) × (number_after r n a ≡ b)
 

@@ -122,8 +122,8 @@ impl IQueue {
         self.sent += 1;
     }
 
-    /// Removes the `n` messages at the front, at most `sent`, which are now acknowledged (Q.921 5.6.3.2). The cost grows
-    /// with `n` and not with the length of the queue.
+    /// Removes the `n` messages at the front, at most `sent`, which are now acknowledged (Q.921
+    /// 5.6.3.2). The cost grows with `n` and not with the length of the queue.
     #[inline(always)]
     pub fn acknowledge(&mut self, n: u16)
         requires { n ≤ self.old.sent }

@@ -6,8 +6,9 @@ use Rattle.lapd_field.specs.declared.control.Control.{Control}
 use Rattle.lapd_field.specs.declared.control.Control.TheVariants.{I, Rr, Rnr, Rej}
 use Rattle.lapd_mod128.specs.Counting.{Reading, after, before, steps, lies_within}
 
--- the state variables V(S), V(A), V(R) (Q.921 3.5.2), the busy conditions of the peer and of this end (5.6.5, 5.6.6),
--- the reject condition (5.8.1), and whether an acknowledgement is to be sent (5.6.2.2)
+-- the state variables V(S), V(A), V(R) (Q.921 3.5.2), the busy conditions of the peer and of this
+-- end (5.6.5, 5.6.6), the reject condition (5.8.1), and whether an acknowledgement is to be sent
+-- (5.6.2.2)
 pub record StateVariables : Type 0 where
   pub vs : ℕ
   pub va : ℕ

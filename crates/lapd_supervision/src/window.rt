@@ -349,8 +349,8 @@ impl Window {
 /// Sending an I frame.
 #[tactic(auto, unfolding(crate::specs::StateVariables::may_send, crate::specs::StateVariables::next_i_frame, crate::specs::StateVariables::after_sending, crate::specs::StateVariables::without_ack_pending))]
 impl Window {
-    /// Whether one more I frame may be sent: the peer is not busy, and fewer than `k` are outstanding
-    /// (Q.921 5.6.1, 5.9.5).
+    /// Whether one more I frame may be sent: the peer is not busy, and fewer than `k` are
+    /// outstanding (Q.921 5.6.1, 5.9.5).
     pub fn may_send(self, k: u8) -> bool
         requires positive { 1 ≤ k }
         requires at_most { k ≤ 127 }

@@ -321,7 +321,8 @@ impl Machine {
         }
     }
 
-    /// A valid N(R), and T200 and T203 by whether it acknowledges all, nothing new, or some (Figure B.7).
+    /// A valid N(R), and T200 and T203 by whether it acknowledges all, nothing new, or some (Figure
+    /// B.7).
     #[inline(always)]
     fn acknowledge_with_timers(&mut self, nr: Number, taken: (Window, Advance), outs: &mut Outs)
         requires room { HasRoom 3 outs.old }

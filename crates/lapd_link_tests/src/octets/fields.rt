@@ -30,8 +30,8 @@ fn is_served(value: u8) -> bool {
     }
 }
 
-/// Whether two octets are an address of this side: EA is 0 in the first and 1 in the second, the SAPI is served, and C/R is 1 in
-/// commands of the network and responses of the user.
+/// Whether two octets are an address of this side: EA is 0 in the first and 1 in the second, the
+/// SAPI is served, and C/R is 1 in commands of the network and responses of the user.
 fn is_address(octets: [u8; 2], from: Side) -> bool {
     let [first, second] = octets;
     let extends = first % 2 == 0 && second % 2 == 1;

@@ -29,7 +29,8 @@ fn holds_numbers(history: &History, first: u16, pushed: u16) -> bool {
     number == pushed
 }
 
-/// Whether a history of `room` lines, after the lines 0 to `pushed` - 1, keeps the last of them in order.
+/// Whether a history of `room` lines, after the lines 0 to `pushed` - 1, keeps the last of them in
+/// order.
 fn keeps_the_last(alloc: Global, room: u16, pushed: u16) -> bool {
     if room == 0 || room > 1024 {
         return false;
@@ -65,7 +66,8 @@ pub(crate) fn wrong(alloc: Global) -> Option<&'static str> {
     None
 }
 
-// ---- Failed allocations: `tools/refuse-memory` makes each allocation of a run fail, one after another (docs/DEVELOPING.md).
+// ---- Failed allocations: `tools/refuse-memory` makes each allocation of a run fail, one after
+// another (docs/DEVELOPING.md).
 
 /// Who sent octets, and their line: frames and faults whose lines need one allocation, and two.
 const TOLD: &[(Side, &[u8], &str)] = &[
