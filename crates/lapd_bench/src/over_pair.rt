@@ -64,7 +64,7 @@ fn pass_batch(
     repeat(pair, &Move::Deliver(Side::User), messages, outs)
 }
 
-/// The same move, this many times.
+/// Makes the same move this many times.
 fn repeat(pair: &mut Pair, deed: &Move, times: u32, outs: &mut Outs) -> Result<(), BenchFault> {
     for _ in 0..times {
         pair.apply_into(deed, outs)?;
@@ -83,13 +83,13 @@ pub fn stand(alloc: Global, frames: u32, moves: u32) -> Result<Done, BenchFault>
     stand_each(alloc, &unit, frames, moves)
 }
 
-/// The same on a new pair.
+/// The same as [`stand`], on a new pair.
 fn stand_each(alloc: Global, unit: &Move, frames: u32, moves: u32) -> Result<Done, BenchFault> {
     let mut pair = Pair::new(alloc, Params::primary(), Params::primary())?;
     stand_over(&mut pair, unit, frames, moves)
 }
 
-/// The same on this pair.
+/// The same as [`stand`], on this pair.
 fn stand_over(pair: &mut Pair, unit: &Move, frames: u32, moves: u32) -> Result<Done, BenchFault> {
     let mut outs = Outs::new();
     repeat(pair, unit, frames, &mut outs)?;

@@ -106,7 +106,7 @@ impl<'a> Capture<'a> {
         }
     }
 
-    /// A pcap file, at its first record.
+    /// Opens a pcap file, at its first record.
     fn of_pcap(order: Order, octets: &'a [u8]) -> Result<Capture<'a>, CaptureFault>
         ensures { result ≡ pcap_opened order octets.now }
     {
@@ -220,7 +220,7 @@ impl<'a> Capture<'a> {
         }
     }
 
-    /// The next record.
+    /// Reads the next record.
     fn next_record(&mut self) -> Result<Found, CaptureFault>
         ensures step { MakesStep (record_step self.old) result self.old self.new }
         ensures within { IfOk result (IsWithin (length self.old.octets)) }
@@ -235,7 +235,7 @@ impl<'a> Capture<'a> {
         self.take_record(captured, original)
     }
 
-    /// A record whose packet has this many captured octets and this original length.
+    /// Reads a record whose packet has this many captured octets and this original length.
     fn take_record(&mut self, captured: usize, original: usize) -> Result<Found, CaptureFault>
         requires { RECORD_HEADER ≤ left_of self.old }
         ensures step { MakesStep (record_packet captured original self.old) result self.old
@@ -272,7 +272,7 @@ impl<'a> Capture<'a> {
         }
     }
 
-    /// The next block.
+    /// Reads the next block.
     fn next_block(&mut self) -> Result<Found, CaptureFault>
         ensures step { MakesStep (block_step self.old) result self.old self.new }
         ensures within { IfOk result (IsWithin (length self.old.octets)) }
@@ -321,7 +321,7 @@ impl<'a> Capture<'a> {
         }
     }
 
-    /// A block with this byte order and length.
+    /// Reads a block with this byte order and length.
     fn take_block(&mut self, order: Order, count: usize) -> Result<Found, CaptureFault>
         requires least { LEAST_BLOCK ≤ count }
         requires most { count ≤ left_of self.old }
@@ -365,7 +365,7 @@ impl<'a> Capture<'a> {
         Ok(Found::Other)
     }
 
-    /// A section header: it forgets the interfaces of the section before.
+    /// Reads a section header, and forgets the interfaces of the section before.
     fn take_section(&mut self, order: Order, count: usize) -> Result<Found, CaptureFault>
         requires { count ≤ left_of self.old }
         ensures step { MakesStep (section_step count (record self.old { order = order })) result
@@ -381,7 +381,7 @@ impl<'a> Capture<'a> {
         Ok(Found::Other)
     }
 
-    /// An interface description.
+    /// Reads an interface description.
     fn take_interface(&mut self, order: Order, count: usize) -> Result<Found, CaptureFault>
         requires { count ≤ left_of self.old }
         ensures step { MakesStep (interface_step count (record self.old { order = order })) result

@@ -19,7 +19,9 @@
 //!    are for layer 3, at most six of them; `Up` delivers the information of the frame that was
 //!    just received.
 //! 5. When a timer that was started expires, the program passes [`Event::T200`] or [`Event::T203`].
-//!    Before you expire timers for a moment, pass in every frame that had arrived by then.
+//!    Before you expire timers for a moment, pass in every frame that had arrived by then. So it
+//!    reads the clock before it looks for a frame, and expires timers for that moment only if no
+//!    frame has arrived.
 //!
 //! ```text
 //! let mut link = Link::new(alloc, Side::User, Sapi::Call, tei, Params::basic(Sapi::Call))?;
@@ -29,7 +31,7 @@
 //!         Out::Stop(timer) => stop(timer),
 //!         out => match link.frame(&out, &[]) {
 //!             Some(frame) => send(&frame),
-//!             None => tell(&out),
+//!             None => report(&out),
 //!         },
 //!     }
 //! }

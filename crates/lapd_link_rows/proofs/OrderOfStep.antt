@@ -24,7 +24,7 @@ pub placed_both : (waiting : ℕ) (xs ys : List Out) → ArePlaced waiting xs �
 placed_both waiting [] ys hx hy = hy
 placed_both waiting (x ∷ xs) ys hx hy = (hx.0, placed_both waiting xs ys hx.1 hy)
 
--- no message is sent: none would have a place
+-- no message is sent: each message that is sent has a place, and here there is none
 abbrev pub AreSilent : List Out → Type 0
 AreSilent outs = ArePlaced 0 outs
 

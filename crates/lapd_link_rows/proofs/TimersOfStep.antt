@@ -52,8 +52,8 @@ zero_is_number Tagged = omega arith
 pub record Knows (r : Reading) (b c : Bool) (Numbers : Type 0) (q : State) (t u level : Bool) (s : StepState) : Type 0 where
   pub known : Timed r b c Numbers q t u level s.end.state s.end.t200 s.end.t203 s.end.window.vs s.end.window.va s.outs
 
--- T200 expires within the step; outside it no longer runs. The next record says the same about
--- T203.
+-- the facts before the end records the expiry of T200, which no longer runs outside; the next
+-- record says the same of T203
 pub record Expires200 (r : Reading) (b c : Bool) (Numbers : Type 0) (q : State) (u level : Bool) (s : StepState) : Type 0 where
   pub known : Timed r b c Numbers q false u level s.end.state false s.end.t203 s.end.window.vs s.end.window.va s.outs
 

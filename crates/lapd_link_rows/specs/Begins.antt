@@ -11,7 +11,7 @@ abbrev pub is_sabme : Input → Bool
 is_sabme (Heard (Sabme p) Command) = true
 is_sabme input = false
 
--- the answer to the SABME
+-- a UA with F=1, the answer to the SABME
 abbrev pub is_final_ua : Input → Bool
 is_final_ua (Heard (Ua true) Answer) = true
 is_final_ua input = false

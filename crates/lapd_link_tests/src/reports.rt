@@ -8,7 +8,7 @@ use lapd_timers::Timer;
 use std::fmt::Display;
 
 /// How faults of frames and fields, refusals of a link, timers and sides print, and the other side
-/// of a side. The lines of frames and links test `name`.
+/// of each side. The lines of frames and links test `name`.
 pub(crate) const NAMES: &str = "\
 names faults | F1 TooShort, F2 BadAddress, F3 SapiNotServed, F4 Undefined, F5 InfoNotPermitted, F6 WrongSize, F7 InfoTooLong,
 names fields | F1 TooShort, F2 BadAddress, F3 SapiNotServed, F4 Undefined,

@@ -7,8 +7,8 @@ use crate::device_error::DeviceError;
 
 /// A device that octets are written to, as the writing side of a socket.
 ///
-/// If `written` is defined, it is all octets that the sink has accepted so far. A port's contracts
-/// about the octets that it writes apply only to such a sink; all others apply to any sink.
+/// A sink may show in `written` the octets that it has accepted so far. A port's contracts about
+/// the octets that it writes apply only to such a sink; all others apply to any sink.
 pub trait Sink {
     /// The octets that were written, if they are known.
     ghost written: { Self → Option (List ℕ) } = { λ _. None };
@@ -16,7 +16,8 @@ pub trait Sink {
     /// How often a write has failed.
     ghost failure_count: { Self → ℕ };
 
-    /// The effect of one write on the sink. A port changes its sink only by such writes.
+    /// The relation between the sink before and after one write. A port changes its sink only by
+    /// such writes.
     ghost turn: { Self → Self → Type 0 } = { λ _ _. ⊤ };
 
     /// Writes some octets from the front on, and returns how many. After an error none were

@@ -7,7 +7,7 @@ use crate::device_error::DeviceError;
 
 /// A device that octets are read from, as the reading side of a socket.
 ///
-/// If `rest` is defined, it is all octets that are still unread. A port's contracts about the
+/// A source may show in `rest` the octets that are still unread. A port's contracts about the
 /// octets that it reads apply only to such a source; all others apply to any source.
 pub trait Source {
     /// The octets that reads will return from now on, if they are known.
@@ -16,7 +16,8 @@ pub trait Source {
     /// How often a read has failed.
     ghost failure_count: { Self → ℕ };
 
-    /// The effect of one read on the source. A port changes its source only by such reads.
+    /// The relation between the source before and after one read. A port changes its source only by
+    /// such reads.
     ghost turn: { Self → Self → Type 0 } = { λ _ _. ⊤ };
 
     /// Reads some octets, and returns how many. 0 means the end of the input, if any octets were

@@ -3,10 +3,10 @@
 //! which supervisory frames answer.
 //!
 //! Begin with [`Window`]: V(S), V(A) and V(R) with four conditions: peer busy, own busy, rejecting
-//! and acknowledgement pending. Most calls take the window by value and return the window
-//! afterwards with what to do: a [`Receipt`] for a received I frame, an [`Advance`] for a received
-//! N(R), or the control field of the frame to send. No call allocates. Timers, messages and the
-//! state of the link are not part of this crate.
+//! and acknowledgement pending. Each call takes the window by value. A call that changes it returns
+//! the new window and what to do: a [`Receipt`] for a received I frame, an [`Advance`] for a
+//! received N(R), or the control field of the frame to send. No call allocates. Timers, messages
+//! and the state of the link are not part of this crate.
 //!
 //! Each call is an action of `specs/StateVariables.antt`, which is defined for numbers without a
 //! bound and for tags from 0 to 127; the code uses tags.

@@ -25,7 +25,7 @@ fn release_primitive(asked: bool) -> Out
 impl Machine {
     ghost use Rattle.lapd_link_machine.specs.StandsFor.{Does, HasRoom, Grows};
 
-    /// A frame (Figure B.5).
+    /// Receives a frame (Figure B.5).
     pub(crate) fn awaiting_establishment_heard(
         &mut self,
         control: Control,
@@ -77,7 +77,7 @@ impl Machine {
         self.release_pending_to(true);
     }
 
-    /// UA with F=1 (Figure B.5).
+    /// Receives a UA with F=1 (Figure B.5).
     fn ua_final(&mut self, outs: &mut Outs)
         requires room { HasRoom 4 outs.old }
         ensures step { Does self.old outs.old self.new outs.new ua_final }

@@ -12,7 +12,7 @@ use lapd_link_rows::{Letter, Out, State};
 impl Machine {
     ghost use Rattle.lapd_link_machine.specs.StandsFor.{Does, HasRoom, Grows};
 
-    /// A frame (Figure B.6).
+    /// Receives a frame (Figure B.6).
     pub(crate) fn awaiting_release_heard(&mut self, control: Control, role: Role, outs: &mut Outs)
         requires room { HasRoom 6 outs.old }
         ensures step { Does self.old outs.old self.new outs.new

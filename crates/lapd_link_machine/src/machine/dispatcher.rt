@@ -24,7 +24,7 @@ fn fault_letter(kind: FaultKind) -> Letter
     }
 }
 
-/// UI.
+/// Whether a frame is a UI command.
 fn is_unit_data(control: &Control, role: Role) -> bool
     ensures { result ≡ is_unit_data control.now role }
 {
@@ -62,7 +62,7 @@ impl Machine {
         }
     }
 
-    /// A frame.
+    /// Makes the row of a received frame.
     #[inline(always)]
     fn heard(&mut self, control: Control, role: Role, outs: &mut Outs)
         requires room { HasRoom 6 outs.old }
@@ -78,7 +78,7 @@ impl Machine {
         }
     }
 
-    /// A frame that is not UI.
+    /// Makes the row of a received frame other than a UI command.
     fn heard_by_state(&mut self, control: Control, role: Role, outs: &mut Outs)
         requires room { HasRoom 6 outs.old }
         requires between { IsBetweenSteps self.old }
@@ -95,7 +95,7 @@ impl Machine {
         }
     }
 
-    /// A fault in a frame is reported, and breaks an established link.
+    /// Reports a fault in a frame, which breaks an established link.
     fn fault(&mut self, kind: FaultKind, outs: &mut Outs)
         requires room { HasRoom 6 outs.old }
         ensures step { Does self.old outs.old self.new outs.new

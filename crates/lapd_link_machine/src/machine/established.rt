@@ -68,7 +68,7 @@ impl Machine {
         }
     }
 
-    /// A frame that both states handle alike (Figures B.7 and B.8).
+    /// Receives a frame that both states handle alike (Figures B.7 and B.8).
     pub(crate) fn in_7_and_8_heard(&mut self, control: Control, role: Role, outs: &mut Outs)
         requires room { HasRoom 6 outs.old }
         ensures step { Does self.old outs.old self.new outs.new (in_7_and_8 (Heard control role)) }
@@ -129,7 +129,7 @@ impl Machine {
     ghost use Rattle.lapd_link_machine.specs.Sent.{SentAreOutstanding};
     ghost use Rattle.lapd_link_machine.specs.StandsFor.{Does, HasRoom, Grows};
 
-    /// A frame (Figure B.7).
+    /// Receives a frame (Figure B.7).
     #[inline(always)]
     pub(crate) fn established_heard(&mut self, control: Control, role: Role, outs: &mut Outs)
         requires room { HasRoom 6 outs.old }
@@ -165,7 +165,7 @@ impl Machine {
         }
     }
 
-    /// An I frame (Figure B.7).
+    /// Receives an I frame (Figure B.7).
     #[inline(always)]
     fn established_i_frame(&mut self, ns: Number, nr: Number, p: bool, role: Role, outs: &mut Outs)
         requires room { HasRoom 6 outs.old }
@@ -183,7 +183,7 @@ impl Machine {
         }
     }
 
-    /// DM (Figure B.7).
+    /// Receives a DM (Figure B.7).
     fn established_dm(&mut self, f: bool, role: Role, outs: &mut Outs)
         requires room { HasRoom 4 outs.old }
         ensures step { Does self.old outs.old self.new outs.new
@@ -247,7 +247,8 @@ impl Machine {
         }
     }
 
-    /// The recovery is `LastMessage`, the peer is not busy, and a message is outstanding.
+    /// Whether T200 retransmits the last message: the recovery is `LastMessage`, the peer is not
+    /// busy, and a message is outstanding.
     #[tactic(auto, using(crate::proofs::Outstanding::some_are_sent))]
     fn sends_last(&self) -> bool
         requires counted { SentAreOutstanding self.now }
@@ -280,14 +281,14 @@ impl Machine {
         self.window.take_nr(nr)
     }
 
-    /// It acknowledges nothing new.
+    /// Whether this N(R) acknowledges nothing new.
     fn acknowledges_nothing_new(&self, nr: Number) -> bool
         ensures { result ≡ (nr == self.now.window.va) }
     {
         nr.value() == self.window.va().value()
     }
 
-    /// The N(R) of an I frame; while the peer is busy, T200 keeps running (Figure B.7).
+    /// Processes the N(R) of an I frame; while the peer is busy, T200 keeps running (Figure B.7).
     #[inline(always)]
     fn i_frame_nr(&mut self, nr: Number, outs: &mut Outs)
         requires room { HasRoom 4 outs.old }
@@ -307,7 +308,7 @@ impl Machine {
         }
     }
 
-    /// The N(R) of an RR frame (Figure B.7).
+    /// Processes the N(R) of an RR frame (Figure B.7).
     #[inline(always)]
     fn rr_nr(&mut self, nr: Number, outs: &mut Outs)
         requires room { HasRoom 4 outs.old }
@@ -321,8 +322,8 @@ impl Machine {
         }
     }
 
-    /// A valid N(R), and T200 and T203 by whether it acknowledges all, nothing new, or some (Figure
-    /// B.7).
+    /// Processes a valid N(R), and T200 and T203 by whether it acknowledges all, nothing new, or
+    /// some (Figure B.7).
     #[inline(always)]
     fn acknowledge_with_timers(&mut self, nr: Number, taken: (Window, Advance), outs: &mut Outs)
         requires room { HasRoom 3 outs.old }
@@ -342,7 +343,7 @@ impl Machine {
         }
     }
 
-    /// The N(R) of a REJ frame (Figure B.7).
+    /// Processes the N(R) of a REJ frame (Figure B.7).
     fn rej_nr(&mut self, nr: Number, outs: &mut Outs)
         requires room { HasRoom 4 outs.old }
         requires counted { SentAreOutstanding self.old }
@@ -360,7 +361,7 @@ impl Machine {
         }
     }
 
-    /// The N(R) of an RNR frame (Figure B.7).
+    /// Processes the N(R) of an RNR frame (Figure B.7).
     fn rnr_nr(&mut self, nr: Number, outs: &mut Outs)
         requires room { HasRoom 4 outs.old }
         requires counted { SentAreOutstanding self.old }

@@ -22,7 +22,7 @@ impl Machine {
     ghost use Rattle.lapd_link_machine.specs.Bounds.{told_count};
     ghost use Rattle.lapd_link_machine.specs.StandsFor.{Does, DoesQuietly, HasRoom, Grows};
 
-    /// An output.
+    /// Adds an output.
     pub(crate) fn put(&mut self, out: Out, outs: &mut Outs)
         requires room { HasRoom 1 outs.old }
         ensures step { Does self.old outs.old self.new outs.new (put out) }
@@ -32,7 +32,7 @@ impl Machine {
         push(outs, out);
     }
 
-    /// The state.
+    /// Sets the state.
     pub(crate) fn state_to(&mut self, state: State)
         ensures step { DoesQuietly self.old self.new (state_to state) }
         ensures state { self.new.state ≡ state }
@@ -40,14 +40,14 @@ impl Machine {
         self.state = state;
     }
 
-    /// RC.
+    /// Sets RC.
     pub(crate) fn rc_to(&mut self, rc: u8)
         ensures step { DoesQuietly self.old self.new (rc_to rc) }
     {
         self.rc = rc;
     }
 
-    /// RC is one more.
+    /// Increments RC.
     pub(crate) fn increment_rc(&mut self)
         requires { self.old.rc < 255 }
         ensures step { DoesQuietly self.old self.new increment_rc }
@@ -55,7 +55,7 @@ impl Machine {
         self.rc += 1;
     }
 
-    /// Whether layer 3 initiated the establishment.
+    /// Sets whether layer 3 initiated the establishment.
     pub(crate) fn layer3_initiated_to(&mut self, on: bool)
         ensures step { DoesQuietly self.old self.new (layer3_initiated_to on) }
         ensures state { self.new.state ≡ self.old.state }
@@ -63,7 +63,7 @@ impl Machine {
         self.layer3_initiated = on;
     }
 
-    /// Whether a release is pending.
+    /// Sets whether a release is pending.
     pub(crate) fn release_pending_to(&mut self, on: bool)
         ensures step { DoesQuietly self.old self.new (release_pending_to on) }
     {
@@ -95,7 +95,7 @@ impl Machine {
         }
     }
 
-    /// T200 has expired.
+    /// T200 has expired, so it no longer runs.
     pub(crate) fn expired_t200(&mut self)
         ensures queue { self.new.queue ≡ self.old.queue }
         ensures step { DoesQuietly self.old self.new (expired Timer.T200) }
@@ -127,7 +127,7 @@ impl Machine {
         }
     }
 
-    /// T203 has expired.
+    /// T203 has expired, so it no longer runs.
     pub(crate) fn expired_t203(&mut self)
         ensures step { DoesQuietly self.old self.new (expired Timer.T203) }
     {

@@ -47,7 +47,7 @@ fn establish_refused(state: State, release_pending: bool) -> Option<LinkFault>
     }
 }
 
-/// More octets than a frame carries.
+/// Why this many octets of information are refused: more than a frame carries.
 fn refused_when_long(len: usize) -> Option<LinkFault>
     ensures { result ≡ refused_when_long len }
 {
