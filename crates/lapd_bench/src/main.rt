@@ -129,7 +129,7 @@ fn next_number(words: &mut Args) -> Result<Option<u32>, BenchFault> {
     }
 }
 
-/// The number in a word that may be left out.
+/// The number in a word, for a caller whose word may be missing.
 fn some_number(word: &str) -> Result<Option<u32>, BenchFault> {
     Ok(Some(number(word)?))
 }

@@ -18,7 +18,7 @@ pub struct Slot {
 }
 
 impl Slot {
-    /// No octets.
+    /// An empty slot.
     fn empty() -> Slot {
         Slot {
             octets: [0; MOST_OCTETS],

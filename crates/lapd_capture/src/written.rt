@@ -14,7 +14,7 @@ pub const FILE_HEADER: [u8; 24] = [
     0xa1, 0xb2, 0xc3, 0xd4, 0, 2, 0, 4, 0, 0, 0, 0, 0, 0, 0, 0, 0, 4, 0, 0, 0, 0, 0, 177,
 ];
 
-/// The greatest length of a frame that is written, in octets (Q.921 5.9.3: 4 and N201).
+/// The greatest length of a frame that is written, in octets: 4 + N201 (Q.921 5.9.3).
 pub const MOST_FRAME: usize = 264;
 
 /// The record of a frame in a pcap file of link type 177: the side `own` captured it and the side

@@ -58,11 +58,11 @@ address_octets from a = (sapi_value a.sapi * 4 + command_bit from a.role * 2) �
 abbrev pub IsAddress : Address → Type 0
 IsAddress a = a.tei ≤ 127
 
--- an extension bit is wrong: it is 0 in the first octet and 1 in the second (Q.921 3.3.1)
+-- an extension bit is wrong: it must be 0 in the first octet and 1 in the second (Q.921 3.3.1)
 abbrev pub is_badly_extended : ℕ → ℕ → Bool
 is_badly_extended first second = (first % 2 == 1) || (second % 2 == 0)
 
--- the address with this service access point
+-- the address with this service access point, or a fault if it is not served
 abbrev pub with_sapi : Option Sapi → ℕ → Role → Result Address FieldFault
 with_sapi None tei role = Err SapiNotServed
 with_sapi (Some sapi) tei role = Ok (record { sapi = sapi; tei = tei; role = role })

@@ -115,7 +115,7 @@ joined_ok (Ok a) (Err field.BadAddress) octets f h = cc
 joined_ok (Ok a) (Err field.SapiNotServed) octets f h = cc
 joined_ok (Ok a) (Err field.Undefined) octets f h = cc
 
--- the octets before the information
+-- the octets of the address and the control field, followed by the information, are the spelling
 spelled : (from : Side) (f : Fields) (head octets : List ℕ) (n : ℕ) → head ≡ address_octets from f.address → take n octets ≡ control_octets f.control → f.info ≡ drop n octets
     → head ++ octets ≡ spelling from f
 spelled from f head octets n ha hc hi =

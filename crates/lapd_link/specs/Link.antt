@@ -45,6 +45,6 @@ abbrev pub Steps : Link → Link → Input → List Out → Type 0
 Steps old new input outs = (e : End) → LinkStandsFor old e
     → (s : StepState) × (step Tagged input e ≡ Ok s) × (s.outs ≡ outs) × LinkStandsFor new s.end
 
--- the table refuses
+-- the table refuses the input
 abbrev pub Refuses : Link → Input → LinkFault → Type 0
 Refuses link input fault = (e : End) → LinkStandsFor link e → step Tagged input e ≡ Err fault

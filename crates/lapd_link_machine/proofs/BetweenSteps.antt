@@ -62,7 +62,7 @@ shows_end m between = record {
   put = refl;
 }
 
--- the end of one step is the begin of the next
+-- the end of one step is the start of the next
 pub settles : (m : Machine) (outs : List Out) (s : StepState) → StandsFor m outs s → StandsFor m [] (begin s.end)
 unfolding begin
 settles m outs s h = record {

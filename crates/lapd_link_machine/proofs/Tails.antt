@@ -9,7 +9,7 @@ use Rattle.lapd_link_rows.specs.Procedures.{counted}
 use Rattle.lapd_queue.specs.Waiting.{Waiting, with_message, one_more_sent, without_first, all_unsent, emptied}
 use Rattle.lapd_link_machine.specs.Tail.{IsTail}
 
--- as many messages wait as are in the queue
+-- the number of messages in the queue, as the table counts them
 pub tail_waiting : (given : List (List ℕ)) (first next : ℕ) (q : Waiting) → IsTail given first next q → length given - first ≡ length q.messages
 tail_waiting given first next q t = sym (length-drop first given) ∙ ap length t.messages
 

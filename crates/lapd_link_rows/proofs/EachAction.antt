@@ -3,7 +3,7 @@
 --
 -- A property P is kept until an N(R) is acknowledged or a message is sent, and from then on a
 -- property Q that follows from P. Some actions need a premise of their own: E for a timer that
--- expires, M for a message that joins the queue, B for the begin of an establishment, T for an
+-- expires, M for a message that joins the queue, B for the start of an establishment, T for an
 -- accepted I frame, U for unit data that is delivered to layer 3, G for a message that is sent, N
 -- for an N(R) that is acknowledged.
 use Rattle.std.proofs.Common.{◌≡◌, ℕ, zero, suc, ◌==◌, ◌&&◌, not, nat_lt, Bool, true, false, if◌then◌else◌, List, Option, Some, None, refl}

@@ -1,4 +1,4 @@
--- The inputs that are counted: the begin of an establishment, a message of layer 3, and an accepted
+-- The inputs that are counted: the start of an establishment, a message of layer 3, and an accepted
 -- I frame.
 use Rattle.std.proofs.Common.{◌≡◌, ℕ, zero, suc, ◌+◌, ◌==◌, ◌&&◌, not, nat_lt, length, Bool, true, false, if◌then◌else◌, List, [], ◌∷◌, ◌++◌, Option, Some, None, Ok, refl, sym, subst, ◌∙◌, ap, arith}
 use Rattle.std.proofs.lemmas.List.{append-nil}

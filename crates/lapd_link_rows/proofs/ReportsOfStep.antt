@@ -343,7 +343,7 @@ module _ (r : Reading) where
   in_7 (Expiry T200) s due h = expiring_7 s h
   in_7 input s due h = in_both input s tt h
 
-  -- in state 8
+  -- a supervisory frame in state 8
   polled_in_8 : (busy_now pf : Bool) (role : Role) (s : StepState) → P s → P (s ▷ set_peer_busy busy_now ▷ poll role pf)
   unfolding poll
   polled_in_8 busy_now true Command s h = responds _ (peers busy_now s h)

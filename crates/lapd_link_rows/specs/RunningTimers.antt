@@ -46,7 +46,7 @@ abbrev pub runs_after : Timer → List Out → Bool → Bool
 runs_after timer [] running = running
 runs_after timer (out ∷ outs) running = runs_after timer outs (runs_after_out timer out running)
 
--- At the begin of a step the timer that expires no longer runs. Any other timer runs if the end
+-- At the start of a step the timer that expires no longer runs. Any other timer runs if the end
 -- says so.
 abbrev pub runs_before : Timer → Input → End → Bool
 runs_before timer (Expiry expired) e = if is_same_timer timer expired then false else runs timer e

@@ -47,7 +47,7 @@ report_fault state.TimerRecovery kind s = s ▷ put
     (Report (fault_letter kind)) ▷ reestablish_data_link
 report_fault state kind s = s ▷ put (Report (fault_letter kind))
 
--- UI
+-- a UI command
 abbrev pub is_unit_data : Control → Role → Bool
 is_unit_data (Ui p) Command = true
 is_unit_data control role = false

@@ -53,7 +53,7 @@ pub enum LinkFault {
 #[derive(Debug, Drop, Error)]
 #[error("{fault}")]
 pub struct Refused {
-    /// Why.
+    /// Why it was refused.
     pub fault: LinkFault,
     /// The message.
     pub message: Vec<u8>,

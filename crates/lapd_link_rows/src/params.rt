@@ -52,9 +52,9 @@ impl Params {
         }
     }
 
-    /// The defaults of Q.921 5.9 for basic access: a window of 1 for call control, of 3 for packet
-    /// communication, N200 of 3, and room for 512 messages. Management has no link, and gets the
-    /// parameters of call control.
+    /// The defaults of Q.921 5.9 for basic access, with room for 512 messages: N200 is 3, the
+    /// window is 1 for call control and 3 for packet communication. Management has no link, and
+    /// gets the parameters of call control.
     pub fn basic(sapi: Sapi) -> Params
         ensures { result ≡ basic_parameters sapi }
     {
@@ -70,8 +70,8 @@ impl Params {
         }
     }
 
-    /// The defaults of Q.921 5.9 for primary rate access: a window of 7, N200 of 3, and room for
-    /// 512 messages.
+    /// The defaults of Q.921 5.9 for primary rate access, with room for 512 messages: the window is
+    /// 7, and N200 is 3.
     pub fn primary() -> Params
         ensures { result ≡ primary_parameters }
     {

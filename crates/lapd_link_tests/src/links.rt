@@ -201,7 +201,7 @@ fn put_out(text: &mut Text, link: &Link, out: Out, handed: &[u8]) {
     }
 }
 
-/// An I frame with this number in both places and P=0.
+/// An I frame with this number as N(S) and as N(R), and with P=0.
 fn i_frame(number: Number) -> Control {
     Control::I {
         ns: number,

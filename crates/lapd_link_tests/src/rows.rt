@@ -73,7 +73,7 @@ impl Driven {
         self.link.run(line, &mut self.printed).is_ok()
     }
 
-    /// Whether this was printed for the last line.
+    /// Whether the last line printed this.
     fn has_printed(&self, text: &Text) -> bool {
         self.printed.as_slice() == text.octets()
     }

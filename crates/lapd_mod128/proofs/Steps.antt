@@ -98,7 +98,7 @@ unfolding steps
 steps_add_up Whole a x b h = omega (arith, whole_within_tells a x b h)
 steps_add_up Tagged a x b h = omega (arith, tagged_within_tells a x b h)
 
--- a number between is reached in no more steps
+-- the steps to a number between two others are no more than the steps to the last
 pub steps_to_between : (r : Reading) (a x b : ℕ) → lies_within r a x b ≡ true → steps r a x ≤ steps r a b
 steps_to_between r a x b h = omega (arith, steps_add_up r a x b h)
 
@@ -108,7 +108,7 @@ unfolding reaches
 reaches_between Whole a x b h = reaches_between_whole a x b h
 reaches_between Tagged a x b h = (refl, refl, refl)
 
--- one step on, one step more leads there
+-- if the last number moves one step on, there is one step more
 pub one_more_step : (r : Reading) (a b : ℕ) → reaches r a b ≡ true → steps r a b < 127 → steps r a (after r b) ≡ steps r a b + 1
 unfolding steps after
 one_more_step Whole a b h room = omega (arith, reaches_tells a b h)
@@ -119,7 +119,7 @@ pub one_more_whole_step : (a b : ℕ) → a ≤ b → steps Whole a (after Whole
 unfolding steps after
 one_more_whole_step a b h = omega arith
 
--- from one step on, one step less is left
+-- if the first number moves one step on, there is one step less
 pub one_step_less : (r : Reading) (a b : ℕ) → 0 < steps r a b → steps r (after r a) b + 1 ≡ steps r a b
 unfolding steps after
 one_step_less Whole a b more = omega arith
@@ -131,7 +131,7 @@ unfolding steps after
 steps_stay Whole a b = omega arith
 steps_stay Tagged a b = omega arith
 
--- the first of two numbers lies within them
+-- the first of two numbers lies between them
 pub first_lies_within : (r : Reading) (a b : ℕ) → reaches r a b ≡ true → lies_within r a a b ≡ true
 first_lies_within Whole a b h = whole_within_holds a a b (omega arith) (reaches_tells a b h)
 first_lies_within Tagged a b h = tagged_within_holds a a b (omega (arith, no_steps Tagged a))
@@ -168,7 +168,7 @@ pub only_itself_within : (r : Reading) (a x : ℕ) → IsNumber r a → IsNumber
 only_itself_within r a x ha hx h =
     no_steps_is_same r a x ha hx (reaches_between r a x a h).0 (omega (arith, steps_add_up r a x a h, no_steps r a))
 
--- the comparison is the order by counting
+-- the comparison agrees with the order by counting
 pub within_is_counted : (r : Reading) (a x b : ℕ) → IsNumber r a → IsNumber r x → IsNumber r b → lies_within r a x b ≡ true → LiesFrom r a x b
 within_is_counted r a x b ha hx hb h = (
   steps r a x,
@@ -199,7 +199,7 @@ pub counted_are_fewer_steps : (r : Reading) (k a b : ℕ) → IsNumber r a → I
 counted_are_fewer_steps r k a b ha hb h (n, fewer, lead) =
     grind (arith, fewer, lead, (steps_are_counted r a b ha hb h).fewest n)
 
--- the two directions of each as one law
+-- both directions of the equivalence, as one law
 pub lying_is_counting : (r : Reading) (a x b : ℕ) → IsNumber r a → IsNumber r x → IsNumber r b → (lies_within r a x b ≡ true) ↔ LiesFrom r a x b
 lying_is_counting r a x b ha hx hb = (within_is_counted r a x b ha hx hb, counted_is_within r a x b ha hx hb)
 

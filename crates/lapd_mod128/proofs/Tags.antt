@@ -9,7 +9,7 @@ pub tag_is_remainder : (n : ℕ) → tag n ≡ n % 128
 unfolding tag
 tag_is_remainder n = refl
 
--- counting on tags from 0 leads to the tag
+-- the number n steps after the tag 0 is the tag of n
 pub tag_is_counted : (n : ℕ) → number_after Tagged n 0 ≡ tag n
 unfolding tag
 tag_is_counted n = omega (arith, number_after_tagged n 0)
@@ -19,7 +19,7 @@ pub tag_of_after : (n : ℕ) → tag (after Whole n) ≡ after Tagged (tag n)
 unfolding tag after
 tag_of_after n = omega arith
 
--- one step back
+-- the tag of the previous number is the previous tag
 pub tag_of_before : (n : ℕ) → 0 < n → tag (before Whole n) ≡ before Tagged (tag n)
 unfolding tag before
 tag_of_before n h = omega arith
@@ -34,12 +34,12 @@ tag_of_number_after (suc n) a = rw (tag_of_after (number_after Whole n a), tag_o
 pub next_is_near : (x y k : ℕ) → k ≤ 127 → y ≤ x + 1 → x < y + k → AreNear x y
 next_is_near x y k small below above = record { above = omega (arith, small, above); below = omega (arith, below) }
 
--- near numbers with one tag are one number
+-- near numbers with the same tag are equal
 pub near_tags_are_equal : (x y : ℕ) → AreNear x y → tag x ≡ tag y → x ≡ y
 unfolding tag
 near_tags_are_equal x y near same = omega (arith, near.above, near.below)
 
--- the test of tags is the test of the numbers
+-- near numbers are equal exactly if their tags are equal
 pub equality_on_tags : (x y : ℕ) → AreNear x y → (tag x == tag y) ≡ (x == y)
 unfolding tag
 equality_on_tags x y near = grind (arith, nat_tests, near.above, near.below)

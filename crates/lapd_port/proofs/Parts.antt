@@ -9,7 +9,7 @@ use Rattle.lapd_port.specs.declared.port_fault.PortFault.TheVariants.{End, BadLe
 use Rattle.lapd_port.specs.SocketText.{IsFrameLength, frame_of_length, length_octets, next_frame}
 use Rattle.lapd_port.specs.Port.{ReadsNext, TakesPart}
 
--- less than a length
+-- fewer octets than a length has
 shows_cut_length : (octets : List ℕ) → length octets < 2 → (next_frame octets ≡ Err End) ⊎ (next_frame octets ≡ Err Cut)
 shows_cut_length [] few = inl refl
 shows_cut_length (octet ∷ []) few = inr refl

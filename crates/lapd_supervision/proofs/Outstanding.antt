@@ -8,7 +8,7 @@ use Rattle.lapd_supervision.specs.StateVariables.{StateVariables, without_ack_pe
 
 -- ---- N(R)
 
--- a valid N(R) acknowledges no more than is outstanding
+-- a valid N(R) acknowledges at most the outstanding I frames
 pub acknowledged_count_at_most : (r : Reading) (nr : ℕ) (m : StateVariables) → is_valid_nr r nr m ≡ true → acknowledged_count r nr m ≤ outstanding r m
 unfolding is_valid_nr acknowledged_count
 acknowledged_count_at_most r nr m valid = steps_to_between r m.va nr m.vs valid
@@ -34,7 +34,7 @@ outstanding_with_vs r nr m = no_steps r nr
 
 -- ---- Sending I frames
 
--- one that may be sent leaves room in the window
+-- if an I frame may be sent, the window has room for it
 pub may_send_leaves_room : (r : Reading) (k : ℕ) (m : StateVariables) → may_send r k m ≡ true → outstanding r m < k
 unfolding may_send
 may_send_leaves_room r k m opened = grind (arith, nat_tests, common_steps)

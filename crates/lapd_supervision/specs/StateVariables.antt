@@ -106,7 +106,7 @@ pub record Receives (r : Reading) (ns : ℕ) (p : Bool) (m afterwards : StateVar
 unfoldable pub is_valid_nr : Reading → ℕ → StateVariables → Bool
 is_valid_nr r nr m = lies_within r m.va nr m.vs
 
--- V(A) is set to it
+-- V(A) is set to this N(R)
 unfoldable pub with_va : ℕ → StateVariables → StateVariables
 with_va nr m = record m { va = nr }
 
@@ -114,7 +114,7 @@ with_va nr m = record m { va = nr }
 unfoldable pub acknowledged_count : Reading → ℕ → StateVariables → ℕ
 acknowledged_count r nr m = steps r m.va nr
 
--- it acknowledges all that was sent
+-- whether it acknowledges all sent I frames
 unfoldable pub acknowledges_all : ℕ → StateVariables → Bool
 acknowledges_all nr m = nr == m.vs
 

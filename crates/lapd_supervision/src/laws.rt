@@ -37,8 +37,8 @@ pub fn status_by_the_busy_condition()
         → status_frame pf m ≡ Rr m.vr pf }
 {}
 
-/// A valid N(R) reduces the outstanding I frames by those that it acknowledges. If it is V(S), or
-/// V(S) is set back to it, none are outstanding (Q.921 5.6.3.2, 5.8.3).
+/// A valid N(R) reduces the outstanding I frames by those that it acknowledges. If N(R) is V(S), or
+/// V(S) is set back to N(R), no I frame is outstanding (Q.921 5.6.3.2, 5.8.3).
 #[tactic(auto, using(crate::proofs::Outstanding::outstanding_with_va, crate::proofs::Outstanding::outstanding_after_all, crate::proofs::Outstanding::outstanding_with_vs))]
 pub fn what_an_nr_acknowledges()
     ensures part { (r : Reading) (nr : ℕ) (m : StateVariables) → is_valid_nr r nr m ≡ true →

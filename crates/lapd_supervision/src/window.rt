@@ -118,7 +118,7 @@ impl Window {
 /// Establishment (Q.921 5.5.1.2).
 #[tactic(auto, unfolding(crate::specs::StateVariables::without_exceptions, crate::specs::StateVariables::with_zero_counters))]
 impl Window {
-    /// All four conditions false.
+    /// Sets all four conditions to false.
     pub fn clear(self) -> Window
         ensures { result ≡ without_exceptions self }
     {
@@ -131,7 +131,7 @@ impl Window {
         }
     }
 
-    /// V(S), V(A) and V(R) 0.
+    /// Sets V(S), V(A) and V(R) to 0.
     pub fn zero(self) -> Window
         ensures { result ≡ with_zero_counters self }
     {
@@ -160,7 +160,7 @@ impl Window {
         }
     }
 
-    /// Ack pending false.
+    /// Sets ack pending to false.
     fn nothing_pending(self) -> Window
         ensures { result ≡ without_ack_pending self }
     {

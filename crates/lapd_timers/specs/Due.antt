@@ -30,7 +30,7 @@ deadline_of T201 s = s.t201
 deadline_of T202 s = s.t202
 deadline_of T203 s = s.t203
 
--- the same, but for the deadline of one timer
+-- the same timers, with another deadline of one timer
 abbrev pub with_deadline : Timer → Option ℕ → Timers → Timers
 with_deadline T200 deadline s = record s { t200 = deadline }
 with_deadline T201 deadline s = record s { t201 = deadline }

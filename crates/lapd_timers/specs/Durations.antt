@@ -3,7 +3,7 @@ use Rattle.std.specs.Prelude.{ℕ, ◌≤◌, ◌&&◌, nat_le, if◌then◌else
 use Rattle.lapd_timers.specs.declared.timer.Timer.{Timer}
 use Rattle.lapd_timers.specs.declared.timer.Timer.TheVariants.{T200, T201, T202, T203}
 
--- in milliseconds
+-- all in milliseconds
 pub record Lengths : Type 0 where
   pub t200 : ℕ
   pub t201 : ℕ

@@ -127,7 +127,7 @@ impl Machine {
         }
     }
 
-    /// T200 has run and expires.
+    /// T200, which was running, expires.
     fn t200_expiry_by_state(&mut self, outs: &mut Outs)
         requires room { HasRoom 6 outs.old }
         requires between { IsBetweenSteps self.old }
@@ -156,7 +156,7 @@ impl Machine {
         }
     }
 
-    /// T203 has run and expires.
+    /// T203, which was running, expires.
     fn t203_expiry_by_state(&mut self, outs: &mut Outs)
         requires room { HasRoom 6 outs.old }
         ensures step { Does self.old outs.old self.new outs.new

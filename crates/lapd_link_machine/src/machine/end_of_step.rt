@@ -19,7 +19,7 @@ impl Machine {
     ghost use Rattle.lapd_link_machine.specs.Bounds.{told_count};
     ghost use Rattle.lapd_link_machine.specs.StandsFor.{StandsFor, Does, Grows};
 
-    /// The end of a step.
+    /// Ends a step.
     #[inline(always)]
     pub fn end_step(&mut self, outs: &mut Outs)
         requires room { array_vec_len outs.old ≤ 6 }

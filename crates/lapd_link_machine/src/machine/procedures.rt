@@ -212,7 +212,7 @@ impl Machine {
         push(outs, Out::Send(Role::Answer, control));
     }
 
-    /// The N(S) and P of an I frame.
+    /// Processes the N(S) and P of an I frame.
     #[inline(always)]
     pub(crate) fn i_frame_ns(&mut self, ns: Number, p: bool, outs: &mut Outs)
         requires room { HasRoom 2 outs.old }
@@ -394,7 +394,7 @@ impl Machine {
         self.establish_data_link(outs);
     }
 
-    /// N(R) ERROR RECOVERY: an N(R) that is not valid.
+    /// N(R) ERROR RECOVERY: the response to an N(R) that is not valid.
     pub(crate) fn nr_error_recovery(&mut self, outs: &mut Outs)
         requires room { HasRoom 4 outs.old }
         ensures step { Does self.old outs.old self.new outs.new nr_error_recovery }

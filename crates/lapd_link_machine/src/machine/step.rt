@@ -21,7 +21,7 @@ impl Machine {
     ghost use Rattle.lapd_link_machine.specs.Sent.{IsBetweenSteps};
     ghost use Rattle.lapd_link_machine.specs.StandsFor.{StandsFor};
 
-    /// A machine in state 4.
+    /// Makes a machine in state 4. It allocates its I queue.
     pub fn new(alloc: Global, params: Params) -> Result<Machine, AllocError>
         ensures end { IfOk result (λ m. StandsFor m [] (begin (new_end params))) }
         ensures between { IfOk result IsBetweenSteps }

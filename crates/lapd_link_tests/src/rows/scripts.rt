@@ -235,7 +235,7 @@ fn message_line(front: &str, number: u8) -> Text {
     line
 }
 
-/// The first line of all scripts that is wrong.
+/// The first wrong line of all scripts.
 pub(super) fn wrong(alloc: Global) -> Option<&'static str> {
     match Driven::new(alloc, "user 1 1 1") {
         Some(mut link) => wrong_row(&mut link, SCRIPTS),
