@@ -50,7 +50,7 @@ impl End {
     ///
     /// # Errors
     ///
-    /// `Refused` by the link, or `LineFull`.
+    /// `Link` if the link refuses the message, or `LineFull`.
     pub fn give(&mut self, message: Vec<u8>, to: &mut Wire) -> Result<(), BenchFault> {
         self.link.give_into(message, &mut self.outs)?;
         self.given = self.given.wrapping_add(1);
@@ -61,8 +61,8 @@ impl End {
     ///
     /// # Errors
     ///
-    /// `NoFrame` for octets that do not form a valid frame, `NotForLink`, `Refused` by the link, or
-    /// `LineFull`.
+    /// `NoFrame` for octets that do not form a valid frame, `NotForLink`, `Link` if the link
+    /// refuses, or `LineFull`.
     pub fn hear(&mut self, from: &mut Wire, to: &mut Wire) -> Result<(), BenchFault> {
         for slot in from.under_way() {
             let frame = read(slot.octets(), from.sender())?;

@@ -5,7 +5,7 @@
 //! as the octets of an I frame, and the network returns the octets of an RR frame, before the next
 //! seven are submitted. The command line is one of:
 //!
-//! - `[MESSAGES]`: passes this many messages, 1,000 by default, over two links that keep no
+//! - `[MESSAGES]`: passes this many messages, 1,000 by default, between two `Link`s without a
 //!   history.
 //! - `pair MESSAGES`: passes them over a pair of `lapd_pair`, which keeps the history of each.
 //! - `line FRAMES MOVES`: puts this many frames on the line of a pair, and then sends and delivers
@@ -13,8 +13,8 @@
 //! - `table LINKS FRAMES`: passes this many enquiries, one after another to each link of a table of
 //!   `lapd_table`, and writes the responses.
 //! - `side LINKS FRAMES`: passes I frames to the links of a side of `lapd_sides`.
-//! - `tick LINKS TIMES`: expires timers of a side when none is due.
-//! - `expire LINKS TIMES`: lets the timers of all links expire at the same moment.
+//! - `tick LINKS TIMES`: calls `tick` of such a side while no timer is due.
+//! - `expire LINKS TIMES`: lets the timers of all links of such a side expire at the same moment.
 //!
 //! It prints how many messages were submitted, received and acknowledged; for `tick` and `expire`
 //! how many times it was done and how many timers were due. Begin with `run`.
