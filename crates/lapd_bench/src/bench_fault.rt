@@ -5,20 +5,20 @@ use lapd_sides::SideFault;
 use lapd_table::TableFault;
 use std::alloc::AllocError;
 
-/// Why not all was done.
+/// Why the program stopped early.
 #[derive(Clone, Copy)]
 pub enum BenchFault {
-    /// The words ask for nothing that is done.
+    /// The command line is not valid.
     CommandLine,
-    /// Memory ran out.
+    /// An allocation failed.
     Memory,
     /// A link refused a request.
     Link,
-    /// What came over the line is no frame.
+    /// Octets on the line do not form a valid frame.
     NoFrame,
-    /// A frame came over the line that is for another link.
+    /// A frame on the line is for another link.
     NotForLink,
-    /// More frames were sent than the line holds.
+    /// More frames were sent than the line can hold.
     LineFull,
     /// A pair refused a move.
     Pair,
@@ -29,7 +29,7 @@ pub enum BenchFault {
 }
 
 impl BenchFault {
-    /// It in words.
+    /// The fault in words.
     pub fn text(self) -> &'static str {
         match self {
             BenchFault::CommandLine => {

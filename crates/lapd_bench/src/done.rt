@@ -1,4 +1,5 @@
-/// How many messages were given, received and acknowledged; of what else is done, how often it was, and what came of it.
+/// How many messages were submitted, received and acknowledged. For other work: how often it was
+/// done, and its results.
 #[derive(Clone, Copy)]
 pub struct Done {
     pub given: u64,

@@ -6,7 +6,8 @@ use lapd_frame::{Sapi, Side, Tei, read};
 use lapd_link::{Event, Link, Out, Outs, Params};
 use std::alloc::Global;
 
-/// One end of the link, what its last step calls for, and how many messages it has given, taken and seen acknowledged.
+/// One end of the link, the outputs of its last step, and how many messages it has submitted,
+/// received and seen acknowledged.
 #[derive(Drop)]
 pub struct End {
     link: Link,
@@ -17,8 +18,8 @@ pub struct End {
 }
 
 impl End {
-    /// An end of this side, not yet established, of service access point 0 and terminal endpoint 64, with the parameters
-    /// of primary rate access.
+    /// An end of this side, not yet established, of service access point 0 and terminal endpoint
+    /// 64, with the parameters of primary rate access.
     ///
     /// # Errors
     ///
@@ -35,7 +36,7 @@ impl End {
         })
     }
 
-    /// Asks for the link to be established.
+    /// Requests the link to be established.
     ///
     /// # Errors
     ///
@@ -45,22 +46,23 @@ impl End {
         self.carry_out(to)
     }
 
-    /// Takes a message, and sends it where the window is open.
+    /// Queues a message, and sends it if the window is open.
     ///
     /// # Errors
     ///
-    /// `Refused` by the link, or `LineFull`.
+    /// `Link` if the link refuses the message, or `LineFull`.
     pub fn give(&mut self, message: Vec<u8>, to: &mut Wire) -> Result<(), BenchFault> {
         self.link.give_into(message, &mut self.outs)?;
         self.given = self.given.wrapping_add(1);
         self.carry_out(to)
     }
 
-    /// Takes all frames that are under way to it, and sends what they call for.
+    /// Receives all frames on the line, and sends the responses.
     ///
     /// # Errors
     ///
-    /// `NoFrame` for octets that are none, `NotForLink`, `Refused` by the link, or `LineFull`.
+    /// `NoFrame` for octets that do not form a valid frame, `NotForLink`, `Link` if the link
+    /// refuses, or `LineFull`.
     pub fn hear(&mut self, from: &mut Wire, to: &mut Wire) -> Result<(), BenchFault> {
         for slot in from.under_way() {
             let frame = read(slot.octets(), from.sender())?;
@@ -74,7 +76,7 @@ impl End {
         Ok(())
     }
 
-    /// Sends what its last step calls for, and counts the messages that it speaks of.
+    /// Sends the frames of its last step, and counts the messages that the step reports.
     #[inline(always)]
     fn carry_out(&mut self, to: &mut Wire) -> Result<(), BenchFault> {
         for out in &self.outs {

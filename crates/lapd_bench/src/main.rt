@@ -1,15 +1,23 @@
-//! The program `lapd_bench`: it passes messages over a data link of the ISDN D channel (ITU-T Q.921) with both of its
-//! ends in memory, so that the work of a message can be counted.
+//! The program `lapd_bench`: it passes messages over a data link of the ISDN D channel (ITU-T
+//! Q.921) with both of its ends in memory, so that the work of a message can be counted.
 //!
-//! The user gives seven messages, a whole window, of 20 octets each. Each goes to the network as the octets of an I
-//! frame, and the octets of an RR frame come back for it, before the next seven are given. With one word, it is the
-//! number of messages, 1,000 where it is left out: they go over two links, and nothing is kept of them. `pair MESSAGES`
-//! passes them over a pair of `lapd_pair`, which keeps what became of each. `line FRAMES MOVES` puts so many frames on
-//! the line of a pair, and then sends and delivers so many more. `table LINKS FRAMES` hands in so many enquiries, one
-//! after another to each link of a table of `lapd_table`, and writes the answers; `side LINKS FRAMES` hands in I frames to
-//! the links of a side of `lapd_sides`, `tick LINKS TIMES` asks what is due, and `expire LINKS TIMES` lets the timers of all
-//! links be due at once. It prints how many messages were given, received and acknowledged; of `tick` and `expire` how many
-//! times it was done and how many timers were due. Begin with `run`.
+//! The user submits seven messages, a whole window, of 20 octets each. Each is sent to the network
+//! as the octets of an I frame, and the network returns the octets of an RR frame, before the next
+//! seven are submitted. The command line is one of:
+//!
+//! - `[MESSAGES]`: passes this many messages, 1,000 by default, between two `Link`s without a
+//!   history.
+//! - `pair MESSAGES`: passes them over a pair of `lapd_pair`, which keeps the history of each.
+//! - `line FRAMES MOVES`: puts this many frames on the line of a pair, and then sends and delivers
+//!   this many more.
+//! - `table LINKS FRAMES`: passes this many enquiries, one after another to each link of a table of
+//!   `lapd_table`, and writes the responses.
+//! - `side LINKS FRAMES`: passes I frames to the links of a side of `lapd_sides`.
+//! - `tick LINKS TIMES`: calls `tick` of such a side while no timer is due.
+//! - `expire LINKS TIMES`: lets the timers of all links of such a side expire at the same moment.
+//!
+//! It prints how many messages were submitted, received and acknowledged; for `tick` and `expire`
+//! how many times it was done and how many timers were due. Begin with `run`.
 #![tactic(auto)]
 
 mod bench_fault;
@@ -31,10 +39,11 @@ use std::process::ExitCode;
 use std::{env, io};
 use wire::Wire;
 
-/// How many messages are passed where the command line does not say.
+/// How many messages are passed by default.
 const MESSAGES: u32 = 1_000;
 
-/// How many messages are given before the first is acknowledged: the window of primary rate access.
+/// How many messages are submitted before the first is acknowledged: the window of primary rate
+/// access.
 const WINDOW: u32 = 7;
 
 /// How many octets a message has.
@@ -50,7 +59,7 @@ fn main(rt: HostRuntime) -> ExitCode {
     }
 }
 
-/// The exit status, when this has become of printing.
+/// The exit status, by the result of printing.
 fn status(shown: io::Result<()>) -> ExitCode {
     match shown {
         Ok(()) => ExitCode::SUCCESS,
@@ -68,7 +77,7 @@ fn show(rt: &HostRuntime, done: Done) -> io::Result<()> {
     println!(rt; "{given} given, {received} received, {acknowledged} acknowledged")
 }
 
-/// Does what the command line asks for.
+/// Executes the command line.
 fn do_asked(rt: &HostRuntime) -> Result<Done, BenchFault> {
     match env::args(rt) {
         Ok(mut words) => do_words(rt.alloc(), &mut words),
@@ -76,7 +85,7 @@ fn do_asked(rt: &HostRuntime) -> Result<Done, BenchFault> {
     }
 }
 
-/// Does what these words ask for, of which the first is the program's name.
+/// Executes the command in these words. The first is the program's name.
 fn do_words(alloc: Global, words: &mut Args) -> Result<Done, BenchFault> {
     let _program = words.next();
     match words.next() {
@@ -85,7 +94,7 @@ fn do_words(alloc: Global, words: &mut Args) -> Result<Done, BenchFault> {
     }
 }
 
-/// Does what this word asks for, with the numbers behind it.
+/// Executes the command of this word, with the numbers after it.
 fn do_word(alloc: Global, word: &str, words: &mut Args) -> Result<Done, BenchFault> {
     let first = next_number(words)?;
     let second = next_number(words)?;
@@ -100,7 +109,7 @@ fn do_word(alloc: Global, word: &str, words: &mut Args) -> Result<Done, BenchFau
     }
 }
 
-/// Does what this word asks for with two numbers.
+/// Executes the command of this word with two numbers.
 fn do_with_two(alloc: Global, word: &str, count: u32, times: u32) -> Result<Done, BenchFault> {
     match word {
         "line" => over_pair::stand(alloc, count, times),
@@ -112,7 +121,7 @@ fn do_with_two(alloc: Global, word: &str, count: u32, times: u32) -> Result<Done
     }
 }
 
-/// The number that the next word writes, where there is one.
+/// The number in the next word, if there is one.
 fn next_number(words: &mut Args) -> Result<Option<u32>, BenchFault> {
     match words.next() {
         Some(word) => some_number(word.as_str()),
@@ -120,12 +129,12 @@ fn next_number(words: &mut Args) -> Result<Option<u32>, BenchFault> {
     }
 }
 
-/// The number that a word writes, where a word may be left out.
+/// The number in a word, for a caller whose word may be missing.
 fn some_number(word: &str) -> Result<Option<u32>, BenchFault> {
     Ok(Some(number(word)?))
 }
 
-/// The number that a word writes.
+/// The number in a word.
 fn number(word: &str) -> Result<u32, BenchFault> {
     match word.parse::<u32>() {
         Ok(number) => Ok(number),
@@ -142,13 +151,13 @@ struct Pair {
     to_user: Wire,
 }
 
-/// Establishes the link, and passes so many messages over it from the user to the network.
+/// Establishes the link, and passes this many messages over it from the user to the network.
 fn run(alloc: Global, messages: u32) -> Result<Done, BenchFault> {
     let user = End::new(alloc, Side::User)?;
     run_from(alloc, user, messages)
 }
 
-/// Passes so many messages from this end to a new one.
+/// Passes this many messages from this end to a new one.
 fn run_from(alloc: Global, user: End, messages: u32) -> Result<Done, BenchFault> {
     let network = End::new(alloc, Side::Network)?;
     let mut pair = Pair::new(user, network);
@@ -165,7 +174,7 @@ impl Pair {
         }
     }
 
-    /// The link is established, and so many messages are passed a window at a time.
+    /// Establishes the link, and passes this many messages a window at a time.
     fn run(&mut self, alloc: Global, messages: u32) -> Result<Done, BenchFault> {
         self.establish()?;
         for _ in 0..messages / WINDOW {
@@ -179,13 +188,13 @@ impl Pair {
         })
     }
 
-    /// The user asks for the link, and the network answers.
+    /// The user requests the link, and the network responds.
     fn establish(&mut self) -> Result<(), BenchFault> {
         self.user.establish(&mut self.to_network)?;
         self.cross()
     }
 
-    /// The user gives so many messages, and sees them acknowledged.
+    /// The user submits this many messages, and receives their acknowledgements.
     fn pass(&mut self, alloc: Global, messages: u32) -> Result<(), BenchFault> {
         for number in 0..messages {
             let message = [(number % 256) as u8; OCTETS].to_vec(alloc)?;
@@ -194,7 +203,7 @@ impl Pair {
         self.cross()
     }
 
-    /// What is under way goes to the network, and its answers to the user.
+    /// Delivers the frames on the line to the network, and its responses to the user.
     fn cross(&mut self) -> Result<(), BenchFault> {
         self.network.hear(&mut self.to_network, &mut self.to_user)?;
         self.user.hear(&mut self.to_user, &mut self.to_network)

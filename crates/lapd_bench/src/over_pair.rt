@@ -1,4 +1,5 @@
-//! The same messages over a [`Pair`], which keeps what became of each; and frames that stand on its line.
+//! The same messages over a [`Pair`], which keeps the history of each; and frames that stay on its
+//! line.
 
 use crate::bench_fault::BenchFault;
 use crate::done::Done;
@@ -8,23 +9,23 @@ use lapd_link::{Outs, Params};
 use lapd_pair::{Move, Pair};
 use std::alloc::Global;
 
-/// Passes so many messages from the user to the network, a window at a time.
+/// Passes this many messages from the user to the network, a window at a time.
 ///
 /// # Errors
 ///
-/// `Memory`, and `Pair` where a move is refused.
+/// `Memory`, and `Pair` if a move is refused.
 pub fn pass(alloc: Global, messages: u32) -> Result<Done, BenchFault> {
     let give = Move::Give(Side::User, [0; OCTETS].to_vec(alloc)?);
     pass_each(alloc, &give, messages)
 }
 
-/// Passes a message so often over a pair with the parameters of primary rate access.
+/// Passes a message this often over a pair with the parameters of primary rate access.
 fn pass_each(alloc: Global, give: &Move, messages: u32) -> Result<Done, BenchFault> {
     let mut pair = Pair::new(alloc, Params::primary(), Params::primary())?;
     pass_over(&mut pair, give, messages)
 }
 
-/// Passes a message so often over this pair, whose link the user establishes.
+/// Passes a message this often over this pair, after the user establishes its link.
 fn pass_over(pair: &mut Pair, give: &Move, messages: u32) -> Result<Done, BenchFault> {
     let mut outs = Outs::new();
     pass_all(pair, give, messages, &mut outs)?;
@@ -35,7 +36,7 @@ fn pass_over(pair: &mut Pair, give: &Move, messages: u32) -> Result<Done, BenchF
     })
 }
 
-/// The user establishes the link, and a message is passed so often, a window at a time.
+/// The user establishes the link and passes a message this often, a window at a time.
 fn pass_all(
     pair: &mut Pair,
     give: &Move,
@@ -51,7 +52,7 @@ fn pass_all(
     pass_batch(pair, give, messages % WINDOW, outs)
 }
 
-/// The user gives so many messages, each is delivered, and so is each acknowledgement.
+/// The user submits this many messages; each is delivered, and so is each acknowledgement.
 fn pass_batch(
     pair: &mut Pair,
     give: &Move,
@@ -63,7 +64,7 @@ fn pass_batch(
     repeat(pair, &Move::Deliver(Side::User), messages, outs)
 }
 
-/// The same move, so many times.
+/// Makes the same move this many times.
 fn repeat(pair: &mut Pair, deed: &Move, times: u32, outs: &mut Outs) -> Result<(), BenchFault> {
     for _ in 0..times {
         pair.apply_into(deed, outs)?;
@@ -71,23 +72,24 @@ fn repeat(pair: &mut Pair, deed: &Move, times: u32, outs: &mut Outs) -> Result<(
     Ok(())
 }
 
-/// So many frames of unit data stand on the line, while so many more are sent and the first one is delivered each time.
+/// Keeps this many frames of unit data on the line, and sends this many more; the first frame is
+/// delivered each time.
 ///
 /// # Errors
 ///
-/// `Memory`, and `Pair` where a move is refused.
+/// `Memory`, and `Pair` if a move is refused.
 pub fn stand(alloc: Global, frames: u32, moves: u32) -> Result<Done, BenchFault> {
     let unit = Move::Unit(Side::User, [0; OCTETS].to_vec(alloc)?);
     stand_each(alloc, &unit, frames, moves)
 }
 
-/// So many frames stand on the line of a pair, and so many more move over it.
+/// The same as [`stand`], on a new pair.
 fn stand_each(alloc: Global, unit: &Move, frames: u32, moves: u32) -> Result<Done, BenchFault> {
     let mut pair = Pair::new(alloc, Params::primary(), Params::primary())?;
     stand_over(&mut pair, unit, frames, moves)
 }
 
-/// So many frames stand on the line of this pair, and so many more move over it.
+/// The same as [`stand`], on this pair.
 fn stand_over(pair: &mut Pair, unit: &Move, frames: u32, moves: u32) -> Result<Done, BenchFault> {
     let mut outs = Outs::new();
     repeat(pair, unit, frames, &mut outs)?;
@@ -99,7 +101,7 @@ fn stand_over(pair: &mut Pair, unit: &Move, frames: u32, moves: u32) -> Result<D
     })
 }
 
-/// A frame is sent and the first one delivered, so many times.
+/// Sends a frame and delivers the first one, this many times.
 fn move_on(pair: &mut Pair, unit: &Move, moves: u32, outs: &mut Outs) -> Result<(), BenchFault> {
     for _ in 0..moves {
         pair.apply_into(unit, outs)?;

@@ -1,5 +1,5 @@
-//! Frames that come for the links of a [`NetSide`], with what it gives for them, moments at which nothing is due, and moments at
-//! which the timers of all links are.
+//! Frames for the links of a [`NetSide`] with its responses, moments at which no timer is due, and
+//! moments at which the timers of all links are due.
 
 ghost use Rattle.std.specs.Prelude.{◌<◌, IfOk, IfSome};
 ghost use Rattle.std.specs.List.{All};
@@ -10,29 +10,31 @@ use crate::done::Done;
 use lapd_sides::{Acts, Config, NetSide, Primitive, Tei, What};
 use std::alloc::Global;
 
-/// The moment at which all is done, in milliseconds: before the first T203 of a link expires.
+/// The moment of all calls, in milliseconds: before the first T203 of a link expires.
 const MOMENT: u64 = 1;
 
-/// How far the clock goes on until the timers of all links are due, in milliseconds: T203 runs so long, and T200 shorter.
+/// How far the clock is moved until the timers of all links are due, in milliseconds: the duration
+/// of T203, which is longer than T200's.
 const ROUND: u64 = 10_000;
 
-/// The octets of an I frame, in which N(S) is counted on.
+/// The octets of an I frame, whose N(S) is counted up.
 type Message = [u8; 4 + OCTETS];
 
-/// What is done over a side.
+/// The work over a side.
 #[derive(Clone, Copy)]
 pub enum Deed {
-    /// So many I frames are handed in, one after another to each link, and the messages that go up and the frames that answer
-    /// are counted.
+    /// Passes this many I frames, one after another to each link, and counts the delivered messages
+    /// and the frames that respond.
     Take(u32),
-    /// It is asked so many times what is due, where nothing is.
+    /// Calls `tick` this many times while no timer is due.
     Tick(u32),
-    /// So many times the timers of all links are due at one moment, and are done one after another; the peers are silent. T203 is
-    /// the first, then T200 until N200 is reached, twice.
+    /// This many times, the timers of all links are due at one moment and expire one after another;
+    /// the peers are silent. T203 is the first, then T200 until N200 is reached, twice.
     Expire(u32),
 }
 
-/// Does a deed over a side with so many established links, and has room for the messages that are to come for them.
+/// Does the work over a side with this many established links. It has room for the received
+/// messages.
 ///
 /// # Errors
 ///
@@ -42,7 +44,7 @@ pub fn pass(alloc: Global, links: u32, deed: Deed) -> Result<Done, BenchFault> {
     with_known(alloc, links, deed, &mut messages)
 }
 
-/// Does a deed over a side with so many links, whose TEIs are known from the first.
+/// Does the work over a side with this many links, whose TEIs are known at the start.
 fn with_known(
     alloc: Global,
     links: u32,
@@ -53,7 +55,7 @@ fn with_known(
     with_side(alloc, links, deed, messages, &known)
 }
 
-/// Does a deed over a side with so many links, of terminals with these TEIs.
+/// Does the work over a side with this many links, of terminals with these TEIs.
 fn with_side(
     alloc: Global,
     links: u32,
@@ -67,7 +69,7 @@ fn with_side(
     with_acts(alloc, &mut side, links, deed, messages)
 }
 
-/// Does a deed over this side, with outputs that are lent to it.
+/// Does the work over this side, with outputs that it borrows.
 fn with_acts(
     alloc: Global,
     side: &mut NetSide,
@@ -79,7 +81,7 @@ fn with_acts(
     establish_and_do(side, links, deed, messages, &mut acts)
 }
 
-/// Establishes the links of this side, and does a deed over it.
+/// Establishes the links of this side, and does the work over it.
 fn establish_and_do(
     side: &mut NetSide,
     links: u32,
@@ -95,7 +97,7 @@ fn establish_and_do(
     }
 }
 
-/// Hands in so many I frames, one after another of these.
+/// Passes this many I frames, in the order of these, repeatedly.
 fn take_each(
     side: &mut NetSide,
     frames: u32,
@@ -125,7 +127,7 @@ fn take_each(
     })
 }
 
-/// Asks so many times what is due.
+/// Calls `tick` this many times while no timer is due.
 fn tick_each(side: &mut NetSide, times: u32, acts: &mut Acts) -> Done {
     let mut due: u64 = 0;
     for _ in 0..times {
@@ -140,7 +142,7 @@ fn tick_each(side: &mut NetSide, times: u32, acts: &mut Acts) -> Done {
     }
 }
 
-/// The clock goes on so many times, and what is then due is done.
+/// Moves the clock this many times, and expires the timers that are due then.
 fn expire_each(side: &mut NetSide, rounds: u32, acts: &mut Acts) -> Done {
     let mut due: u64 = 0;
     for round in 0..rounds {
@@ -154,7 +156,8 @@ fn expire_each(side: &mut NetSide, rounds: u32, acts: &mut Acts) -> Done {
     }
 }
 
-/// Does what is due at this moment, one timer after another: how many were.
+/// Expires the timers that are due at this moment, one after another, and returns how many there
+/// were.
 fn due_at(side: &mut NetSide, now: u64, acts: &mut Acts) -> u64 {
     for due in 0..u64::MAX {
         if !side.tick(now, acts) {
@@ -164,7 +167,7 @@ fn due_at(side: &mut NetSide, now: u64, acts: &mut Acts) -> u64 {
     u64::MAX
 }
 
-/// How many messages go up.
+/// How many messages are delivered to layer 3.
 fn messages_up(acts: &Acts) -> u64 {
     let mut up: u64 = 0;
     for primitive in acts.primitives() {
@@ -175,7 +178,7 @@ fn messages_up(acts: &Acts) -> u64 {
     up
 }
 
-/// The user establishes so many links at moment 0, and for each the I frame that is to come is put behind the others.
+/// The user establishes this many links at moment 0; the I frame for each is added to the list.
 fn establish(
     side: &mut NetSide,
     links: u32,
@@ -202,7 +205,8 @@ fn message_for(sapi: u8, tei: u8) -> Message {
     message
 }
 
-/// The two octets of the address of a command of the user: TEIs 0 to 126 of service access point 0, then those of 16.
+/// The two octets of the address of a command of the user: TEIs 0 to 126 of service access point 0,
+/// then those of 16.
 fn place_of(number: u32) -> Result<(u8, u8), BenchFault> {
     match number {
         0..127 => Ok((0, number as u8 * 2 + 1)),
@@ -211,7 +215,8 @@ fn place_of(number: u32) -> Result<(u8, u8), BenchFault> {
     }
 }
 
-/// What a side with so many links is made with: service access point 16 is served where there are more than 127.
+/// The configuration of a side with this many links: service access point 16 is served if there are
+/// more than 127.
 fn config(links: u32) -> Config {
     Config {
         sapi16: links > 127,
@@ -219,7 +224,7 @@ fn config(links: u32) -> Config {
     }
 }
 
-/// The TEIs of so many links, from 0 on.
+/// The TEIs of this many links, from 0 on.
 fn known(alloc: Global, links: u32) -> Result<Vec<Tei>, BenchFault>
     ensures { IfOk result (λ known. All (λ tei. tei < 127) known.items) }
 {

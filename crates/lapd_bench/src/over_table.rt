@@ -1,4 +1,4 @@
-//! Frames that come for the links of a [`LinkTable`], and their answers.
+//! Frames for the links of a [`LinkTable`], and their responses.
 
 ghost use Rattle.std.specs.Prelude.{◌≢◌, ◌<◌, IfOk};
 
@@ -12,18 +12,19 @@ use std::alloc::Global;
 /// An enquiry of the user, RR with P=1, whose N(R) is 0.
 type Enquiry = [u8; 4];
 
-/// Hands in so many enquiries, one after another to each of so many established links, and writes their answers.
+/// Passes this many enquiries, one after another to each of this many established links, and writes
+/// their responses.
 ///
 /// # Errors
 ///
-/// `Memory`, `CommandLine` for no links or more than 254, and `Table` where a frame is refused.
+/// `Memory`, `CommandLine` for no links or more than 254, and `Table` if a frame is refused.
 pub fn answer(alloc: Global, links: u32, frames: u32) -> Result<Done, BenchFault> {
     let mut enquiries: Vec<Enquiry> = Vec::with_capacity(alloc, links as usize)?;
     let mut table = LinkTable::new(alloc, Side::Network);
     add_and_answer(alloc, &mut table, &mut enquiries, links, frames)
 }
 
-/// Adds so many links to a table, and answers so many enquiries for them.
+/// Adds this many links to a table, and answers this many enquiries for them.
 fn add_and_answer(
     alloc: Global,
     table: &mut LinkTable,
@@ -44,7 +45,7 @@ fn add_and_answer(
     })
 }
 
-/// Adds the link of this number, established, and gives the enquiry that is to come for it.
+/// Adds the link with this number, established, and returns the enquiry for it.
 fn add_link(alloc: Global, table: &mut LinkTable, number: u32) -> Result<Enquiry, BenchFault> {
     let id = id_of(number)?;
     let enquiry = [id.sapi.value() * 4, id.tei.value() * 2 + 1, 0x01, 0x01];
@@ -52,7 +53,7 @@ fn add_link(alloc: Global, table: &mut LinkTable, number: u32) -> Result<Enquiry
     Ok(enquiry)
 }
 
-/// Hands in so many enquiries, one after another of these. Tells how many frames answer.
+/// Passes this many enquiries, in the order of these, repeatedly. Returns how many frames respond.
 fn answer_each(
     table: &mut LinkTable,
     enquiries: &[Enquiry],
@@ -76,7 +77,7 @@ fn answer_each(
     Ok(answered)
 }
 
-/// Hands in a frame, and writes what its link answers. Tells how many frames these are.
+/// Passes a frame, and writes the response of its link. Returns how many frames respond.
 fn reply(
     table: &mut LinkTable,
     bytes: &[u8],
@@ -99,7 +100,7 @@ fn reply(
     Ok(sent)
 }
 
-/// The link of this number: TEIs 0 to 126 of service access point 0, then those of 16.
+/// The link with this number: TEIs 0 to 126 of service access point 0, then those of 16.
 fn id_of(number: u32) -> Result<LinkId, BenchFault>
     ensures { IfOk result (λ id. (id.sapi ≢ Sapi.Management) × (id.tei < 127)) }
 {
@@ -114,7 +115,7 @@ fn id_of(number: u32) -> Result<LinkId, BenchFault>
     }
 }
 
-/// Adds a link of the network's, established by the user.
+/// Adds a link of the network side, established by the user.
 fn add_established(alloc: Global, table: &mut LinkTable, id: LinkId) -> Result<(), BenchFault>
     requires { (id.sapi ≢ Sapi.Management) × (id.tei < 127) }
 {

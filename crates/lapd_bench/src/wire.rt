@@ -1,4 +1,4 @@
-//! The octets that are under way from one end to the other.
+//! The octets on the line from one end to the other.
 
 ghost use Rattle.std.specs.Prelude.{◌≤◌};
 ghost use Rattle.lapd_frame.specs.declared.frame.TheConstants.{MOST_OCTETS};
@@ -6,7 +6,7 @@ ghost use Rattle.lapd_frame.specs.declared.frame.TheConstants.{MOST_OCTETS};
 use crate::bench_fault::BenchFault;
 use lapd_frame::{Frame, MOST_OCTETS, Side, write};
 
-/// How many frames are under way at most: a window of primary rate access, or the answers to one.
+/// The most frames on the line: a window of primary rate access, or the responses to one.
 const FRAMES: usize = 7;
 
 /// The octets of one frame.
@@ -18,7 +18,7 @@ pub struct Slot {
 }
 
 impl Slot {
-    /// No octets.
+    /// An empty slot.
     fn empty() -> Slot {
         Slot {
             octets: [0; MOST_OCTETS],
@@ -26,7 +26,7 @@ impl Slot {
         }
     }
 
-    /// Writes a frame, as this side sends it, over what was there.
+    /// Replaces its octets by a frame, as this side sends it.
     fn write(&mut self, frame: &Frame<'_>, sender: Side) {
         self.len = write(frame, sender, &mut self.octets);
     }
@@ -37,7 +37,7 @@ impl Slot {
     }
 }
 
-/// One direction of the line: the frames that one side has sent and the other has not taken.
+/// One direction of the line: the frames that one side has sent and the other has not received.
 #[derive(Drop)]
 pub struct Wire {
     sender: Side,
@@ -60,11 +60,11 @@ impl Wire {
         self.sender
     }
 
-    /// Writes a frame behind those that are under way.
+    /// Writes a frame after the others on the line.
     ///
     /// # Errors
     ///
-    /// `LineFull` where seven are.
+    /// `LineFull` if there are seven.
     #[inline(always)]
     pub fn send(&mut self, frame: &Frame<'_>) -> Result<(), BenchFault> {
         if self.used < FRAMES {
@@ -76,12 +76,12 @@ impl Wire {
         }
     }
 
-    /// The octets of the frames that are under way, in the order in which they were sent.
+    /// The octets of the frames on the line, in the order in which they were sent.
     pub fn under_way(&self) -> &[Slot] {
         self.slots.get(..self.used).unwrap_or(&[])
     }
 
-    /// All frames were taken.
+    /// Removes all frames, which were received.
     pub fn clear(&mut self) {
         self.used = 0;
     }

@@ -1,4 +1,5 @@
--- What a packet of a capture holds, by the link type of its interface. All places are places in the capture's octets.
+-- The content of a packet of a capture, by the link type of its interface. All places are indices
+-- of the capture's octets.
 use Rattle.std.specs.Prelude.{ℕ, ◌+◌, ◌*◌, ◌/◌, ◌%◌, ◌-◌, ◌≤◌, ◌==◌, nat_lt, not, if◌then◌else◌, List, slice_index, Option, Some, None, ⊤}
 use Rattle.lapd_field.specs.declared.side.Side.{Side}
 use Rattle.lapd_field.specs.declared.side.Side.TheVariants.{Network, User}
@@ -11,7 +12,8 @@ use Rattle.lapd_capture.specs.declared.link_type.LinkType.{LinkType}
 use Rattle.lapd_capture.specs.declared.link_type.LinkType.TheVariants.{LinuxLapd, Lapd, Ethernet, Ip, NotServed}
 use Rattle.lapd_capture.specs.Octets.{number_at}
 
--- the link type of a number: LINKTYPE_LINUX_LAPD, LINKTYPE_LAPD, LINKTYPE_ETHERNET, LINKTYPE_RAW and LINKTYPE_IPV4
+-- the link type with this number: LINKTYPE_LINUX_LAPD, LINKTYPE_LAPD, LINKTYPE_ETHERNET,
+-- LINKTYPE_RAW and LINKTYPE_IPV4
 abbrev pub link_type_of : ℕ → LinkType
 link_type_of number = if number == 177 then LinuxLapd else (
     if number == 203 then Lapd else (
@@ -21,18 +23,19 @@ link_type_of number = if number == 177 then LinuxLapd else (
 
 -- ---- LINKTYPE_LINUX_LAPD: 16 octets before each frame.
 
--- the side that captured: the network's where the first octet of the address is not 0
+-- the side that captured: the network side if the first octet of the address is not 0
 abbrev pub capturing_side : ℕ → Side
 capturing_side first = if first == 0 then User else Network
 
--- who sent the frame, by the packet type: to this host, to all, to some, from another terminal, from this host
+-- who sent the frame, by the packet type: 0 to this host, 1 to all, 2 to some, 3 from another
+-- terminal, 4 from this host
 abbrev pub sender_of : ℕ → Side → Option Side
 sender_of type side = if nat_lt type 3 then Some (other_side side) else (
     if type == 3 then Some User else (
     if type == 4 then Some side else None))
 
--- the frame behind the 16 octets from `start` on: packet type, ARPHRD type, length of the address, 8 octets of address, and
--- the protocol, 0x0030
+-- the frame after the 16 octets from `start` on: packet type, ARPHRD type, length of the address, 8
+-- octets of address, and the protocol, 0x0030
 abbrev pub linux_lapd : ℕ → ℕ → List ℕ → Found
 linux_lapd start end octets = if nat_lt (end - start) 16 then Unreadable BadLength else (
     if number_at Big 2 (start + 14) octets == 0x0030 then Frame (record {
@@ -44,11 +47,11 @@ linux_lapd start end octets = if nat_lt (end - start) 16 then Unreadable BadLeng
 
 -- ---- GSMTAP over UDP over IPv4.
 
--- the uplink bit of the channel number: the user sent it
+-- who sent the frame: the user if the uplink bit of the channel number is set
 abbrev pub gsmtap_sender : ℕ → Side
 gsmtap_sender channel = if channel / 0x4000 % 2 == 1 then User else Network
 
--- behind a GSMTAP header of this length in octets
+-- the frame after a GSMTAP header of this length in octets
 abbrev pub gsmtap_frame : ℕ → ℕ → ℕ → List ℕ → Found
 gsmtap_frame header start end octets = if nat_lt header 16 then Unreadable BadLength else (
     if nat_lt (end - start) header then Unreadable BadLength else Frame (record {
@@ -57,8 +60,8 @@ gsmtap_frame header start end octets = if nat_lt header 16 then Unreadable BadLe
       end = end;
     }))
 
--- GSMTAP of version 2: the length of its header in words of four octets, its type, 0x13 for E1 and T1 lines, and at 12 its
--- subtype, 1 for LAPD
+-- GSMTAP of version 2: the length of its header in words of four octets, its type, 0x13 for E1 and
+-- T1 lines, and at 12 its subtype, 1 for LAPD
 abbrev pub gsmtap : ℕ → ℕ → List ℕ → Found
 gsmtap start end octets = if nat_lt (end - start) 16 then Unreadable BadLength else (
     if not (slice_index octets start == 2) then Other else (
@@ -73,14 +76,14 @@ udp start end octets = if not (number_at Big 2 (start + 2) octets == 4729) then 
     if nat_lt (end - start) (number_at Big 2 (start + 4) octets) then Unreadable BadLength else
     gsmtap (start + 8) (start + number_at Big 2 (start + 4) octets) octets))
 
--- behind an IPv4 header of this length, in a packet of this total length
+-- the content after an IPv4 header of this length, in a packet of this total length
 abbrev pub ip_payload : ℕ → ℕ → ℕ → ℕ → List ℕ → Found
 ip_payload header total start end octets = if nat_lt header 20 then Unreadable BadLength else (
     if nat_lt total (header + 8) then Unreadable BadLength else (
     if nat_lt (end - start) total then Unreadable BadLength else
     udp (start + header) (start + total) octets))
 
--- an IPv4 packet that is whole and carries UDP
+-- an IPv4 packet that is complete and carries UDP
 abbrev pub ip : ℕ → ℕ → List ℕ → Found
 ip start end octets = if nat_lt (end - start) 20 then Unreadable BadLength else (
     if not (slice_index octets start / 16 == 4) then Other else (
@@ -89,14 +92,14 @@ ip start end octets = if nat_lt (end - start) 20 then Unreadable BadLength else 
     ip_payload (slice_index octets start % 16 * 4) (number_at Big 2 (start + 2) octets) start end
     octets)))
 
--- an Ethernet frame with IPv4 in it
+-- an Ethernet frame that carries IPv4
 abbrev pub ethernet : ℕ → ℕ → List ℕ → Found
 ethernet start end octets = if nat_lt (end - start) 14 then Unreadable BadLength else (
     if number_at Big 2 (start + 12) octets == 0x0800 then ip (start + 14) end octets else Other)
 
--- ---- All of them.
+-- ---- All link types.
 
--- what the octets from `start` to `end` hold, on an interface of this link type
+-- the content of the octets from `start` to `end`, on an interface with this link type
 abbrev pub packet_at : LinkType → ℕ → ℕ → List ℕ → Found
 packet_at LinuxLapd start end octets = linux_lapd start end octets
 packet_at Lapd start end octets = Frame (record { from = None; start = start; end = end })
@@ -104,12 +107,13 @@ packet_at Ethernet start end octets = ethernet start end octets
 packet_at Ip start end octets = ip start end octets
 packet_at NotServed start end octets = Other
 
--- the same of a packet that had so many octets on its line: it was captured in part where these are fewer
+-- the same for a packet of this original length: if fewer octets were captured, it was captured in
+-- part
 abbrev pub whole_packet_at : ℕ → LinkType → ℕ → ℕ → List ℕ → Found
 whole_packet_at original link start end octets =
     if nat_lt (end - start) original then Unreadable Partial else packet_at link start end octets
 
--- a frame that was found stands within so many octets
+-- a frame that was found lies within this many octets
 abbrev pub IsWithin : ℕ → Found → Type 0
 IsWithin count (Frame span) = (span.start ≤ span.end) × (span.end ≤ count)
 IsWithin count Other = ⊤

@@ -1,4 +1,5 @@
--- Reading a capture: its layout, and what stands next in it. Each length is compared with what is there before it is used.
+-- Reading a capture: its layout, and its next item. Each length is compared with the octets that
+-- are left before it is used.
 use Rattle.std.specs.Prelude.{◌≡◌, ℕ, ◌+◌, ◌*◌, ◌/◌, ◌%◌, ◌-◌, ◌==◌, ◌||◌, nat_lt, not, if◌then◌else◌, Bool, true, false, List, [], ◌∷◌, ◌++◌, length, Option, Some, None, Result, Ok, Err, slice_get}
 use Rattle.lapd_capture.specs.declared.order.Order.{Order}
 use Rattle.lapd_capture.specs.declared.order.Order.TheVariants.{Big, Little}
@@ -14,8 +15,8 @@ use Rattle.lapd_capture.specs.declared.capture.Layout.TheVariants.{Records, Bloc
 use Rattle.lapd_capture.specs.Octets.{number_at}
 use Rattle.lapd_capture.specs.Packet.{link_type_of, whole_packet_at}
 
--- a capture and how far it is read: the layout of what stands at the place, the link types of the interfaces, of which a pcap
--- file has one, how many packets were passed, and when the last of them was captured, where that is told
+-- A capture and how far it is read: the layout, the link types of the interfaces (a pcap file has
+-- one), how many packets were read, and when the last of them was captured, if the file says so.
 pub record Reading : Type 0 where
   pub octets : List ℕ
   pub place : ℕ
@@ -25,14 +26,14 @@ pub record Reading : Type 0 where
   pub packets : ℕ
   pub moment : Option ℕ
 
--- what was found, and the capture behind it
+-- the item that was found, and the capture after it
 pub record Step : Type 0 where
   pub found : Found
   pub reading : Reading
 
--- ---- pcap: a header of 24 octets, then records of a header of 16 octets and a packet.
+-- ---- pcap: a header of 24 octets, followed by records of a header of 16 octets and a packet.
 
--- the greatest packet of a pcap file
+-- the greatest length of a packet of a pcap file
 abbrev pub most_packet : ℕ
 most_packet = 262144
 
@@ -40,31 +41,31 @@ most_packet = 262144
 abbrev pub left_of : Reading → ℕ
 left_of reading = length reading.octets - reading.place
 
--- the number of so many octets, this many octets behind the place
+-- the number of this many octets, at this distance from the place
 abbrev pub number_in : Order → ℕ → ℕ → Reading → ℕ
 number_in order count behind reading = number_at order count (reading.place + behind) reading.octets
 
--- the packet of an interface of this number
+-- the packet on the interface with this number
 abbrev pub found_on : Option LinkType → ℕ → ℕ → ℕ → List ℕ → Found
 found_on None original start end octets = Unreadable NoInterface
 found_on (Some link) original start end octets = whole_packet_at original link start end octets
 
--- a pcap file has nanoseconds in place of microseconds, by its first four octets
+-- whether a pcap file has nanoseconds instead of microseconds, by its first four octets
 abbrev pub has_nanoseconds : List ℕ → Bool
 has_nanoseconds octets =
     (number_at Big 4 0 octets == 0xA1B23C4D) || (number_at Big 4 0 octets == 0x4D3CB2A1)
 
--- parts of a second in microseconds, of nanoseconds the whole ones
+-- the fraction of a second in microseconds; nanoseconds are rounded down
 abbrev pub microseconds : Bool → ℕ → ℕ
 microseconds true parts = parts / 1000
 microseconds false parts = parts
 
--- the moment of a record, in microseconds since 1970: its seconds, and parts of a second
+-- the moment of a record, in microseconds since 1970: its seconds and its fraction of a second
 abbrev pub record_moment : Reading → ℕ
 record_moment r = number_in r.order 4 0 r * 1000000
     + microseconds (has_nanoseconds r.octets) (number_in r.order 4 4 r)
 
--- a packet behind a record's header, with so many octets captured of so many
+-- the packet after a record's header, with the number of captured octets and its original length
 abbrev pub record_packet : ℕ → ℕ → Reading → Result Step CaptureFault
 record_packet captured original r = if nat_lt most_packet captured then Err BadLength else (
     if nat_lt (left_of r - 16) captured then Err Cut else Ok (record {
@@ -77,24 +78,24 @@ record_packet captured original r = if nat_lt most_packet captured then Err BadL
       };
     }))
 
--- a record: the moment in two numbers, how many octets were captured, and how many there were on the line
+-- a record: the moment in two numbers, the number of captured octets, and the original length
 abbrev pub record_step : Reading → Result Step CaptureFault
 record_step r = if nat_lt (left_of r) 16 then Err Cut else
     record_packet (number_in r.order 4 8 r) (number_in r.order 4 12 r) r
 
 -- ---- pcapng: blocks, each with its kind, its length, its body, and its length again.
 
--- the order that a section header tells
+-- the byte order of a section, by the magic number of its header
 abbrev pub order_of_magic : ℕ → Result Order CaptureFault
 order_of_magic magic = if magic == 0x1A2B3C4D then Ok Big else (
     if magic == 0x4D3C2B1A then Ok Little else Err NotACapture)
 
--- the order of the next block: a section header tells its own
+-- the byte order of the next block; a section header has its own
 abbrev pub block_order : Reading → Result Order CaptureFault
 block_order r = if number_in Big 4 0 r == 0x0A0D0D0A then order_of_magic (number_in Big 4 8 r)
     else Ok r.order
 
--- a length of a block, where it stands at both ends
+-- the length of a block, if both of its ends have the same
 abbrev pub length_checked : ℕ → Order → Reading → Result ℕ CaptureFault
 length_checked n order r = if nat_lt n 12 then Err BadLength else (
     if not (n % 4 == 0) then Err BadLength else (
@@ -104,36 +105,37 @@ length_checked n order r = if nat_lt n 12 then Err BadLength else (
 abbrev pub block_length : Order → Reading → Result ℕ CaptureFault
 block_length order r = length_checked (number_in order 4 4 r) order r
 
--- an enhanced packet block of this length: interface, moment, octets captured, octets on the line
+-- an enhanced packet block of this length: interface, moment, number of captured octets, original
+-- length
 abbrev pub enhanced_packet : ℕ → Reading → Found
 enhanced_packet n r = if nat_lt n 32 then Unreadable BadPacketLength else (
     if nat_lt (n - 32) (number_in r.order 4 20 r) then Unreadable BadPacketLength else
     found_on (slice_get r.links (number_in r.order 4 8 r)) (number_in r.order 4 24 r)
     (r.place + 28) (r.place + 28 + number_in r.order 4 20 r) r.octets)
 
--- a simple packet block of this length: octets on the line, of the first interface
+-- a simple packet block of this length: the original length of a packet on the first interface
 abbrev pub simple_packet : ℕ → Reading → Found
 simple_packet n r = if nat_lt n 16 then Unreadable BadPacketLength else (
     if nat_lt (n - 16) (number_in r.order 4 8 r) then Unreadable Partial else
     found_on (slice_get r.links 0) (number_in r.order 4 8 r)
     (r.place + 12) (r.place + 12 + number_in r.order 4 8 r) r.octets)
 
--- behind the block of this length
+-- the reading after the block of this length
 abbrev pub behind : ℕ → Reading → Reading
 behind n r = record r { place = r.place + n }
 
--- the packet of a block, of which it is not said when it was captured
+-- the reading after a packet block; its moment is not read
 abbrev pub behind_packet : ℕ → Reading → Reading
 behind_packet n r = record r { place = r.place + n; packets = r.packets + 1; moment = None }
 
 abbrev pub packet_step : Found → ℕ → Reading → Result Step CaptureFault
 packet_step found n r = Ok (record { found = found; reading = behind_packet n r })
 
--- a block that is no packet
+-- a block without a packet
 abbrev pub other_step : ℕ → Reading → Result Step CaptureFault
 other_step n r = Ok (record { found = Other; reading = behind n r })
 
--- a section header: no interface is known any more
+-- a section header: it forgets the interfaces of the section before
 abbrev pub section_step : ℕ → Reading → Result Step CaptureFault
 section_step n r = if nat_lt n 28 then Err BadLength else
     other_step n (record r { links = [] })
@@ -164,18 +166,19 @@ block_of_order (Ok order) r = block_of_length (block_length order r) (record r {
 abbrev pub block_step : Reading → Result Step CaptureFault
 block_step r = if nat_lt (left_of r) 12 then Err Cut else block_of_order (block_order r) r
 
--- ---- Both.
+-- ---- Both formats.
 
 abbrev pub step_of : Layout → Reading → Result Step CaptureFault
 step_of Records r = record_step r
 step_of Blocks r = block_step r
 
--- what stands next
+-- the next item
 abbrev pub next_step : Reading → Result Step CaptureFault
 next_step r = if left_of r == 0 then Ok (record { found = End; reading = r })
     else step_of r.layout r
 
--- a call finds what this step says and goes behind it; at a fault it goes nowhere
+-- a call returns the item of this step and moves to the place after it; on a fault the capture is
+-- unchanged
 abbrev pub MakesStep : Result Step CaptureFault → Result Found CaptureFault → Reading → Reading
     → Type 0
 MakesStep step (Ok found) old new = step ≡ Ok (record { found = found; reading = new })
@@ -183,7 +186,7 @@ MakesStep step (Err fault) old new = (step ≡ Err fault) × (new ≡ old)
 
 -- ---- The head of a file.
 
--- the order of a pcap file's numbers, by its first four octets, with microseconds or nanoseconds
+-- the byte order of a pcap file, by its first four octets, with microseconds or nanoseconds
 abbrev pub order_of_pcap : ℕ → Option Order
 order_of_pcap magic = if magic == 0xA1B2C3D4 then Some Big else (
     if magic == 0xA1B23C4D then Some Big else (
@@ -202,7 +205,7 @@ with_link order link octets = Ok (record {
   moment = None;
 })
 
--- a pcap file: the number of its link type stands in the low half of its last four octets
+-- a pcap file: the low half of its last four header octets is its link type
 abbrev pub pcap_opened : Order → List ℕ → Result Reading CaptureFault
 pcap_opened order octets = if nat_lt (length octets) 24 then Err Cut else
     with_link order (link_type_of (number_at order 4 20 octets % 0x10000)) octets
@@ -211,7 +214,7 @@ abbrev pub opened_by_order : Option Order → List ℕ → Result Reading Captur
 opened_by_order None octets = Err NotACapture
 opened_by_order (Some order) octets = pcap_opened order octets
 
--- the capture that these octets are, at its first record or block
+-- the capture in these octets, at its first record or block
 abbrev pub opened : List ℕ → Result Reading CaptureFault
 opened octets = if nat_lt (length octets) 4 then Err NotACapture else (
     if number_at Big 4 0 octets == 0x0A0D0D0A then Ok (record {

@@ -10,7 +10,7 @@ use crate::packet::whole_packet_at;
 use arrayvec::ArrayVec;
 use std::marker::Model;
 
-/// The greatest packet of a pcap file, in octets.
+/// The greatest length of a packet of a pcap file, in octets.
 const MOST_PACKET: usize = 262_144;
 
 /// The length of a record's header, in octets.
@@ -19,7 +19,8 @@ const RECORD_HEADER: usize = 16;
 /// The most interfaces of a section of a pcapng file.
 const MOST_INTERFACES: usize = 64;
 
-/// The kind of a section header, with which a pcapng file begins. It reads so in either order.
+/// The kind of a section header, the first block of a pcapng file. Both byte orders have the same
+/// number.
 const SECTION: usize = 0x0a0d_0d0a;
 
 /// The kind of an interface description.
@@ -34,7 +35,7 @@ const ENHANCED_PACKET: usize = 6;
 /// The least length of a block, in octets.
 const LEAST_BLOCK: usize = 12;
 
-/// How a file is laid out.
+/// The format of a file.
 #[derive(Clone, Copy)]
 pub(crate) enum Layout {
     /// pcap.
@@ -43,7 +44,7 @@ pub(crate) enum Layout {
     Blocks,
 }
 
-/// A capture in memory, and how far it is read. All places are those of its octets, from 0.
+/// A capture in memory, and how far it is read. All places are indices of its octets, from 0.
 #[derive(Drop)]
 pub struct Capture<'a> {
     octets: &'a [u8],
@@ -75,11 +76,12 @@ impl<'a> Model for Capture<'a> {
 }
 
 impl<'a> Capture<'a> {
-    /// The capture that these octets are, at its first record or block.
+    /// Opens the capture in these octets, at its first record or block.
     ///
     /// # Errors
     ///
-    /// `NotACapture`; for a pcap file `Cut`, where it is shorter than its header, and `LinkNotServed`.
+    /// `NotACapture`; for a pcap file also `Cut` if it is shorter than its header, and
+    /// `LinkNotServed`.
     pub fn new(octets: &'a [u8]) -> Result<Capture<'a>, CaptureFault>
         ensures { result ≡ opened octets.now }
     {
@@ -104,7 +106,7 @@ impl<'a> Capture<'a> {
         }
     }
 
-    /// A pcap file, at its first record.
+    /// Opens a pcap file, at its first record.
     fn of_pcap(order: Order, octets: &'a [u8]) -> Result<Capture<'a>, CaptureFault>
         ensures { result ≡ pcap_opened order octets.now }
     {
@@ -128,22 +130,23 @@ impl<'a> Capture<'a> {
         })
     }
 
-    /// How far it is read: the place of the next record or block.
+    /// The place of the next record or block.
     pub fn place(&self) -> usize
         ensures { result ≡ self.now.place }
     {
         self.place
     }
 
-    /// How many packets were passed, with those that hold no frame: the number of the last of them, from 1.
+    /// How many packets were read, with or without a frame. So it is also the number of the last
+    /// packet, from 1.
     pub fn packets(&self) -> usize
         ensures { result ≡ self.now.packets }
     {
         self.packets
     }
 
-    /// When the last packet that was passed was captured, in microseconds since 1970. `None` before the first one, and in a
-    /// pcapng file.
+    /// When the last packet that was read was captured, in microseconds since 1970. `None` before
+    /// the first packet, and in a pcapng file.
     pub fn moment(&self) -> Option<u64>
         ensures { result ≡ self.now.moment }
     {
@@ -158,12 +161,12 @@ impl<'a> Capture<'a> {
         &self.octets[frame.start..frame.end]
     }
 
-    /// Finds what stands next, and goes behind it.
+    /// Reads the next record or block.
     ///
     /// # Errors
     ///
-    /// `Cut`, `BadLength`, `TooManyInterfaces`, and `NotACapture` at a section of pcapng that tells no byte order. It
-    /// stays where it was then, so each later call answers the same.
+    /// `Cut`, `BadLength`, `TooManyInterfaces`, and `NotACapture` if a section of pcapng has an
+    /// unknown byte order. The place is unchanged then, so each later call returns the same error.
     pub fn next(&mut self) -> Result<Found, CaptureFault>
         ensures step { MakesStep (next_step self.old) result self.old self.new }
         ensures within { IfOk result (IsWithin (length self.old.octets)) }
@@ -185,7 +188,7 @@ impl<'a> Capture<'a> {
         self.octets.len() - self.place
     }
 
-    /// The number of four octets, so many octets behind the place.
+    /// The number in four octets, at this distance from the place.
     fn number(&self, order: Order, behind: usize) -> usize
         requires { behind + 4 ≤ left_of self.now }
         ensures number { result ≡ number_in order 4 behind self.now }
@@ -194,7 +197,7 @@ impl<'a> Capture<'a> {
         order.u32_at(self.place + behind, self.octets)
     }
 
-    /// Goes so many octets on, in this order.
+    /// Moves this many octets on, and sets the byte order.
     fn go_behind(&mut self, order: Order, count: usize)
         requires { count ≤ left_of self.old }
         ensures { self.new ≡ behind count (record self.old { order = order }) }
@@ -203,7 +206,7 @@ impl<'a> Capture<'a> {
         self.place += count;
     }
 
-    /// What a packet of an interface holds.
+    /// The content of a packet on an interface.
     fn found_on(&self, interface: usize, original: usize, start: usize, end: usize) -> Found
         requires order { start ≤ end }
         requires within { end ≤ length self.now.octets }
@@ -217,7 +220,7 @@ impl<'a> Capture<'a> {
         }
     }
 
-    /// The next record.
+    /// Reads the next record.
     fn next_record(&mut self) -> Result<Found, CaptureFault>
         ensures step { MakesStep (record_step self.old) result self.old self.new }
         ensures within { IfOk result (IsWithin (length self.old.octets)) }
@@ -232,7 +235,7 @@ impl<'a> Capture<'a> {
         self.take_record(captured, original)
     }
 
-    /// A record with a packet of so many octets captured of so many.
+    /// Reads a record whose packet has this many captured octets and this original length.
     fn take_record(&mut self, captured: usize, original: usize) -> Result<Found, CaptureFault>
         requires { RECORD_HEADER ≤ left_of self.old }
         ensures step { MakesStep (record_packet captured original self.old) result self.old
@@ -255,7 +258,7 @@ impl<'a> Capture<'a> {
         Ok(found)
     }
 
-    /// When the record that stands next was captured, in microseconds since 1970.
+    /// When the next record was captured, in microseconds since 1970.
     fn record_moment(&self) -> u64
         requires { RECORD_HEADER ≤ left_of self.now }
         ensures { result ≡ record_moment self.now }
@@ -269,7 +272,7 @@ impl<'a> Capture<'a> {
         }
     }
 
-    /// The next block.
+    /// Reads the next block.
     fn next_block(&mut self) -> Result<Found, CaptureFault>
         ensures step { MakesStep (block_step self.old) result self.old self.new }
         ensures within { IfOk result (IsWithin (length self.old.octets)) }
@@ -283,7 +286,7 @@ impl<'a> Capture<'a> {
         self.take_block(order, count)
     }
 
-    /// The order of the next block.
+    /// The byte order of the next block.
     fn block_order(&self) -> Result<Order, CaptureFault>
         requires { LEAST_BLOCK ≤ left_of self.now }
         ensures { result ≡ block_order self.now }
@@ -318,7 +321,7 @@ impl<'a> Capture<'a> {
         }
     }
 
-    /// A block of this order and length.
+    /// Reads a block with this byte order and length.
     fn take_block(&mut self, order: Order, count: usize) -> Result<Found, CaptureFault>
         requires least { LEAST_BLOCK ≤ count }
         requires most { count ≤ left_of self.old }
@@ -338,7 +341,7 @@ impl<'a> Capture<'a> {
         Ok(found)
     }
 
-    /// Goes behind the packet of a block of this order and length.
+    /// Moves to the place after the packet block with this byte order and length.
     fn pass_packet(&mut self, order: Order, count: usize)
         requires least { LEAST_BLOCK ≤ count }
         requires most { count ≤ left_of self.old }
@@ -350,7 +353,7 @@ impl<'a> Capture<'a> {
         self.moment = None;
     }
 
-    /// A block that is passed over.
+    /// Skips a block.
     fn take_other(&mut self, order: Order, count: usize) -> Result<Found, CaptureFault>
         requires { count ≤ left_of self.old }
         ensures step { MakesStep (other_step count (record self.old { order = order })) result
@@ -362,7 +365,7 @@ impl<'a> Capture<'a> {
         Ok(Found::Other)
     }
 
-    /// A section header: no interface is known any more.
+    /// Reads a section header, and forgets the interfaces of the section before.
     fn take_section(&mut self, order: Order, count: usize) -> Result<Found, CaptureFault>
         requires { count ≤ left_of self.old }
         ensures step { MakesStep (section_step count (record self.old { order = order })) result
@@ -378,7 +381,7 @@ impl<'a> Capture<'a> {
         Ok(Found::Other)
     }
 
-    /// An interface description.
+    /// Reads an interface description.
     fn take_interface(&mut self, order: Order, count: usize) -> Result<Found, CaptureFault>
         requires { count ≤ left_of self.old }
         ensures step { MakesStep (interface_step count (record self.old { order = order })) result
@@ -434,7 +437,7 @@ impl<'a> Capture<'a> {
     }
 }
 
-/// Whether a pcap file has nanoseconds in place of microseconds.
+/// Whether a pcap file has nanoseconds instead of microseconds.
 fn has_nanoseconds(octets: &[u8]) -> bool
     requires { 4 ≤ length octets.now }
     ensures { result ≡ has_nanoseconds octets.now }
@@ -442,7 +445,7 @@ fn has_nanoseconds(octets: &[u8]) -> bool
     matches!(Order::Big.u32_at(0, octets), 0xa1b2_3c4d | 0x4d3c_b2a1)
 }
 
-/// The order of a pcap file's numbers, by its first four octets.
+/// The byte order of a pcap file, by its first four octets.
 fn order_of_pcap(magic: usize) -> Option<Order>
     ensures { result ≡ order_of_pcap magic }
 {
@@ -453,7 +456,7 @@ fn order_of_pcap(magic: usize) -> Option<Order>
     }
 }
 
-/// The order that a section header tells.
+/// The byte order of a section, by the magic number of its header.
 fn order_of_magic(magic: usize) -> Result<Order, CaptureFault>
     ensures { result ≡ order_of_magic magic }
 {

@@ -1,4 +1,4 @@
-//! A capture that is written.
+//! Writing captures.
 
 ghost use Rattle.std.specs.Prelude.{◌≡◌, ◌≤◌, length, IfOk, OnOk};
 ghost use Rattle.std.specs.Io.KnownBytes.{Appends};
@@ -8,8 +8,8 @@ use crate::written::{FILE_HEADER, MOST_FRAME, record_of};
 use lapd_field::Side;
 use std::io::{self, Write};
 
-/// A pcap file of link type 177 to which frames are written as one side captures them. Each is handed to the device as it is
-/// written. After an error no frame more can be written: the front of a record may stand at the end.
+/// A pcap file of link type 177 to which frames are written as one side captures them. Each frame
+/// is passed to the writer at once. Stop after an error: the file may end within a record.
 #[derive(Drop)]
 pub struct CaptureWriter<W> {
     out: W,
@@ -18,7 +18,7 @@ pub struct CaptureWriter<W> {
 }
 
 impl<W: Write> CaptureWriter<W> {
-    /// The file of what this side captures, with its head.
+    /// Begins the file of the frames that this side captures, and writes its header.
     ///
     /// # Errors
     ///
@@ -35,7 +35,8 @@ impl<W: Write> CaptureWriter<W> {
         Ok(CaptureWriter { out, own })
     }
 
-    /// Writes a frame of at most 264 octets, which `from` sent, at a moment in milliseconds since 1970.
+    /// Writes a frame of at most 264 octets, which `from` sent, at a moment in milliseconds since
+    /// 1970.
     ///
     /// # Errors
     ///

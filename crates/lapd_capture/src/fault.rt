@@ -1,19 +1,19 @@
 use thiserror::Error;
 
-/// Why a capture can't be read on.
+/// Why a capture can't be read further.
 #[derive(Clone, Copy, Debug, PartialEq, Eq, Error)]
 pub enum CaptureFault {
-    /// It begins as no pcap and no pcapng, or a section tells no byte order.
+    /// Neither a pcap nor a pcapng file, or a section has an unknown byte order.
     #[error("no pcap or pcapng")]
     NotACapture,
-    /// The link type of a pcap file is none of those that may hold frames.
+    /// Frames can't be read from the link type of a pcap file.
     #[error("link type is not served")]
     LinkNotServed,
-    /// It ends inside a header, a packet or a block.
+    /// It ends within a header, a packet or a block.
     #[error("cut short")]
     Cut,
-    /// A length that no packet or block has: above 262,144 octets in pcap, or in pcapng below the least of its block, not a
-    /// multiple of 4, or another one at the block's end.
+    /// An invalid length: above 262,144 octets in pcap; in pcapng below the least length of the
+    /// block, not a multiple of 4, or different at the end of the block.
     #[error("bad length")]
     BadLength,
     /// More than 64 interfaces in one section.

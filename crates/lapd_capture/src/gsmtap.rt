@@ -1,4 +1,4 @@
-//! GSMTAP over UDP over IPv4, with Ethernet before it or not.
+//! GSMTAP over UDP over IPv4, with or without Ethernet.
 
 ghost use Rattle.std.specs.Prelude.{◌≡◌, ◌≤◌, ◌<◌, ◌+◌, length};
 ghost use Rattle.lapd_capture.specs.Packet.{ethernet, ip, ip_payload, udp, gsmtap, gsmtap_frame, gsmtap_sender, IsWithin};
@@ -27,7 +27,7 @@ const LAPD_SUBTYPE: u8 = 1;
 
 const BAD_LENGTH: Found = Found::Unreadable(PacketFault::BadLength);
 
-/// What an Ethernet frame holds.
+/// The content of an Ethernet frame.
 pub(crate) fn ethernet(start: usize, end: usize, octets: &[u8]) -> Found
     requires order { start ≤ end }
     requires within { end ≤ length octets.now }
@@ -44,7 +44,7 @@ pub(crate) fn ethernet(start: usize, end: usize, octets: &[u8]) -> Found
     }
 }
 
-/// What an IPv4 packet holds, where it is whole and carries UDP.
+/// The content of an IPv4 packet, if it is complete and carries UDP.
 pub(crate) fn ip(start: usize, end: usize, octets: &[u8]) -> Found
     requires order { start ≤ end }
     requires within { end ≤ length octets.now }
@@ -68,7 +68,7 @@ pub(crate) fn ip(start: usize, end: usize, octets: &[u8]) -> Found
     ip_payload(header, total, start, end, octets)
 }
 
-/// What stands behind an IPv4 header of this length, in a packet of this total length.
+/// The content after an IPv4 header of this length, in a packet of this total length.
 fn ip_payload(header: usize, total: usize, start: usize, end: usize, octets: &[u8]) -> Found
     requires header { header < 64 }
     requires order { start ≤ end }
@@ -88,7 +88,7 @@ fn ip_payload(header: usize, total: usize, start: usize, end: usize, octets: &[u
     udp(start + header, start + total, octets)
 }
 
-/// What a UDP datagram to the port of GSMTAP holds.
+/// The content of a UDP datagram, if it is sent to the port of GSMTAP.
 fn udp(start: usize, end: usize, octets: &[u8]) -> Found
     requires order { start + 8 ≤ end }
     requires within { end ≤ length octets.now }
@@ -108,7 +108,7 @@ fn udp(start: usize, end: usize, octets: &[u8]) -> Found
     gsmtap(start + 8, start + count, octets)
 }
 
-/// The frame behind a GSMTAP header of version 2, where it is one of LAPD.
+/// The frame after a GSMTAP header of version 2, if it is a LAPD frame.
 fn gsmtap(start: usize, end: usize, octets: &[u8]) -> Found
     requires order { start ≤ end }
     requires within { end ≤ length octets.now }
@@ -131,7 +131,7 @@ fn gsmtap(start: usize, end: usize, octets: &[u8]) -> Found
     gsmtap_frame(header, start, end, octets)
 }
 
-/// The frame behind a GSMTAP header of this length.
+/// The frame after a GSMTAP header of this length.
 fn gsmtap_frame(header: usize, start: usize, end: usize, octets: &[u8]) -> Found
     requires order { start ≤ end }
     requires within { end ≤ length octets.now }

@@ -1,12 +1,13 @@
 //! Captures of frames of the ISDN D channel, as tcpdump and Wireshark write and read them.
 //!
-//! Begin with [`Capture`]: it reads the frames of a pcap or pcapng file that lies in memory, of either byte order. It
-//! knows the link types LINUX_LAPD (177) and LAPD (203), and GSMTAP over UDP in Ethernet (1) or in IPv4 (101 and 228).
-//! A [`CaptureWriter`] writes a pcap file of link type 177, of [`FILE_HEADER`] and a [`record_of`] each frame, and
-//! [`gsmtap_of`] a frame for GSMTAP.
+//! Begin with [`Capture`]: it reads the frames of a pcap or pcapng file in memory, in either byte
+//! order. It supports the link types LINUX_LAPD (177) and LAPD (203), and GSMTAP over UDP in
+//! Ethernet (1) or in IPv4 (101 and 228). A [`CaptureWriter`] writes a pcap file of link type 177:
+//! a [`FILE_HEADER`], and a [`record_of`] each frame. [`gsmtap_of`] makes the GSMTAP packet of a
+//! frame.
 //!
-//! No call takes memory: each length in a capture is compared with the octets that are there. Nothing here knows what a
-//! frame says.
+//! No call allocates: each length in a capture is compared with the octets that are left. The
+//! content of frames is not checked here.
 #![tactic(auto)]
 
 mod capture;

@@ -3,12 +3,12 @@ ghost use Rattle.lapd_capture.specs.Octets.{number_at};
 
 use byteorder::{BigEndian, ByteOrder, LittleEndian};
 
-/// In which order the octets of a number stand.
+/// The byte order of a number.
 #[derive(Clone, Copy)]
 pub enum Order {
-    /// The highest first.
+    /// The high octet first.
     Big,
-    /// The lowest first.
+    /// The low octet first.
     Little,
 }
 

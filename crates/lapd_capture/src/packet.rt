@@ -1,4 +1,4 @@
-//! What a packet of a capture holds, by the link type of its interface.
+//! The content of a packet of a capture, by the link type of its interface.
 
 ghost use Rattle.std.specs.Prelude.{◌≡◌, ◌≤◌, ◌+◌, length};
 ghost use Rattle.lapd_capture.specs.Packet.{linux_lapd, capturing_side, sender_of, packet_at, whole_packet_at, IsWithin};
@@ -9,13 +9,13 @@ use crate::link_type::LinkType;
 use crate::order::Order;
 use lapd_field::Side;
 
-/// How many octets stand before a frame of link type 177.
+/// The length of the header before a frame of link type 177, in octets.
 const LINUX_HEADER: usize = 16;
 
-/// The protocol number of LAPD in them, ETH_P_LAPD.
+/// The protocol number of LAPD in this header, ETH_P_LAPD.
 const PROTOCOL: usize = 0x0030;
 
-/// What the octets from `start` to `end` hold, of which there were `original` on the line.
+/// The content of the octets from `start` to `end` of a packet whose original length is `original`.
 pub(crate) fn whole_packet_at(
     original: usize,
     link: LinkType,
@@ -34,7 +34,7 @@ pub(crate) fn whole_packet_at(
     packet_at(link, start, end, octets)
 }
 
-/// What the octets from `start` to `end` hold, on an interface of this link type.
+/// The content of the octets from `start` to `end`, on an interface with this link type.
 fn packet_at(link: LinkType, start: usize, end: usize, octets: &[u8]) -> Found
     requires order { start ≤ end }
     requires within { end ≤ length octets.now }
@@ -54,7 +54,7 @@ fn packet_at(link: LinkType, start: usize, end: usize, octets: &[u8]) -> Found
     }
 }
 
-/// The frame behind the header of link type 177.
+/// The frame after the header of link type 177.
 fn linux_lapd(start: usize, end: usize, octets: &[u8]) -> Found
     requires order { start ≤ end }
     requires within { end ≤ length octets.now }

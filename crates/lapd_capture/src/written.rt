@@ -14,11 +14,11 @@ pub const FILE_HEADER: [u8; 24] = [
     0xa1, 0xb2, 0xc3, 0xd4, 0, 2, 0, 4, 0, 0, 0, 0, 0, 0, 0, 0, 0, 4, 0, 0, 0, 0, 0, 177,
 ];
 
-/// The greatest length of a frame that is written, in octets (Q.921 5.9.3: 4 and N201).
+/// The greatest length of a frame that is written, in octets: 4 + N201 (Q.921 5.9.3).
 pub const MOST_FRAME: usize = 264;
 
-/// The record of a frame in a pcap file of link type 177: the side `own` captured it and the side `from` sent it, at a
-/// moment in milliseconds. The frame has at most 264 octets.
+/// The record of a frame in a pcap file of link type 177: the side `own` captured it and the side
+/// `from` sent it, at a moment in milliseconds. The frame has at most 264 octets.
 pub fn record_of(own: Side, from: Side, moment: u64, frame: &[u8]) -> ArrayVec<u8, 296>
     requires { length frame.now ≤ MOST_FRAME }
     ensures { result.items ≡ record_octets own from moment frame.now }
@@ -31,8 +31,8 @@ pub fn record_of(own: Side, from: Side, moment: u64, frame: &[u8]) -> ArrayVec<u
     record
 }
 
-/// A frame that the side `from` sent behind its GSMTAP header, as one UDP datagram holds it. The frame has at most 264
-/// octets.
+/// A GSMTAP header and a frame that the side `from` sent, the content of one UDP datagram. The
+/// frame has at most 264 octets.
 pub fn gsmtap_of(from: Side, frame: &[u8]) -> ArrayVec<u8, 280>
     requires { length frame.now ≤ MOST_FRAME }
     ensures { result.items ≡ gsmtap_octets from frame.now }
@@ -61,7 +61,7 @@ pub fn gsmtap_of(from: Side, frame: &[u8]) -> ArrayVec<u8, 280>
     datagram
 }
 
-/// Writes octets behind those of `out`.
+/// Appends octets to `out`.
 fn put<const N: usize>(out: &mut ArrayVec<u8, N>, octets: &[u8])
     requires { array_vec_len out.old + length octets.now ≤ N }
     ensures items { out.new.items ≡ out.old.items ++ octets.now }
@@ -95,7 +95,7 @@ fn linux_header(own: Side, from: Side) -> [u8; 16]
     ]
 }
 
-/// The packet type: 4 of what the capturing side sent, 0 of what it received.
+/// The packet type: 4 if the capturing side sent the frame, 0 if it received it.
 fn packet_type(own: Side, from: Side) -> u8
     ensures { result ≡ packet_type own from }
 {
@@ -115,7 +115,7 @@ fn side_octet(own: Side) -> u8
     }
 }
 
-/// The high octet of GSMTAP's channel number, with the uplink bit of what the user sent.
+/// The high octet of GSMTAP's channel number: the uplink bit is set if the user sent the frame.
 fn channel_octet(from: Side) -> u8
     ensures { result ≡ channel_octet from }
 {

@@ -1,4 +1,4 @@
--- What is written is read again, for both fields.
+-- Both fields: reading the written octets returns the field.
 use Rattle.std.proofs.Common.{◌≡◌, ◌+◌, ◌*◌, ◌/◌, ◌%◌, ◌==◌, ℕ, Bool, true, false, List, [], ◌∷◌, ◌++◌, length, take, if◌then◌else◌, Option, None, Result, Ok, Some, refl, sym, ap, arith}
 use Rattle.std.proofs.lemmas.Grind.{common_steps}
 use Rattle.lapd_field.specs.declared.side.Side.{Side}
@@ -14,7 +14,7 @@ use Rattle.lapd_field.specs.declared.field_fault.FieldFault.{FieldFault}
 use Rattle.lapd_field.specs.Address.{address_octets, address_at, sapi_value, command_bit}
 use Rattle.lapd_field.specs.Control.{bit, control_octets, control_at, has_second, with_second, with_length, unnumbered_at, numbered_at}
 
--- the octet of a TEI: it is odd, and its half is the TEI
+-- the octet of a TEI is odd, and its half is the TEI
 odd_again : (n : ℕ) → ((n * 2 + 1) % 2 ≡ 1) × ((n * 2 + 1) / 2 ≡ n)
 odd_again n = (omega arith, omega arith)
 
@@ -64,7 +64,7 @@ control_again (Frmr true) rest = refl
 control_again (Xid false) rest = refl
 control_again (Xid true) rest = refl
 
--- ---- What is read is spelled so.
+-- ---- Fields that are read were spelled so.
 
 pub address_found : (from : Side) (first second : ℕ) (a : Address) → address_at from (first ∷ second ∷ []) ≡ Ok a → first ∷ second ∷ [] ≡ address_octets from a
 address_found Network first second a h = grind (arith, common_steps)
@@ -95,7 +95,7 @@ control_found_at first (second ∷ rest) c n true h =
 control_found_at first rest c n false h =
     let found = with_length_ok (unnumbered_at first) 1 c n h in rw found.1 (unnumbered_found first c found.0)
 
--- the octets that a control field takes are its own
+-- the octets that a control field takes are the octets of the field
 pub control_found : (octets : List ℕ) (c : Control) (n : ℕ) → control_at octets ≡ Ok (c, n) → take n octets ≡ control_octets c
 control_found [] c n h = cc
 control_found (first ∷ rest) c n h = control_found_at first rest c n (has_second first) h

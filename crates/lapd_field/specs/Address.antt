@@ -1,4 +1,5 @@
--- The address field of a frame (Q.921 3.3): its octets as a function of its parts, and its parts as found in octets.
+-- The address field of a frame (Q.921 3.3): its octets as a function of its parts, and its parts
+-- read from octets.
 use Rattle.std.specs.Prelude.{ℕ, ◌+◌, ◌*◌, ◌/◌, ◌%◌, ◌≤◌, ◌==◌, ◌||◌, nat_le, if◌then◌else◌, Bool, true, false, List, [], ◌∷◌, codes, Option, Some, None, Result, Ok, Err}
 use Rattle.lapd_field.specs.declared.sapi.Sapi.{Sapi}
 use Rattle.lapd_field.specs.declared.sapi.Sapi.TheVariants.{Call, Packet, Management}
@@ -10,7 +11,7 @@ use Rattle.lapd_field.specs.declared.address.Address.{Address}
 use Rattle.lapd_field.specs.declared.field_fault.FieldFault.{FieldFault}
 use Rattle.lapd_field.specs.declared.field_fault.FieldFault.TheVariants.{BadAddress, SapiNotServed}
 
--- the side that hears what this one sends
+-- the side that receives what this side sends
 abbrev pub other_side : Side → Side
 other_side Network = User
 other_side User = Network
@@ -25,23 +26,24 @@ sapi_value Call = 0
 sapi_value Packet = 16
 sapi_value Management = 63
 
--- the service access point of a number, where it is served
+-- the service access point with this number, if it is served
 abbrev pub sapi_at : ℕ → Option Sapi
 sapi_at n = if n == 0 then Some Call else (if n == 16 then Some Packet
     else (if n == 63 then Some Management else None))
 
--- a TEI (Q.921 3.3.4) or a sequence number (Q.921 3.5.2.1) of this value: seven bits
+-- a TEI (Q.921 3.3.4) or a sequence number (Q.921 3.5.2.1) with this value: seven bits
 abbrev pub number_at : ℕ → Option ℕ
 number_at n = if nat_le n 127 then Some n else None
 
--- The C/R bit (Q.921 3.3.2): the network sends its commands with 1 and its responses with 0, the user the reverse.
+-- The C/R bit (Q.921 3.3.2): the network sends its commands with 1 and its responses with 0, the
+-- user the reverse.
 abbrev pub command_bit : Side → Role → ℕ
 command_bit Network Command = 1
 command_bit Network Answer = 0
 command_bit User Command = 0
 command_bit User Answer = 1
 
--- what a frame is whose C/R bit is set
+-- the role of a frame by its C/R bit, `true` if the bit is set
 abbrev pub role_of : Side → Bool → Role
 role_of Network true = Command
 role_of Network false = Answer
@@ -56,16 +58,16 @@ address_octets from a = (sapi_value a.sapi * 4 + command_bit from a.role * 2) �
 abbrev pub IsAddress : Address → Type 0
 IsAddress a = a.tei ≤ 127
 
--- an extension bit is wrong: it is 0 in the first octet and 1 in the second (Q.921 3.3.1)
+-- an extension bit is wrong: it must be 0 in the first octet and 1 in the second (Q.921 3.3.1)
 abbrev pub is_badly_extended : ℕ → ℕ → Bool
 is_badly_extended first second = (first % 2 == 1) || (second % 2 == 0)
 
--- the address with this service access point
+-- the address with this service access point, or a fault if it is not served
 abbrev pub with_sapi : Option Sapi → ℕ → Role → Result Address FieldFault
 with_sapi None tei role = Err SapiNotServed
 with_sapi (Some sapi) tei role = Ok (record { sapi = sapi; tei = tei; role = role })
 
--- the address that two octets of this sender are, or what is wrong with them
+-- the address in two octets that this side sent, or the fault
 abbrev pub address_at : Side → List ℕ → Result Address FieldFault
 address_at from [] = Err BadAddress
 address_at from (first ∷ []) = Err BadAddress

@@ -1,5 +1,5 @@
--- The control field of a frame (Q.921 3.4 to 3.6, Table 5): its octets as a function of the field, and the field as
--- found in octets.
+-- The control field of a frame (Q.921 3.4 to 3.6, Table 5): its octets as a function of the field,
+-- and the field read from octets.
 use Rattle.std.specs.Prelude.{ℕ, ◌+◌, ◌*◌, ◌/◌, ◌%◌, ◌≤◌, ◌==◌, if◌then◌else◌, Bool, true, false, List, [], ◌∷◌, Option, Some, None, Result, Ok, Err}
 use Rattle.lapd_field.specs.declared.control.Control.{Control}
 use Rattle.lapd_field.specs.declared.control.Control.TheVariants.{I, Rr, Rnr, Rej, Sabme, Dm, Ui, Disc, Ua, Frmr, Xid}
@@ -10,8 +10,8 @@ abbrev pub bit : Bool → ℕ
 bit false = 0
 bit true = 1
 
--- The octets of each field. Behind I and S frames stands the octet of N(R) and P or F; of the U frames the bit P/F
--- is worth 16.
+-- The octets of each field. In I and S fields the second octet holds N(R) and P or F; in U fields
+-- the P/F bit has the value 16.
 abbrev pub control_octets : Control → List ℕ
 control_octets (I ns nr p) = (ns * 2) ∷ (nr * 2 + bit p) ∷ []
 control_octets (Rr nr pf) = 0x01 ∷ (nr * 2 + bit pf) ∷ []
@@ -81,12 +81,12 @@ abbrev pub with_length : Option Control → ℕ → Result (Control × ℕ) Fiel
 with_length None n = Err Undefined
 with_length (Some control) n = Ok (control, n)
 
--- a field of two octets, of which this is the first
+-- a field of two octets whose first octet is this one
 abbrev pub with_second : ℕ → List ℕ → Result (Control × ℕ) FieldFault
 with_second first [] = Err TooShort
 with_second first (second ∷ rest) = with_length (numbered_at first second) 2
 
--- the field at the front of these octets and how many it takes, or what is wrong with it
+-- the field at the front of these octets and how many octets it takes, or the fault
 abbrev pub control_at : List ℕ → Result (Control × ℕ) FieldFault
 control_at [] = Err TooShort
 control_at (first ∷ rest) = if has_second first then with_second first rest

@@ -15,8 +15,10 @@ pub struct Address {
 }
 
 impl Address {
-    /// The address of two octets that `from` sent. `BadAddress` where an extension bit is wrong, else
-    /// `SapiNotServed` where the service access point is none that is served.
+    /// Reads an address from two octets that `from` sent.
+    ///
+    /// Returns `BadAddress` if an extension bit is wrong, else `SapiNotServed` if the service
+    /// access point is not served.
     pub fn read(octets: [u8; 2], from: Side) -> Result<Address, FieldFault>
         ensures exact { result ≡ address_at from octets }
         ensures found { IfOk result (λ a. IsAddress a × (octets ≡ address_octets from a)) }
@@ -50,7 +52,7 @@ impl Address {
     }
 }
 
-/// What a frame of `from` is, by its C/R bit.
+/// The role of a frame of `from`, by its C/R bit.
 fn role_of(set: bool, from: Side) -> Role
     ensures { result ≡ role_of from set }
 {

@@ -4,8 +4,9 @@ ghost use Rattle.lapd_field.specs.Control.{bit, control_octets, control_at, numb
 use crate::{FieldFault, Number};
 use arrayvec::ArrayVec;
 
-/// The control field of a frame (Q.921 3.4 to 3.6, Table 5). `p` is the poll bit of a command, `f` the final bit of
-/// a response, and `pf` is one or the other.
+/// The control field of a frame (Q.921 3.4 to 3.6, Table 5). `p` is the poll bit of a command, `f`
+/// the final bit of a response, and `pf` is the poll bit in a command and the final bit in a
+/// response.
 #[derive(Clone, Copy, Debug, PartialEq, Eq)]
 pub enum Control {
     /// Information: a message of layer 3 with its number.
@@ -14,7 +15,7 @@ pub enum Control {
     Rr { nr: Number, pf: bool },
     /// Receive not ready.
     Rnr { nr: Number, pf: bool },
-    /// Reject: asks for the I frames from N(R) on again.
+    /// Reject: requests retransmission of the I frames from N(R) on.
     Rej { nr: Number, pf: bool },
     /// Set asynchronous balanced mode extended.
     Sabme { p: bool },
@@ -33,8 +34,11 @@ pub enum Control {
 }
 
 impl Control {
-    /// The control field at the front of these octets, and how many octets it takes, 1 or 2. `TooShort` where an
-    /// octet of it lacks, else `Undefined` where there is no such field or a reserved bit is set (Q.921 3.6.1).
+    /// Reads the control field at the front of these octets, and returns it with its length in
+    /// octets, 1 or 2.
+    ///
+    /// Returns `TooShort` if an octet of the field is missing, else `Undefined` if there is no such
+    /// field or a reserved bit is set (Q.921 3.6.1).
     #[inline(always)]
     pub fn read(octets: &[u8]) -> Result<(Control, usize), FieldFault>
         ensures exact { result ≡ control_at octets.now }
@@ -76,7 +80,7 @@ impl Control {
         }
     }
 
-    /// Its P bit, where it is of a command, or its F bit, where it is of a response (Q.921 3.5.1).
+    /// The P bit of a command or the F bit of a response (Q.921 3.5.1).
     pub fn poll_final(&self) -> bool
         ensures { result ≡ poll_final self.now }
     {
@@ -92,7 +96,7 @@ impl Control {
     }
 }
 
-/// Whether a field that begins so has a second octet, as those of I and S frames do.
+/// Whether a field with this first octet has a second octet, as I and S fields do.
 fn has_second(first: u8) -> bool
     ensures { result ≡ has_second first }
 {
@@ -141,7 +145,7 @@ fn unnumbered_field(first: u8) -> Option<Control>
     }
 }
 
-/// The octet of a U frame, with P or F worth 16.
+/// The octet of a U frame. The P/F bit has the value 16.
 fn one_octet(octet: u8, pf: bool) -> ArrayVec<u8, 2>
     requires { octet < 0xB0 }
     ensures { result.items ≡ (octet + bit pf * 16) ∷ [] }

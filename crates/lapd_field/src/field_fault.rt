@@ -1,6 +1,7 @@
 use thiserror::Error;
 
-/// What is wrong with an address or control field, in the order in which it is looked for.
+/// A fault of an address or control field. The faults are listed in the order in which they are
+/// checked.
 #[derive(Clone, Copy, Debug, PartialEq, Eq, Error)]
 pub enum FieldFault {
     /// F1: too few octets.

@@ -1,10 +1,12 @@
-//! The address and control fields of a frame of the ISDN D channel, after ITU-T Q.921 (09/97), clause 3.
+//! The address and control fields of a frame of the ISDN D channel, after ITU-T Q.921 (09/97),
+//! clause 3.
 //!
-//! [`Control`] is the control field of one or two octets: which frame it is, with its sequence numbers and its
-//! P/F bit. Begin there: it names every frame of the data link. [`Address`] is the pair of octets before it: which
-//! service access point (`Sapi`), which terminal endpoint (`Tei`), and whether the frame is a command or a response
-//! (`Role`), which depends on who sent it (`Side`). For both, `read` and `write` are one relation of octets and
-//! fields in two directions, and what `read` does not accept has a fault with a name (`FieldFault`).
+//! Begin with [`Control`], the control field of one or two octets: it names every frame of the data
+//! link, with its sequence numbers and its P/F bit. [`Address`] is the two octets before it: the
+//! service access point (`Sapi`), the terminal endpoint (`Tei`), and whether the frame is a command
+//! or a response (`Role`), which depends on who sent it (`Side`). For both, `read` and `write` are
+//! proved to be inverse to each other. If the octets are not a valid field, `read` returns a
+//! `FieldFault`.
 #![tactic(auto)]
 
 mod address;

@@ -24,7 +24,7 @@ impl Model for Number {
 }
 
 impl Number {
-    /// The sequence number of this value, `None` where it is above 127.
+    /// The sequence number with this value; `None` above 127.
     pub fn new(value: u8) -> Option<Number>
         ensures { result ≡ number_at value }
     {

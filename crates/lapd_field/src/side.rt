@@ -13,7 +13,7 @@ pub enum Side {
 }
 
 impl Side {
-    /// The side that hears what this one sends.
+    /// The side that receives what this side sends.
     pub fn other(self) -> Side
         ensures { result ≡ other_side self }
     {
@@ -35,7 +35,8 @@ impl fmt::Display for Side {
     }
 }
 
-/// What a frame is to the end that hears it (Q.921 3.3.2). Who sent it decides how the C/R bit says so.
+/// Whether the receiver sees a frame as a command or a response (Q.921 3.3.2). The C/R bit says so,
+/// and its meaning depends on who sent the frame.
 #[derive(Clone, Copy, Debug, PartialEq, Eq)]
 pub enum Role {
     /// A command.

@@ -5,8 +5,8 @@ ghost use Rattle.lapd_field.specs.Address.{number_at};
 use std::fmt;
 use std::marker::Model;
 
-/// A terminal endpoint identifier, 0 to 127 (Q.921 3.3.4). 0 to 63 are assigned by the user, 64 to 126 by the
-/// network, and 127 is the group TEI for broadcast.
+/// A terminal endpoint identifier, 0 to 127 (Q.921 3.3.4). 0 to 63 are assigned by the user, 64 to
+/// 126 by the network, and 127 is the group TEI for broadcast.
 #[derive(Clone, Copy, Debug, PartialEq, Eq)]
 pub struct Tei {
     value: u8,
@@ -32,7 +32,7 @@ impl Tei {
         Tei { value: 127 }
     }
 
-    /// The TEI of this number, `None` where it is above 127.
+    /// The TEI with this number; `None` above 127.
     pub fn new(value: u8) -> Option<Tei>
         ensures { result ≡ number_at value }
     {

@@ -1,4 +1,4 @@
--- The decoder's fault is the least line that holds.
+-- The decoder's fault is the first line of the list of faults that holds.
 use Rattle.std.proofs.Common.{◌≡◌, ℕ, ◌/◌, ◌%◌, ◌==◌, ◌&&◌, nat_eq, nat_lt, if◌then◌else◌, List, [], ◌∷◌, Bool, true, false, not, length, Option, None, Some, Result, Ok, Err, option_map, refl, sym, subst, arith}
 use Rattle.std.specs.Result.{result_err}
 use Rattle.std.specs.Option.{is_none}
@@ -21,7 +21,7 @@ use Rattle.lapd_frame.specs.Reading.{frame_at, first_fault, frame_of_fields, fau
 abbrev pub kind_at : Result Fields FrameFault → Option FaultKind
 kind_at r = option_map (λ (e : FrameFault). e.kind) (result_err r)
 
--- ---- Tools: a test both ways, and an octet that is one of the table's or not.
+-- ---- Tools: a test both ways, and whether an octet is in the table.
 
 same_octet : (n k : ℕ) → (n == k) ≡ true → n ≡ k
 same_octet n k h = grind (arith, h)
@@ -52,7 +52,7 @@ kind_unless a c info false fault = refl
 
 -- ---- The content of a frame with this address.
 
--- behind a control field of one octet
+-- after a control field of one octet
 abbrev IsOneOctet : Sapi → ℕ → Role → List ℕ → ℕ → Type 0
 IsOneOctet sapi tei role rest third = has_second third ≡ false
     → kind_at (frame_of_fields (Ok (record { sapi = sapi; tei = tei; role = role })) (with_length (unnumbered_at third) 1) (third ∷ rest)) ≡ content_lines role third (length rest)
@@ -77,7 +77,7 @@ command_octet sapi tei third rest =
     octet_cases P third 0xBF (λ _. kind_if _ _ rest (nat_lt n201 (length rest)) InfoTooLong) (λ eBF.
     λ h. let odd = (no_second third h).0 in let low = (no_second third h).1 in rw (e6F, e7F, e0F, e1F, e03, e13, e43, e53, e63, e73, e87, e97, eAF, eBF, odd, low) refl))))))))))))))
 
--- a U frame as a answer
+-- a U frame as a response
 answer_octet : (sapi : Sapi) (tei : ℕ) (third : ℕ) (rest : List ℕ) → IsOneOctet sapi tei Answer rest third
 answer_octet sapi tei third rest =
     let P = IsOneOctet sapi tei Answer rest in
@@ -97,7 +97,7 @@ answer_octet sapi tei third rest =
     octet_cases P third 0xBF (λ _. kind_if _ _ rest (nat_lt n201 (length rest)) InfoTooLong) (λ eBF.
     λ h. let odd = (no_second third h).0 in let low = (no_second third h).1 in rw (e6F, e7F, e0F, e1F, e03, e13, e43, e53, e63, e73, e87, e97, eAF, eBF, odd, low) refl))))))))))))))
 
--- behind a control field of two octets
+-- after a control field of two octets
 abbrev IsTwoOctets : Sapi → ℕ → Role → ℕ → List ℕ → ℕ → Type 0
 IsTwoOctets sapi tei role second rest third = kind_at (frame_of_fields (Ok (record { sapi = sapi; tei = tei; role = role })) (with_length (numbered_at third second) 2) (third ∷ second ∷ rest))
     ≡ content_lines role third (length rest)
@@ -126,7 +126,7 @@ two_octets_at sapi tei role second rest third false e h = odd_octets sapi tei ro
 
 -- ---- All of the octets.
 
--- no service access point is served
+-- the service access point is not served
 unserved : (octets : List ℕ) (control : Result (Control × ℕ) FieldFault) → (control ≡ Err field.TooShort → ⊥) → kind_at (frame_of_fields (Err field.SapiNotServed) control octets) ≡ Some SapiNotServed
 unserved octets (Ok c) h = refl
 unserved octets (Err field.TooShort) h = absurd (h refl)

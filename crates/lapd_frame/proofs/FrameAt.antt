@@ -1,4 +1,4 @@
--- What is spelled so is read, and what is read is spelled so.
+-- Spelled fields are read again, and fields that are read were spelled so.
 use Rattle.std.proofs.Common.{◌≡◌, ◌≤◌, ◌+◌, ◌*◌, ℕ, List, [], ◌∷◌, ◌++◌, length, take, drop, get_or, Option, None, Some, Result, Ok, Err, IfOk, IfErr, IfSome, Bool, true, false, nat_lt, nat_eq, if◌then◌else◌, refl, subst, sym, ap, ◌∙◌, append_assoc, arith}
 use Rattle.std.proofs.lemmas.List.{take-append-drop}
 use Rattle.std.specs.Result.{result_ok}
@@ -20,7 +20,7 @@ use Rattle.lapd_frame.specs.Fault.{is_for_link}
 use Rattle.lapd_frame.specs.Frame.{Fields, IsFrame, n201, content_fault, frame_of, spelling}
 use Rattle.lapd_frame.specs.Reading.{frame_at, fault_for_link, frame_of_fields, address_of}
 
--- three octets or more are an address, and what begins with a control field
+-- three octets or more are read as an address, then a control field
 pub joined_is_frame_at : (from : Side) (octets : List ℕ) → 3 ≤ length octets
     → frame_of_fields (address_at from (get_or octets 0 0 ∷ get_or octets 1 0 ∷ [])) (control_at (drop 2 octets)) (drop 2 octets) ≡ frame_at from octets
 joined_is_frame_at from [] h = absurd (omega arith)
@@ -28,9 +28,9 @@ joined_is_frame_at from (first ∷ []) h = absurd (omega arith)
 joined_is_frame_at from (first ∷ second ∷ []) h = absurd (omega arith)
 joined_is_frame_at from (first ∷ second ∷ third ∷ rest) h = refl
 
--- ---- What is spelled so is read.
+-- ---- Spelled fields are read again.
 
--- information stands behind the octets of a control field
+-- the information follows the octets of a control field
 drop-control : (c : Control) (info : List ℕ) → drop (length (control_octets c)) (control_octets c ++ info) ≡ info
 drop-control (I ns nr p) info = refl
 drop-control (Rr nr pf) info = refl
@@ -44,7 +44,7 @@ drop-control (Ua f) info = refl
 drop-control (Frmr f) info = refl
 drop-control (Xid pf) info = refl
 
--- octets of a frame are joined of its fields
+-- reading the octets of a frame combines its address, control field and information
 spelling-frame_of_fields : (from : Side) (first second : ℕ) (c : Control) (info : List ℕ)
     → frame_at from (first ∷ second ∷ (control_octets c ++ info)) ≡ frame_of_fields (address_at from (first ∷ second ∷ [])) (control_at (control_octets c ++ info)) (control_octets c ++ info)
 spelling-frame_of_fields from first second (I ns nr p) info = refl
@@ -59,7 +59,7 @@ spelling-frame_of_fields from first second (Ua f) info = refl
 spelling-frame_of_fields from first second (Frmr f) info = refl
 spelling-frame_of_fields from first second (Xid pf) info = refl
 
--- parts that are spelled come back, or a fault of the link with their address
+-- reading the spelling of parts returns the parts, or a fault of the link with their address
 pub parts_again : (from : Side) (f : Fields)
     → frame_at from (spelling from f) ≡ fault_for_link f.address (frame_of f.address f.control f.info (content_fault f.address.role f.control (length f.info)))
 parts_again from f =
@@ -68,9 +68,9 @@ parts_again from f =
 pub frame_again : (from : Side) (f : Fields) → content_fault f.address.role f.control (length f.info) ≡ None → frame_at from (spelling from f) ≡ Ok f
 frame_again from f h = parts_again from f ∙ ap (λ fault. fault_for_link f.address (frame_of f.address f.control f.info fault)) h
 
--- ---- What is read is spelled so.
+-- ---- Fields that are read were spelled so.
 
--- what stands behind a frame that was joined of its fields
+-- what follows from a frame that was combined from its fields
 pub record IsJoined (address : Result Address FieldFault) (control : Result (Control × ℕ) FieldFault) (octets : List ℕ) (f : Fields) : Type 0 where
   pub taken : ℕ
   pub address_is : address ≡ Ok f.address
@@ -115,14 +115,14 @@ joined_ok (Ok a) (Err field.BadAddress) octets f h = cc
 joined_ok (Ok a) (Err field.SapiNotServed) octets f h = cc
 joined_ok (Ok a) (Err field.Undefined) octets f h = cc
 
--- octets in front of the information
+-- the octets of the address and the control field, followed by the information, are the spelling
 spelled : (from : Side) (f : Fields) (head octets : List ℕ) (n : ℕ) → head ≡ address_octets from f.address → take n octets ≡ control_octets f.control → f.info ≡ drop n octets
     → head ++ octets ≡ spelling from f
 spelled from f head octets n ha hc hi =
     let cut : octets ≡ control_octets f.control ++ f.info = sym (take-append-drop n octets) ∙ ap (λ l. l ++ drop n octets) hc ∙ ap (λ l. control_octets f.control ++ l) (sym hi) in
     ap (λ l. l ++ octets) ha ∙ ap (λ l. address_octets from f.address ++ l) cut ∙ sym (append_assoc (address_octets from f.address) (control_octets f.control) f.info)
 
--- of fields that are themselves and spelled so
+-- combining valid fields that were spelled so
 pub found_joined : (from : Side) (address : Result Address FieldFault) (control : Result (Control × ℕ) FieldFault) (head octets : List ℕ) (f : Fields)
     → IfOk address (λ a. IsAddress a × (head ≡ address_octets from a))
     → IfOk control (λ r. IsControl r.0 × (r.1 ≡ length (control_octets r.0)) × (take r.1 octets ≡ control_octets r.0))
@@ -160,7 +160,7 @@ spelling_found from (first ∷ second ∷ third ∷ rest) f h =
     let j = joined_ok (address_at from (first ∷ second ∷ [])) (control_at (third ∷ rest)) (third ∷ rest) f h in
     spelled from f (first ∷ second ∷ []) (third ∷ rest) j.taken (address_found from first second f.address j.address_is) (control_found (third ∷ rest) f.control j.taken j.control_is) j.info_is
 
--- ---- For which link a fault is.
+-- ---- The link that a fault is for.
 
 abbrev IsOfLink : Option FaultKind → Type 0
 IsOfLink fault = IfSome fault (λ kind. is_for_link kind ≡ true)
@@ -197,7 +197,7 @@ content_for_link Answer (Frmr f) len = unless_for_link (nat_eq len 5) WrongSize 
 content_for_link Command (Xid pf) len = if_for_link (nat_lt n201 len) InfoTooLong refl
 content_for_link Answer (Xid pf) len = if_for_link (nat_lt n201 len) InfoTooLong refl
 
--- a fault carries this address where it is of a link
+-- a fault carries this address if it is for a link
 abbrev Carries : Option Address → Result Fields FrameFault → Type 0
 Carries address r = IfErr r (λ e. e.address ≡ (if is_for_link e.kind then address else None))
 
@@ -234,6 +234,6 @@ address_carried from (first ∷ []) = refl
 address_carried from (first ∷ second ∷ []) = refl
 address_carried from (first ∷ second ∷ third ∷ rest) = address_joined (address_at from (first ∷ second ∷ [])) (control_at (third ∷ rest)) (third ∷ rest)
 
--- frames that are spelled alike are read alike
+-- frames with the same spelling are the same
 pub one_frame : (from : Side) (f g : Fields) → IsFrame f → IsFrame g → spelling from f ≡ spelling from g → f ≡ g
 one_frame from f g hf hg e = same_frame f g (sym (frame_again from f hf.content) ∙ ap (frame_at from) e ∙ frame_again from g hg.content)

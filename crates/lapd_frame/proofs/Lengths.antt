@@ -1,4 +1,4 @@
--- How long the information of a frame is.
+-- The length of a frame's information.
 use Rattle.std.proofs.Common.{◌≡◌, ℕ, ◌≤◌, Bool, true, false, Some, None, refl, arith}
 use Rattle.std.proofs.lemmas.Bool.Decides.{nat_tests}
 use Rattle.std.specs.Prelude.{◌==◌, nat_lt, if◌then◌else◌}
@@ -8,7 +8,7 @@ use Rattle.lapd_field.specs.declared.control.Control.{Control}
 use Rattle.lapd_field.specs.declared.control.Control.TheVariants.{I, Rr, Rnr, Rej, Sabme, Dm, Ui, Disc, Ua, Frmr, Xid}
 use Rattle.lapd_frame.specs.Frame.{n201, content_fault}
 
--- what a frame of the control table carries is short
+-- a frame of the control table has short information
 pub where_long : {X : Type 0} (long : Bool) (len : ℕ) (fault : X) → nat_lt 260 len ≡ long → (if long then Some fault else None) ≡ None → len ≤ n201
 where_long true len fault is h = cc
 where_long false len fault is h = grind (arith, nat_tests)

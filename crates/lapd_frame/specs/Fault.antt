@@ -21,7 +21,8 @@ fault_name InfoNotPermitted = codes "F5 InfoNotPermitted"
 fault_name WrongSize = codes "F6 WrongSize"
 fault_name InfoTooLong = codes "F7 InfoTooLong"
 
--- faults of a link (Q.921 5.8.5); octets with the others are for no link, and are discarded (Q.921 2.9)
+-- faults for a link (Q.921 5.8.5); octets with any other fault are for no link and are discarded
+-- (Q.921 2.9)
 abbrev pub is_for_link : FaultKind → Bool
 is_for_link TooShort = false
 is_for_link BadAddress = false

@@ -1,4 +1,4 @@
--- The grammar of frames (Q.921 clause 3), apart from how they are read.
+-- The grammar of frames (Q.921 clause 3), without how they are read.
 use Rattle.std.specs.Prelude.{◌≡◌, ℕ, nat_eq, nat_lt, if◌then◌else◌, List, ◌++◌, length, Option, Some, None, Result, Ok, Err}
 use Rattle.lapd_field.specs.declared.side.Side.{Side}
 use Rattle.lapd_field.specs.declared.side.Role.{Role}
@@ -33,7 +33,8 @@ no_information fault len = if nat_lt 0 len then Some fault else None
 abbrev pub five_octets : ℕ → Option FaultKind
 five_octets len = if nat_eq len 5 then None else Some WrongSize
 
--- What each line of the control table (Q.921 Table 5) refuses: the other role, then information of this length.
+-- The faults of each line of the control table (Q.921 Table 5): first the wrong role, then a wrong
+-- length of the information.
 abbrev pub content_fault : Role → Control → ℕ → Option FaultKind
 content_fault Command (I ns nr p) len = at_most_n201 len
 content_fault Answer (I ns nr p) len = Some Undefined
@@ -58,13 +59,13 @@ content_fault role (Xid pf) len = at_most_n201 len
 abbrev pub spelling : Side → Fields → List ℕ
 spelling from f = address_octets from f.address ++ control_octets f.control ++ f.info
 
--- these parts are a frame
+-- these parts form a frame
 pub record IsFrame (f : Fields) : Type 0 where
   pub address : IsAddress f.address
   pub control : IsControl f.control
   pub content : content_fault f.address.role f.control (length f.info) ≡ None
 
--- what stands between these parts and a frame, or the frame
+-- the frame with these parts, or the given fault
 abbrev pub frame_of : Address → Control → List ℕ → Option FaultKind → Result Fields FaultKind
 frame_of address control info None = Ok (record {
   address = address;

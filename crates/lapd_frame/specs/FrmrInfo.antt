@@ -2,7 +2,7 @@
 use Rattle.std.specs.Prelude.{ℕ, ◌/◌, ◌%◌, ◌==◌, slice_index, List, [], ◌∷◌, Bool}
 use Rattle.lapd_frame.specs.declared.frmr_info.FrmrInfo.{FrmrInfo}
 
--- this bit of an octet is set, from 1 for the lowest worth
+-- whether this bit of an octet is set; bit 1 is the lowest
 abbrev pub has_bit : ℕ → ℕ → Bool
 has_bit octet worth = octet / worth % 2 == 1
 

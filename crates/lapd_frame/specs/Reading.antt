@@ -1,4 +1,4 @@
--- Reading a frame from octets, and the first fault of octets that are none.
+-- Reading a frame from octets, and the first fault of octets that do not form a valid frame.
 use Rattle.std.specs.Prelude.{ℕ, ◌/◌, ◌%◌, ◌==◌, ◌&&◌, ◌||◌, not, nat_lt, if◌then◌else◌, Bool, true, false, List, [], ◌∷◌, length, take, drop, Option, Some, None, is_none, Result, Ok, Err}
 use Rattle.std.specs.List.{list_any}
 use Rattle.std.specs.Result.{result_ok}
@@ -26,8 +26,8 @@ abbrev pub fault_for_link : Address → Result Fields FaultKind → Result Field
 fault_for_link address (Ok f) = Ok f
 fault_for_link address (Err kind) = Err (record { kind = kind; address = Some address })
 
--- What an address field, the control field behind it, which takes some of the octets, and the information after it
--- come to.
+-- The frame of an address field, the control field after it with its length in octets, and the
+-- information after both; or the fault.
 abbrev pub frame_of_fields : Result Address FieldFault → Result (Control × ℕ) FieldFault → List ℕ
     → Result Fields FrameFault
 frame_of_fields (Err field.BadAddress) control octets = fault_for_no_link BadAddress
@@ -38,7 +38,7 @@ frame_of_fields (Ok address) (Ok (control, taken)) octets =
     fault_for_link address (frame_of address control (drop taken octets)
     (content_fault address.role control (length (drop taken octets))))
 
--- the frame that these octets of this sender are, or why they are none
+-- the frame in octets that this side sent, or the fault
 abbrev pub frame_at : Side → List ℕ → Result Fields FrameFault
 frame_at from [] = fault_for_no_link TooShort
 frame_at from (first ∷ []) = fault_for_no_link TooShort
@@ -51,12 +51,12 @@ abbrev pub is_nil : List ℕ → Bool
 is_nil [] = true
 is_nil (octet ∷ octets) = false
 
--- a fault carries the address of the octets exactly where it is of a link
+-- a fault carries the address of the octets exactly if it is for a link
 abbrev pub address_of : Side → List ℕ → FaultKind → Option Address
 address_of from octets kind = if is_for_link kind then result_ok (address_at from (take 2 octets))
     else None
 
--- ---- The first fault: the least line that holds of the octets.
+-- ---- The first fault: the first line of the list that holds for the octets.
 
 abbrev pub line : Bool → FaultKind → Option FaultKind → Option FaultKind
 line holds kind below = if holds then Some kind else below
@@ -64,11 +64,12 @@ line holds kind below = if holds then Some kind else below
 abbrev pub is_among : List ℕ → ℕ → Bool
 is_among octets octet = list_any (λ o. octet == o) octets
 
--- first octets of control fields, by what they are (Q.921 Table 5): the S frames
+-- the first octets of control fields (Q.921 Table 5): S frames
 abbrev pub supervisory_octets : List ℕ
 supervisory_octets = 0x01 ∷ 0x05 ∷ 0x09 ∷ []
 
--- the U frames that this role may be: UI, DISC, SABME and XID, or DM, UA, FRMR and XID
+-- the U frames that may have this role: UI, DISC, SABME and XID as commands, DM, UA, FRMR and XID
+-- as responses
 abbrev pub unnumbered_octets : Role → List ℕ
 unnumbered_octets Command = 0x03 ∷ 0x13 ∷ 0x43 ∷ 0x53 ∷ 0x6F ∷ 0x7F ∷ 0xAF ∷ 0xBF ∷ []
 unnumbered_octets Answer = 0x0F ∷ 0x1F ∷ 0x63 ∷ 0x73 ∷ 0x87 ∷ 0x97 ∷ 0xAF ∷ 0xBF ∷ []
@@ -78,7 +79,7 @@ abbrev pub is_command : Role → Bool
 is_command Command = true
 is_command Answer = false
 
--- the control field is one of the table, for this role
+-- the control field is in the table, for this role
 abbrev pub is_defined : Role → ℕ → Bool
 is_defined role first = if first % 2 == 0 then is_command role
     else (if first % 4 == 1 then is_among supervisory_octets first
@@ -95,7 +96,7 @@ is_without_information first = not (first % 2 == 0)
 abbrev pub is_frame_reject : ℕ → Bool
 is_frame_reject first = not (first % 2 == 0) && is_among (0x87 ∷ 0x97 ∷ []) first
 
--- an S frame has no information, a FRMR frame five octets of it
+-- an S frame has information, or a FRMR frame does not have five octets of it
 abbrev pub is_wrong_size : ℕ → ℕ → Bool
 is_wrong_size first len = if is_frame_reject first then not (len == 5)
     else (is_supervisory first && nat_lt 0 len)
@@ -104,11 +105,11 @@ is_wrong_size first len = if is_frame_reject first then not (len == 5)
 abbrev pub is_with_information : ℕ → Bool
 is_with_information first = (first % 2 == 0) || is_among (0x03 ∷ 0x13 ∷ 0xAF ∷ 0xBF ∷ []) first
 
--- how many octets of information stand behind a control field that begins so
+-- how many octets of information follow a control field with this first octet
 abbrev pub info_len : ℕ → List ℕ → ℕ
 info_len first rest = length (if has_second first then drop 1 rest else rest)
 
--- the lines of the content: of the control field and of the length of the information
+-- the lines about the content: the control field and the length of the information
 abbrev pub content_lines : Role → ℕ → ℕ → Option FaultKind
 content_lines role first len =
     line (not (is_defined role first)) Undefined (
@@ -116,7 +117,7 @@ content_lines role first len =
     line (is_wrong_size first len) WrongSize (
     line (is_with_information first && nat_lt n201 len) InfoTooLong None)))
 
--- the first fault, where there is one
+-- the first fault, if there is one
 abbrev pub first_fault : Side → List ℕ → Option FaultKind
 first_fault from [] = Some TooShort
 first_fault from (first ∷ []) = Some TooShort

@@ -5,7 +5,8 @@ use lapd_field::FieldFault;
 use std::error::Error;
 use std::fmt;
 
-/// What is wrong with octets that are no frame, in the order in which it is looked for.
+/// A fault of octets that do not form a valid frame. The faults are listed in the order in which
+/// they are checked.
 #[derive(Clone, Copy, Debug, PartialEq, Eq)]
 pub enum FaultKind {
     /// F1: too few octets (Q.921 2.9 b).
@@ -14,20 +15,21 @@ pub enum FaultKind {
     BadAddress,
     /// F3: the service access point is not served (Q.921 2.9 f).
     SapiNotServed,
-    /// F4: an undefined control field, a reserved bit that is set, or a command sent as a response or a response as
-    /// a command (Q.921 3.6.1).
+    /// F4: an undefined control field, a reserved bit that is set, or a command sent as a response
+    /// or a response as a command (Q.921 3.6.1).
     Undefined,
     /// F5: information in a SABME, DISC, DM or UA frame (Q.921 3.6.11).
     InfoNotPermitted,
-    /// F6: an S frame that is not of 4 octets, or a FRMR frame whose information is not of 5 (Q.921 3.6.11).
+    /// F6: an S frame that does not have 4 octets, or a FRMR frame that does not have 5 octets of
+    /// information (Q.921 3.6.11).
     WrongSize,
     /// F7: more than 260 octets of information, N201, in an I, UI or XID frame (Q.921 5.9.3).
     InfoTooLong,
 }
 
 impl FaultKind {
-    /// Whether octets with this fault are for a link (F4 to F7), which reports it. Octets with the others are discarded
-    /// (Q.921 2.9, 5.8.5).
+    /// Whether a fault is for a link (F4 to F7), which reports it (Q.921 5.8.5). Octets with any
+    /// other fault are discarded (Q.921 2.9).
     pub fn is_for_link(self) -> bool
         ensures { result ≡ is_for_link self }
     {

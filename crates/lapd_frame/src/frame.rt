@@ -13,7 +13,8 @@ use std::marker::Model;
 /// N201, the greatest number of octets of information in a frame (Q.921 5.9.3).
 pub const N201: usize = 260;
 
-/// The greatest length of a frame, in octets: two of address, two of control field and N201 of information.
+/// The greatest length of a frame, in octets: two of address, two of control field and N201 of
+/// information.
 pub const MOST_OCTETS: usize = 4 + N201;
 
 /// A frame in the grammar of Q.921 clause 3. It borrows its information.
@@ -36,7 +37,7 @@ impl<'a> Model for Frame<'a> {
 }
 
 impl<'a> Frame<'a> {
-    /// The frame of these parts, or the first of F4 to F7 that keeps them from being one.
+    /// Makes the frame with these parts, or returns the first of F4 to F7 that they have.
     pub fn new(address: Address, control: Control, info: &'a [u8]) -> Result<Frame<'a>, FaultKind>
         ensures { result ≡ frame_of address control info.now
             (content_fault address.role control (length info.now)) }
@@ -65,7 +66,7 @@ impl<'a> Frame<'a> {
         self.control
     }
 
-    /// Its information: no octets where there is none.
+    /// Its information, empty if it has none.
     pub fn info(&self) -> &'a [u8]
         ensures { result.now ≡ self.now.info }
     {
@@ -73,15 +74,17 @@ impl<'a> Frame<'a> {
     }
 }
 
-/// The frame that `octets` are, which `from` sent. It borrows its information from them. An `Err` is their first
-/// fault, with the address for F4 to F7 and without it for F1 to F3.
+/// Reads the frame in `octets`, which `from` sent. The frame borrows its information from them.
+///
+/// Returns the first fault if the octets do not form a valid frame. F4 to F7 carry the address, F1
+/// to F3 do not.
 #[inline(always)]
 pub fn read(octets: &[u8], from: Side) -> Result<Frame<'_>, FrameFault>
-    // What is read is in the grammar and spelled so, and what is spelled so is read.
+    // A frame that is read is in the grammar and was spelled so, and each spelled frame is read.
     ensures found { IfOk result (λ f. IsFrame f × (octets.now ≡ spelling from f)) }
     ensures only { (f : Fields) → IsFrame f → octets.now ≡ spelling from f → result ≡ Ok f }
 
-    // Which fault it is, and for which link.
+    // Which fault is returned, and for which link.
     ensures order { option_map (λ e. e.kind) (result_err result) ≡ first_fault from octets.now }
     ensures address { IfErr result (λ e. e.address ≡ address_of from octets.now e.kind) }
     ensures exact { result ≡ frame_at from octets.now }
@@ -89,8 +92,8 @@ pub fn read(octets: &[u8], from: Side) -> Result<Frame<'_>, FrameFault>
     frame_at(octets, from)
 }
 
-/// Writes the frame, as `from` sends it, to the front of `out`, and tells its length in octets, 3 to 264. The octets
-/// behind it stay as they are.
+/// Writes the frame, as `from` sends it, to the front of `out`, and returns its length in octets, 3
+/// to 264. The octets of `out` after the frame are unchanged.
 pub fn write(frame: &Frame<'_>, from: Side, out: &mut [u8; MOST_OCTETS]) -> usize
     ensures written { out.new ≡ spelling from frame.now ++ drop result out.old }
     ensures len { result ≡ length (spelling from frame.now) }
@@ -104,7 +107,7 @@ pub fn write(frame: &Frame<'_>, from: Side, out: &mut [u8; MOST_OCTETS]) -> usiz
     behind + frame.info.len()
 }
 
-/// As [`write`], in place of what the caller's octets were.
+/// As [`write`], but it does not keep the octets after the frame.
 #[inline(always)]
 pub fn write_over(frame: &Frame<'_>, from: Side, out: &mut ArrayVec<u8, MOST_OCTETS>)
     ensures written { out.new.items ≡ spelling from frame.now }
@@ -121,7 +124,7 @@ pub fn write_over(frame: &Frame<'_>, from: Side, out: &mut ArrayVec<u8, MOST_OCT
     }
 }
 
-/// Writes an address and a control field behind the octets of `out`.
+/// Appends an address and a control field to `out`.
 #[inline(always)]
 fn append_fields(out: &mut ArrayVec<u8, MOST_OCTETS>, address: [u8; 2], control: &[u8])
     requires { array_vec_len out.old + 2 + length control.now ≤ MOST_OCTETS }
@@ -138,7 +141,7 @@ fn append_fields(out: &mut ArrayVec<u8, MOST_OCTETS>, address: [u8; 2], control:
     }
 }
 
-/// Writes octets behind those of `out`.
+/// Appends octets to `out`.
 #[inline(always)]
 fn append(out: &mut ArrayVec<u8, MOST_OCTETS>, octets: &[u8])
     requires { array_vec_len out.old + length octets.now ≤ MOST_OCTETS }
@@ -150,7 +153,7 @@ fn append(out: &mut ArrayVec<u8, MOST_OCTETS>, octets: &[u8])
     };
 }
 
-/// Writes a control field at the third octet of `out`, and tells its length in octets.
+/// Writes a control field at the third octet of `out`, and returns its length in octets.
 fn put_control(out: &mut [u8; MOST_OCTETS], control: &Control) -> usize
     ensures written { out.new ≡ take 2 out.old ++ control_octets control.now
         ++ drop (2 + result) out.old }
@@ -185,8 +188,9 @@ fn frame_at(octets: &[u8], from: Side) -> Result<Frame<'_>, FrameFault>
     }
 }
 
-/// The frame of an address field and of the control field behind it, which takes some of `octets`. The first fault of
-/// the two comes first, and with it whether the octets are for a link.
+/// The frame of an address field and the control field after it, which takes some of `octets`. A
+/// fault of the address field is returned before a fault of the control field, and decides whether
+/// the octets are for a link.
 fn frame_of_fields(
     address: Result<Address, FieldFault>,
     control: Result<(Control, usize), FieldFault>,
@@ -210,7 +214,7 @@ fn frame_of_fields(
     }
 }
 
-/// A fault of octets that are for no link.
+/// A fault of octets for no link.
 fn fault_for_no_link(kind: FaultKind) -> FrameFault
     ensures { result ≡ record { kind = kind; address = None } }
 {
@@ -240,7 +244,8 @@ fn put(out: &mut [u8; MOST_OCTETS], at: usize, octets: &[u8])
     }
 }
 
-/// What the control table refuses of such a frame, with `len` octets of information.
+/// The fault of a frame with this role, control field and `len` octets of information, by the
+/// control table.
 fn content_fault(role: Role, control: &Control, len: usize) -> Option<FaultKind>
     ensures { result ≡ content_fault role control.now len }
 {

@@ -3,14 +3,14 @@ ghost use Rattle.lapd_frame.specs.FrmrInfo.{frmr_info};
 
 use lapd_field::Number;
 
-/// What a frame reject says (Q.921 3.6.11, Figure 6).
+/// The information of a frame reject (Q.921 3.6.11, Figure 6).
 #[derive(Clone, Copy, Debug, PartialEq, Eq)]
 pub struct FrmrInfo {
-    /// The control field of the rejected frame; that of a U frame stands in the first octet.
+    /// The control field of the rejected frame; a U frame's is in the first octet.
     pub rejected: [u8; 2],
-    /// V(S) of the end that rejects.
+    /// V(S) of the end that sent the FRMR frame.
     pub vs: Number,
-    /// V(R) of the end that rejects.
+    /// V(R) of the end that sent the FRMR frame.
     pub vr: Number,
     /// The rejected frame was a response.
     pub cr: bool,
@@ -25,7 +25,8 @@ pub struct FrmrInfo {
 }
 
 impl FrmrInfo {
-    /// The fields of the five octets of information of a FRMR frame. Its other bits are not looked at.
+    /// Reads the five octets of information of a FRMR frame. Bits that have no field here are
+    /// ignored.
     pub fn read(info: &[u8; 5]) -> FrmrInfo
         ensures { result ≡ frmr_info info.now }
     {

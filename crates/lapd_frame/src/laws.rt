@@ -1,22 +1,23 @@
-//! Laws of the grammar itself, over its definitions. They do nothing when they are called.
+//! Laws of the grammar, over its definitions. Calling them has no effect.
 
 ghost use Rattle.std.specs.Prelude.{◌≡◌, ℕ, List, Ok};
 ghost use Rattle.lapd_field.specs.declared.side.Side.{Side};
 ghost use Rattle.lapd_frame.specs.Frame.{Fields, IsFrame, spelling};
 ghost use Rattle.lapd_frame.specs.Reading.{frame_at};
 
-/// What is spelled so is read: reading the octets of a frame gives the frame back.
+/// Reading the octets of a frame returns the frame.
 pub fn read_as_spelled()
     ensures { (from : Side) (f : Fields) → IsFrame f → frame_at from (spelling from f) ≡ Ok f }
 {}
 
-/// One spelling: the only octets that are read as a frame are those that it is written as.
+/// Each frame has one spelling: octets are read as a frame only if the frame is written as these
+/// octets.
 pub fn one_spelling()
     ensures { (from : Side) (octets : List ℕ) (f : Fields) → frame_at from octets ≡ Ok f
         → octets ≡ spelling from f }
 {}
 
-/// One frame: two frames that are written alike by one side are the same.
+/// Two frames that one side writes as the same octets are the same frame.
 pub fn one_frame()
     ensures { (from : Side) (f g : Fields) → IsFrame f → IsFrame g
         → spelling from f ≡ spelling from g → f ≡ g }

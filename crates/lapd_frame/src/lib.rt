@@ -1,10 +1,12 @@
-//! Frames of the ISDN D channel, after ITU-T Q.921 (09/97), clause 3: reading them from octets and writing them.
+//! Frames of the ISDN D channel, after ITU-T Q.921 (09/97), clause 3: reading them from octets and
+//! writing them.
 //!
-//! [`Frame`] is an address, a control field and information, and its type keeps that these are a frame of the
-//! grammar: begin with [`read`], which borrows the information from the octets, or with [`Frame::new`]. What
-//! is not in the grammar has a first fault, [`FaultKind`] F1 to F7, and [`FrameFault`] carries the address where the
-//! fault is one of a link (F4 to F7). [`FrmrInfo`] reads what a frame reject says.
-//! Flags, zero insertion and the frame check sequence are below this crate: a frame here has 3 to 264 octets.
+//! Begin with [`read`], which borrows the information from the octets, or with [`Frame::new`]. A
+//! [`Frame`] is an address, a control field and information, and its type ensures that they form a
+//! frame of the grammar. Other octets have a first fault, [`FaultKind`] F1 to F7. A [`FrameFault`]
+//! also carries the address if the fault is for a link (F4 to F7). [`FrmrInfo`] reads the
+//! information of a frame reject. Flags, zero insertion and the frame check sequence are below this
+//! crate: a frame here has 3 to 264 octets.
 #![tactic(auto)]
 
 mod fault_kind;

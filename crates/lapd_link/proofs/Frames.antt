@@ -34,7 +34,7 @@ use Rattle.lapd_link_machine.proofs.BetweenSteps.{end_of, shows_end, is_sound, a
 
 -- ---- One output.
 
--- parts that the control table has are a frame
+-- parts that the control table has form a frame
 frame_of_parts : (setup : Setup) (role : Role) (control : Control) (info : List ℕ) → content_fault role control (length info) ≡ None
     → link_frame setup role control info ≡ Some (link_parts setup role control info)
 frame_of_parts setup role control info proper = rw proper refl
@@ -68,7 +68,7 @@ frames_of_step setup input e s keeps done =
     all_have_frames setup (drop s.end.first s.end.given) s.outs (short_behind s.end.first s.end.given (step_is_short Tagged input e s keeps.short done)) (step_is_spoken Tagged input e s done)
     (subst (λ (n : ℕ). ArePlaced n s.outs) (sym (length-drop s.end.first s.end.given)) (messages_are_there Tagged input e s keeps.few keeps.sound keeps.numbers done))
 
--- ---- From a new end on.
+-- ---- From a new end.
 
 pub keeps_new : (p : Parameters) → p.k ≤ 127 → KeepsFrames (new_end p)
 unfolding initial_variables
@@ -90,19 +90,19 @@ short_when : (long : Bool) (len : ℕ) (done s : StepState) → nat_lt n201 len 
 short_when true len done s is taken = absurd (cc)
 short_when false len done s is taken = grind (arith, nat_tests, is)
 
--- what is not refused has at most N201 octets
+-- unit data that is not refused has at most N201 octets
 pub short_unit : (len : ℕ) (e : End) (s : StepState) → step Tagged (UnitData len) e ≡ Ok s → len ≤ n201
 unfolding step
 short_unit len e s done = short_when (nat_lt n201 len) len _ s refl done
 
 -- ---- A link.
 
--- all ends that a machine stands for have the messages of its queue
+-- all ends that a machine represents have the messages of its queue
 same_messages : (m : Machine) (a b : End) → StandsFor m [] (begin a) → StandsFor m [] (begin b) → drop a.first a.given ≡ drop b.first b.given
 unfolding begin
 same_messages m a b one other = one.queue.messages ∙ sym other.queue.messages
 
--- a machine makes the step, whatever end it stands for
+-- a machine makes the step, for each end that it represents
 abbrev MakesStep : Machine → Machine → Input → List Out → Type 0
 MakesStep old new input outs = (e : End) → StandsFor old [] (begin e) → (s : StepState) × (step Tagged input e ≡ Ok s) × (s.outs ≡ outs) × StandsFor new [] (begin s.end)
 

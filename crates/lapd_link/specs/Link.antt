@@ -1,4 +1,4 @@
--- How a link shows an end, and how its calls are stated.
+-- The end that a link represents, and the terms in which its calls are stated.
 use Rattle.std.specs.Prelude.{◌≡◌, ◌==◌, ◌&&◌, List, [], Bool, true, Ok, Err, ⊤}
 use Rattle.lapd_mod128.specs.Counting.{Tagged}
 use Rattle.lapd_frame.specs.declared.Side.{Side}
@@ -17,11 +17,11 @@ use Rattle.lapd_link_definition.specs.Table.{step}
 use Rattle.lapd_link.specs.declared.link.Link.{Link}
 use Rattle.lapd_link_machine.specs.StandsFor.{StandsFor}
 
--- A link stands for an end between two steps, whatever was given before what its queue holds.
+-- A link represents an end between two steps. Messages before those in its queue do not matter.
 abbrev pub LinkStandsFor : Link → End → Type 0
 LinkStandsFor link e = StandsFor link.machine [] (begin e)
 
--- for whom the link is made, which no step changes
+-- the link's side, SAPI and TEI, which no step changes
 pub record Setup : Type 0 where
   pub side : Side
   pub sapi : Sapi
@@ -34,17 +34,17 @@ setup_of link = record { side = link.side; sapi = link.sapi; tei = link.tei }
 abbrev pub is_address_of : Setup → Address → Bool
 is_address_of setup a = (sapi_value setup.sapi == sapi_value a.sapi) && (setup.tei == a.tei)
 
--- an event that is for the link: a frame with its address, or a fault that is one of a link (F4 to F7)
+-- an event for the link: a frame with its address, or a fault for a link (F4 to F7)
 abbrev pub IsForLink : Link → Event → Type 0
 IsForLink link (event.Heard frame) = is_address_of (setup_of link) frame.now.address ≡ true
 IsForLink link (event.Fault kind) = is_for_link kind ≡ true
 IsForLink link other = ⊤
 
--- the step of the table: its outputs, in order, and a link that stands for the end after it
+-- a step of the table: its outputs, in order, and a link that represents the end after it
 abbrev pub Steps : Link → Link → Input → List Out → Type 0
 Steps old new input outs = (e : End) → LinkStandsFor old e
     → (s : StepState) × (step Tagged input e ≡ Ok s) × (s.outs ≡ outs) × LinkStandsFor new s.end
 
--- the table refuses
+-- the table refuses the input
 abbrev pub Refuses : Link → Input → LinkFault → Type 0
 Refuses link input fault = (e : End) → LinkStandsFor link e → step Tagged input e ≡ Err fault

@@ -1,5 +1,5 @@
--- What an output puts on the line (Q.921 2.1 to 2.5, 4.1): a frame with the link's SAPI and TEI. Each output that is sent has
--- one.
+-- The frame of each output that is sent on the line (Q.921 2.1 to 2.5, 4.1), with the link's SAPI
+-- and TEI.
 use Rattle.std.specs.Prelude.{◌≡◌, ◌≤◌, ℕ, false, List, [], length, drop, get_or, slice_get, Option, Some, None}
 use Rattle.std.specs.List.{All}
 use Rattle.std.specs.Result.{result_ok}
@@ -31,8 +31,9 @@ link_parts setup role control info = record {
   info = info;
 }
 
--- The frame of each output that is sent, and none of any other: `messages` are those that are neither acknowledged nor dropped
--- after the step, and `handed` are the octets of the unit data that was just handed in.
+-- The frame of each output that is sent, and `None` for any other output. `messages` are those that
+-- are neither acknowledged nor dropped after the step, and `handed` are the octets of the unit data
+-- of the step.
 abbrev pub sent_frame : Setup → List (List ℕ) → List ℕ → Out → Option Fields
 sent_frame setup messages handed (out.Send role control) = Some (link_parts setup role control [])
 sent_frame setup messages handed (out.SendMessage place control) =
@@ -40,19 +41,20 @@ sent_frame setup messages handed (out.SendMessage place control) =
 sent_frame setup messages handed out.SendUnit = Some (link_parts setup Command (Ui false) handed)
 sent_frame setup messages handed other = None
 
--- ---- What is made of any output.
+-- ---- The frame made from any output.
 
--- the frame of these parts, where the control table has it (Q.921 Table 5)
+-- the frame with these parts, if the control table has it (Q.921 Table 5)
 abbrev pub link_frame : Setup → Role → Control → List ℕ → Option Fields
 link_frame setup role control info = result_ok
     (frame_of (link_address setup role) control info (content_fault role control (length info)))
 
--- the frame that carries a message, none where no message is there
+-- the frame that carries a message, if the message exists
 abbrev pub message_frame : Setup → Control → Option (List ℕ) → Option Fields
 message_frame setup control None = None
 message_frame setup control (Some message) = link_frame setup Command control message
 
--- the frame that is made of an output: none also where its message is not there, or its parts are no frame
+-- the frame made from an output; `None` also if its message does not exist, or its parts do not
+-- form a frame
 abbrev pub made_frame : Setup → List (List ℕ) → List ℕ → Out → Option Fields
 made_frame setup messages handed (out.Send role control) = link_frame setup role control []
 made_frame setup messages handed (out.SendMessage place control) =
@@ -62,20 +64,21 @@ made_frame setup messages handed other = None
 
 -- ---- The outputs of a step.
 
--- The frame of each of these outputs is made of it: its message is there, and its parts are a frame. So it is whatever was
--- handed in, of up to N201 octets.
+-- Each of these outputs that is sent has its frame: its message exists, and its parts form a frame.
+-- This holds for any unit data of up to N201 octets.
 abbrev pub HaveFrames : Setup → List (List ℕ) → List Out → Type 0
 HaveFrames setup messages outs = (handed : List ℕ) → length handed ≤ n201
     → All (λ output. made_frame setup messages handed output
     ≡ sent_frame setup messages handed output) outs
 
--- a link has them, after the step that gave these outputs
+-- a link has the frames of these outputs, after the step that returned them
 abbrev pub HasFramesOf : Link → List Out → Type 0
 HasFramesOf link outs = (e : End) → LinkStandsFor link e
     → HaveFrames (setup_of link) (drop e.first e.given) outs
 
--- What an end keeps from step to step, so that the outputs of each have their frames: its window has at most 127 places, its
--- sent messages are outstanding, its numbers are tags, and its messages have at most N201 octets.
+-- Properties that an end keeps from step to step, so that the outputs of each step have their
+-- frames: its window has at most 127 places, its sent messages are outstanding, its numbers are
+-- tags, and its messages have at most N201 octets.
 pub record KeepsFrames (e : End) : Type 0 where
   pub few : e.parameters.k ≤ 127
   pub sound : IsSound Tagged e

@@ -1,4 +1,4 @@
-//! The laws of a link. They do nothing when they are called.
+//! The laws of a link. Calling them has no effect.
 
 ghost use Rattle.std.specs.Prelude.{◌≡◌, ◌≤◌, ℕ, List, length, drop, Ok};
 ghost use Rattle.lapd_frame.specs.Frame.{n201};
@@ -13,10 +13,13 @@ ghost use Rattle.lapd_link.specs.declared.link.Link.{Link};
 ghost use Rattle.lapd_link.specs.Link.{Setup, Steps};
 ghost use Rattle.lapd_link.specs.SentFrame.{HaveFrames, HasFramesOf, KeepsFrames};
 
-/// From a new end on, over every list of events, each output that is sent has its frame: the message that it carries is there,
-/// and its parts are a frame of the control table (Q.921 Table 5, 5.6.1, 5.9.3). The frames that come carry tags, as all do
-/// that are read; and unit data that is not refused has at most 260 octets. So whatever link does a step of the state table
-/// has the frames of its outputs.
+/// After any list of events from a new end, each output that is sent has its frame: the message
+/// that it carries exists, and its parts form a frame of the control table (Q.921 Table 5, 5.6.1,
+/// 5.9.3).
+///
+/// Received frames carry tags, as all frames do that are read, and unit data that is not refused
+/// has at most 260 octets. So any link that makes a step of the state table has the frames of its
+/// outputs.
 pub fn sent_outputs_have_frames()
     ensures begins { (p : Parameters) → p.k ≤ 127 → KeepsFrames (new_end p) }
     ensures stays { (input : Input) (e : End) (s : StepState) → KeepsFrames e

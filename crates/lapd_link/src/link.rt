@@ -21,7 +21,8 @@ use std::alloc::{AllocError, Global};
 ///   7 multiple frame established -----+             8 timer recovery ---+
 /// ```
 ///
-/// In 7 and 8 a SABME establishes anew, a DISC releases, and what breaks the procedures leads back to 5.
+/// In states 7 and 8 a SABME re-establishes the link and a DISC releases it. A violation of the
+/// procedures leads back to state 5.
 #[derive(Drop)]
 pub struct Link {
     side: Side,
@@ -41,12 +42,12 @@ impl Link {
     ghost use Rattle.lapd_link.specs.SentFrame.{HasFramesOf};
     ghost use Rattle.lapd_link_machine.specs.Bounds.{IsBounded};
 
-    /// A link in state 4, of this side, for `sapi` (not management) and `tei` (not the group TEI). It takes the memory
-    /// of its I queue.
+    /// Makes a link in state 4, of this side, for `sapi` (not management) and `tei` (not the group
+    /// TEI). It allocates its I queue.
     ///
     /// # Errors
     ///
-    /// `AllocError` where that memory was refused.
+    /// `AllocError` if the queue cannot be allocated.
     pub fn new(
         alloc: Global,
         side: Side,
@@ -69,16 +70,16 @@ impl Link {
         })
     }
 
-    /// What is to be done for an event, in order. It takes no memory. Where speed matters, lend the outputs:
-    /// [`Link::handle_into`].
+    /// Handles an event, and returns what to do for it, in order. Does not allocate. If speed
+    /// matters, lend the outputs: [`Link::handle_into`].
     ///
-    /// A frame that is handed in has the link's SAPI and TEI ([`Link::is_for`]), and comes from the other side; a fault
-    /// is one of F4 to F7 ([`FaultKind::is_for_link`]).
+    /// A frame must have the link's SAPI and TEI ([`Link::is_for`]) and be sent by the other side.
+    /// A fault must be one of F4 to F7 ([`FaultKind::is_for_link`]).
     ///
     /// # Errors
     ///
-    /// L3 for unit data of more than 260 octets; L4 for an `Establish` in state 6, or in state 5 with a release
-    /// pending. The link is unchanged.
+    /// L3 for unit data of more than 260 octets; L4 for an `Establish` in state 6, or in state 5
+    /// with a release pending. The link is unchanged.
     pub fn handle(&mut self, event: Event) -> Result<Outs, LinkFault>
         requires for_link { IsForLink self.old event }
         ensures ok { IfOk result (λ outs.
@@ -93,7 +94,7 @@ impl Link {
         Ok(outs)
     }
 
-    /// As [`Link::handle`], into outputs that the caller lends, which are emptied first.
+    /// As [`Link::handle`], but returns the outputs in `outs`, which it empties first.
     ///
     /// # Errors
     ///
@@ -119,14 +120,14 @@ impl Link {
         }
     }
 
-    /// A message of layer 3 (DL-DATA request), and what is to be done for it, in order. It takes no memory. Where speed
-    /// matters, lend the outputs: [`Link::give_into`].
+    /// Queues a message of layer 3 (DL-DATA request), and returns what to do for it, in order. Does
+    /// not allocate. If speed matters, lend the outputs: [`Link::give_into`].
     ///
     /// # Errors
     ///
-    /// In this order: L3 for a message of more than 260 octets, L1 in state 4, L4 in state 6 and in state 5 with a
-    /// release pending, L5 in state 5 where layer 3 establishes, L2 where the queue is full. The message is handed
-    /// back, and the link is unchanged.
+    /// In this order: L3 for a message of more than 260 octets, L1 in state 4, L4 in state 6 and in
+    /// state 5 with a release pending, L5 in state 5 if layer 3 establishes, L2 if the queue is
+    /// full. The error contains the message, and the link is unchanged.
     pub fn give(&mut self, message: Vec<u8>) -> Result<Outs, Refused>
         ensures ok { IfOk result (λ outs. Steps self.old self.new (Give message.items) outs.items) }
         ensures frames { IfOk result (λ outs. HasFramesOf self.new outs.items) }
@@ -141,7 +142,7 @@ impl Link {
         Ok(outs)
     }
 
-    /// As [`Link::give`], into outputs that the caller lends, which are emptied first.
+    /// As [`Link::give`], but returns the outputs in `outs`, which it empties first.
     ///
     /// # Errors
     ///
@@ -174,14 +175,14 @@ impl Link {
         }
     }
 
-    /// Why [`Link::handle`] would refuse this event; `None` where it would not.
+    /// Why [`Link::handle`] would refuse this event; `None` if it would accept it.
     pub fn refusal(&self, event: &Event) -> Option<LinkFault>
         ensures { (e : End) → LinkStandsFor self.now e → result ≡ refused (input_of event.now) e }
     {
         self.machine.refuses(event)
     }
 
-    /// Why [`Link::give`] would refuse a message of so many octets; `None` where it would not.
+    /// Why [`Link::give`] would refuse a message of this many octets; `None` if it would accept it.
     pub fn give_refusal(&self, len: usize) -> Option<LinkFault>
         ensures { (message : List ℕ) (e : End) → length message ≡ len → LinkStandsFor self.now e
             → result ≡ refused (Give message) e }
@@ -193,8 +194,8 @@ impl Link {
         }
     }
 
-    /// Whether an establishment begins with this event: with a SABME in states 4, 7 and 8, and with the answer to this
-    /// end's own in state 5, where no release waits for it (Q.921 5.5.1.2).
+    /// Whether an establishment begins with this event: with a SABME in states 4, 7 and 8, and with
+    /// the UA to this end's own SABME in state 5 if no release is pending (Q.921 5.5.1.2).
     pub fn begins(&self, event: &Event) -> bool
         ensures { (e : End) → LinkStandsFor self.now e
             → result ≡ begins e.state e.release_pending (input_of event.now) }
@@ -202,7 +203,7 @@ impl Link {
         self.machine.begins(event)
     }
 
-    /// Whether frames with this address are the link's.
+    /// Whether the link receives frames with this address.
     pub fn is_for(&self, address: &Address) -> bool
         ensures { result ≡ is_address_of (setup_of self.now) address.now }
     {
@@ -210,7 +211,7 @@ impl Link {
     }
 }
 
-/// What a link shows.
+/// The values that a link shows.
 #[tactic(auto, unfolding(lapd_link_definition::specs::End::begin))]
 impl Link {
     ghost use Rattle.std.specs.Prelude.{◌-◌, length};
@@ -233,8 +234,9 @@ impl Link {
         self.machine.window
     }
 
-    /// RC: in states 5 and 6, how often the SABME or DISC was sent again; in state 8, how often T200 has expired since
-    /// the last answer, with an enquiry each time. 0 to N200.
+    /// RC, 0 to N200. In states 5 and 6 it counts the retransmissions of the SABME or DISC. In
+    /// state 8 it counts how often T200 has expired since the last response; each time an enquiry
+    /// was sent.
     pub fn rc(&self) -> u8
         ensures { (e : End) → LinkStandsFor self.now e → result ≡ e.rc }
     {
@@ -252,14 +254,14 @@ impl Link {
         }
     }
 
-    /// Whether layer 3 establishes the link, in state 5.
+    /// Whether layer 3 requested the establishment, in state 5.
     pub fn layer3_initiated(&self) -> bool
         ensures { (e : End) → LinkStandsFor self.now e → result ≡ e.layer3_initiated }
     {
         self.machine.layer3_initiated
     }
 
-    /// Whether a release waits for the answer to the SABME, in state 5.
+    /// Whether a release is pending until the response to the SABME, in state 5.
     pub fn release_pending(&self) -> bool
         ensures { (e : End) → LinkStandsFor self.now e → result ≡ e.release_pending }
     {
@@ -280,7 +282,7 @@ impl Link {
         self.machine.queue.len()
     }
 
-    /// What it was made with.
+    /// The parameters that it was made with.
     pub fn params(&self) -> Params
         ensures { (e : End) → LinkStandsFor self.now e → result ≡ e.parameters }
     {
@@ -294,7 +296,7 @@ impl Link {
         self.machine.queue.room()
     }
 
-    /// Whose end it is.
+    /// The side that this end belongs to.
     pub fn side(&self) -> Side
         ensures { result ≡ (setup_of self.now).side }
     {

@@ -1,4 +1,4 @@
-//! What an output puts on the line.
+//! The frame that an output sends.
 
 ghost use Rattle.std.specs.Prelude.{◌≡◌, drop, slice_get};
 ghost use Rattle.lapd_link_definition.specs.End.{End};
@@ -10,18 +10,19 @@ use lapd_frame::{Address, Control, Frame, Role};
 use lapd_link_definition::Out;
 
 impl Link {
-    /// The frame that an output of the last step puts on the line, to be written by [`lapd_frame::write`] as this side
-    /// sends it. `handed` are the octets of the unit data that was handed in (no octets for any other event). It borrows
-    /// its information, and nothing is copied.
+    /// The frame that an output of the last step sends, or `None` for an output that is not sent.
+    /// Write it by [`lapd_frame::write`] as this side sends it. `handed` are the octets of the unit
+    /// data of the step (empty for any other event). The frame borrows its information.
     ///
-    /// Each output of the last step that is sent has its frame, as long as `handed` are at most 260 octets.
+    /// Each output of the last step that is sent has its frame, if `handed` has at most 260 octets.
     ///
-    /// - `Send`: of this role and control field, without information.
+    /// - `Send`: with this role and control field, without information.
     /// - `SendMessage`: the I command with the message at this place of the queue (Q.921 5.6.1).
-    /// - `SendUnit`: the UI command with P=0 and the octets handed in (Q.921 5.2).
+    /// - `SendUnit`: the UI command with P=0 and the octets of `handed` (Q.921 5.2).
     ///
-    /// `None` for an output that is not sent. One that is not of the last step has none either where its parts are no frame
-    /// of the control table (Q.921 Table 5): the wrong role, more than 260 octets, a place where no message is.
+    /// For an output of another step it also returns `None` if the parts do not form a frame of the
+    /// control table (Q.921 Table 5): the wrong role, more than 260 octets, or a place without a
+    /// message.
     #[inline(always)]
     pub fn frame<'a>(&'a self, out: &Out, handed: &'a [u8]) -> Option<Frame<'a>>
         ensures { (e : End) → LinkStandsFor self.now e

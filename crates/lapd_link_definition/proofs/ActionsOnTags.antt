@@ -1,4 +1,4 @@
--- Each action on tags does what it does on numbers without a bound.
+-- Each action has the same effect on tags as on whole numbers.
 use Rattle.std.proofs.Common.{◌≡◌, ◌<◌, ℕ, ◌+◌, ◌-◌, ◌≤◌, ◌==◌, nat_lt, Bool, true, false, if◌then◌else◌, List, [], ◌∷◌, ◌++◌, map, Option, Some, None, option_map, refl}
 use Rattle.std.proofs.lemmas.List.{map-append}
 use Rattle.lapd_timers.specs.declared.timer.Timer.{Timer}
@@ -31,7 +31,7 @@ pub put_on_tags : (out : Out) (s : StepState) → tag_step_state (put out s) ≡
 unfolding tag_step_state put
 put_on_tags out s = rw (map-append tag_out s.outs (out ∷ [])) refl
 
--- ---- Actions that set one thing, and timers.
+-- ---- Actions that set one value, and timers.
 
 pub state_to_on_tags : (state : State) (s : StepState) → tag_step_state (state_to state s) ≡ state_to state (tag_step_state s)
 unfolding tag_step_state state_to
@@ -123,7 +123,7 @@ unfolding tag_step_state discard_i_queue
 discard_i_queue_on_tags s =
     rw (map-append tag_out s.outs (counted (waiting s.end) Dropped), out_where_on_tags (nat_lt 0 (waiting s.end)) (Dropped (waiting s.end))) refl
 
--- an N(R) that lies from V(A) on, at most 127 above it
+-- an N(R) from V(A) to at most 127 above it
 pub acknowledge_on_tags : (nr : ℕ) (s : StepState) → s.end.window.va ≤ nr → nr ≤ s.end.window.va + 127 → tag_step_state (acknowledge Whole nr s) ≡ acknowledge Tagged (tag nr) (tag_step_state s)
 unfolding tag_step_state acknowledge
 acknowledge_on_tags nr s low high =
@@ -138,7 +138,7 @@ pub invoke_retransmission_on_tags : (nr : ℕ) (s : StepState) → tag_step_stat
 unfolding tag_step_state invoke_retransmission
 invoke_retransmission_on_tags nr s = rw (with_vs_on_tags nr s.end.window) refl
 
--- what layer 3 is told where messages are lost
+-- the primitives for layer 3 if messages are lost
 lost_on_tags : (same : Bool) (n : ℕ) → map tag_out (if same then [] else counted n Dropped ++ Established ∷ []) ≡ (if same then [] else counted n Dropped ++ Established ∷ [])
 lost_on_tags true n = refl
 lost_on_tags false n = rw (map-append tag_out (counted n Dropped) (Established ∷ []), out_where_on_tags (nat_lt 0 n) (Dropped n)) refl
@@ -190,7 +190,7 @@ ensure_t200_on_tags s =
       stopped_on_tags s.end.t200 (Start T200 ∷ []) refl,
     ) refl
 
--- ---- Procedures made of these.
+-- ---- Procedures made of these actions.
 
 pub ruleset actions = (put_on_tags, state_to_on_tags, rc_to_on_tags, increment_rc_on_tags, layer3_initiated_to_on_tags, release_pending_to_on_tags, start_on_tags, stop_on_tags, expired_on_tags, clear_exception_conditions_on_tags, zero_state_variables_on_tags, set_peer_busy_on_tags, set_own_busy_on_tags, enquiry_response_on_tags, transmit_enquiry_on_tags, transmit_rr_on_tags, queue_up_on_tags, discard_i_queue_on_tags, invoke_retransmission_on_tags, transmit_i_frame_on_tags, ensure_t200_on_tags)
 

@@ -1,4 +1,4 @@
--- What is due on whole numbers is due on tags, where numbers are near.
+-- If numbers are near, an input that is due on whole numbers is due on tags.
 use Rattle.std.proofs.Common.{◌≡◌, true, refl, ◌∙◌}
 use Rattle.lapd_frame.specs.declared.Role.TheVariants.{Command, Answer}
 use Rattle.lapd_frame.specs.declared.Control.{Control}

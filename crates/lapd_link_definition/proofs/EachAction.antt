@@ -1,8 +1,11 @@
--- One walk over the table: what each action keeps, each row and the end of a step keep.
+-- One induction over the table: a property that each action keeps is kept by each row and by the
+-- end of a step.
 --
--- Before an N(R) is acknowledged or a message goes out a fact P is kept, and from then on a fact Q that follows from it. Some
--- actions need a premise of their own: E of a timer that expires, M of a message that joins the queue, B where an establishment
--- begins, T where an I frame is taken, U where unit data goes up, G where a message goes out, N of an N(R) that is acknowledged.
+-- A property P is kept until an N(R) is acknowledged or a message is sent, and from then on a
+-- property Q that follows from P. Some actions need a premise of their own: E for a timer that
+-- expires, M for a message that joins the queue, B for the start of an establishment, T for an
+-- accepted I frame, U for unit data that is delivered to layer 3, G for a message that is sent, N
+-- for an N(R) that is acknowledged.
 use Rattle.std.proofs.Common.{◌≡◌, ℕ, zero, suc, ◌==◌, ◌&&◌, not, nat_lt, Bool, true, false, if◌then◌else◌, List, Option, Some, None, refl}
 use Rattle.lapd_timers.specs.declared.timer.Timer.{Timer}
 use Rattle.lapd_timers.specs.declared.timer.Timer.TheVariants.{T200, T203}
@@ -31,8 +34,8 @@ use Rattle.lapd_link_definition.specs.Table.{by_state, report_fault, is_unit_dat
 use Rattle.lapd_link_definition.specs.TeiAssigned.{tei_assigned}
 use Rattle.lapd_link_definition.specs.TimerRecovery.{poll, is_final, i_frame_nr_in_recovery, rr_nr_in_recovery, rnr_nr_in_recovery, timer_recovery_t200, timer_recovery}
 
--- what `put` puts but for unit data that goes up: a frame of the grammar without information, what layer 3 is told of the
--- link, unit data to be sent, a report
+-- the outputs of `put` except unit data for layer 3: a frame of the grammar without information, a
+-- primitive about the link, unit data to send, a report
 abbrev pub IsPut : Out → Type 0
 IsPut (Send role control) = (content_fault role control 0 ≡ None) × IsControl control
 IsPut SendUnit = Unit {0}
@@ -43,7 +46,7 @@ IsPut ReleaseConfirm = Unit {0}
 IsPut (Report letter) = Unit {0}
 IsPut out = ⊥
 
--- the N(R) that comes
+-- the N(R) of a received frame
 abbrev pub received_number : Input → Option ℕ
 received_number (Heard (I ns nr p) role) = Some nr
 received_number (Heard (Rr nr pf) role) = Some nr
@@ -61,7 +64,7 @@ pub record KeptByActions (r : Reading) (E : Timer → StepState → Type 0) (P Q
   pub pendings : (on : Bool) (s : StepState) → P s → P (release_pending_to on s)
   pub starts : (timer : Timer) (s : StepState) → P s → P (start timer s)
   pub stops : (timer : Timer) (s : StepState) → P s → P (stop timer s)
-  -- an expiry is counted first
+  -- the expiry is counted before the rest of the row
   pub still_expires : (timer : Timer) (s : StepState) → E timer s → E timer (increment_rc s)
   pub expires : (timer : Timer) (s : StepState) → E timer s → P s → P (expired timer s)
   pub clears : (s : StepState) → P s → P (clear_exception_conditions s)
@@ -86,7 +89,7 @@ pub record KeptByActions (r : Reading) (E : Timer → StepState → Type 0) (P Q
   pub ensures_t200 : (s : StepState) → Q s → Q (ensure_t200 s)
   pub tells : (s : StepState) → Q s → Q (transmit_rr s)
 
--- a row that has a test, both ways
+-- both branches of a row with a test
 pub either : (F : StepState → Type 0) (test : Bool) (x y : StepState) → (test ≡ true → F x) → (test ≡ false → F y) → F (if test then x else y)
 either F true x y one other = one refl
 either F false x y one other = other refl
@@ -316,7 +319,7 @@ module _ (r : Reading) (E : Timer → StepState → Type 0) (P Q : StepState →
   row_keeps state (Expiry timer) s m b t u g n x h = either Q (runs timer s.end) _ _ (λ _. in_state state (Expiry timer) s m b t g n x h) (λ _. w.follows s h)
   row_keeps state input s m b t u g n x h = in_state state input s m b t g n x h
 
-  -- ---- The end of a step, and a whole one.
+  -- ---- The end of a step, and a whole step.
 
   all_sent : (n : ℕ) (s : StepState) → G → Q s → Q (send_all r n s)
   unfolding send_all

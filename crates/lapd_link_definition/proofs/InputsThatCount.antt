@@ -1,4 +1,5 @@
--- The inputs that count: where an establishment begins, a message is given, and an I frame is accepted.
+-- The inputs that are counted: the start of an establishment, a message of layer 3, and an accepted
+-- I frame.
 use Rattle.std.proofs.Common.{◌≡◌, ℕ, zero, suc, ◌+◌, ◌==◌, ◌&&◌, not, nat_lt, length, Bool, true, false, if◌then◌else◌, List, [], ◌∷◌, ◌++◌, Option, Some, None, Ok, refl, sym, subst, ◌∙◌, ap, arith}
 use Rattle.std.proofs.lemmas.List.{append-nil}
 use Rattle.lapd_frame.specs.declared.Role.TheVariants.{Command, Answer}
@@ -85,7 +86,7 @@ begun_in r AwaitingRelease input s h = cc
 begun_in r MultipleFrameEstablished input s h = begun_7 r input s h
 begun_in r TimerRecovery input s h = begun_8 r input s h
 
--- what begins an establishment is a SABME or a UA
+-- an establishment begins with a SABME or a UA
 by_state_alone : (r : Reading) (state : State) (input : Input) (s : StepState) → begins state s.end.release_pending input ≡ true → row r state input s ≡ by_state r state input s
 unfolding row
 by_state_alone r TeiAssigned (Heard (Sabme p) Command) s h = refl
@@ -104,7 +105,7 @@ begun_by_row r input e h =
     let F : StepState → Type 0 = λ s. HasBegun e s.end in
     subst F (sym (by_state_alone r e.state input (begin e) h)) (begun_in r e.state input (begin e) h)
 
--- what goes out at the end of a step leaves it so
+-- the frames that are sent at the end of a step do not change this
 either_begins : (before : End) (test : Bool) (x y : StepState) → HasBegun before x.end → HasBegun before y.end → HasBegun before (if test then x else y).end
 either_begins before true x y one other = one
 either_begins before false x y one other = other
@@ -131,7 +132,7 @@ begun_by_step r input e s h done =
 pub begun_by_no_step : (r : Reading) (input : Input) (e : End) (s : StepState) → begins e.state e.release_pending input ≡ false → step r input e ≡ Ok s → s.end.establishments ≡ e.establishments
 begun_by_no_step r input e s h done = (kept_by_step r input e s done).same_establishment h
 
--- ---- A message is given.
+-- ---- A message of layer 3.
 
 given_in : (r : Reading) (state : State) (message : List ℕ) (s : StepState) → (release_pending layer3_initiated full : Bool) → give_refused state release_pending layer3_initiated full ≡ None
     → (by_state r state (Give message) s).end.given ≡ s.end.given ++ message ∷ []
@@ -171,7 +172,7 @@ given_after r BusyOn e s done = given_by_none r BusyOn e s refl done
 given_after r BusyOff e s done = given_by_none r BusyOff e s refl done
 given_after r (UnitData len) e s done = given_by_none r (UnitData len) e s refl done
 
--- ---- An I frame is accepted.
+-- ---- An accepted I frame.
 
 frame_outs : (accepted : Bool) (response : List Out) → AreQuiet response → AreSpoken ([] ++ out_where accepted Up ++ response) × (ups ([] ++ out_where accepted Up ++ response) ≡ (if accepted then 1 else 0))
 frame_outs true response quiet = ((tt, quiet.0), omega (arith, quiet.1))

@@ -1,5 +1,6 @@
--- What a step keeps that depends on no state: parameters, the grammar of what is sent, and short messages; and but for
--- the inputs that say otherwise, the messages given, the number of establishments, and nothing for layer 3.
+-- Properties that a step keeps in any state: parameters, the grammar of sent frames, and short
+-- messages. Except for certain inputs it also keeps the accepted messages and the number of
+-- establishments, and delivers nothing to layer 3.
 use Rattle.std.proofs.Common.{◌≡◌, ◌-◌, ℕ, ◌+◌, ◌≤◌, ◌==◌, nat_lt, Bool, true, false, if◌then◌else◌, List, [], ◌∷◌, ◌++◌, length, Option, Some, None, Result, Ok, refl, subst, arith}
 use Rattle.std.proofs.lemmas.Bool.Decides.{nat_tests}
 use Rattle.lapd_timers.specs.declared.timer.Timer.{Timer}
@@ -28,7 +29,7 @@ use Rattle.lapd_link_definition.specs.SentFrames.{AreSpoken, AreShort}
 use Rattle.lapd_link_definition.specs.Table.{row, unless, step}
 use Rattle.lapd_link_definition.proofs.EachAction.{IsPut, KeptByActions, row_keeps, close_keeps}
 
--- ---- Outputs in the grammar, of which none is for layer 3.
+-- ---- Outputs in the grammar that deliver no message to layer 3.
 
 abbrev pub AreQuiet : List Out → Type 0
 AreQuiet outs = AreSpoken outs × (ups outs ≡ 0)
@@ -131,8 +132,9 @@ short_both : (xs : List (List ℕ)) (message : List ℕ) → AreShort xs → len
 short_both [] message hx h = (h, tt)
 short_both (x ∷ xs) message hx h = (hx.0, short_both xs message hx.1 h)
 
--- ---- What is kept, since an end e and n outputs for layer 3; no message is given, no establishment begins and no I frame
--- is taken where that is said so. Fits says that the message given, where one is, has at most N201 octets.
+-- ---- Properties that are kept since an end e with n messages delivered to layer 3. The marks say
+-- if a message is accepted, an establishment begins, or an I frame is accepted. Fits says that an
+-- accepted message has at most N201 octets.
 
 pub record KeptByStep (e : End) (n : ℕ) (gives begins takes : Bool) (Fits : Type 0) (parameters : Parameters) (given : List (List ℕ)) (establishments : ℕ) (outs : List Out) : Type 0 where
   pub same_parameters : parameters ≡ e.parameters
@@ -238,7 +240,7 @@ kept_by_row r input e =
     (λ message same. (rw same refl, λ fit. fit message same)) (λ b. b) (λ opened ns nr p same. rw same opened) (λ u. tt) (λ there same. tt) (λ nr same. tt) (λ timer same. tt)
     (record { same_parameters = refl; same_given = λ _. refl; short = λ _ before. before; same_establishment = λ _. refl; spoken = tt; same_ups = λ _. refl })
 
--- the end of a step keeps all of this
+-- the end of a step keeps all of these properties
 pub closed : (r : Reading) (s : StepState) → AreSpoken s.outs → IsKept r s.end (ups s.outs) false false false (Unit {0}) (end_step r s)
 closed r s spoken =
     close_keeps r _ (IsKept r s.end (ups s.outs) false false false (Unit {0})) (IsKept r s.end (ups s.outs) false false false (Unit {0})) _ _ _ _ _ _ (kept r s.end (ups s.outs) false false false (Unit {0})) s tt
@@ -250,7 +252,7 @@ Done s = Ok s
 same_done : (s t : StepState) → Done s ≡ Done t → s ≡ t
 same_done s t h = cc
 
--- a step that is not refused is its row with the end of a step
+-- a step that is not refused is its row, followed by the end of the step
 pub taken : (refusal : Option LinkFault) (s t : StepState) → unless refusal s ≡ Ok t → (refusal ≡ None) × (s ≡ t)
 taken None s t h = (refl, same_done s t h)
 taken (Some fault) s t h = cc

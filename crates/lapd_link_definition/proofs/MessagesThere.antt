@@ -1,4 +1,4 @@
--- Each message that goes out is there.
+-- Each message that is sent exists.
 use Rattle.std.proofs.Common.{◌≡◌, ℕ, zero, suc, ◌+◌, ◌-◌, ◌<◌, ◌≤◌, ◌==◌, ◌&&◌, nat_lt, not, Bool, true, false, if◌then◌else◌, List, [], ◌∷◌, ◌++◌, length, Ok, refl, subst, arith}
 use Rattle.std.proofs.lemmas.Bool.Decides.{nat_tests}
 use Rattle.lapd_timers.specs.declared.timer.Timer.TheVariants.{T200, T203}
@@ -39,13 +39,13 @@ are_among_more few many (out ∷ outs) less h = (is_among_more few many out less
 from_silence : (waiting : ℕ) (outs : List Out) → AreSilent outs → ArePlaced waiting outs
 from_silence waiting outs h = are_among_more 0 waiting outs (omega arith) h
 
--- the timers that go with a message
+-- the timers that are started and stopped with a message
 with_timers : (waiting : ℕ) (t200 t203 : Bool) (outs : List Out) → ArePlaced waiting outs → ArePlaced waiting (outs ++ (if t200 then [] else out_where t203 (Stop T203)) ++ (if t200 then [] else Start T200 ∷ []))
 with_timers waiting true t203 outs h = placed_both waiting (outs ++ []) [] (placed_both waiting outs [] h tt) tt
 with_timers waiting false true outs h = placed_both waiting (outs ++ Stop T203 ∷ []) (Start T200 ∷ []) (placed_both waiting outs (Stop T203 ∷ []) h (tt, tt)) (tt, tt)
 with_timers waiting false false outs h = placed_both waiting (outs ++ []) (Start T200 ∷ []) (placed_both waiting outs [] h tt) (tt, tt)
 
--- what went out so far is there
+-- all messages that were sent so far exist
 abbrev AllThere : StepState → Type 0
 AllThere s = ArePlaced (waiting s.end) s.outs
 
@@ -53,7 +53,7 @@ by_test : (test : Bool) (x y : StepState) → (test ≡ true → AllThere x) →
 by_test true x y one other = one refl
 by_test false x y one other = other refl
 
--- ---- The last message goes out again.
+-- ---- The last message is retransmitted.
 
 some_steps : (r : Reading) (m : StateVariables) → AreNumbers r m → reaches r m.va m.vs ≡ true → (m.vs == m.va) ≡ false → 0 < steps r m.va m.vs
 unfolding steps reaches
@@ -85,7 +85,7 @@ t200_row_there : (r : Reading) (e : End) → AreOutstanding r e.first e.next (le
 unfolding row by_state multiple_frame_established
 t200_row_there r e o numbers = by_test (runs T200 (begin e).end) _ _ (λ _. t200_there r e o numbers) (λ _. begins_there e)
 
--- ---- A row, the end of a step, and a whole one.
+-- ---- A row, the end of a step, and a whole step.
 
 row_there : (r : Reading) (state : State) (input : Input) (e : End) → IsSoundIn r state e → AreNumbers r e.window → AllThere (row r state input (begin e))
 row_there r MultipleFrameEstablished (Expiry T200) e sound numbers = t200_row_there r e sound numbers

@@ -1,4 +1,4 @@
--- The numbers of an end stay tags, and so are those that it sends, where what it hears has tags.
+-- If received frames have tags, the numbers of an end stay tags, and it sends tags.
 use Rattle.std.proofs.Common.{◌≡◌, ◌-◌, ℕ, ◌<◌, ◌==◌, nat_lt, Bool, true, false, if◌then◌else◌, List, [], ◌∷◌, ◌++◌, Option, Some, Ok, subst, arith}
 use Rattle.lapd_timers.specs.declared.timer.Timer.{Timer}
 use Rattle.lapd_timers.specs.declared.timer.Timer.TheVariants.{T200, T201, T202, T203}
@@ -88,7 +88,7 @@ last_is_tagged : (m : StateVariables) → AreTags m → IsControl (last_i_frame 
 unfolding last_i_frame before
 last_is_tagged m h = (omega arith, omega (arith, h.2))
 
--- ---- What is kept.
+-- ---- Properties that are kept.
 
 pub record HasTags (window : StateVariables) (outs : List Out) : Type 0 where
   pub tags : AreTags window

@@ -1,4 +1,5 @@
--- Each row of states 7 and 8 on tags does what it does on numbers without a bound, as long as these lie near each other.
+-- Each row of states 7 and 8 has the same effect on tags as on whole numbers, if these are near
+-- each other.
 use Rattle.std.proofs.Common.{◌≡◌, ℕ, ◌<◌, ◌≤◌, ◌==◌, ◌&&◌, not, nat_lt, Bool, true, false, if◌then◌else◌, refl, arith}
 use Rattle.std.proofs.lemmas.Bool.Decides.{nat_tests}
 use Rattle.lapd_timers.specs.declared.timer.Timer.TheVariants.{T200, T203}
@@ -35,7 +36,7 @@ busy_off_on_tags : (s : StepState) → tag_step_state (busy_off s) ≡ busy_off 
 unfolding busy_off tag_step_state tag_variables
 busy_off_on_tags s = by_test s.end.window.own_busy s.end.window.own_busy _ _ _ _ refl (λ _. set_own_busy_on_tags false s) (λ _. refl)
 
--- a SABME where messages may be outstanding
+-- a SABME when messages may be outstanding
 lost_on_tags : (p : Bool) (s : StepState) → AreNear s.end.window.vs s.end.window.va
     → tag_step_state (s ▷ put (Send Answer (Ua p)) ▷ clear_exception_conditions ▷ put (Report letter.F) ▷ discard_unacknowledged) ≡ discard_unacknowledged (tag_step_state (s ▷ put (Send Answer (Ua p)) ▷ clear_exception_conditions ▷ put (Report letter.F)))
 unfolding put clear_exception_conditions without_exceptions
@@ -55,7 +56,7 @@ in_7_and_8_on_tags (Heard (Dm false) Answer) s w = simp procedures
 in_7_and_8_on_tags (Heard (Frmr f) Answer) s w = simp procedures
 in_7_and_8_on_tags input s w = refl
 
--- ---- An N(R) comes.
+-- ---- Receiving an N(R).
 
 -- the window, and an N(R) near it
 abbrev IsNumbered : ℕ → StepState → Type 0
@@ -123,7 +124,7 @@ message_numbered : (nr ns : ℕ) (p : Bool) (s : StepState) → IsNumbered nr s 
 unfolding i_frame_ns after_i_frame
 message_numbered nr ns p s n = n
 
--- T200 expires: whether the last message goes out again is decided alike
+-- T200 expires: tags and whole numbers decide alike whether the last message is retransmitted
 sends_last_on_tags : (recovery : Recovery) (v : StateVariables) → IsWindow v.va v.vs → sends_last recovery (tag_variables v) ≡ sends_last recovery v
 unfolding tag_variables
 sends_last_on_tags Enquiry v w = refl

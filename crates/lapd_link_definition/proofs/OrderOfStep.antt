@@ -1,4 +1,4 @@
--- What a step tells to be acknowledged or dropped, it tells before messages go out.
+-- A step reports acknowledged and dropped messages before it sends any.
 use Rattle.std.proofs.Common.{◌≡◌, ℕ, ◌-◌, ◌==◌, nat_lt, Bool, true, false, if◌then◌else◌, List, [], ◌∷◌, ◌++◌, Option, Some, None, Ok, refl, subst, arith}
 use Rattle.lapd_timers.specs.declared.timer.Timer.TheVariants.{T200, T203}
 use Rattle.lapd_frame.specs.declared.Role.TheVariants.{Command, Answer}
@@ -24,7 +24,7 @@ pub placed_both : (waiting : ℕ) (xs ys : List Out) → ArePlaced waiting xs �
 placed_both waiting [] ys hx hy = hy
 placed_both waiting (x ∷ xs) ys hx hy = (hx.0, placed_both waiting xs ys hx.1 hy)
 
--- no message goes out: none would be there
+-- no message is sent: each message that is sent has a place, and here there is none
 abbrev pub AreSilent : List Out → Type 0
 AreSilent outs = ArePlaced 0 outs
 
@@ -62,7 +62,7 @@ first_both (Start timer ∷ xs) ys hx none hy = first_both xs ys hx none hy
 first_both (Stop timer ∷ xs) ys hx none hy = first_both xs ys hx none hy
 first_both (Report letter ∷ xs) ys hx none hy = first_both xs ys hx none hy
 
--- ---- Outputs of which none is a message.
+-- ---- Outputs without a message.
 
 put_sends_none : (out : Out) → IsPut out → AreSilent (out ∷ [])
 put_sends_none (Send role control) h = (tt, tt)
@@ -92,13 +92,14 @@ none_of_lost : (same : Bool) (n : ℕ) → AreSilent (if same then [] else count
 none_of_lost true n = tt
 none_of_lost false n = placed_both 0 (counted n Dropped) (Established ∷ []) (none_where (nat_lt 0 n) (Dropped n) (tt, tt)) (tt, tt)
 
--- ---- What is kept.
+-- ---- Properties that are kept.
 
--- no message went out so far
+-- no message has been sent yet
 pub record IsSilent (outs : List Out) : Type 0 where
   pub none : AreSilent outs
 
--- what counts went before the messages; and in silence no message went out
+-- acknowledged and dropped messages are reported before any message is sent; with `silence`, no
+-- message is sent
 pub record IsInOrder (silence : Bool) (outs : List Out) : Type 0 where
   pub order : AreCountedFirst outs
   pub none : silence ≡ true → AreSilent outs
@@ -106,11 +107,11 @@ pub record IsInOrder (silence : Bool) (outs : List Out) : Type 0 where
 silent : {outs : List Out} (more : List Out) → AreSilent more → IsSilent outs → IsSilent (outs ++ more)
 silent {outs = outs} more none h = record { none = placed_both 0 outs more h.none none }
 
--- outputs that neither count nor are a message
+-- outputs that neither report a count nor send a message
 ordered : {silence : Bool} {outs : List Out} (more : List Out) → leaving more ≡ 0 → AreSilent more → IsInOrder silence outs → IsInOrder silence (outs ++ more)
 ordered {outs = outs} more nothing none h = record { order = first_both outs more h.order nothing (none_is_first more none); none = λ quiet. placed_both 0 outs more (h.none quiet) none }
 
--- a message, where there is no silence
+-- a message is sent, without `silence`
 spoken : {silence : Bool} {outs : List Out} (more : List Out) → silence ≡ false → leaving more ≡ 0 → AreCountedFirst more → IsInOrder silence outs → IsInOrder silence (outs ++ more)
 spoken {outs = outs} more loud nothing later h = record { order = first_both outs more h.order nothing later; none = λ quiet. cc }
 
@@ -174,14 +175,14 @@ begins_silent : (e : End) → IsSilent (begin e).outs
 unfolding begin
 begins_silent e = record { none = tt }
 
--- a row, in silence where it is not T200 in state 7
+-- a row keeps this order; `silence` is allowed for every row except T200 in state 7
 order_of_row : (r : Reading) (silence : Bool) (state : State) (input : Input) (e : End) → (state ≡ MultipleFrameEstablished → input ≡ Expiry T200 → silence ≡ false) → IsInOrder silence (row r state input (begin e)).outs
 order_of_row r silence state input e loud =
     let P : StepState → Type 0 = λ t. IsSilent t.outs in
     let Q : StepState → Type 0 = λ t. IsInOrder silence t.outs in
     row_keeps r _ P Q _ _ _ _ _ _ (orders r silence) state input (begin e) (λ message same. tt) (λ b. tt) (λ opened ns nr p same. tt) (λ u. tt) loud (λ nr same. tt) (λ timer same. tt) (begins_silent e)
 
--- but for T200 in state 7, a row sends no message
+-- a row sends no message, unless T200 expires in state 7
 pub silent_row : (r : Reading) (state : State) (input : Input) (e : End) → (state ≡ MultipleFrameEstablished → input ≡ Expiry T200 → ⊥) → AreSilent (row r state input (begin e)).outs
 silent_row r state input e other = (order_of_row r true state input e (λ there same. absurd (other there same))).none refl
 

@@ -1,4 +1,5 @@
--- The place of the first message that waits moves by what a step tells to be acknowledged or dropped.
+-- The place of the first message in the queue moves by the number of messages that a step reports
+-- acknowledged or dropped.
 use Rattle.std.proofs.Common.{◌≡◌, ℕ, ◌+◌, ◌-◌, ◌≤◌, ◌==◌, nat_lt, Bool, true, false, if◌then◌else◌, List, [], ◌∷◌, ◌++◌, length, length-append, Option, Some, None, Ok, refl, sym, subst, arith}
 use Rattle.std.proofs.lemmas.Bool.Decides.{nat_tests}
 use Rattle.lapd_timers.specs.declared.timer.Timer.{Timer}
@@ -36,7 +37,7 @@ leaving_both (Start timer ∷ xs) ys = leaving_both xs ys
 leaving_both (Stop timer ∷ xs) ys = leaving_both xs ys
 leaving_both (Report letter ∷ xs) ys = leaving_both xs ys
 
--- ---- Outputs of which none leaves the queue.
+-- ---- Outputs that remove no message.
 
 put_leaves_none : (out : Out) → IsPut out → leaving (out ∷ []) ≡ 0
 put_leaves_none (Send role control) h = refl
@@ -66,7 +67,7 @@ none_of_response : (response : Option Control) → leaving (response_of response
 none_of_response None = refl
 none_of_response (Some control) = refl
 
--- ---- Outputs that count.
+-- ---- Outputs that count removed messages.
 
 acknowledged_where : (n : ℕ) (some : Bool) → nat_lt 0 n ≡ some → leaving (out_where some (Acknowledged n)) ≡ n
 acknowledged_where n true h = omega arith
@@ -79,8 +80,8 @@ dropped_where n false h = grind (arith, nat_tests)
 dropped_all : (n : ℕ) → leaving (counted n Dropped) ≡ n
 dropped_all n = dropped_where n (nat_lt 0 n) refl
 
--- ---- What is kept: the first place is where it began, and one on for each message that left; before an N(R) is
--- acknowledged it is not behind the last message.
+-- ---- Properties that are kept: the first place is the place before the step plus the number of
+-- removed messages; until an N(R) is acknowledged it is not after the last message.
 
 pub record IsPlaced (start first given : ℕ) (outs : List Out) : Type 0 where
   pub place : start + leaving outs ≡ first

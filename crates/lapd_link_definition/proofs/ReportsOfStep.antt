@@ -1,4 +1,4 @@
--- Where what comes is due, a step makes no report but those to which lost frames lead.
+-- If each input is due, a step reports only the errors to which lost frames lead.
 use Rattle.std.proofs.Common.{◌≡◌, ℕ, zero, suc, ◌==◌, ◌&&◌, nat_lt, if◌then◌else◌, Bool, true, false, List, [], ◌∷◌, ◌++◌, Option, Some, None, Ok, refl, subst}
 use Rattle.lapd_timers.specs.declared.timer.Timer.{Timer}
 use Rattle.lapd_timers.specs.declared.timer.Timer.TheVariants.{T200, T203}
@@ -26,7 +26,7 @@ use Rattle.lapd_link_definition.specs.TeiAssigned.{tei_assigned}
 use Rattle.lapd_link_definition.specs.TimerRecovery.{poll, is_final, i_frame_nr_in_recovery, rr_nr_in_recovery, rnr_nr_in_recovery, timer_recovery_t200, timer_recovery}
 use Rattle.lapd_link_definition.proofs.KeptByStep.{taken}
 
--- no other report so far
+-- no other error is reported so far
 abbrev P : StepState → Type 0
 P s = AreExpected s.outs
 
@@ -244,7 +244,7 @@ module _ (r : Reading) where
   unfolding busy_off
   free s h = either P s.end.window.own_busy _ _ (λ _. owns false _ h) (λ _. h)
 
-  -- a UA, a DM and a FRMR are unasked
+  -- a UA, a DM and a FRMR are unsolicited
   abbrev IsDueInBoth : Input → Type 0
   IsDueInBoth (Heard (Ua f) Answer) = ⊥
   IsDueInBoth (Heard (Dm f) Answer) = ⊥
@@ -273,7 +273,7 @@ module _ (r : Reading) where
   advancing nr s h = either P (acknowledges_all nr s.end.window) _ _ (λ _. starts T203 _ (stops T200 _ (acknowledges nr s h)))
       (λ _. either P (nr == s.end.window.va) _ _ (λ _. h) (λ _. starts T200 _ (acknowledges nr s h)))
 
-  -- V(A) and V(S) stay until N(R) is looked at
+  -- V(A) and V(S) do not change before N(R) is checked
   valid_then : (ns nr : ℕ) (p : Bool) (s : StepState) → is_valid_nr r nr s.end.window ≡ true → is_valid_nr r nr (i_frame_ns r ns p s).end.window ≡ true
   unfolding i_frame_ns after_i_frame is_valid_nr
   valid_then ns nr p s valid = valid
@@ -289,7 +289,7 @@ module _ (r : Reading) where
   unfolding i_frame_nr_in_recovery
   i_frame_in_8 ns nr p s valid h = by_valid nr _ _ (valid_then ns nr p s valid) (acknowledges nr _ (takes ns p s h))
 
-  -- a supervisory frame, in state 7: a response has F=0
+  -- a supervisory frame in state 7: a response has F=0
   abbrev IsPollOrNot : Role → Bool → Type 0
   IsPollOrNot Command pf = Unit {0}
   IsPollOrNot Answer pf = pf ≡ false
@@ -343,7 +343,7 @@ module _ (r : Reading) where
   in_7 (Expiry T200) s due h = expiring_7 s h
   in_7 input s due h = in_both input s tt h
 
-  -- in state 8
+  -- a supervisory frame in state 8
   polled_in_8 : (busy_now pf : Bool) (role : Role) (s : StepState) → P s → P (s ▷ set_peer_busy busy_now ▷ poll role pf)
   unfolding poll
   polled_in_8 busy_now true Command s h = responds _ (peers busy_now s h)

@@ -1,5 +1,5 @@
--- Each row of states 4, 5 and 6 on tags does what it does on numbers without a bound. What comes there has no number
--- that is read.
+-- Each row of states 4, 5 and 6 has the same effect on tags as on whole numbers. In these states no
+-- number of a received frame is read.
 use Rattle.std.proofs.Common.{◌≡◌, ℕ, nat_lt, Bool, true, false, if◌then◌else◌, [], ◌∷◌, length, refl, arith}
 use Rattle.std.proofs.lemmas.List.{map-append}
 use Rattle.lapd_timers.specs.declared.timer.Timer.TheVariants.{T200}
@@ -18,7 +18,7 @@ use Rattle.lapd_link_definition.specs.Tagging.{tag_input, tag_out, tag_step_stat
 use Rattle.lapd_link_definition.specs.TeiAssigned.{tei_assigned}
 use Rattle.lapd_link_definition.proofs.ActionsOnTags.{actions, procedures, put_on_tags, discard_unacknowledged_on_tags}
 
--- a row that has a test, both ways
+-- both branches of a row with a test
 pub by_test : (a b : Bool) (x y v w : StepState) → b ≡ a → (a ≡ true → tag_step_state x ≡ v) → (a ≡ false → tag_step_state y ≡ w) → tag_step_state (if a then x else y) ≡ (if b then v else w)
 by_test true true x y v w same one other = one refl
 by_test false false x y v w same one other = other refl
@@ -38,7 +38,7 @@ tei_assigned_on_tags input s = refl
 
 -- ---- State 5.
 
--- all that is sent lies in the window
+-- all sent messages are in the window
 pub window_of : (first next given va vs : ℕ) → AreOutstanding Whole first next given va vs → IsWindow va vs
 unfolding steps
 window_of first next given va vs h = let order = reaches_tells va vs h.reached in record { in_order = order; at_most = omega (arith, h.at_most) }
@@ -54,7 +54,7 @@ end_establishment_on_tags : (s : StepState) → tag_step_state (end_establishmen
 unfolding end_establishment tag_step_state put state_to release_pending_to
 end_establishment_on_tags s = rw (map-append tag_out s.outs (release_primitive s.end.release_pending ∷ []), primitive_on_tags s.end.release_pending) refl
 
--- where messages of the last establishment may be outstanding, V(S) and V(A) lie near each other
+-- if messages of the last establishment may be outstanding, V(S) and V(A) are near each other
 abbrev IsConfirmed : StepState → Type 0
 IsConfirmed s = s.end.layer3_initiated ≡ false → AreNear s.end.window.vs s.end.window.va
 

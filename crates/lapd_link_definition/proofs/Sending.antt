@@ -1,4 +1,4 @@
--- The messages that go out at the end of a step, one after another.
+-- The messages that are sent at the end of a step, one after another.
 use Rattle.std.proofs.Common.{◌≡◌, ℕ, zero, suc, ◌+◌, ◌-◌, ◌<◌, nat_lt, Bool, true, false, ◌&&◌, length, refl, ap, ◌∙◌, arith}
 use Rattle.std.proofs.lemmas.Bool.Decides.{nat_tests}
 use Rattle.lapd_mod128.specs.Counting.{Reading, Tagged, reaches}
@@ -18,7 +18,7 @@ one_goes : (r : Reading) (n : ℕ) (s : StepState) → may_send_next r s ≡ tru
 unfolding send_all
 one_goes r n s go = rw go refl
 
--- one goes out, and then the rest
+-- one message is sent, and then the rest
 pub sends_one : (r : Reading) (s : StepState) → may_send_next r s ≡ true → send_all r (unsent s.end) s ≡ send_all r (unsent (send_next r s).end) (send_next r s)
 unfolding transmit_i_frame ensure_t200
 sends_one r s go =
@@ -28,7 +28,7 @@ sends_one r s go =
     let more : unsent s.end ≡ suc (length s.end.given - (s.end.next + 1)) = omega (arith, free) in
     ap (λ n. send_all r n s) more ∙ one_goes r (length s.end.given - (s.end.next + 1)) s go
 
--- and then none
+-- sending stops when no more may be sent
 pub sends_none : (r : Reading) (n : ℕ) (s : StepState) → may_send_next r s ≡ false → send_all r n s ≡ s
 unfolding send_all
 sends_none r zero s stop = refl

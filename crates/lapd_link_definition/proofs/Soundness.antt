@@ -1,4 +1,4 @@
--- The places of an end stay with its counters, row by row.
+-- The places of an end agree with its counters, row by row.
 use Rattle.std.proofs.Common.{◌≡◌, ℕ, zero, suc, ◌≤◌, ◌==◌, ◌&&◌, nat_lt, Option, Some, None, Result, Ok, if◌then◌else◌, Bool, true, false, List, [], ◌∷◌, ◌++◌, length, length-append, subst, refl, sym, arith}
 use Rattle.lapd_timers.specs.declared.timer.Timer.TheVariants.{T200, T201, T202, T203}
 use Rattle.lapd_frame.specs.declared.Role.{Role}
@@ -33,23 +33,23 @@ use Rattle.lapd_link_definition.specs.TimerRecovery.{i_frame_nr_in_recovery, pol
 abbrev SoundAfter : Reading → StepState → Type 0
 SoundAfter r s = IsSound r s.end
 
--- a row that has a test, both ways
+-- both branches of a row with a test
 either : (r : Reading) (test : Bool) (x y : StepState) → (test ≡ true → SoundAfter r x) → (test ≡ false → SoundAfter r y) → SoundAfter r (if test then x else y)
 either r true x y one other = one refl
 either r false x y one other = other refl
 
--- ---- What the places are after an action.
+-- ---- The places after an action.
 
 zero_is_reached : (r : Reading) → reaches r 0 0 ≡ true
 unfolding reaches
 zero_is_reached Whole = refl
 zero_is_reached Tagged = refl
 
--- an establishment begins with nothing sent
+-- an establishment begins without sent messages
 begun : (r : Reading) (first next given : ℕ) → AreUnsent first next given → AreOutstanding r first next given 0 0
 begun r first next given h = record { places = omega (arith, no_steps r 0, h.places); within = h.within; reached = zero_is_reached r; at_most = omega (arith, no_steps r 0) }
 
--- all that was given is dropped
+-- all accepted messages are dropped
 dropped : (given : ℕ) → AreUnsent given given given
 dropped given = record { places = refl; within = omega arith }
 
@@ -60,7 +60,7 @@ dropped_leaving : (r : Reading) (asked : Bool) (given va vs : ℕ) → AreAwaiti
 dropped_leaving r true given va vs = dropped given
 dropped_leaving r false given va vs = dropped given
 
--- one more message is given
+-- one more message is accepted
 given_unsent : (first next : ℕ) (given : List (List ℕ)) (message : List ℕ) → AreUnsent first next (length given) → AreUnsent first next (length (given ++ message ∷ []))
 given_unsent first next given message h = record { places = h.places; within = omega (arith, length-append given (message ∷ []), h.within) }
 
@@ -101,7 +101,7 @@ sound_awaiting_release r input s q h = rw q h
 
 -- ---- State 5.
 
--- a row that has a test, for any fact
+-- both branches of a row with a test, for any property
 by_test : (P : StepState → Type 0) (test : Bool) (x y : StepState) → (test ≡ true → P x) → (test ≡ false → P y) → P (if test then x else y)
 by_test P true x y one other = one refl
 by_test P false x y one other = other refl
@@ -113,7 +113,7 @@ awaiting_leaving r false first next given va vs h = h
 same_number : (a b : ℕ) → (a == b) ≡ true → a ≡ b
 same_number a b h = grind (arith, h)
 
--- nothing is outstanding where V(S) is V(A); otherwise all is dropped
+-- if V(S) is V(A) nothing is outstanding; otherwise all messages are dropped
 lost : (r : Reading) (first next given va vs : ℕ) (same : Bool) → (vs == va) ≡ same → AreOutstanding r first next given va vs
     → AreUnsent (if same then first else given) (if same then next else given) given
 lost r first next given va vs true e h = let none = rw (same_number vs va e) at h.places in record { places = omega (arith, none, no_steps r va); within = h.within }
@@ -155,7 +155,7 @@ sound_awaiting_establishment r input s q h = rw q h
 
 -- ---- States 7 and 8.
 
--- an end in one of them, with all that is sent outstanding
+-- an end in one of these states, with all sent messages outstanding
 abbrev Opened : Reading → StepState → Type 0
 Opened r s = (is_7_or_8 s.end.state ≡ true) × AreOutstanding r s.end.first s.end.next (length s.end.given) s.end.window.va s.end.window.vs
 
@@ -169,7 +169,7 @@ opened_in r TimerRecovery e q h = h
 opened : (r : Reading) (s : StepState) → Opened r s → SoundAfter r s
 opened r s o = opened_in r s.end.state s.end o.0 o.1
 
--- what is acknowledged leaves
+-- acknowledged messages are removed
 acked : (r : Reading) (nr : ℕ) (s : StepState) → is_valid_nr r nr s.end.window ≡ true → Opened r s → Opened r (acknowledge r nr s)
 unfolding acknowledge
 acked r nr s valid o = (
@@ -182,7 +182,7 @@ acked r nr s valid o = (
   },
 )
 
--- all that is left is to be sent again
+-- all remaining messages are to be retransmitted
 backed : (r : Reading) (nr : ℕ) (s : StepState) → is_valid_nr r nr s.end.window ≡ true → Opened r s → Opened r (s ▷ acknowledge r nr ▷ invoke_retransmission nr)
 unfolding invoke_retransmission acknowledge
 backed r nr s valid o =
@@ -196,7 +196,7 @@ backed r nr s valid o =
       },
     )
 
--- the data link establishes again by itself: what was sent stays outstanding for now
+-- the data link re-establishes by itself: sent messages stay outstanding for now
 again : (r : Reading) (s : StepState) → Opened r s → SoundAfter r (reestablish_data_link s)
 unfolding reestablish_data_link establish_data_link clear_exception_conditions without_exceptions layer3_initiated_to release_pending_to rc_to put stop start state_to
 again r s o = o.1
@@ -205,7 +205,7 @@ wrong : (r : Reading) (s : StepState) → Opened r s → SoundAfter r (nr_error_
 unfolding nr_error_recovery put
 wrong r s o = again r (s ▷ put (Report letter.J)) o
 
--- an action that moves no place and no counter
+-- an action that changes no place and no counter
 stays : (r : Reading) (s t : StepState) → Opened r s → (Opened r s → Opened r t) → SoundAfter r t
 stays r s t o f = opened r t (f o)
 
@@ -416,7 +416,7 @@ taken : (refusal : Option LinkFault) (s done : StepState) → unless refusal s �
 taken None s done h = same_done s done h
 taken (Some fault) s done h = cc
 
--- each step keeps it, whatever happens
+-- each step keeps it, for any input
 pub sound_step : (r : Reading) (input : Input) (e : End) (s : StepState) → e.parameters.k ≤ 127 → IsSound r e → step r input e ≡ Ok s → IsSound r s.end
 unfolding step begin
 sound_step r input e s small sound done =

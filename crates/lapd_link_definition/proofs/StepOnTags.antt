@@ -1,4 +1,4 @@
--- A step on tags does what it does on numbers without a bound, as long as these lie near each other.
+-- A step has the same effect on tags as on whole numbers, if these are near each other.
 use Rattle.std.proofs.Common.{◌≡◌, ℕ, zero, suc, ◌≤◌, ◌&&◌, nat_lt, true, length, Option, Some, None, refl, ap, ◌∙◌}
 use Rattle.lapd_frame.specs.declared.Role.{Role}
 use Rattle.lapd_frame.specs.declared.Control.{Control}

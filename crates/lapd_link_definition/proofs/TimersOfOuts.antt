@@ -1,4 +1,4 @@
--- What outputs make of timers: Start and Stop, and those that leave timers alone.
+-- The effect of outputs on timers: Start, Stop, and outputs that do not change timers.
 use Rattle.std.proofs.Common.{◌≡◌, ℕ, ◌&&◌, nat_lt, if◌then◌else◌, Bool, true, false, List, [], ◌∷◌, ◌++◌, Option, Some, None, refl, sym, ap, ◌∙◌}
 use Rattle.lapd_timers.specs.declared.timer.Timer.{Timer}
 use Rattle.lapd_timers.specs.declared.timer.Timer.TheVariants.{T200, T201, T202, T203}
@@ -23,7 +23,7 @@ then_follow {b = b} {c = c} {xs = xs} ys new h = record {
   t202_stays = λ on. after_both T202 xs ys on ∙ new.t202_stays (runs_after T202 xs on) ∙ h.t202_stays on;
 }
 
--- outputs that leave timers alone
+-- outputs that do not change timers
 abbrev pub AreNoTimers : List Out → Type 0
 AreNoTimers outs = (timer : Timer) (running : Bool) → runs_after timer outs running ≡ running
 

@@ -1,4 +1,4 @@
--- After each step T200 and T203 run as its outputs say, and as the state wants: row by row.
+-- After each step T200 and T203 run as its outputs say, and as the state requires: row by row.
 use Rattle.std.proofs.Common.{◌≡◌, ℕ, zero, suc, ◌==◌, ◌&&◌, not, nat_lt, if◌then◌else◌, Bool, true, false, List, [], ◌∷◌, ◌++◌, Some, Ok, refl, sym, subst, ap, ◌∙◌, arith}
 use Rattle.std.proofs.lemmas.Bool.{eqb-true, eqb-false}
 use Rattle.lapd_timers.specs.declared.timer.Timer.TheVariants.{T200, T201, T202, T203}
@@ -33,8 +33,9 @@ use Rattle.lapd_link_definition.proofs.NumbersOfStep.{heard_is_tag}
 use Rattle.lapd_link_definition.proofs.Sending.{both_true}
 use Rattle.lapd_link_definition.proofs.TimersOfOuts.{then_follow, AreNoTimers, alone, put_is_no_timer, where_is_no_timer, response_is_no_timer, lost_are_no_timers, started_200, started_203, stopped_200, stopped_203, stopped_unless, started_unless}
 
--- ---- What is known in the middle of a row: the state q; that T200 and T203 run as t and u say; where numbers are of the reading,
--- V(A) is one, and at level V(S) = V(A); and that T200 and T203 followed the outputs, from b and c on.
+-- ---- The facts within a row: the state is q; T200 and T203 run as t and u say; if numbers are of
+-- the reading, V(A) is one, and with `level` V(S) = V(A); and T200 and T203 followed the outputs,
+-- from b and c on.
 
 pub record Timed (r : Reading) (b c : Bool) (Numbers : Type 0) (q : State) (t u level : Bool) (state : State) (t200 t203 : Bool) (vs va : ℕ) (outs : List Out) : Type 0 where
   pub in_state : state ≡ q
@@ -51,19 +52,20 @@ zero_is_number Tagged = omega arith
 pub record Knows (r : Reading) (b c : Bool) (Numbers : Type 0) (q : State) (t u level : Bool) (s : StepState) : Type 0 where
   pub known : Timed r b c Numbers q t u level s.end.state s.end.t200 s.end.t203 s.end.window.vs s.end.window.va s.outs
 
--- before T200 expires at the end; outside it runs no longer. And so of T203
+-- the facts before the end records the expiry of T200, which no longer runs outside; the next
+-- record says the same of T203
 pub record Expires200 (r : Reading) (b c : Bool) (Numbers : Type 0) (q : State) (u level : Bool) (s : StepState) : Type 0 where
   pub known : Timed r b c Numbers q false u level s.end.state false s.end.t203 s.end.window.vs s.end.window.va s.outs
 
 pub record Expires203 (r : Reading) (b c : Bool) (Numbers : Type 0) (q : State) (t level : Bool) (s : StepState) : Type 0 where
   pub known : Timed r b c Numbers q t false level s.end.state s.end.t200 false s.end.window.vs s.end.window.va s.outs
 
--- a row has been walked
+-- the facts after a row
 pub record Walked (b c : Bool) (Numbers : Type 0) (s : StepState) : Type 0 where
   pub timers : Numbers → HasTimersOfState s.end
   pub follow : FollowOuts b c s.end.t200 s.end.t203 s.outs
 
--- ---- What is known at the end of a row.
+-- ---- The facts at the end of a row.
 
 abbrev Allowed : State → Bool → Bool → Bool → Type 0
 Allowed q t u level = AreTimersOf q t u (level ≡ true)
@@ -82,17 +84,17 @@ as_known X q state t u t200 t203 one two three h =
     let H : Bool → Type 0 = λ x. AreTimersOf q t x X in
     subst F (sym one) (subst G (sym two) (subst H (sym three) h))
 
--- no expiry
+-- any input except an expiry
 abbrev IsOther : Input → Type 0
 IsOther (Expiry timer) = ⊥
 IsOther input = Unit {0}
 
--- T200 is started by an N(R) that acknowledges some: T203 does not run
+-- an N(R) that acknowledges some messages starts T200: T203 does not run
 some_left : (t u level : Bool) → Allowed MultipleFrameEstablished t u level → (level ≡ true → ⊥) → Allowed MultipleFrameEstablished true u level
 some_left true u level a unlike = (a.0, λ off. cc)
 some_left false u level a unlike = absurd (unlike (a.1 refl))
 
--- the timers after one more message has gone out
+-- the timers after one more message is sent
 both_off : (t u : Bool) → u ≡ not t → (t && u) ≡ false
 both_off true u h = h
 both_off false u h = refl
@@ -226,7 +228,7 @@ module _ (r : Reading) (b c : Bool) (Numbers : Type 0) where
   acknowledged_is_no_timer : (n : ℕ) → AreNoTimers (counted n Acknowledged)
   acknowledged_is_no_timer n = where_is_no_timer (nat_lt 0 n) (Acknowledged n) (λ timer running. refl)
 
-  -- where V(S) = V(A), the only valid N(R) is V(A)
+  -- if V(S) = V(A), the only valid N(R) is V(A)
   only_one : {q : State} {t u level : Bool} (nr : ℕ) (s : StepState) → (Numbers → IsNumber r nr) → is_valid_nr r nr s.end.window ≡ true → P q t u level s → Numbers → level ≡ true → s.end.window.va ≡ nr
   unfolding is_valid_nr
   only_one nr s small valid k n is = let h = k.known in let to_vs = h.same n is in only_itself_within r s.end.window.va nr (h.number n) (small n) (rw to_vs at valid)
@@ -398,7 +400,7 @@ module _ (r : Reading) (b c : Bool) (Numbers : Type 0) where
   by_valid : {q : State} {t u level : Bool} (nr : ℕ) (s x : StepState) → P q t u level s → (is_valid_nr r nr s.end.window ≡ true → After x) → After (if is_valid_nr r nr s.end.window then x else nr_error_recovery s)
   by_valid nr s x h one = either After (is_valid_nr r nr s.end.window) _ _ one (λ off. recovering s h)
 
-  -- T200 is started where some are acknowledged and some are left
+  -- T200 is started if some messages are acknowledged and some are left
   starting_again : {t u level : Bool} (nr : ℕ) (s : StepState) → (Numbers → IsNumber r nr) → is_valid_nr r nr s.end.window ≡ true → (nr == s.end.window.va) ≡ false → Allowed MultipleFrameEstablished t u level → P MultipleFrameEstablished t u level s → Numbers → Allowed MultipleFrameEstablished true u level
   starting_again {t = t} {u = u} {level = level} nr s small valid unlike a h n = some_left t u level a (λ is. eqb-false nr s.end.window.va unlike (sym (only_one nr s small valid h n is)))
 
@@ -459,7 +461,7 @@ module _ (r : Reading) (b c : Bool) (Numbers : Type 0) where
   in_8 (Expiry T200) s o small a h = absurd o
   in_8 input s o small a h = in_both input s a h
 
-  -- ---- All rows but those of an expiry.
+  -- ---- All rows except expiries.
 
   by_states : {t u level : Bool} (state : State) (input : Input) (s : StepState) → IsOther input → ((nr : ℕ) → received_number input ≡ Some nr → Numbers → IsNumber r nr) → Allowed state t u level → P state t u level s → After (by_state r state input s)
   unfolding by_state
@@ -549,7 +551,7 @@ module _ (r : Reading) (b c : Bool) (Numbers : Type 0) where
 
 -- ---- A whole step.
 
--- in state 7 V(S) = V(A) is known where T200 does not run
+-- if T200 does not run in state 7, V(S) = V(A) is known
 abbrev level_of : State → Bool → Bool
 level_of MultipleFrameEstablished t = not t
 level_of state t = false
@@ -572,7 +574,7 @@ same_at_first X TimerRecovery t u h is = cc
 none_follow : (b c : Bool) → FollowOuts b c b c []
 none_follow b c = record { t200_follows = refl; t203_follows = refl; t201_stays = λ on. refl; t202_stays = λ on. refl }
 
--- T200 runs in no state 4, and beside no T203
+-- T200 does not run in state 4, or while T203 runs
 off_203 : (X : Type 0) (state : State) (t u : Bool) → t ≡ true → AreTimersOf state t u X → u ≡ false
 off_203 X TeiAssigned t u on h = h.1
 off_203 X AwaitingEstablishment t u on h = h.1
@@ -587,7 +589,7 @@ not_in_4 X AwaitingRelease t u on h is = cc
 not_in_4 X MultipleFrameEstablished t u on h is = cc
 not_in_4 X TimerRecovery t u on h is = cc
 
--- T203 runs in state 7 alone
+-- T203 runs only in state 7
 in_7_alone : (X : Type 0) (F : State → Type 0) (state : State) (t u : Bool) → u ≡ true → AreTimersOf state t u X → F MultipleFrameEstablished → F state
 in_7_alone X F TeiAssigned t u on h in7 = let off = h.1 in cc
 in_7_alone X F AwaitingEstablishment t u on h in7 = let off = h.1 in cc

@@ -1,4 +1,4 @@
--- Unit data goes to layer 3 once for a UI command, and else never.
+-- A UI command delivers unit data to layer 3 once; no other input does.
 use Rattle.std.proofs.Common.{◌≡◌, ℕ, ◌+◌, ◌-◌, ◌==◌, nat_lt, Bool, true, false, if◌then◌else◌, List, [], ◌∷◌, ◌++◌, Option, Some, None, Ok, refl, subst, arith}
 use Rattle.lapd_timers.specs.declared.timer.Timer.TheVariants.{T200, T203}
 use Rattle.lapd_frame.specs.declared.Role.{Role}
@@ -35,7 +35,7 @@ units_both (Start timer ∷ xs) ys = units_both xs ys
 units_both (Stop timer ∷ xs) ys = units_both xs ys
 units_both (Report letter ∷ xs) ys = units_both xs ys
 
--- ---- Outputs of which none is unit data that goes up.
+-- ---- Outputs that deliver no unit data to layer 3.
 
 put_is_none : (out : Out) → IsPut out → unit_ups (out ∷ []) ≡ 0
 put_is_none (Send role control) h = refl
@@ -69,7 +69,7 @@ none_of_lost : (same : Bool) (n : ℕ) → unit_ups (if same then [] else counte
 none_of_lost true n = refl
 none_of_lost false n = omega (arith, units_both (counted n Dropped) (Established ∷ []), none_where (nat_lt 0 n) (Dropped n) refl)
 
--- ---- Every action keeps how many there are.
+-- ---- Every action keeps the number of deliveries.
 
 pub record AreUnits (n : ℕ) (outs : List Out) : Type 0 where
   pub count : unit_ups outs ≡ n

@@ -11,7 +11,7 @@ use Rattle.lapd_link_definition.specs.Input.{Input, Heard, Expiry, Establish, Re
 use Rattle.lapd_link_definition.specs.End.{StepState, ◌▷◌}
 use Rattle.lapd_link_definition.specs.Procedures.{put, state_to, rc_to, increment_rc, layer3_initiated_to, release_pending_to, start, stop, expired, zero_state_variables, queue_up, discard_i_queue, discard_unacknowledged}
 
--- a release that was asked for is confirmed, any other is indicated
+-- a release that layer 3 requested is confirmed, any other is indicated
 abbrev pub release_primitive : Bool → Out
 release_primitive true = ReleaseConfirm
 release_primitive false = Released
@@ -21,12 +21,13 @@ unfoldable pub end_establishment : StepState → StepState
 end_establishment s = s ▷ put (release_primitive s.end.release_pending) ▷ release_pending_to false ▷
     state_to TeiAssigned
 
--- layer 3 initiated: confirmed; else, where V(S) = V(A) does not hold, messages are lost and layer 3 is told
+-- If layer 3 initiated the establishment, it is confirmed. Else, if V(S) = V(A) does not hold,
+-- messages are lost, and the establishment is indicated to layer 3.
 unfoldable pub confirm_or_indicate : StepState → StepState
 confirm_or_indicate s = if s.end.layer3_initiated then s ▷ put Confirmed
     else s ▷ discard_unacknowledged
 
--- UA with F=1: a release that waits goes out now, else the link is established
+-- UA with F=1: a pending release is sent now, else the link is established
 unfoldable pub ua_final : StepState → StepState
 ua_final s =
     if s.end.release_pending
@@ -35,7 +36,7 @@ ua_final s =
     else s ▷ confirm_or_indicate ▷ zero_state_variables ▷ stop T200 ▷ start T203 ▷ state_to
     MultipleFrameEstablished
 
--- T200 expires: the SABME is sent again, N200 times at most (5.5.1.3)
+-- T200 expires: the SABME is retransmitted, N200 times at most (5.5.1.3)
 unfoldable pub awaiting_establishment_t200 : StepState → StepState
 awaiting_establishment_t200 s =
     if nat_lt s.end.rc s.end.parameters.n200

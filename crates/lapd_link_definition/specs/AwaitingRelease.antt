@@ -14,7 +14,7 @@ use Rattle.lapd_link_definition.specs.Procedures.{put, state_to, increment_rc, s
 unfoldable pub confirm_release : StepState → StepState
 confirm_release s = s ▷ stop T200 ▷ put ReleaseConfirm ▷ state_to TeiAssigned
 
--- T200 expires: the DISC is sent again, N200 times at most (5.5.3.3)
+-- T200 expires: the DISC is retransmitted, N200 times at most (5.5.3.3)
 unfoldable pub awaiting_release_t200 : StepState → StepState
 awaiting_release_t200 s =
     if nat_lt s.end.rc s.end.parameters.n200

@@ -1,4 +1,4 @@
--- What the outputs of a step count, and what they are to agree with.
+-- The counts of a step's outputs, and the conditions on them.
 use Rattle.std.specs.Prelude.{◌≡◌, ℕ, ◌<◌, ◌+◌, ◌&&◌, Bool, false, List, [], ◌∷◌}
 use Rattle.lapd_frame.specs.declared.Role.TheVariants.{Command}
 use Rattle.lapd_frame.specs.declared.Control.TheVariants.{I}
@@ -10,33 +10,33 @@ use Rattle.lapd_link_definition.specs.End.{End}
 use Rattle.lapd_link_definition.specs.Input.{Input, Heard, Give}
 use Rattle.lapd_link_definition.specs.Table.{is_unit_data}
 
--- how often the information of an I frame goes to layer 3
+-- how often the information of an I frame is delivered to layer 3
 abbrev pub ups : List Out → ℕ
 ups [] = 0
 ups (Up ∷ outs) = ups outs + 1
 ups (out ∷ outs) = ups outs
 
--- how often unit data goes to layer 3
+-- how often unit data is delivered to layer 3
 abbrev pub unit_ups : List Out → ℕ
 unit_ups [] = 0
 unit_ups (UnitUp ∷ outs) = unit_ups outs + 1
 unit_ups (out ∷ outs) = unit_ups outs
 
--- how many messages are told to be acknowledged or dropped
+-- how many messages are reported acknowledged or dropped
 abbrev pub leaving : List Out → ℕ
 leaving [] = 0
 leaving (Acknowledged n ∷ outs) = n + leaving outs
 leaving (Dropped n ∷ outs) = n + leaving outs
 leaving (out ∷ outs) = leaving outs
 
--- behind a message that goes out none is told to be acknowledged or dropped: so the place of each is counted from the first
--- that waits after the step
+-- No message is reported acknowledged or dropped after one is sent. So the place of each is counted
+-- from the first that is in the queue after the step.
 abbrev pub AreCountedFirst : List Out → Type 0
 AreCountedFirst [] = Unit {0}
 AreCountedFirst (SendMessage place control ∷ outs) = (leaving outs ≡ 0) × AreCountedFirst outs
 AreCountedFirst (out ∷ outs) = AreCountedFirst outs
 
--- each message that goes out is there: its place, counted from the first that waits, is one of so many
+-- each message that is sent exists: its place in the queue is below this number
 abbrev pub IsPlaced : ℕ → Out → Type 0
 IsPlaced waiting (SendMessage place control) = place < waiting
 IsPlaced waiting out = Unit {0}
@@ -45,7 +45,7 @@ abbrev pub ArePlaced : ℕ → List Out → Type 0
 ArePlaced waiting [] = Unit {0}
 ArePlaced waiting (out ∷ outs) = IsPlaced waiting out × ArePlaced waiting outs
 
--- the message of an input, where it is one
+-- the message of an input, if it has one
 abbrev pub messages_of : Input → List (List ℕ)
 messages_of (Give message) = message ∷ []
 messages_of input = []
@@ -55,7 +55,7 @@ abbrev pub accepts : Input → End → Bool
 accepts (Heard (I ns nr p) Command) e = is_7_or_8 e.state && is_accepted ns e.window
 accepts input e = false
 
--- a UI command
+-- a UI command is received
 abbrev pub hears_unit : Input → Bool
 hears_unit (Heard control role) = is_unit_data control role
 hears_unit input = false

@@ -1,4 +1,4 @@
--- An end of a data link (Q.921 clause 5 and Annex B), between two steps and in the middle of one.
+-- An end of a data link (Q.921 clause 5 and Annex B), between two steps and within one.
 use Rattle.std.specs.Prelude.{ℕ, ◌-◌, Bool, false, List, [], length}
 use Rattle.lapd_timers.specs.declared.timer.Timer.{Timer}
 use Rattle.lapd_timers.specs.declared.timer.Timer.TheVariants.{T200, T201, T202, T203}
@@ -8,11 +8,16 @@ use Rattle.lapd_link_definition.specs.declared.state.State.TheVariants.{TeiAssig
 use Rattle.lapd_link_definition.specs.declared.out.Out.{Out}
 use Rattle.lapd_link_definition.specs.Parameters.{Parameters}
 
--- Its parameters; its state; RC; V(S), V(A), V(R) with the busy, reject and acknowledge pending conditions; whether
--- layer 3 initiated the establishment and whether a release waits for the answer to the SABME; which timers run; how
--- many establishments it has had; all messages that layer 3 ever gave and that were accepted; of these, the place of the
--- first that is neither acknowledged nor dropped, and of the first that is not sent. In states 7 and 8 message number n
--- of the present establishment stands at place first + (n - V(A)).
+-- An end consists of:
+--
+-- - its parameters, its state and RC;
+-- - V(S), V(A), V(R) with the busy, reject and acknowledge pending conditions;
+-- - whether layer 3 initiated the establishment, and whether a release is pending until the answer
+--   to the SABME;
+-- - which timers run, and how many establishments it has had;
+-- - all messages of layer 3 that were ever accepted; the place of the first that is neither
+--   acknowledged nor dropped, and the place of the first that is not sent. In states 7 and 8
+--   message number n of the present establishment is at place first + (n - V(A)).
 pub record End : Type 0 where
   pub parameters : Parameters
   pub state : State
@@ -27,7 +32,7 @@ pub record End : Type 0 where
   pub first : ℕ
   pub next : ℕ
 
--- as it is made
+-- a new end
 abbrev pub new_end : Parameters → End
 new_end parameters = record {
   parameters = parameters;
@@ -44,14 +49,14 @@ new_end parameters = record {
   next = 0;
 }
 
--- how many messages wait, and how many of them are not sent
+-- how many messages are in the queue, and how many of them are not sent
 abbrev pub waiting : End → ℕ
 waiting e = length e.given - e.first
 
 abbrev pub unsent : End → ℕ
 unsent e = length e.given - e.next
 
--- An end has T200 and T203 alone.
+-- An end has only T200 and T203.
 abbrev pub runs : Timer → End → Bool
 runs T200 e = e.t200
 runs T201 e = false
@@ -64,7 +69,7 @@ with_timer T201 running e = e
 with_timer T202 running e = e
 with_timer T203 running e = record e { t203 = running }
 
--- an end in the middle of a step, with its outputs so far
+-- an end within a step, with its outputs so far
 pub record StepState : Type 0 where
   pub end : End
   pub outs : List Out

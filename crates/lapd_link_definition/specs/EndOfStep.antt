@@ -1,5 +1,5 @@
--- The end of a step: in state 7 messages go out while the window is open, and then, in states 7 and 8, the
--- acknowledgement that is still pending (Q.921 5.6.1, 5.6.2.2, Figures B.7 and B.8).
+-- The end of a step: in state 7 messages are sent while the window is open, and then, in states 7
+-- and 8, the acknowledgement that is still pending (Q.921 5.6.1, 5.6.2.2, Figures B.7 and B.8).
 use Rattle.std.specs.Prelude.{ℕ, zero, suc, ◌&&◌, nat_lt, if◌then◌else◌, Bool, true, false, length}
 use Rattle.lapd_mod128.specs.Counting.{Reading}
 use Rattle.lapd_supervision.specs.StateVariables.{may_send}
@@ -19,7 +19,8 @@ is_7_or_8 MultipleFrameEstablished = true
 is_7_or_8 TimerRecovery = true
 is_7_or_8 state = false
 
--- one more may go out: the peer is not busy, fewer than k I frames are outstanding, and a message is unsent
+-- one more may be sent: the peer is not busy, fewer than k I frames are outstanding, and a message
+-- is unsent
 abbrev pub may_send_next : Reading → StepState → Bool
 may_send_next r s = is_established s.end.state
     && (may_send r s.end.parameters.k s.end.window && nat_lt s.end.next (length s.end.given))
@@ -27,7 +28,7 @@ may_send_next r s = is_established s.end.state
 abbrev pub send_next : Reading → StepState → StepState
 send_next r s = s ▷ transmit_i_frame r ▷ ensure_t200
 
--- so many at most
+-- sends at most this many
 unfoldable pub send_all : Reading → ℕ → StepState → StepState
 send_all r zero s = s
 send_all r (suc n) s = if may_send_next r s then send_all r n (send_next r s) else s

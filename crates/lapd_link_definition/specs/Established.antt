@@ -1,4 +1,4 @@
--- State 7, multiple frame established (Q.921 Figure B.7), and the rows that it has in common with state 8.
+-- State 7, multiple frame established (Q.921 Figure B.7), and the rows that it shares with state 8.
 use Rattle.std.specs.Prelude.{ℕ, ◌==◌, ◌&&◌, if◌then◌else◌, not, Bool, true, false}
 use Rattle.lapd_frame.specs.declared.Role.{Role}
 use Rattle.lapd_frame.specs.declared.Role.TheVariants.{Command, Answer}
@@ -18,7 +18,7 @@ use Rattle.lapd_link_definition.specs.TeiAssigned.{unsolicited_ua}
 
 -- ---- States 7 and 8.
 
--- own receiver busy begins or ends, where that is new (5.6.6)
+-- own receiver busy begins or ends, if it changes (5.6.6)
 unfoldable pub busy_on : StepState → StepState
 busy_on s = if s.end.window.own_busy then s else s ▷ set_own_busy true
 
@@ -45,20 +45,20 @@ in_7_and_8 input s = s
 
 -- ---- State 7.
 
--- a command with P=1 is answered, and a response with F=1 was not asked for
+-- a command with P=1 is answered, and a response with F=1 is unsolicited
 unfoldable pub poll_or_final : Role → Bool → StepState → StepState
 poll_or_final Command true s = s ▷ enquiry_response
 poll_or_final Answer true s = s ▷ put (Report letter.A)
 poll_or_final role false s = s
 
--- A valid N(R) of an RR frame, and of an I frame while the peer is not busy: all acknowledged, nothing new acknowledged,
--- or some.
+-- A valid N(R) of an RR frame, and of an I frame while the peer is not busy: it acknowledges all,
+-- nothing new, or some.
 unfoldable pub acknowledge_with_timers : Reading → ℕ → StepState → StepState
 acknowledge_with_timers r nr s =
     if acknowledges_all nr s.end.window then s ▷ acknowledge r nr ▷ stop T200 ▷ start T203 else (
     if nr == s.end.window.va then s else s ▷ acknowledge r nr ▷ start T200)
 
--- the N(R) of an I frame; while the peer is busy, T200 goes on
+-- the N(R) of an I frame; while the peer is busy, T200 keeps running
 unfoldable pub i_frame_nr : Reading → ℕ → StepState → StepState
 i_frame_nr r nr s =
     if is_valid_nr r nr s.end.window
@@ -81,12 +81,12 @@ unfoldable pub rnr_nr : Reading → ℕ → StepState → StepState
 rnr_nr r nr s = if is_valid_nr r nr s.end.window then s ▷ acknowledge r nr ▷ stop T203 ▷ start T200
     else s ▷ nr_error_recovery
 
--- the recovery is LastMessage, the peer is not busy, and a message is outstanding
+-- the recovery is `LastMessage`, the peer is not busy, and a message is outstanding
 abbrev pub sends_last : Recovery → StateVariables → Bool
 sends_last Enquiry v = false
 sends_last LastMessage v = not v.peer_busy && not (v.vs == v.va)
 
--- T200 expires: the last I frame goes out again, or an enquiry (5.6.7)
+-- T200 expires: the last I frame is retransmitted, or an enquiry is sent (5.6.7)
 unfoldable pub established_t200 : Reading → StepState → StepState
 established_t200 r s =
     if sends_last s.end.parameters.recovery s.end.window

@@ -1,5 +1,5 @@
--- What comes to an end: a frame by its control field and its role, a fault in a frame, an expiry, or a request of
--- layer 3.
+-- An input of an end: a frame by its control field and its role, a fault in a frame, an expiry, or
+-- a request of layer 3.
 use Rattle.std.specs.Prelude.{ℕ, List}
 use Rattle.lapd_timers.specs.declared.timer.Timer.{Timer}
 use Rattle.lapd_timers.specs.declared.timer.Timer.TheVariants.{T200, T203}
@@ -20,7 +20,7 @@ pub data Input : Type 0 where
   UnitData : (len : ℕ) → Input
   Give : (message : List ℕ) → Input
 
--- of an event that is handed in; a message is handed in apart
+-- the input of an event; messages are passed separately
 abbrev pub input_of : Event → Input
 input_of (event.Heard frame) = Heard frame.now.control frame.now.address.role
 input_of (event.Fault kind) = Faulty kind

@@ -1,4 +1,5 @@
--- The numbers that a reading has, in an end and in frames: any, or the tags 0 to 127 (Q.921 3.5.2.1).
+-- The numbers of a reading, in an end and in frames: any number, or the tags 0 to 127 (Q.921
+-- 3.5.2.1).
 use Rattle.std.specs.Prelude.{List, [], ◌∷◌}
 use Rattle.lapd_frame.specs.declared.Control.{Control}
 use Rattle.lapd_frame.specs.Control.{IsControl}
@@ -18,12 +19,12 @@ abbrev pub HasNumbers : Reading → Control → Type 0
 HasNumbers Whole control = Unit {0}
 HasNumbers Tagged control = IsControl control
 
--- of what comes
+-- the numbers of an input
 abbrev pub HearsNumbers : Reading → Input → Type 0
 HearsNumbers r (Heard control role) = HasNumbers r control
 HearsNumbers r input = Unit {0}
 
--- of what goes out
+-- the numbers of an output
 abbrev pub IsNumbered : Reading → Out → Type 0
 IsNumbered r (Send role control) = HasNumbers r control
 IsNumbered r (SendMessage place control) = HasNumbers r control

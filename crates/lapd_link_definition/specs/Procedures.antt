@@ -1,8 +1,8 @@
--- The actions in which the state table speaks of an end (Q.921 Annex B; its procedures are those of Figure B.9).
+-- The actions of the state table (Q.921 Annex B; its procedures are those of Figure B.9).
 --
--- Numbers are counted and compared by `after`, `steps` and `lies_within` alone, so that each action is read in two ways:
--- whole, with unbounded numbers also in frames, and tagged, with the numbers 0 to 127. Each action is one record, with
--- what depends on a test inside its fields.
+-- Numbers are counted and compared only by `after`, `steps` and `lies_within`. So each action has
+-- two readings: whole, with unbounded numbers also in frames, and tagged, with the numbers 0 to
+-- 127. Each action is one record update, and tests are inside its fields.
 use Rattle.std.specs.Prelude.{ℕ, ◌+◌, ◌-◌, ◌==◌, ◌&&◌, nat_lt, if◌then◌else◌, Bool, true, false, List, [], ◌∷◌, ◌++◌, length, Option, Some, None}
 use Rattle.lapd_timers.specs.declared.timer.Timer.{Timer}
 use Rattle.lapd_timers.specs.declared.timer.Timer.TheVariants.{T200, T203}
@@ -20,16 +20,16 @@ use Rattle.lapd_link_definition.specs.End.{StepState, ◌▷◌, waiting, runs, 
 
 -- ---- Outputs.
 
--- an output, where it comes
+-- an output, if the mark is set
 abbrev pub out_where : Bool → Out → List Out
 out_where true out = out ∷ []
 out_where false out = []
 
--- a count, where it is above 0
+-- a count, if it is above 0
 abbrev pub counted : ℕ → (ℕ → Out) → List Out
 counted n out = out_where (nat_lt 0 n) (out n)
 
--- a response, where there is one
+-- a response, if there is one
 abbrev pub response_of : Option Control → List Out
 response_of None = []
 response_of (Some control) = Send Answer control ∷ []
@@ -37,7 +37,7 @@ response_of (Some control) = Send Answer control ∷ []
 unfoldable pub put : Out → StepState → StepState
 put out s = record { end = s.end; outs = s.outs ++ out ∷ [] }
 
--- ---- Actions that set one thing.
+-- ---- Actions that set one value.
 
 unfoldable pub state_to : State → StepState → StepState
 state_to state s = record { end = record (s.end) { state = state }; outs = s.outs }
@@ -57,7 +57,7 @@ release_pending_to on s = record { end = record (s.end) { release_pending = on }
 
 -- ---- Timers.
 
--- START: the timer runs anew
+-- START: the timer is started or restarted
 unfoldable pub start : Timer → StepState → StepState
 start timer s = record { end = with_timer timer true s.end; outs = s.outs ++ Start timer ∷ [] }
 
@@ -96,7 +96,7 @@ set_peer_busy on s = record {
   outs = s.outs;
 }
 
--- SET or CLEAR OWN RECEIVER BUSY, of which the peer is told (5.6.6)
+-- SET or CLEAR OWN RECEIVER BUSY, and report it to the peer (5.6.6)
 unfoldable pub set_own_busy : Bool → StepState → StepState
 set_own_busy on s = record {
   end = record (s.end) { window = with_own_busy on s.end.window };
@@ -121,7 +121,7 @@ transmit_enquiry s = record {
       ∷ [];
 }
 
--- the acknowledgement that is pending goes out
+-- the pending acknowledgement is sent
 unfoldable pub transmit_rr : StepState → StepState
 transmit_rr s = record {
   end = record (s.end) { window = without_ack_pending s.end.window };
@@ -147,7 +147,7 @@ discard_i_queue s = record {
   outs = s.outs ++ counted (waiting s.end) Dropped;
 }
 
--- V(A) = N(R): the messages before it are acknowledged and leave the queue (5.6.3.2)
+-- V(A) = N(R): the messages before it are acknowledged and removed from the queue (5.6.3.2)
 unfoldable pub acknowledge : Reading → ℕ → StepState → StepState
 acknowledge r nr s = record {
   end = record (s.end) {
@@ -157,7 +157,8 @@ acknowledge r nr s = record {
   outs = s.outs ++ counted (acknowledged_count r nr s.end.window) Acknowledged;
 }
 
--- INVOKE RETRANSMISSION, after V(A) = N(R): V(S) = N(R), and all messages left are to be sent again
+-- INVOKE RETRANSMISSION, after V(A) = N(R): V(S) = N(R), and all remaining messages are to be
+-- retransmitted
 unfoldable pub invoke_retransmission : ℕ → StepState → StepState
 invoke_retransmission nr s = record {
   end = record (s.end) {
@@ -167,7 +168,7 @@ invoke_retransmission nr s = record {
   outs = s.outs;
 }
 
--- where V(S) = V(A) does not hold, DISCARD I QUEUE and an indication of the establishment
+-- if V(S) = V(A) does not hold, DISCARD I QUEUE and an indication of the establishment
 unfoldable pub discard_unacknowledged : StepState → StepState
 discard_unacknowledged s = record {
   end = record (s.end) {
@@ -178,7 +179,8 @@ discard_unacknowledged s = record {
       else counted (waiting s.end) Dropped ++ Established ∷ []);
 }
 
--- The N(S) of an I frame: the frame is accepted, rejected or discarded, and its poll is answered (5.6.2, 5.6.6, 5.8.1).
+-- The N(S) of an I frame: the frame is accepted, rejected or discarded, and its poll is answered
+-- (5.6.2, 5.6.6, 5.8.1).
 unfoldable pub i_frame_ns : Reading → ℕ → Bool → StepState → StepState
 i_frame_ns r ns p s = record {
   end = record (s.end) { window = after_i_frame r ns p s.end.window };
@@ -186,14 +188,14 @@ i_frame_ns r ns p s = record {
       ++ response_of (i_frame_response r ns p s.end.window);
 }
 
--- the first unsent message goes out in an I frame (5.6.1)
+-- the first unsent message is sent in an I frame (5.6.1)
 unfoldable pub transmit_i_frame : Reading → StepState → StepState
 transmit_i_frame r s = record {
   end = record (s.end) { window = after_sending r s.end.window; next = s.end.next + 1 };
   outs = s.outs ++ SendMessage (s.end.next - s.end.first) (next_i_frame s.end.window) ∷ [];
 }
 
--- the last sent message goes out again, with P=1, and T200 is started (5.6.7 b)
+-- the last sent message is retransmitted, with P=1, and T200 is started (5.6.7 b)
 unfoldable pub retransmit_last_i_frame : Reading → StepState → StepState
 retransmit_last_i_frame r s = record {
   end = record (s.end) { window = without_ack_pending s.end.window; t200 = true };
@@ -201,7 +203,7 @@ retransmit_last_i_frame r s = record {
       ∷ Start T200 ∷ [];
 }
 
--- where T200 does not run, STOP T203 and START T200
+-- if T200 does not run, STOP T203 and START T200
 unfoldable pub ensure_t200 : StepState → StepState
 ensure_t200 s = record {
   end = record (s.end) { t200 = true; t203 = s.end.t200 && s.end.t203 };
@@ -209,7 +211,7 @@ ensure_t200 s = record {
       ++ (if s.end.t200 then [] else Start T200 ∷ []);
 }
 
--- ---- Procedures made of these.
+-- ---- Procedures made of these actions.
 
 -- ESTABLISH DATA LINK
 unfoldable pub establish_data_link : StepState → StepState

@@ -1,4 +1,4 @@
--- Requests that are refused, in the order in which it is looked for, and the names of refusals.
+-- Requests that are refused, in the order in which they are checked, and the names of refusals.
 use Rattle.std.specs.Prelude.{ℕ, List, ◌==◌, nat_lt, if◌then◌else◌, Bool, true, false, length, codes, Option, Some, None}
 use Rattle.lapd_frame.specs.Frame.{n201}
 use Rattle.lapd_link_definition.specs.declared.state.State.{State}
@@ -15,15 +15,15 @@ refusal_name TooLong = codes "L3 TooLong"
 refusal_name Releasing = codes "L4 Releasing"
 refusal_name LayerThreeEstablishing = codes "L5 LayerThreeEstablishing"
 
--- at most N201 octets go into a frame (Q.921 5.9.3)
+-- a frame has at most N201 octets of information (Q.921 5.9.3)
 abbrev pub refused_when_long : ℕ → Option LinkFault
 refused_when_long len = if nat_lt n201 len then Some TooLong else None
 
 abbrev pub refused_when_full : Bool → Option LinkFault
 refused_when_full full = if full then Some QueueFull else None
 
--- a message, by the state, whether a release waits, whether layer 3 initiated the establishment, and whether the queue is
--- full
+-- a message, by the state, whether a release is pending, whether layer 3 initiated the
+-- establishment, and whether the queue is full
 abbrev pub give_refused : State → Bool → Bool → Bool → Option LinkFault
 give_refused TeiAssigned release_pending layer3_initiated full = Some NotEstablished
 give_refused AwaitingEstablishment true layer3_initiated full = Some Releasing

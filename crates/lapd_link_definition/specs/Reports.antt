@@ -1,4 +1,5 @@
--- Error reports (Q.921 Appendix II): those to which lost frames lead, and what comes where no other report is made.
+-- Error reports (Q.921 Appendix II): the reports to which lost frames lead, and the inputs for
+-- which no other report is made.
 use Rattle.std.specs.Prelude.{not, ◌&&◌, ◌≡◌, Bool, true, false, List, [], ◌∷◌}
 use Rattle.lapd_frame.specs.declared.Role.TheVariants.{Command, Answer}
 use Rattle.lapd_frame.specs.declared.Control.{Control}
@@ -15,7 +16,7 @@ use Rattle.lapd_link_definition.specs.EndOfStep.{is_established, is_7_or_8}
 use Rattle.lapd_link_definition.specs.End.{End}
 use Rattle.lapd_link_definition.specs.Input.{Input, Heard, Faulty}
 
--- F: the peer establishes the link again; G, H and I: N200 is reached
+-- F: the peer re-establishes the link; G, H and I: N200 is reached
 abbrev pub IsExpected : Letter → Type 0
 IsExpected letter.F = Unit {0}
 IsExpected letter.G = Unit {0}
@@ -32,16 +33,16 @@ abbrev pub AreExpected : List Out → Type 0
 AreExpected [] = Unit {0}
 AreExpected (out ∷ outs) = IsExpectedOut out × AreExpected outs
 
--- ---- What comes is due.
+-- ---- Inputs that are due.
 
--- the SABME or the DISC waits for its answer
+-- the SABME or the DISC is not answered yet
 abbrev pub awaits_answer : State → Bool
 awaits_answer AwaitingEstablishment = true
 awaits_answer AwaitingRelease = true
 awaits_answer state = false
 
--- A response is unasked where nothing waits for it: a UA where no SABME or DISC does, and always one with F=0; a DM and a FRMR
--- in states 7 and 8; and a supervisory response with F=1 in state 7.
+-- A response is unsolicited in these cases: a UA without an unanswered SABME or DISC, and always a
+-- UA with F=0; a DM and a FRMR in states 7 and 8; and a supervisory response with F=1 in state 7.
 abbrev pub is_unasked : Control → State → Bool
 is_unasked (Ua true) state = not (awaits_answer state)
 is_unasked (Ua false) state = true
@@ -52,7 +53,7 @@ is_unasked (Rnr nr f) state = is_established state && f
 is_unasked (Rej nr f) state = is_established state && f
 is_unasked control state = false
 
--- its N(R), where it has one, lies from V(A) to V(S) (3.5.2.3)
+-- its N(R), if it has one, lies from V(A) to V(S) (3.5.2.3)
 abbrev pub HasValidNumber : Reading → Control → StateVariables → Type 0
 HasValidNumber r (I ns nr p) m = is_valid_nr r nr m ≡ true
 HasValidNumber r (Rr nr pf) m = is_valid_nr r nr m ≡ true
@@ -60,14 +61,14 @@ HasValidNumber r (Rnr nr pf) m = is_valid_nr r nr m ≡ true
 HasValidNumber r (Rej nr pf) m = is_valid_nr r nr m ≡ true
 HasValidNumber r control m = Unit {0}
 
--- in states 7 and 8 N(R) are heard
+-- in states 7 and 8 N(R) is processed, and must be valid
 abbrev pub IsNumberedIn : Reading → State → Control → StateVariables → Type 0
 IsNumberedIn r MultipleFrameEstablished control m = HasValidNumber r control m
 IsNumberedIn r TimerRecovery control m = HasValidNumber r control m
 IsNumberedIn r state control m = Unit {0}
 
--- in this state, under these variables: a command with a valid N(R), or a response with a valid N(R) that is not unasked; and
--- no fault in a frame
+-- An input is due in a state with these variables if it is a command with a valid N(R), or a
+-- response with a valid N(R) that is not unsolicited. A fault in a frame is not due.
 abbrev pub IsDueIn : Reading → State → Input → StateVariables → Type 0
 IsDueIn r state (Heard control Command) m = IsNumberedIn r state control m
 IsDueIn r state (Heard control Answer) m = (is_unasked control state ≡ false)

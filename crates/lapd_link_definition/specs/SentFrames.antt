@@ -1,11 +1,12 @@
--- What goes to the peer is in the grammar of frames.
+-- Frames that are sent to the peer are in the grammar of frames.
 use Rattle.std.specs.Prelude.{◌≡◌, ℕ, ◌≤◌, List, [], ◌∷◌, length, None}
 use Rattle.lapd_frame.specs.declared.Role.TheVariants.{Command}
 use Rattle.lapd_frame.specs.Frame.{n201, content_fault}
 use Rattle.lapd_link_definition.specs.declared.out.Out.{Out}
 use Rattle.lapd_link_definition.specs.declared.out.Out.TheVariants.{Send, SendMessage}
 
--- a frame without information, or a command with any information of up to N201 octets (Q.921 Table 5)
+-- a frame without information, or a command with any information of up to N201 octets (Q.921 Table
+-- 5)
 abbrev pub IsSpoken : Out → Type 0
 IsSpoken (Send role control) = content_fault role control 0 ≡ None
 IsSpoken (SendMessage place control) = (len : ℕ) → len ≤ n201

@@ -1,12 +1,13 @@
--- How the two places of an end stand to its counters between two steps: in states 7 and 8, message number n of the
--- present establishment stands at place first + (n - V(A)).
+-- How the two places of an end agree with its counters between two steps: in states 7 and 8,
+-- message number n of the present establishment is at place first + (n - V(A)).
 use Rattle.std.specs.Prelude.{◌≡◌, ◌≤◌, ◌+◌, ℕ, Bool, true, false, length}
 use Rattle.lapd_mod128.specs.Counting.{Reading, steps, reaches}
 use Rattle.lapd_link_definition.specs.declared.state.State.{State}
 use Rattle.lapd_link_definition.specs.declared.state.State.TheVariants.{TeiAssigned, AwaitingEstablishment, AwaitingRelease, MultipleFrameEstablished, TimerRecovery}
 use Rattle.lapd_link_definition.specs.End.{End}
 
--- all that is sent is outstanding: as many messages as steps lead from V(A) to V(S), at most 127 (Q.921 5.9.5)
+-- all sent messages are outstanding: there are as many as steps from V(A) to V(S), at most 127
+-- (Q.921 5.9.5)
 pub record AreOutstanding (r : Reading) (first next given va vs : ℕ) : Type 0 where
   pub places : next ≡ first + steps r va vs
   pub within : next ≤ given
@@ -18,8 +19,8 @@ pub record AreUnsent (first next given : ℕ) : Type 0 where
   pub places : next ≡ first
   pub within : next ≤ given
 
--- awaiting an establishment of the data link's own, messages of the last one may be outstanding; layer 3's own request,
--- or a release, has dropped them
+-- While the data link itself re-establishes, messages of the last establishment may be outstanding.
+-- A request of layer 3 to establish, or a release, has dropped them.
 abbrev pub AreAwaiting : Reading → Bool → Bool → ℕ → ℕ → ℕ → ℕ → ℕ → Type 0
 AreAwaiting r true leaving first next given va vs = AreUnsent first next given
 AreAwaiting r false true first next given va vs = AreUnsent first next given

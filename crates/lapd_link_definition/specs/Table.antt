@@ -1,5 +1,5 @@
--- The state table (Q.921 Annex B): what an end makes of each input, state by state. A pair of state and input that no row
--- names gives nothing and changes nothing.
+-- The state table (Q.921 Annex B): the effect of each input on an end, state by state. A pair of
+-- state and input without a row has no output and changes nothing.
 use Rattle.std.specs.Prelude.{if◌then◌else◌, Bool, true, false, Option, Some, None, Result, Ok, Err}
 use Rattle.lapd_frame.specs.declared.Role.{Role}
 use Rattle.lapd_frame.specs.declared.Role.TheVariants.{Command}
@@ -47,12 +47,12 @@ report_fault state.TimerRecovery kind s = s ▷ put
     (Report (fault_letter kind)) ▷ reestablish_data_link
 report_fault state kind s = s ▷ put (Report (fault_letter kind))
 
--- UI
+-- a UI command
 abbrev pub is_unit_data : Control → Role → Bool
 is_unit_data (Ui p) Command = true
 is_unit_data control role = false
 
--- unit data passes in every state (5.2), and a timer that does not run does not expire
+-- unit data is handled in every state (5.2), and a timer that does not run does not expire
 unfoldable pub row : Reading → State → Input → StepState → StepState
 row r state (Heard control role) s = if is_unit_data control role then s ▷ put UnitUp
     else s ▷ by_state r state (Heard control role)
@@ -61,7 +61,8 @@ row r state (Faulty kind) s = s ▷ report_fault state kind
 row r state (Expiry timer) s = if runs timer s.end then s ▷ by_state r state (Expiry timer) else s
 row r state input s = s ▷ by_state r state input
 
--- One step: the end after it with all its outputs, or a refusal. There is exactly one for each end and input.
+-- One step: the end after it with all its outputs, or a refusal. There is exactly one for each end
+-- and input.
 abbrev pub unless : Option LinkFault → StepState → Result StepState LinkFault
 unless None s = Ok s
 unless (Some fault) s = Err fault

@@ -1,4 +1,4 @@
--- How a step on tags stands for the step on numbers without a bound.
+-- How a step on tags represents the step on whole numbers.
 use Rattle.std.specs.Prelude.{◌≡◌, ℕ, ◌+◌, ◌<◌, ◌≤◌, true, map, Result, Ok, Err}
 use Rattle.lapd_frame.specs.declared.Control.{Control}
 use Rattle.lapd_frame.specs.declared.Control.TheVariants.{I, Rr, Rnr, Rej}
@@ -13,7 +13,8 @@ use Rattle.lapd_link_definition.specs.End.{End, StepState}
 use Rattle.lapd_link_definition.specs.Input.{Input, Heard}
 use Rattle.lapd_link_definition.specs.Sound.{IsSound}
 
--- The same with the tag of each number that a frame carries, or that is a state variable. Places of messages are none.
+-- The same input or output with the tag of each sequence number and state variable. Places of
+-- messages are not changed.
 abbrev pub tag_input : Input → Input
 tag_input (Heard control role) = Heard (tag_control control) role
 tag_input input = input
@@ -45,8 +46,8 @@ abbrev pub IsHeardNear : Input → StateVariables → Type 0
 IsHeardNear (Heard control role) m = HasNearNumbers control m
 IsHeardNear input m = Unit {0}
 
--- Bounds by which they are near, where k is the window of the sender: N(S) is at most one below V(R) and less than k above it,
--- and N(R) is one from V(A) to V(S).
+-- Bounds within which they are near, if k is the window of the sender: N(S) is at most one below
+-- V(R) and less than k above it, and N(R) lies from V(A) to V(S).
 abbrev pub LiesFromVaToVs : ℕ → StateVariables → Type 0
 LiesFromVaToVs nr m = (m.va ≤ nr) × (nr ≤ m.vs)
 
@@ -57,8 +58,9 @@ HasNumbersWithin k (Rnr nr pf) m = LiesFromVaToVs nr m
 HasNumbersWithin k (Rej nr pf) m = LiesFromVaToVs nr m
 HasNumbersWithin k control m = Unit {0}
 
--- Where tags decide as numbers without a bound do: the window has at most 127 places, the messages of the end are in
--- order, and what it hears in states 7 and 8 has numbers near its own.
+-- The conditions under which tags decide as whole numbers do: the window has at most 127 places,
+-- the messages of the end are in order, and in states 7 and 8 the frames that it receives have
+-- numbers near its own.
 pub record IsNear (input : Input) (e : End) : Type 0 where
   pub window : e.parameters.k ≤ 127
   pub sound : IsSound Whole e

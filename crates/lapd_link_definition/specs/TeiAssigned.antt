@@ -11,7 +11,7 @@ use Rattle.lapd_link_definition.specs.Input.{Input, Heard, Establish, Release}
 use Rattle.lapd_link_definition.specs.End.{StepState, ◌▷◌}
 use Rattle.lapd_link_definition.specs.Procedures.{put, state_to, layer3_initiated_to, start, clear_exception_conditions, zero_state_variables, discard_i_queue, establish_data_link}
 
--- the report of an unsolicited UA: C, or D where F is 0 (Appendix II)
+-- the report of an unsolicited UA: C, or D if F is 0 (Appendix II)
 abbrev pub unsolicited_ua : Bool → Letter
 unsolicited_ua true = letter.C
 unsolicited_ua false = letter.D

@@ -1,4 +1,5 @@
--- State 8, timer recovery (Q.921 Figure B.8): an enquiry is out, which a response with F=1 answers.
+-- State 8, timer recovery (Q.921 Figure B.8): an enquiry was sent, and a response with F=1 answers
+-- it.
 use Rattle.std.specs.Prelude.{ℕ, nat_lt, if◌then◌else◌, Bool, true, false}
 use Rattle.lapd_frame.specs.declared.Role.{Role}
 use Rattle.lapd_frame.specs.declared.Role.TheVariants.{Command, Answer}
@@ -46,7 +47,7 @@ rnr_nr_in_recovery r final nr s =
     MultipleFrameEstablished else s ▷ acknowledge r nr)
     else s ▷ nr_error_recovery
 
--- T200 expires: the enquiry is sent again, N200 times at most (5.6.7)
+-- T200 expires: the enquiry is retransmitted, N200 times at most (5.6.7)
 unfoldable pub timer_recovery_t200 : StepState → StepState
 timer_recovery_t200 s =
     if nat_lt s.end.rc s.end.parameters.n200

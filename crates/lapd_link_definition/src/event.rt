@@ -4,26 +4,28 @@ ghost use Rattle.lapd_link_definition.specs.Refusal.{refusal_name};
 use lapd_frame::{FaultKind, Frame};
 use thiserror::Error;
 
-/// What happens to an end.
+/// An event of an end.
 #[derive(Debug, Drop)]
 pub enum Event<'a> {
-    /// A frame of the peer came, with the link's service access point and terminal endpoint.
+    /// A frame of the peer was received, with the link's service access point and terminal
+    /// endpoint.
     Heard(&'a Frame<'a>),
-    /// Octets with the link's address came that are no frame, by one of F4 to F7.
+    /// Octets with the link's address were received that do not form a valid frame, by one of F4 to
+    /// F7.
     Fault(FaultKind),
-    /// T200 expires. Where it does not run, this is passed over.
+    /// T200 expires. Ignored if it does not run.
     T200,
-    /// T203 expires. Where it does not run, this is passed over.
+    /// T203 expires. Ignored if it does not run.
     T203,
-    /// Layer 3 asks for the link to be established (DL-ESTABLISH request).
+    /// Layer 3 requests the link to be established (DL-ESTABLISH request).
     Establish,
-    /// Layer 3 asks for the link to be released (DL-RELEASE request).
+    /// Layer 3 requests the link to be released (DL-RELEASE request).
     Release,
-    /// This end can take no more messages (own receiver busy, Q.921 5.6.6).
+    /// This end can accept no more messages (own receiver busy, Q.921 5.6.6).
     BusyOn,
-    /// This end can take messages again.
+    /// This end can accept messages again.
     BusyOff,
-    /// Unit data of so many octets is to be sent (DL-UNIT DATA request).
+    /// Layer 3 requests unit data of this many octets to be sent (DL-UNIT DATA request).
     Unit(usize),
 }
 
@@ -47,11 +49,11 @@ pub enum LinkFault {
     LayerThreeEstablishing,
 }
 
-/// A message that was refused, handed back as it came.
+/// A message that was refused, returned unchanged.
 #[derive(Debug, Drop, Error)]
 #[error("{fault}")]
 pub struct Refused {
-    /// Why.
+    /// Why it was refused.
     pub fault: LinkFault,
     /// The message.
     pub message: Vec<u8>,

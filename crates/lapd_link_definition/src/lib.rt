@@ -1,9 +1,10 @@
-//! The state table of a data link, after ITU-T Q.921 (09/97), Annex B: its types, its definition, and the laws that
-//! follow from it.
+//! The state table of a data link, after ITU-T Q.921 (09/97), Annex B: its types, its definition,
+//! and the laws that follow from it.
 //!
-//! [`Event`] is what comes to an end of a link, [`Out`] what its step calls for, [`State`] where it is, [`Params`] what
-//! it is made with, and [`LinkFault`] why a request is refused. The table itself stands in specs/, state by state; the
-//! crate `lapd_link_machine` is the machine that meets it. Nothing here runs but the readers of these types.
+//! [`Event`] is an event of one end of a link, [`Out`] an output of its step, [`State`] its state,
+//! [`Params`] its parameters, and [`LinkFault`] the reason why a request is refused. The table
+//! itself is defined in specs/, state by state; the crate `lapd_link_machine` implements it. Only
+//! functions that read these types run in this crate.
 #![tactic(auto)]
 
 mod event;

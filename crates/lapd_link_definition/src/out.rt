@@ -4,61 +4,62 @@ ghost use Rattle.lapd_link_definition.specs.Out.{letter_code};
 use lapd_frame::{Control, Role};
 use lapd_timers::Timer;
 
-/// What an event calls for (Q.921 4.1 and Annex B).
+/// An output: what an event requires to be done (Q.921 4.1 and Annex B).
 #[derive(Clone, Copy, Debug, Default, PartialEq, Eq)]
 pub enum Out {
-    /// A frame without information is sent.
+    /// Send a frame without information.
     Send(Role, Control),
-    /// An I command is sent with the message at this place of the I queue as it stands after the step.
+    /// Send an I command with the message at this place of the I queue. Places are counted after
+    /// the step.
     SendMessage(u16, Control),
-    /// A UI command with P=0 is sent, with the octets of the request.
+    /// Send a UI command with P=0, with the octets of the request.
     SendUnit,
-    /// The information of the I frame just handed in goes to layer 3 (DL-DATA indication).
+    /// Deliver the information of the received I frame to layer 3 (DL-DATA indication).
     #[default]
     Up,
-    /// The information of the UI frame just handed in goes to layer 3 (DL-UNIT DATA indication).
+    /// Deliver the information of the received UI frame to layer 3 (DL-UNIT DATA indication).
     UnitUp,
     /// The link is established (DL-ESTABLISH indication).
     Established,
-    /// The link is established as was asked for (DL-ESTABLISH confirm).
+    /// The link is established as layer 3 requested (DL-ESTABLISH confirm).
     Confirmed,
     /// The link is released (DL-RELEASE indication).
     Released,
-    /// The link is released as was asked for (DL-RELEASE confirm).
+    /// The link is released as layer 3 requested (DL-RELEASE confirm).
     ReleaseConfirm,
-    /// So many messages were acknowledged, at least one.
+    /// This many messages were acknowledged, at least one.
     Acknowledged(u16),
-    /// So many messages were dropped, at least one.
+    /// This many messages were dropped, at least one.
     Dropped(u16),
-    /// The timer is started anew.
+    /// Start or restart the timer.
     Start(Timer),
-    /// The timer, which was running, is stopped.
+    /// Stop the timer, which was running.
     Stop(Timer),
-    /// An error is reported to management (MDL-ERROR indication, Q.921 Appendix II).
+    /// Report an error to management (MDL-ERROR indication, Q.921 Appendix II).
     Report(Letter),
 }
 
 /// The letter of an error report (Q.921 Appendix II).
 #[derive(Clone, Copy, Debug, PartialEq, Eq)]
 pub enum Letter {
-    /// A response with F=1 that was not asked for.
+    /// An unsolicited supervisory response with F=1.
     A,
-    /// A DM with F=1 that was not asked for.
+    /// An unsolicited DM with F=1.
     B,
-    /// A UA with F=1 that was not asked for.
+    /// An unsolicited UA with F=1.
     C,
     /// A UA with F=0.
     D,
     /// A DM with F=0.
     E,
-    /// The peer establishes the link again.
+    /// The peer re-establishes the link.
     F,
-    /// No answer to N200 + 1 SABME.
+    /// No response to N200 + 1 SABME.
     G,
-    /// No answer to N200 + 1 DISC.
+    /// No response to N200 + 1 DISC.
     H,
-    /// T200 expired in state 8 with RC = N200: no answer to any of the enquiries, which were N200 after T200 in state 7,
-    /// and N200 + 1 after T203.
+    /// T200 expired in state 8 with RC = N200: no response to any enquiry. There were N200
+    /// enquiries after T200 in state 7, and N200 + 1 after T203.
     I,
     /// An N(R) that is not valid.
     J,

@@ -5,7 +5,7 @@ use crate::Recovery;
 use lapd_frame::Sapi;
 use std::marker::Model;
 
-/// What a data link is made with (Q.921 5.9).
+/// The parameters of a data link (Q.921 5.9).
 #[derive(Clone, Copy, Debug, PartialEq, Eq)]
 pub struct Params {
     k: u8,
@@ -33,8 +33,9 @@ impl Model for Params {
 }
 
 impl Params {
-    /// A window of `k` frames, 1 to 127 (Q.921 5.9.5), `n200` transmissions of a frame again, 1 to 100 (Q.921
-    /// 5.9.2), and room for `room` messages in the I queue, 1 to 1,024. `None` where a number is out of its range.
+    /// A window of `k` frames, 1 to 127 (Q.921 5.9.5), `n200` retransmissions of a frame, 1 to 100
+    /// (Q.921 5.9.2), and room for `room` messages in the I queue, 1 to 1,024. `None` if a number
+    /// is out of range.
     pub fn new(k: u8, n200: u8, room: u16) -> Option<Params>
         ensures { result ≡ parameters_of k n200 room }
     {
@@ -51,8 +52,9 @@ impl Params {
         }
     }
 
-    /// What Q.921 5.9 gives basic access: a window of 1 for call control, of 3 for packet communication, N200 of 3, and
-    /// room for 512 messages. Management has no link, and is answered as call control.
+    /// The defaults of Q.921 5.9 for basic access, with room for 512 messages: N200 is 3, the
+    /// window is 1 for call control and 3 for packet communication. Management has no link, and
+    /// gets the parameters of call control.
     pub fn basic(sapi: Sapi) -> Params
         ensures { result ≡ basic_parameters sapi }
     {
@@ -68,7 +70,8 @@ impl Params {
         }
     }
 
-    /// What Q.921 5.9 gives primary rate: a window of 7, N200 of 3, and room for 512 messages.
+    /// The defaults of Q.921 5.9 for primary rate access, with room for 512 messages: the window is
+    /// 7, and N200 is 3.
     pub fn primary() -> Params
         ensures { result ≡ primary_parameters }
     {
@@ -80,15 +83,15 @@ impl Params {
         }
     }
 
-    /// The same with this recovery. What [`Params::new`], [`Params::basic`] and [`Params::primary`] give has
-    /// [`Recovery::Enquiry`].
+    /// The same parameters with this recovery. [`Params::new`], [`Params::basic`] and
+    /// [`Params::primary`] use [`Recovery::Enquiry`].
     pub fn with_recovery(self, recovery: Recovery) -> Params
         ensures { result ≡ record self { recovery = recovery } }
     {
         Params { recovery, ..self }
     }
 
-    /// What T200 sends in state 7.
+    /// The frame that is sent when T200 expires in state 7.
     pub fn recovery(&self) -> Recovery
         ensures { result ≡ self.now.recovery }
     {
@@ -104,7 +107,7 @@ impl Params {
         self.k
     }
 
-    /// How often a frame is sent again, 1 to 100.
+    /// How often a frame is retransmitted, 1 to 100.
     pub fn n200(&self) -> u8
         ensures same { result ≡ self.now.n200 }
         ensures low { 1 ≤ result }
@@ -113,7 +116,7 @@ impl Params {
         self.n200
     }
 
-    /// How many messages there is room for, 1 to 1,024.
+    /// How many messages the I queue has room for, 1 to 1,024.
     pub fn room(&self) -> u16
         ensures same { result ≡ self.now.room }
         ensures low { 1 ≤ result }

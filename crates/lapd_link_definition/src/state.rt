@@ -6,13 +6,13 @@ ghost use Rattle.lapd_link_definition.specs.State.{state_number};
 pub enum State {
     /// 4: a terminal endpoint identifier is assigned, and no link is established.
     TeiAssigned,
-    /// 5: a SABME was sent and its answer is waited for.
+    /// 5: a SABME was sent and its response is awaited.
     AwaitingEstablishment,
-    /// 6: a DISC was sent and its answer is waited for.
+    /// 6: a DISC was sent and its response is awaited.
     AwaitingRelease,
     /// 7: the link is established.
     MultipleFrameEstablished,
-    /// 8: the link is established, and the answer to an enquiry is waited for.
+    /// 8: the link is established, and the response to an enquiry is awaited.
     TimerRecovery,
 }
 

@@ -1,5 +1,5 @@
--- A machine between two steps: how many messages are sent follows from the law of the table, at the end whose messages
--- are just those of the queue.
+-- A machine between two steps. The law of the table determines how many messages are sent; it is
+-- applied to the end whose messages are exactly those of the queue.
 use Rattle.std.proofs.Common.{◌≡◌, ◌≤◌, ◌+◌, ℕ, zero, suc, Bool, true, false, List, [], ◌∷◌, length, drop, Option, Some, None, Ok, Err, if◌then◌else◌, refl, sym, subst, ◌∙◌, arith}
 use Rattle.std.proofs.lemmas.List.Elements.{All-nil, All-cons, All-head, All-tail}
 use Rattle.std.specs.List.{All}
@@ -62,7 +62,7 @@ shows_end m between = record {
   put = refl;
 }
 
--- a step that is done begins the next
+-- the end of one step is the start of the next
 pub settles : (m : Machine) (outs : List Out) (s : StepState) → StandsFor m outs s → StandsFor m [] (begin s.end)
 unfolding begin
 settles m outs s h = record {
@@ -79,7 +79,7 @@ settles m outs s h = record {
   put = refl;
 }
 
--- ---- The places of an end and the number that are sent say the same.
+-- ---- The places of an end agree with the number of sent messages.
 
 few_steps : (a b : ℕ) → steps Tagged a b ≤ 127
 unfolding steps
@@ -128,7 +128,7 @@ within_of AwaitingRelease e h = h.within
 within_of MultipleFrameEstablished e h = h.within
 within_of TimerRecovery e h = h.within
 
--- all messages that are sent are outstanding
+-- all sent messages are outstanding
 pub is_sound : (m : Machine) → IsBetweenSteps m → IsSound Tagged (end_of m)
 is_sound m between = sound_from m.state (end_of m) (omega (arith, between.sent)) between.within
 
@@ -142,7 +142,7 @@ all_short : (messages : List (List ℕ)) → AreShort messages → All (λ messa
 all_short [] h = All-nil (λ message. length message ≤ n201)
 all_short (message ∷ messages) h = All-cons (λ message. length message ≤ n201) message messages h.0 (all_short messages h.1)
 
--- those behind some of short messages are short
+-- if messages are short, those after the first n are short
 pub short_behind : (n : ℕ) (messages : List (List ℕ)) → AreShort messages → AreShort (drop n messages)
 short_behind zero messages h = h
 short_behind (suc n) [] h = h
@@ -165,7 +165,7 @@ between_of m outs s h small sound numbers short =
       short = all_short m.queue.messages (subst AreShort h.queue.messages (short_behind s.end.first s.end.given short));
     }
 
--- so a step keeps it
+-- a step keeps this property
 pub stays_between : (input : Input) (m n : Machine) (outs : List Out) (s : StepState) → IsBetweenSteps m
     → step Tagged input (end_of m) ≡ Ok s → StandsFor n outs s → AreTags n.window → IsBetweenSteps n
 stays_between input m n outs s between done stands numbers =
@@ -173,7 +173,7 @@ stays_between input m n outs s between done stands numbers =
     between_of n outs s stands (subst Few (sym (step_keeps_parameters Tagged input (end_of m) s done)) between.few) (sound_step Tagged input (end_of m) s between.few (is_sound m between) done)
     numbers (step_is_short Tagged input (end_of m) s (are_short m.queue.messages between.short) done)
 
--- ---- A step by whether it is refused.
+-- ---- A step, refused or not.
 
 pub step_done : (input : Input) (e : End) → None ≡ refused input e → step Tagged input e ≡ Ok (end_step Tagged (row Tagged e.state input (begin e)))
 unfolding step
@@ -200,7 +200,7 @@ queued_in TimerRecovery release_pending layer3_initiated full message s h = refl
 pub is_queued : (message : List ℕ) (e : End) (s : StepState) → refused (Give message) e ≡ None → row Tagged e.state (Give message) s ≡ queue_up message s
 is_queued message e s h = queued_in e.state e.release_pending e.layer3_initiated _ message s (not_too_long _ _ h)
 
--- it is refused for want of room alone where the queue is full
+-- a message is refused because of room only if the queue is full
 pub not_full : (full : Bool) (refusal : Option LinkFault) → refusal ≡ refused_when_full full → full ≡ false → refusal ≡ None
 not_full full refusal q h = q ∙ rw h refl
 

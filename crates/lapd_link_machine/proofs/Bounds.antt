@@ -1,4 +1,4 @@
--- Frames and timers are nothing that the layers above are told of.
+-- Frames and timers are not reported to the layers above.
 use Rattle.std.proofs.Common.{◌≡◌, ◌≤◌, ◌+◌, ◌++◌, ◌∷◌, [], ℕ, List, Bool, false, length, refl, ap, ◌∙◌, append-nil, arith}
 use Rattle.std.specs.List.{filter}
 use Rattle.std.proofs.lemmas.List.Elements.{filter-append}
@@ -15,7 +15,7 @@ told_behind outs out h =
 pub told_among : (outs : List Out) → told_count outs ≤ length outs
 told_among outs = rw (length-filter is_told outs) (count_by-le-length is_told outs)
 
--- of a step, by what its row gave, and by whether the link is established then
+-- the outputs of a step, by those of its row, and by whether the link is established then
 all_of : (input : Input) (n : ℕ) → n ≤ 136 → (input ≡ Establish → n ≤ 7) → n ≤ most_outputs input
 all_of Establish n few brief = brief refl
 all_of (Heard control role) n few brief = few

@@ -1,4 +1,4 @@
--- T200 guards what was sent, in both cases of whether it runs.
+-- T200 runs while sent frames are outstanding: both cases of whether it runs already.
 use Rattle.std.proofs.Common.{◌≡◌, Bool, true, false, refl, ap, ◌∙◌, append-nil}
 use Rattle.lapd_timers.specs.declared.timer.Timer.TheVariants.{T200, T203}
 use Rattle.lapd_link_definition.specs.End.{StepState}

@@ -1,4 +1,4 @@
--- Where V(S) is not V(A), a message is sent.
+-- If V(S) is not V(A), a message is sent.
 use Rattle.std.proofs.Common.{◌≡◌, ◌<◌, ◌==◌, ℕ, false, arith}
 use Rattle.lapd_mod128.specs.Counting.{Tagged, steps}
 use Rattle.lapd_supervision.specs.StateVariables.{StateVariables, outstanding}

@@ -1,4 +1,4 @@
--- A row that has a test, where the machine shows which way it goes.
+-- A row with a test, if the machine shows its result.
 use Rattle.std.proofs.Common.{◌≡◌, ℕ, ◌<◌, ◌≤◌, nat_lt, Bool, true, false, if◌then◌else◌, List, ap, sym, ◌∙◌, arith}
 use Rattle.std.proofs.lemmas.Bool.Decides.{nat_tests}
 use Rattle.lapd_link_definition.specs.declared.out.Out.{Out}
@@ -28,6 +28,6 @@ is_not_below rc_there rc n200_there n200 p q h = let test : nat_lt rc n200 ≡ f
 pub n200_of : (p q : Parameters) (n : ℕ) → p ≡ q → n ≡ q.n200 → p.n200 ≡ n
 n200_of p q n h k = let N200 : Parameters → ℕ = λ r. r.n200 in ap N200 h ∙ sym k
 
--- what T200 sends in state 7, as the machine shows it
+-- the frame that T200 sends in state 7, as the machine shows it
 pub sends_last_of : (p q : Parameters) (v w : StateVariables) (b : Bool) → p ≡ q → v ≡ w → sends_last q.recovery w ≡ b → sends_last p.recovery v ≡ b
 sends_last_of p q v w b same alike h = rw (same, alike) h

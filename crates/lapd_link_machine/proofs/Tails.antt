@@ -1,4 +1,5 @@
--- The I queue stays the tail of what was given, under each action that moves a place or a message.
+-- The I queue stays the tail of the accepted messages, under each action that changes a place or a
+-- message.
 use Rattle.std.proofs.Common.{◌≡◌, ℕ, ◌+◌, ◌-◌, ◌<◌, ◌≤◌, nat_lt, true, false, List, [], ◌∷◌, ◌++◌, length, drop, Result, Ok, Err, OnOk, refl, sym, ap, ◌∙◌, arith}
 use Rattle.std.proofs.lemmas.List.{length-drop, length-append, drop-append-le, drop-drop}
 use Rattle.std.proofs.Math.Seq.{drop-length}
@@ -8,11 +9,11 @@ use Rattle.lapd_link_definition.specs.Procedures.{counted}
 use Rattle.lapd_queue.specs.Waiting.{Waiting, with_message, one_more_sent, without_first, all_unsent, emptied}
 use Rattle.lapd_link_machine.specs.Tail.{IsTail}
 
--- as many messages wait as are in the queue
+-- the number of messages in the queue, as the table counts them
 pub tail_waiting : (given : List (List ℕ)) (first next : ℕ) (q : Waiting) → IsTail given first next q → length given - first ≡ length q.messages
 tail_waiting given first next q t = sym (length-drop first given) ∙ ap length t.messages
 
--- the place of the first unsent one is how many are sent
+-- the number of sent messages is the place of the first unsent message
 pub tail_place : (given : List (List ℕ)) (first next : ℕ) (q : Waiting) → IsTail given first next q → next - first ≡ q.sent
 tail_place given first next q t = omega (arith, t.next_is)
 
@@ -45,7 +46,7 @@ tail_given given first next q message t = record {
   next_is = t.next_is;
 }
 
--- a count that is told, or not
+-- a count above 0 is reported
 pub counted_above : (n : ℕ) (out : ℕ → Out) → 0 < n → counted n out ≡ out n ∷ []
 counted_above n out h = let test : nat_lt 0 n ≡ true = grind (arith, nat_tests) in rw test refl
 
@@ -61,11 +62,11 @@ pub room_gone_back : (room : ℕ) (q : Waiting) → room ≡ q.room → room ≡
 unfolding all_unsent
 room_gone_back room q h = h
 
--- what holds where a call is done
+-- a property of a successful result
 pub on_ok : {X Y : Type 0} (r : Result X Y) (P Q : Type 0) → OnOk r P → (P → Q) → OnOk r Q
 on_ok (Ok x) P Q h f = f h
 on_ok (Err y) P Q h f = h
 
--- the place of the last sent one
+-- the place of the last sent message
 pub tail_last_place : (given : List (List ℕ)) (first next : ℕ) (q : Waiting) → IsTail given first next q → next - 1 - first ≡ q.sent - 1
 tail_last_place given first next q t = omega (arith, t.next_is)

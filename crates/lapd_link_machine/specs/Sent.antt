@@ -1,5 +1,6 @@
--- What a machine keeps between two steps: how many messages are sent, the room of its queue, the bound of its window, that
--- it counts by tags, and that no message is longer than a frame carries.
+-- Properties that a machine keeps between two steps: the number of sent messages, the room of its
+-- queue, the bound of its window, that it counts by tags, and that no message is longer than a
+-- frame carries.
 use Rattle.std.specs.Prelude.{◌≡◌, ◌≤◌, ℕ, Bool, true, false, length}
 use Rattle.std.specs.List.{All}
 use Rattle.lapd_frame.specs.Frame.{n201}
@@ -14,8 +15,8 @@ use Rattle.lapd_link_machine.specs.declared.machine.Machine.{Machine}
 abbrev pub SentAreOutstanding : Machine → Type 0
 SentAreOutstanding m = m.queue.sent ≡ outstanding Tagged m.window
 
--- How many are sent in each state: what is outstanding while the link is established or establishes again by itself,
--- and otherwise nothing.
+-- How many messages are sent in each state: the outstanding ones while the link is established or
+-- re-establishes by itself, otherwise none.
 abbrev pub sent_in_state : State → Bool → Bool → StateVariables → ℕ
 sent_in_state TeiAssigned layer3_initiated release_pending v = 0
 sent_in_state AwaitingEstablishment true release_pending v = 0
@@ -33,7 +34,7 @@ pub record IsBetweenSteps (m : Machine) : Type 0 where
   pub numbers : AreTags m.window
   pub short : All (λ message. length message ≤ n201) m.queue.messages
 
--- What a valid N(R) leaves of the window, and what it acknowledges.
+-- The window after a valid N(R), and what it acknowledges.
 pub record IsTaken (nr : ℕ) (before : StateVariables) (taken : StateVariables × Advance) :
     Type 0 where
   pub valid : is_valid_nr Tagged nr before ≡ true

@@ -1,4 +1,4 @@
--- How the machine of a link shows an end, and how its methods are stated.
+-- The end that the machine of a link represents, and the terms in which its methods are stated.
 use Rattle.std.specs.Prelude.{◌≡◌, ◌≤◌, ◌+◌, ℕ, List}
 use Rattle.arrayvec.specs.ArrayVec.{ArrayVec, array_vec_len}
 use Rattle.lapd_link_definition.specs.declared.out.Out.{Out}
@@ -7,8 +7,8 @@ use Rattle.lapd_link_machine.specs.declared.machine.Machine.{Machine}
 use Rattle.lapd_link_machine.specs.declared.machine.TheConstants.{MOST_OUTPUTS}
 use Rattle.lapd_link_machine.specs.Tail.{IsTail}
 
--- A machine, with the outputs of the step so far, stands for an end in mid-step, read by tags. How many establishments
--- the end has had is not kept, nor what was given before the queue.
+-- A machine, with the outputs of the step so far, represents an end within a step, on tags. It does
+-- not store how many establishments the end has had, or the messages before its queue.
 pub record StandsFor (m : Machine) (outs : List Out) (s : StepState) : Type 0 where
   pub parameters : s.end.parameters ≡ m.params
   pub state : s.end.state ≡ m.state
@@ -22,20 +22,21 @@ pub record StandsFor (m : Machine) (outs : List Out) (s : StepState) : Type 0 wh
   pub room : s.end.parameters.room ≡ m.queue.room
   pub put : s.outs ≡ outs
 
--- a method does to the machine and its outputs what the action does to the end, whatever end that is
+-- a method has the same effect on the machine and its outputs as the action on any end that the
+-- machine represents
 abbrev pub Does : Machine → ArrayVec Out → Machine → ArrayVec Out → (StepState → StepState) → Type 0
 Does old old_outs new new_outs action = (s : StepState) → StandsFor old old_outs.items s
     → StandsFor new new_outs.items (action s)
 
--- the same of an action that gives no output
+-- the same for an action without outputs
 abbrev pub DoesQuietly : Machine → Machine → (StepState → StepState) → Type 0
 DoesQuietly old new action = (s : StepState) (outs : List Out) → StandsFor old outs s
     → StandsFor new outs (action s)
 
--- so many outputs more have room
+-- there is room for this many more outputs
 abbrev pub HasRoom : ℕ → ArrayVec Out → Type 0
 HasRoom n outs = array_vec_len outs + n ≤ MOST_OUTPUTS
 
--- so many outputs more at most
+-- at most this many outputs are added
 abbrev pub Grows : ℕ → ArrayVec Out → ArrayVec Out → Type 0
 Grows n old new = array_vec_len new ≤ array_vec_len old + n

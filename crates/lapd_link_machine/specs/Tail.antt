@@ -1,8 +1,8 @@
--- The I queue as the tail of all messages that layer 3 ever gave.
+-- The I queue as the tail of all messages of layer 3.
 use Rattle.std.specs.Prelude.{◌≡◌, ◌≤◌, ◌+◌, ℕ, List, length, drop}
 use Rattle.lapd_queue.specs.Waiting.{Waiting}
 
--- the queue holds what was given from place `first` on, of which what stands before place `next` is sent
+-- the queue holds the accepted messages from place `first` on; those before place `next` are sent
 pub record IsTail (given : List (List ℕ)) (first next : ℕ) (queue : Waiting) : Type 0 where
   pub messages : drop first given ≡ queue.messages
   pub within : first ≤ length given

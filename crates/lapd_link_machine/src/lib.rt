@@ -1,9 +1,9 @@
-//! The machine of a data link, after ITU-T Q.921 (09/97), Annex B: what an end keeps, and what each row of the state table
-//! does to it.
+//! The machine of a data link, after ITU-T Q.921 (09/97), Annex B: the variables of an end, and the
+//! effect of each row of the state table on them.
 //!
-//! [`Machine`] is what a link keeps. [`Machine::step`] makes the step of an event that [`Machine::refuses`] does not refuse;
-//! a message joins the queue by [`Machine::queue_up`], and [`Machine::end_step`] ends its step. `lapd_link` puts the link's
-//! address to it, and is what programs use.
+//! [`Machine`] holds the variables of a link. [`Machine::step`] makes the step of an event that
+//! [`Machine::refuses`] does not refuse. A message joins the queue by [`Machine::queue_up`], and
+//! [`Machine::end_step`] ends its step. Programs use `lapd_link`, which adds the link's address.
 #![tactic(auto)]
 
 mod machine;

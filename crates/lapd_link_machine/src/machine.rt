@@ -1,4 +1,4 @@
-//! What a link keeps, and what each action and row of the state table does to it.
+//! The variables of a link, and the effect of each action and row of the state table on them.
 
 ghost use Rattle.std.specs.Prelude.{◌≡◌, ◌<◌, ◌+◌, [], ◌∷◌, ◌++◌};
 ghost use Rattle.arrayvec.specs.ArrayVec.{array_vec_len};
@@ -21,10 +21,10 @@ mod step;
 mod tei_assigned;
 mod timer_recovery;
 
-/// How many outputs a step gives at most: seven, and 127 messages with the start and stop of a timer.
+/// The most outputs of a step: seven, and 127 messages with the start and stop of a timer.
 pub const MOST_OUTPUTS: usize = 136;
 
-/// What one step gives, in order.
+/// The outputs of one step, in order.
 pub type Outs = ArrayVec<Out, MOST_OUTPUTS>;
 
 /// The variables of an end (Q.921 Annex B).
@@ -32,13 +32,14 @@ pub type Outs = ArrayVec<Out, MOST_OUTPUTS>;
 pub struct Machine {
     pub params: Params,
     pub state: State,
-    /// RC: in states 5 and 6, how often the SABME or DISC was sent again; in state 8, how often T200 has expired.
+    /// RC: in states 5 and 6, the retransmissions of the SABME or DISC; in state 8, how often T200
+    /// has expired.
     pub rc: u8,
     /// V(S), V(A), V(R) and the conditions.
     pub window: Window,
     /// Layer 3 initiated the establishment.
     pub layer3_initiated: bool,
-    /// A release waits for the answer to the SABME.
+    /// A release is pending until the response to the SABME.
     pub release_pending: bool,
     pub t200: bool,
     pub t203: bool,
@@ -46,13 +47,13 @@ pub struct Machine {
     pub queue: IQueue,
 }
 
-/// One more output.
+/// Adds an output.
 fn push(outs: &mut Outs, out: Out)
     requires { array_vec_len outs.old < MOST_OUTPUTS }
     ensures items { outs.new.items ≡ outs.old.items ++ out ∷ [] }
     ensures len { array_vec_len outs.new ≡ array_vec_len outs.old + 1 }
 {
-    // The check finds the type of the fields in an output by this name.
+    // The checker finds the type of the fields in an output by this name.
     let _none: Option<Control> = None;
     outs.push(out);
 }

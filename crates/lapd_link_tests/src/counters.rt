@@ -3,8 +3,8 @@
 use crate::text::{Text, number_of, split};
 use lapd_mod128::Seq;
 
-/// What comes next and before, how many steps lead from a counter to another, whether a counter lies from one to another, and
-/// whether from V(A) to V(S) the window is open.
+/// The next and previous counter, the number of steps from one counter to another, whether a
+/// counter lies between two others, and whether the window from V(A) to V(S) is open.
 pub(crate) const ROWS: &str = "\
 counter next 0 | 1
 counter next 126 | 127
@@ -29,17 +29,17 @@ counter open 7 7 1 | yes
 counter open 7 8 1 | no
 ";
 
-/// The counter that a word writes.
+/// The counter with the value of a word.
 fn at(word: &str) -> Seq {
     Seq::new((number_of(word) & 0xff) as u8).unwrap_or_default()
 }
 
-/// Whether a window of so many places is open.
+/// Whether a window of this size is open.
 fn is_open(va: Seq, vs: Seq, places: u16) -> bool {
     1 <= places && places <= 127 && Seq::window_open(va, vs, places as u8)
 }
 
-/// Puts what a deed with counters comes to.
+/// Appends the result of an operation on counters.
 pub(crate) fn put(text: &mut Text, deed: &str, words: &str) {
     let (first, rest) = split(words, " ");
     let (second, third) = split(rest, " ");
@@ -53,7 +53,7 @@ pub(crate) fn put(text: &mut Text, deed: &str, words: &str) {
     }
 }
 
-/// Puts whether it is so.
+/// Appends `yes` or `no`.
 fn put_yes(text: &mut Text, is_so: bool) {
     text.put(if is_so { " yes" } else { " no" });
 }

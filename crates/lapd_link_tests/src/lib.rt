@@ -1,10 +1,10 @@
-//! Tests of the crates below, as tables: octets, rows of the state table, counters and queues, and what they call for; and
-//! links that drawn events lead on, beside the state table as text. Those of the commands and of two ends stand in
-//! `lapd_pair_tests`.
+//! Tests of the crates below, as tables: octets, rows of the state table, counters and queues, each
+//! with the expected result; and links that random events drive, compared with the state table as
+//! text. `lapd_pair_tests` has the tests of the commands and of two ends.
 //!
-//! They stand apart so that each crate is proved once. What a contract says is not tested again. A row shows that the
-//! definitions say what is meant, that a call can succeed, and what a value prints. `none_is_wrong` fails a test with the row's
-//! name.
+//! They are a crate of their own so that each crate below is proved only once. No test repeats a
+//! contract. A row shows that the definitions say what is meant, that a call can succeed, and how a
+//! value prints. `none_is_wrong` fails a test with the name of the row.
 #![tactic(auto)]
 
 #[cfg(test)]

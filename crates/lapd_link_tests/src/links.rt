@@ -1,4 +1,4 @@
-//! A link of packet communication that is led on by its own calls, and what links are made with.
+//! A link of packet communication that is driven by its own calls, and the parameters of links.
 
 use crate::rows::condition_of;
 use crate::text::{Text, number_of, split};
@@ -6,8 +6,8 @@ use lapd_frame::{Control, Number, Role, Sapi, Side, Tei, write};
 use lapd_link::{Event, Link, LinkFault, Out, Outs, Params, Recovery};
 use std::alloc::Global;
 
-/// What is done with the link of SAPI 16 and TEI 126; what it puts on the line, with `-` for each output that puts nothing
-/// there, or why it refuses; and its condition.
+/// Operations on the link of SAPI 16 and TEI 126; the frames that it sends, with `-` for each
+/// output that sends none, or why it refuses; and its condition.
 pub(crate) const ROWS: &str = "\
 # A new link is as it was made.
 link network 1 | network 16 126 1 4
@@ -34,7 +34,8 @@ link give 0802 | 42fd02000802 7 V(S)=2 T200 sent 0801 0802
 link outputs | 40fd010b 42fd0a0a0802 42fd0309 - - - - 7 V(S)=2 T200 sent 0801 0802
 ";
 
-/// k, N200 and room, from which parameters are made where each is in its range, and those of basic access and primary rate.
+/// k, N200 and room, from which parameters are made if each is in its range, and the defaults of
+/// basic and primary rate access.
 pub(crate) const PARAMETERS: &str = "\
 made of 1 1 1 | k=1 N200=1 room=1
 made of 127 100 1024 | k=127 N200=100 room=1024
@@ -55,7 +56,7 @@ made primary | k=7 N200=3 room=512
 made of 7 3 512 last | k=7 N200=3 room=512 last
 ";
 
-/// Puts the parameters of this kind, or those made of these numbers.
+/// Appends the parameters of this kind, or those made of these numbers.
 pub(crate) fn put_parameters(text: &mut Text, kind: &str, words: &str) {
     let made = match kind {
         "call" => Some(Params::basic(Sapi::Call)),
@@ -75,7 +76,7 @@ pub(crate) fn put_parameters(text: &mut Text, kind: &str, words: &str) {
     }
 }
 
-/// The parameters of `k n200 room`, where `last` stands behind with the recovery of the last message.
+/// The parameters of `k n200 room`; a `last` after them selects the recovery of the last message.
 pub(crate) fn parameters_of(words: &str) -> Option<Params> {
     let (k, rest) = split(words, " ");
     let (n200, rest) = split(rest, " ");
@@ -100,7 +101,7 @@ pub(crate) fn new_link(alloc: Global, side: Side, room: u16) -> Option<Link> {
     }
 }
 
-/// Does a deed with a link.
+/// Executes an operation on a link.
 pub(crate) fn put(text: &mut Text, alloc: Global, link: &mut Link, deed: &str, word: &str) {
     match deed {
         "network" => renew(text, alloc, link, Side::Network, number_of(word)),
@@ -115,7 +116,7 @@ pub(crate) fn put(text: &mut Text, alloc: Global, link: &mut Link, deed: &str, w
     text.put_octets(condition_of(link).octets());
 }
 
-/// Makes a new link of this side and room, and puts what it shows of them.
+/// Makes a new link of this side and room, and appends these as it shows them.
 fn renew(text: &mut Text, alloc: Global, link: &mut Link, side: Side, room: u16) {
     if let Some(made) = new_link(alloc, side, room) {
         *link = made;
@@ -126,19 +127,19 @@ fn renew(text: &mut Text, alloc: Global, link: &mut Link, side: Side, room: u16)
     text.shown(" ", &link.room());
 }
 
-/// Layer 3 asks for establishment.
+/// Layer 3 requests establishment.
 fn establish(text: &mut Text, link: &mut Link) {
     let answer = link.handle(Event::Establish);
     put_answer(text, link, answer);
 }
 
-/// Layer 3 asks for release.
+/// Layer 3 requests release.
 fn release(text: &mut Text, link: &mut Link) {
     let answer = link.handle(Event::Release);
     put_answer(text, link, answer);
 }
 
-/// Octets of the other side come.
+/// Receives octets of the other side.
 fn hear(text: &mut Text, alloc: Global, link: &mut Link, digits: &str) {
     match hex::decode(alloc, digits) {
         Ok(octets) => hear_octets(text, link, octets.as_slice()),
@@ -146,7 +147,7 @@ fn hear(text: &mut Text, alloc: Global, link: &mut Link, digits: &str) {
     }
 }
 
-/// A frame of the user comes, where it is for the link.
+/// Receives a frame of the user, if it is for the link.
 fn hear_octets(text: &mut Text, link: &mut Link, octets: &[u8]) {
     match lapd_frame::read(octets, Side::User) {
         Ok(frame) if link.side() == Side::Network && link.is_for(&frame.address()) => {
@@ -157,7 +158,7 @@ fn hear_octets(text: &mut Text, link: &mut Link, octets: &[u8]) {
     }
 }
 
-/// Layer 3 gives a message; what is handed back is put.
+/// Layer 3 submits a message; if it is returned, it is appended to the text.
 fn give(text: &mut Text, alloc: Global, link: &mut Link, digits: &str) {
     match hex::decode(alloc, digits) {
         Ok(message) => match link.give(message) {
@@ -172,7 +173,7 @@ fn give(text: &mut Text, alloc: Global, link: &mut Link, digits: &str) {
     }
 }
 
-/// Puts what outputs put on the line, or why there are none.
+/// Appends the frames of outputs, or why there are no outputs.
 fn put_answer(text: &mut Text, link: &Link, answer: Result<Outs, LinkFault>) {
     match answer {
         Ok(outs) => put_outs(text, link, &outs),
@@ -180,14 +181,14 @@ fn put_answer(text: &mut Text, link: &Link, answer: Result<Outs, LinkFault>) {
     }
 }
 
-/// Puts what outputs put on the line.
+/// Appends the frames of outputs.
 fn put_outs(text: &mut Text, link: &Link, outs: &Outs) {
     for out in outs.as_slice() {
         put_out(text, link, *out, &[]);
     }
 }
 
-/// Puts what an output puts on the line, where these octets were handed in, or `-` for nothing.
+/// Appends the frame of an output, with the octets `handed` for unit data, or `-` if it sends none.
 fn put_out(text: &mut Text, link: &Link, out: Out, handed: &[u8]) {
     let mut octets = [0; 264];
     text.put(" ");
@@ -200,7 +201,7 @@ fn put_out(text: &mut Text, link: &Link, out: Out, handed: &[u8]) {
     }
 }
 
-/// An I frame with this number in both places and P=0.
+/// An I frame with this number as N(S) and as N(R), and with P=0.
 fn i_frame(number: Number) -> Control {
     Control::I {
         ns: number,
@@ -209,7 +210,7 @@ fn i_frame(number: Number) -> Control {
     }
 }
 
-/// Puts what seven outputs put on the line.
+/// Appends the frames of seven outputs.
 fn put_frames(text: &mut Text, link: &Link) {
     let Some(nr) = Number::new(5) else {
         return;

@@ -1,4 +1,4 @@
-//! Tests of what octets are: address and control fields, frames, and their lines of text.
+//! Tests of octets: address and control fields, frames, and their lines of text.
 
 pub(crate) mod fields;
 pub(crate) mod frames;

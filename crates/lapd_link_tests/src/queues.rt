@@ -5,7 +5,7 @@ use crate::text::{Text, number_of};
 use lapd_queue::IQueue;
 use std::alloc::Global;
 
-/// What is done with a queue; what it answers; and its messages, those sent first.
+/// Operations on a queue; their results; and its messages, the sent ones first.
 pub(crate) const ROWS: &str = "\
 # Two messages fill a queue with room for two, and go out of it: the third of two is handed back.
 queue room 2 | 2
@@ -47,7 +47,7 @@ queue room 3 | 3
 queue pass | 1000
 ";
 
-/// Does a deed with a queue.
+/// Executes an operation on a queue.
 pub(crate) fn put(text: &mut Text, alloc: Global, queue: &mut IQueue, deed: &str, word: &str) {
     match deed {
         "room" => renew(text, alloc, queue, number_of(word)),
@@ -63,7 +63,7 @@ pub(crate) fn put(text: &mut Text, alloc: Global, queue: &mut IQueue, deed: &str
     text.mark(" otherwise", !agrees(queue));
 }
 
-/// Makes a new queue with this room, and puts its room.
+/// Makes a new queue with this room, and appends its room.
 fn renew(text: &mut Text, alloc: Global, queue: &mut IQueue, room: u16) {
     if 1 <= room && room <= 1024 {
         if let Ok(made) = IQueue::new(alloc, room) {
@@ -73,7 +73,7 @@ fn renew(text: &mut Text, alloc: Global, queue: &mut IQueue, room: u16) {
     text.shown(" ", &queue.room());
 }
 
-/// Puts a message at the end, and what is handed back.
+/// Queues a message, and appends the message that is returned, if any.
 fn put_message(text: &mut Text, alloc: Global, queue: &mut IQueue, digits: &str) {
     match hex::decode(alloc, digits) {
         Ok(message) => match queue.put(message) {
@@ -87,7 +87,7 @@ fn put_message(text: &mut Text, alloc: Global, queue: &mut IQueue, digits: &str)
     }
 }
 
-/// Marks the first unsent message as sent, where there is one.
+/// Marks the first unsent message as sent, if there is one.
 fn sends(queue: &mut IQueue) -> bool {
     if queue.unsent() == 0 {
         return false;
@@ -96,7 +96,7 @@ fn sends(queue: &mut IQueue) -> bool {
     true
 }
 
-/// Removes the first `n` messages, where as many are sent.
+/// Removes the first `n` messages, if as many are sent.
 fn acknowledges(queue: &mut IQueue, n: u16) -> bool {
     if n > queue.sent() {
         return false;
@@ -105,7 +105,7 @@ fn acknowledges(queue: &mut IQueue, n: u16) -> bool {
     true
 }
 
-/// Whether a queue shows the same in each of its ways.
+/// Whether the functions of a queue agree with each other.
 fn agrees(queue: &IQueue) -> bool {
     for place in 0..queue.len() {
         if queue.get(place) != Some(queue.at(place)) {
@@ -117,7 +117,8 @@ fn agrees(queue: &IQueue) -> bool {
         && queue.is_empty() == (queue.len() == 0)
 }
 
-/// Messages without octets are taken until one is handed back, and are dropped: how many were taken and dropped is put.
+/// Queues empty messages until one is returned, and drops all: appends how many were queued and
+/// dropped.
 fn fill(text: &mut Text, alloc: Global, queue: &mut IQueue) {
     let mut taken = 0u16;
     for _ in 0..2000u16 {
@@ -130,7 +131,7 @@ fn fill(text: &mut Text, alloc: Global, queue: &mut IQueue) {
     text.shown(" ", &queue.discard());
 }
 
-/// Messages are put, sent and acknowledged one by one: how many of a thousand went through is put.
+/// Queues, sends and acknowledges a thousand messages one by one: appends how many succeeded.
 fn pass(text: &mut Text, alloc: Global, queue: &mut IQueue) {
     let mut passed = 0u16;
     for number in 0..1000u16 {
@@ -141,7 +142,7 @@ fn pass(text: &mut Text, alloc: Global, queue: &mut IQueue) {
     text.shown(" ", &passed);
 }
 
-/// Whether a message goes through the queue, at its first place.
+/// Whether a message can be queued, sent and acknowledged, at the first place.
 fn passes(alloc: Global, queue: &mut IQueue, octets: &[u8]) -> bool {
     match octets.to_vec(alloc) {
         Ok(message) => {

@@ -1,4 +1,5 @@
-//! What is told of faults, timers and sides: their names, and what a frame reject says (Q.921 3.6.11, Figure 6).
+//! The names of faults, timers and sides, and the information of a frame reject (Q.921 3.6.11,
+//! Figure 6).
 
 use crate::text::Text;
 use lapd_frame::{FaultKind, FieldFault, FrameFault, FrmrInfo, Number, Side};
@@ -6,8 +7,8 @@ use lapd_link::LinkFault;
 use lapd_timers::Timer;
 use std::fmt::Display;
 
-/// How faults of frames and of fields, refusals of a link, timers and sides print, and the other sides of these. (What `name` gives
-/// stands in the lines of frames and of links.)
+/// How faults of frames and fields, refusals of a link, timers and sides print, and the other side
+/// of each side. The lines of frames and links test `name`.
 pub(crate) const NAMES: &str = "\
 names faults | F1 TooShort, F2 BadAddress, F3 SapiNotServed, F4 Undefined, F5 InfoNotPermitted, F6 WrongSize, F7 InfoTooLong,
 names fields | F1 TooShort, F2 BadAddress, F3 SapiNotServed, F4 Undefined,
@@ -44,13 +45,13 @@ const REFUSALS: &[LinkFault] = &[
 
 const TIMERS: &[Timer] = &[Timer::T200, Timer::T201, Timer::T202, Timer::T203];
 
-/// This fault of a frame that is for no link.
+/// A fault of a frame for no link.
 fn of_frame(kind: FaultKind) -> FrameFault {
     let address = None;
     FrameFault { kind, address }
 }
 
-/// Puts how the values of a kind print.
+/// Appends how the values of a kind print.
 pub(crate) fn put_names(text: &mut Text, kind: &str) {
     match kind {
         "faults" => put_all(text, FAULTS),
@@ -76,7 +77,7 @@ pub(crate) fn put_names(text: &mut Text, kind: &str) {
     }
 }
 
-/// Puts how each of these values prints.
+/// Appends how each of these values prints.
 fn put_all<T: Display>(text: &mut Text, values: &[T]) {
     for value in values {
         text.shown(" ", value);
@@ -84,7 +85,7 @@ fn put_all<T: Display>(text: &mut Text, values: &[T]) {
     }
 }
 
-/// What is wrong of frame rejects, as octets and what they say, with the numbers 0, 1, 2 and 127.
+/// The first wrong frame reject: octets and their fields, with the numbers 0, 1, 2 and 127.
 fn wrong_reject(zero: Number, one: Number, two: Number, last: Number) -> Option<&'static str> {
     let sabme = FrmrInfo {
         rejected: [0x7f, 0x00],
@@ -125,7 +126,7 @@ fn wrong_reject(zero: Number, one: Number, two: Number, last: Number) -> Option<
     }
 }
 
-/// What is wrong of frame rejects.
+/// The first wrong frame reject.
 pub(crate) fn wrong() -> Option<&'static str> {
     match (
         Number::new(0),

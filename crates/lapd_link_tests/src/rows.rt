@@ -1,7 +1,8 @@
-//! Rows of the state table (Q.921 Annex B), as text: an event, what it calls for, and how it leaves the link.
+//! Rows of the state table (Q.921 Annex B), as text: an event, its outputs, and the condition of
+//! the link afterwards.
 //!
-//! The events are lines of the command `answer`, and what they call for are the lines that it prints. The wanted texts
-//! were written by hand, after the table.
+//! Events are lines of the command `answer`, and outputs are the lines that it prints. The expected
+//! texts were written by hand, after the table.
 
 mod awaiting;
 mod drawn;
@@ -25,7 +26,7 @@ use lapd_link::{IQueue, Link, Params, Timer, Window};
 use std::alloc::Global;
 use std::test::Fail;
 
-/// A link that lines lead on, and what it printed for the last one.
+/// A link that lines drive, and the lines that it printed for the last one.
 #[derive(Drop)]
 struct Driven {
     alloc: Global,
@@ -34,8 +35,8 @@ struct Driven {
 }
 
 impl Driven {
-    /// A new link of `side k n200 room`, where `last` stands behind with the recovery of the last message; `None` where a number is
-    /// out of range or no memory is left.
+    /// A new link of `side k n200 room`; a `last` after them selects the recovery of the last
+    /// message. `None` if a number is out of range or an allocation fails.
     fn new(alloc: Global, words: &str) -> Option<Driven> {
         let (side, numbers) = split(words, " ");
         let side = if side == "user" {
@@ -66,18 +67,18 @@ impl Driven {
         self.link.link()
     }
 
-    /// Does a line, and tells whether it is one.
+    /// Executes a line, and returns whether it is valid.
     fn does(&mut self, line: &[u8]) -> bool {
         self.printed.clear();
         self.link.run(line, &mut self.printed).is_ok()
     }
 
-    /// Whether this was printed for the last line.
+    /// Whether the last line printed this.
     fn has_printed(&self, text: &Text) -> bool {
         self.printed.as_slice() == text.octets()
     }
 
-    /// Does the lines of a script, `; ` between them, whatever they call for.
+    /// Executes the lines of a script, separated by `; `, and ignores their outputs.
     fn lead(&mut self, script: &str) -> bool {
         let mut rest = script;
         let mut done = true;
@@ -89,23 +90,24 @@ impl Driven {
         done
     }
 
-    /// Whether a line calls for these outputs.
+    /// Whether a line has these outputs.
     fn gives(&mut self, line: &str, outs: &str) -> bool {
         self.does(line.as_bytes()) && is_told(self.printed.as_slice(), outs)
     }
 
-    /// Whether it is in this condition.
+    /// Whether the link is in this condition.
     fn is_in(&self, condition: &str) -> bool {
         condition_of(self.link()).is(condition)
     }
 
-    /// Whether an event calls for these outputs, and leaves the link in this condition, where a script led to one.
+    /// Whether an event has these outputs and leads to this condition, after a script that led to
+    /// its own.
     fn keeps_to(&mut self, [script, before, event, outs, after]: [&str; 5]) -> bool {
         self.lead(script) && self.is_in(before) && self.gives(event, outs) && self.is_in(after)
     }
 }
 
-/// Whether printed lines are these outputs, `; ` between them, or `-` for none.
+/// Whether printed lines are these outputs, separated by `; `, or `-` for none.
 fn is_told(printed: &[u8], outs: &str) -> bool {
     let mut text = Text::new();
     match printed {
@@ -123,7 +125,8 @@ fn is_told(printed: &[u8], outs: &str) -> bool {
     text.is(outs)
 }
 
-/// The state and all that is not 0, not false and not empty, as in `7 V(S)=1 T200 sent 01 unsent 02`.
+/// The state and all values that are not 0, false or empty, as in `7 V(S)=1 T200 sent 01 unsent
+/// 02`.
 pub(crate) fn condition_of(link: &Link) -> Text {
     let mut text = Text::new();
     text.shown("", &link.state());
@@ -137,7 +140,7 @@ pub(crate) fn condition_of(link: &Link) -> Text {
     text
 }
 
-/// V(S), V(A) and V(R) and the marks.
+/// V(S), V(A) and V(R) and the conditions.
 pub(crate) fn put_window(text: &mut Text, window: &Window) {
     text.named(" V(S)=", u16::from(window.vs().value()));
     text.named(" V(A)=", u16::from(window.va().value()));
@@ -148,7 +151,7 @@ pub(crate) fn put_window(text: &mut Text, window: &Window) {
     text.mark(" ack-pending", window.ack_pending());
 }
 
-/// The messages, those sent first.
+/// The messages, the sent ones first.
 pub(crate) fn put_queue(text: &mut Text, queue: &IQueue) {
     let sent = queue.sent();
     for place in 0..queue.len() {
@@ -159,10 +162,11 @@ pub(crate) fn put_queue(text: &mut Text, queue: &IQueue) {
     }
 }
 
-/// A place, and rows that hold there: a line `at script | condition` leads to a place, and the lines up to the next one are rows
-/// of it.
+/// A place and its rows: a line `at script | condition` leads to a place, and the lines up to the
+/// next such line are its rows.
 ///
-/// A row of the state table is `name | event | outputs | condition`, with `-` for no outputs and `=` for the condition before.
+/// A row of the state table is `name | event | outputs | condition`, with `-` for no outputs and
+/// `=` for the condition before.
 #[derive(Drop)]
 struct Place {
     alloc: Global,
@@ -189,7 +193,8 @@ fn keeps(alloc: Global, place: &str, row: &str) -> bool {
     }
 }
 
-/// The script of a place and its condition, and the event of a row, its outputs and the condition behind it.
+/// The script and the condition of a place, and the event, the outputs and the condition afterwards
+/// of a row.
 fn parts_of<'a>(place: &'a str, row: &'a str) -> [&'a str; 5] {
     let (script, before) = split(place, " | ");
     let (_, rest) = split(row, " | ");
@@ -199,7 +204,8 @@ fn parts_of<'a>(place: &'a str, row: &'a str) -> [&'a str; 5] {
     [script, before, event, outs, after]
 }
 
-/// Whether a row holds over a new network link, with a window of two frames, N200 of 2 and room for three messages.
+/// Whether a row holds over a new network link, with a window of two frames, N200 of 2 and room for
+/// three messages.
 fn holds(alloc: Global, parts: [&str; 5]) -> bool {
     match Driven::new(alloc, "network 2 2 3") {
         Some(mut link) => link.keeps_to(parts),
@@ -207,7 +213,7 @@ fn holds(alloc: Global, parts: [&str; 5]) -> bool {
     }
 }
 
-/// The first row that is wrong of a table, from its first place on.
+/// The first wrong row of a table.
 fn wrong_in(alloc: Global, table: &'static str) -> Option<&'static str> {
     wrong_row(&mut Place { alloc, place: "" }, table)
 }

@@ -1,4 +1,4 @@
-//! Rows of text, and text that is put together piece by piece.
+//! Rows of text, and text that is composed piece by piece.
 
 use arrayvec::ArrayVec;
 use lapd_frame::Control;
@@ -6,19 +6,19 @@ use std::alloc::Global;
 use std::fmt::Display;
 use std::io::Write;
 
-/// Text. What has no room is left out, so that the text is not the one that is wanted.
+/// Text. If there is no room for a piece, it is left out, so the text is not the expected one.
 #[derive(Drop)]
 pub(crate) struct Text {
     octets: ArrayVec<u8, 4096>,
 }
 
-/// What rows of text are about.
+/// The subject of rows of text.
 pub(crate) trait Subject {
-    /// Does what a row says, and tells whether it comes to what the row wants.
+    /// Executes a row, and returns whether the result is the expected one.
     fn keeps(&mut self, row: &'static str) -> bool;
 }
 
-/// The first row that is wrong. Empty lines and those that begin with `#` are no rows.
+/// The first wrong row. Empty lines and lines that begin with `#` are not rows.
 pub(crate) fn wrong_row<S: Subject>(subject: &mut S, rows: &'static str) -> Option<&'static str> {
     for row in rows.lines() {
         if !row.is_empty() && !row.starts_with("#") && !subject.keeps(row) {
@@ -28,17 +28,18 @@ pub(crate) fn wrong_row<S: Subject>(subject: &mut S, rows: &'static str) -> Opti
     None
 }
 
-/// The front of a text, and what stands behind this mark.
+/// The text before and after this mark.
 pub(crate) fn split<'a>(text: &'a str, mark: &str) -> (&'a str, &'a str) {
     text.split_once(mark).unwrap_or((text, ""))
 }
 
-/// The number that a word writes, or 0 where it writes none.
+/// The number in a word, or 0 if it has none.
 pub(crate) fn number_of(word: &str) -> u16 {
     word.parse::<u16>().ok().unwrap_or(0)
 }
 
-/// A row with its octets written out: `aa` so many times in place of a mark, as `+260*aa`. `None` where no memory is left.
+/// A row with its octets written out: `aa`, `count` times, in place of a mark such as `+260*aa`.
+/// `None` if an allocation fails.
 pub(crate) fn with_octets(alloc: Global, row: &str, mark: &str, count: usize) -> Option<String> {
     match "aa".repeat(alloc, count) {
         Ok(octets) => row.replace(alloc, mark, octets.as_str()).ok(),
@@ -56,7 +57,7 @@ fn digit_of(number: u8) -> u8 {
 }
 
 impl Text {
-    /// No text.
+    /// An empty text.
     pub(crate) fn new() -> Text {
         Text {
             octets: ArrayVec::new(),
@@ -68,58 +69,58 @@ impl Text {
         self.octets.as_slice()
     }
 
-    /// Whether it is this.
+    /// Whether it is this text.
     pub(crate) fn is(&self, wanted: &str) -> bool {
         self.octets() == wanted.as_bytes()
     }
 
-    /// Forgets all.
+    /// Removes all text.
     pub(crate) fn clear(&mut self) {
         self.octets.clear();
     }
 
-    /// Puts octets behind the others.
+    /// Appends octets.
     pub(crate) fn put_octets(&mut self, octets: &[u8]) {
         let _ = self.octets.try_extend_from_slice(octets);
     }
 
-    /// Puts text behind.
+    /// Appends text.
     pub(crate) fn put(&mut self, text: &str) {
         self.put_octets(text.as_bytes());
     }
 
-    /// Puts an octet behind, in hexadecimal.
+    /// Appends an octet, in hexadecimal.
     pub(crate) fn octet(&mut self, octet: u8) {
         self.put_octets(&[digit_of(octet / 16), digit_of(octet % 16)]);
     }
 
-    /// Puts octets behind, in hexadecimal.
+    /// Appends octets, in hexadecimal.
     pub(crate) fn hex(&mut self, octets: &[u8]) {
         for octet in octets {
             self.octet(*octet);
         }
     }
 
-    /// Puts a control field behind a space, as octets.
+    /// Appends a space and a control field, as octets.
     pub(crate) fn control(&mut self, control: &Control) {
         self.put(" ");
         self.hex(control.write().as_slice());
     }
 
-    /// Puts a value behind a word, as it prints.
+    /// Appends a word and a value, as it prints.
     pub(crate) fn shown<T: Display>(&mut self, word: &str, value: &T) {
         self.put(word);
         let _ = write!(self.octets, "{value}");
     }
 
-    /// Puts a name and a number behind, where the number is not 0.
+    /// Appends a name and a number, if the number is not 0.
     pub(crate) fn named(&mut self, name: &str, number: u16) {
         if number > 0 {
             self.shown(name, &number);
         }
     }
 
-    /// Puts a word behind where it is so.
+    /// Appends a word, if the mark is set.
     pub(crate) fn mark(&mut self, word: &str, is_so: bool) {
         if is_so {
             self.put(word);

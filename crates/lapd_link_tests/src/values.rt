@@ -1,4 +1,5 @@
-//! The test of all that is no row of the state table: what octets and counters are, and what windows, queues and links do.
+//! The test of everything except rows of the state table: octets and counters, and the operations
+//! of windows, queues and links.
 
 use crate::octets::{fields, frames, traces};
 use crate::text::{Subject, Text, split, wrong_row};
@@ -11,7 +12,7 @@ use lapd_supervision::Window;
 use std::alloc::Global;
 use std::test::Fail;
 
-/// A window, a queue and a link, with which deeds are done.
+/// A window, a queue and a link, on which operations are executed.
 #[derive(Drop)]
 struct Bench {
     alloc: Global,
@@ -21,7 +22,7 @@ struct Bench {
 }
 
 impl Bench {
-    /// New ones; `None` where no memory is left.
+    /// New ones; `None` if an allocation fails.
     fn new(alloc: Global) -> Option<Bench> {
         match (IQueue::new(alloc, 1), links::new_link(alloc, Side::User, 1)) {
             (Ok(queue), Some(link)) => Some(Bench {
@@ -34,7 +35,7 @@ impl Bench {
         }
     }
 
-    /// Does a deed, and puts what it comes to.
+    /// Executes an operation, and appends its result.
     fn put(&mut self, text: &mut Text, subject: &str, words: &str) {
         let (deed, rest) = split(words, " ");
         match subject {
@@ -49,7 +50,7 @@ impl Bench {
 }
 
 impl Subject for Bench {
-    /// A row is the name of a subject, a deed with it, ` |`, and what the deed comes to.
+    /// A row is the name of a subject, an operation on it, ` |`, and the result.
     fn keeps(&mut self, row: &'static str) -> bool {
         let (words, wanted) = split(row, " |");
         let (subject, deed) = split(words, " ");
@@ -59,7 +60,7 @@ impl Subject for Bench {
     }
 }
 
-/// The first row of deeds that is wrong.
+/// The first wrong row of operations.
 fn wrong_deed(alloc: Global) -> Option<&'static str> {
     match Bench::new(alloc) {
         Some(mut bench) => wrong_of(&mut bench),
@@ -67,7 +68,7 @@ fn wrong_deed(alloc: Global) -> Option<&'static str> {
     }
 }
 
-/// The first row of deeds with these that is wrong.
+/// The first wrong row of operations on these subjects.
 fn wrong_of(bench: &mut Bench) -> Option<&'static str> {
     first_of(&[
         wrong_row(bench, counters::ROWS),

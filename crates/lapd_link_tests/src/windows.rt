@@ -5,8 +5,8 @@ use crate::text::{Text, number_of, split};
 use lapd_frame::Number;
 use lapd_supervision::Window;
 
-/// What is done with a window; the control field that this calls for, as octets; and all of the window that is not 0 and not
-/// false. `try` is `take` that leaves the window as it is.
+/// Operations on a window; the control field to send, as octets; and all values of the window that
+/// are not 0 or false. `try` is `take` without a change of the window.
 pub(crate) const ROWS: &str = "\
 # It begins at 0 with no condition.
 window new |
@@ -59,7 +59,7 @@ window clear | V(S)=126 V(A)=126 V(R)=2
 window zero |
 ";
 
-/// Does a deed with a window.
+/// Executes an operation on a window.
 pub(crate) fn put(text: &mut Text, window: &mut Window, deed: &str, words: &str) {
     let (word, poll) = split(words, " ");
     let after = match Number::new((number_of(word) & 0xff) as u8) {
@@ -72,7 +72,7 @@ pub(crate) fn put(text: &mut Text, window: &mut Window, deed: &str, words: &str)
     }
 }
 
-/// The window after a deed with this number and P.
+/// The window after an operation with this number and P.
 fn after_deed(text: &mut Text, window: Window, deed: &str, number: Number, p: bool) -> Window {
     match deed {
         "hear" => heard(text, window, number, p),
@@ -84,7 +84,7 @@ fn after_deed(text: &mut Text, window: Window, deed: &str, number: Number, p: bo
     }
 }
 
-/// An I frame with this N(S) and P comes.
+/// Receives an I frame with this N(S) and P.
 fn heard(text: &mut Text, window: Window, ns: Number, p: bool) -> Window {
     let (after, receipt) = window.take_ns(ns, p);
     text.put(if receipt.accepted {
@@ -98,7 +98,7 @@ fn heard(text: &mut Text, window: Window, ns: Number, p: bool) -> Window {
     after
 }
 
-/// This N(R) comes.
+/// Receives this N(R).
 fn taken(text: &mut Text, window: Window, nr: Number) -> Window {
     match window.take_nr(nr) {
         Some((after, advance)) => {
@@ -113,7 +113,7 @@ fn taken(text: &mut Text, window: Window, nr: Number) -> Window {
     }
 }
 
-/// So many I frames go out, of which the last is put.
+/// Sends this many I frames, and appends the last.
 fn sent(text: &mut Text, window: Window, count: u8) -> Window {
     let mut window = window;
     for _ in 1..count {
@@ -124,14 +124,14 @@ fn sent(text: &mut Text, window: Window, count: u8) -> Window {
     after
 }
 
-/// Whether one more may go out of a window of this size.
+/// Whether one more I frame may be sent in a window of this size.
 fn asked(text: &mut Text, window: Window, k: u8) -> Window {
     let may = 1 <= k && k <= 127 && window.may_send(k);
     text.put(if may { " yes" } else { " no" });
     window
 }
 
-/// A deed that calls for a control field, or for none.
+/// An operation that may return a control field.
 fn told(text: &mut Text, window: Window, deed: &str) -> Window {
     let (after, control) = match deed {
         "acknowledge" => window.acknowledge(),
@@ -145,7 +145,7 @@ fn told(text: &mut Text, window: Window, deed: &str) -> Window {
     after
 }
 
-/// A deed that calls for nothing.
+/// An operation without a result.
 fn changed(window: Window, deed: &str) -> Window {
     match deed {
         "new" => Window::new(),

@@ -3,7 +3,7 @@ use Rattle.std.proofs.Common.{◌≡◌, ℕ, zero, suc, ◌+◌, ◌-◌, ◌%�
 use Rattle.std.proofs.lemmas.Bool.Decides.{nat_tests}
 use Rattle.lapd_mod128.specs.Counting.{Reading, Whole, Tagged, IsNumber, after, number_after, AreSteps, LiesFrom, InFewerSteps, reaches, steps, lies_within}
 
--- what the tests of the two readings tell, as orders
+-- the tests of the two readings, as orders
 pub reaches_tells : (a b : ℕ) → reaches Whole a b ≡ true → a ≤ b
 unfolding reaches
 reaches_tells a b h = grind (arith, nat_tests)
@@ -52,7 +52,7 @@ unfolding number_after after
 number_after_whole zero a = omega arith
 number_after_whole (suc n) a = omega (arith, number_after_whole n a)
 
--- counting tags is adding, and leaving out each 128
+-- counting tags is adding modulo 128
 pub number_after_tagged : (n a : ℕ) → a < 128 → number_after Tagged n a ≡ (a + n) % 128
 unfolding number_after after
 number_after_tagged zero a h = omega arith
@@ -76,7 +76,7 @@ steps_are_counted Tagged a b ha hb h = record {
   fewest = λ m less same. omega (arith, number_after_tagged m a ha, same, less);
 }
 
--- there is one number of steps at most
+-- the number of steps is unique
 pub steps_are_unique : (r : Reading) (n m a b : ℕ) → AreSteps r n a b → AreSteps r m a b → n ≡ m
 steps_are_unique r n m a b hn hm = grind (arith, hn.fewest m, hm.fewest n, hn.lead, hm.lead)
 
@@ -98,7 +98,7 @@ unfolding steps
 steps_add_up Whole a x b h = omega (arith, whole_within_tells a x b h)
 steps_add_up Tagged a x b h = omega (arith, tagged_within_tells a x b h)
 
--- a number between is reached in no more steps
+-- the steps to a number between two others are no more than the steps to the last
 pub steps_to_between : (r : Reading) (a x b : ℕ) → lies_within r a x b ≡ true → steps r a x ≤ steps r a b
 steps_to_between r a x b h = omega (arith, steps_add_up r a x b h)
 
@@ -108,7 +108,7 @@ unfolding reaches
 reaches_between Whole a x b h = reaches_between_whole a x b h
 reaches_between Tagged a x b h = (refl, refl, refl)
 
--- one step on, one step more leads there
+-- if the last number moves one step on, there is one step more
 pub one_more_step : (r : Reading) (a b : ℕ) → reaches r a b ≡ true → steps r a b < 127 → steps r a (after r b) ≡ steps r a b + 1
 unfolding steps after
 one_more_step Whole a b h room = omega (arith, reaches_tells a b h)
@@ -119,7 +119,7 @@ pub one_more_whole_step : (a b : ℕ) → a ≤ b → steps Whole a (after Whole
 unfolding steps after
 one_more_whole_step a b h = omega arith
 
--- from one step on, one step less is left
+-- if the first number moves one step on, there is one step less
 pub one_step_less : (r : Reading) (a b : ℕ) → 0 < steps r a b → steps r (after r a) b + 1 ≡ steps r a b
 unfolding steps after
 one_step_less Whole a b more = omega arith
@@ -131,7 +131,7 @@ unfolding steps after
 steps_stay Whole a b = omega arith
 steps_stay Tagged a b = omega arith
 
--- the first of two numbers lies within them
+-- the first of two numbers lies between them
 pub first_lies_within : (r : Reading) (a b : ℕ) → reaches r a b ≡ true → lies_within r a a b ≡ true
 first_lies_within Whole a b h = whole_within_holds a a b (omega arith) (reaches_tells a b h)
 first_lies_within Tagged a b h = tagged_within_holds a a b (omega (arith, no_steps Tagged a))
@@ -141,21 +141,22 @@ pub last_lies_within : (r : Reading) (a b : ℕ) → reaches r a b ≡ true → 
 last_lies_within Whole a b h = whole_within_holds a b b (reaches_tells a b h) (omega arith)
 last_lies_within Tagged a b h = tagged_within_holds a b b (omega arith)
 
--- what lies within two numbers lies within them also where the last goes one step on
+-- a number within two numbers is also within them if the last is one step further
 pub within_one_more : (r : Reading) (a x b : ℕ) → lies_within r a x b ≡ true → steps r a b < 127 → lies_within r a x (after r b) ≡ true
 unfolding reaches
 within_one_more Whole a x b h room = within_one_more_whole a x b h
 within_one_more Tagged a x b h room = tagged_within_holds a x (after Tagged b)
     (omega (arith, tagged_within_tells a x b h, one_more_step Tagged a b refl room))
 
--- of two numbers between, the later one lies within what the earlier one leaves: V(A) moves up to N(R), no further
+-- if two numbers lie within V(A) and V(S), the later lies within the earlier and V(S): V(A) never
+-- moves past N(R)
 pub within_the_rest : (r : Reading) (a x y b : ℕ) → lies_within r a y b ≡ true → lies_within r a x y ≡ true → lies_within r x y b ≡ true
 unfolding steps
 within_the_rest Whole a x y b hy hx = whole_within_holds x y b (whole_within_tells a x y hx).1 (whole_within_tells a y b hy).1
 within_the_rest Tagged a x y b hy hx = tagged_within_holds x y b
     (omega (arith, tagged_within_tells a y b hy, tagged_within_tells a x y hx))
 
--- what lies within a part lies within the whole
+-- a number within a part lies within the whole
 pub within_the_whole : (r : Reading) (a x y b : ℕ) → lies_within r a x b ≡ true → lies_within r x y b ≡ true → lies_within r a y b ≡ true
 unfolding steps
 within_the_whole Whole a x y b hx hy = within_the_whole_whole a x y b hx hy
@@ -167,7 +168,7 @@ pub only_itself_within : (r : Reading) (a x : ℕ) → IsNumber r a → IsNumber
 only_itself_within r a x ha hx h =
     no_steps_is_same r a x ha hx (reaches_between r a x a h).0 (omega (arith, steps_add_up r a x a h, no_steps r a))
 
--- the comparison is the order by counting
+-- the comparison agrees with the order by counting
 pub within_is_counted : (r : Reading) (a x b : ℕ) → IsNumber r a → IsNumber r x → IsNumber r b → lies_within r a x b ≡ true → LiesFrom r a x b
 within_is_counted r a x b ha hx hb h = (
   steps r a x,
@@ -190,7 +191,7 @@ counted_is_within Tagged a x b ha hx hb (n, m, to_x, to_b, order) = tagged_withi
       steps_are_unique Tagged m (steps Tagged a b) a b to_b (steps_are_counted Tagged a b ha hb refl),
     ))
 
--- there are fewer than `k` steps where fewer than `k` steps lead
+-- the subtraction is below `k` exactly if fewer than `k` steps lead there
 pub fewer_steps_are_counted : (r : Reading) (k a b : ℕ) → IsNumber r a → IsNumber r b → reaches r a b ≡ true → steps r a b < k → InFewerSteps r k a b
 fewer_steps_are_counted r k a b ha hb h fewer = (steps r a b, fewer, (steps_are_counted r a b ha hb h).lead)
 
@@ -198,7 +199,7 @@ pub counted_are_fewer_steps : (r : Reading) (k a b : ℕ) → IsNumber r a → I
 counted_are_fewer_steps r k a b ha hb h (n, fewer, lead) =
     grind (arith, fewer, lead, (steps_are_counted r a b ha hb h).fewest n)
 
--- the two directions of each as one law
+-- both directions of the equivalence, as one law
 pub lying_is_counting : (r : Reading) (a x b : ℕ) → IsNumber r a → IsNumber r x → IsNumber r b → (lies_within r a x b ≡ true) ↔ LiesFrom r a x b
 lying_is_counting r a x b ha hx hb = (within_is_counted r a x b ha hx hb, counted_is_within r a x b ha hx hb)
 

@@ -3,9 +3,9 @@ ghost use Rattle.lapd_mod128.specs.Counting.{Tagged, after, before, number_after
 
 use std::marker::Model;
 
-/// A state variable or sequence number, from 0 to 127; after 127 comes 0 (Q.921 3.5.2.1).
+/// A state variable or sequence number, from 0 to 127; 0 follows 127 (Q.921 3.5.2.1).
 ///
-/// The default is 0, which all three state variables are set to when multiple frame operation begins
+/// The default is 0, the value of all three state variables when multiple frame operation begins
 /// (Q.921 5.5.1.2).
 #[derive(Clone, Copy, Debug, Default, PartialEq, Eq)]
 pub struct Seq {
@@ -26,7 +26,7 @@ impl Model for Seq {
 
 #[tactic(auto, using(crate::proofs::Steps::steps_are_counted), unfolding(crate::specs::Counting::after, crate::specs::Counting::before, crate::specs::Counting::steps, crate::specs::Counting::reaches, crate::specs::Counting::lies_within))]
 impl Seq {
-    /// The counter of this value, or `None` where it is above 127.
+    /// The counter with this value; `None` above 127.
     pub fn new(value: u8) -> Option<Seq>
         ensures in_range { is_some result ≡ nat_lt value 128 }
         ensures same { IfSome result (λ s. s ≡ value) }
@@ -46,7 +46,7 @@ impl Seq {
         self.value
     }
 
-    /// One step on.
+    /// The counter one step on.
     pub fn next(self) -> Seq
         ensures one_on { result ≡ after Tagged self }
         ensures in_range { result < 128 }
@@ -56,7 +56,7 @@ impl Seq {
         }
     }
 
-    /// One step back: the counter whose next one is this.
+    /// The counter one step back.
     pub fn back(self) -> Seq
         ensures one_back { result ≡ before Tagged self }
         ensures undone { after Tagged result ≡ self }
@@ -67,7 +67,7 @@ impl Seq {
         }
     }
 
-    /// How many steps of one lead from `a` to `b`, from 0 to 127.
+    /// The number of steps of one from `a` to `b`, from 0 to 127.
     pub fn distance(a: Seq, b: Seq) -> u8
         ensures counted { AreSteps Tagged result a b }
         ensures subtracted { result ≡ steps Tagged a b }
@@ -76,7 +76,8 @@ impl Seq {
         (b.value + 128 - a.value) % 128
     }
 
-    /// Whether `a` reaches `x` in no more steps than `b`, as a valid N(R) lies from V(A) to V(S) (Q.921 3.5.2.3).
+    /// Whether `x` is reached from `a` in no more steps than `b`, as a valid N(R) lies from V(A) to
+    /// V(S) (Q.921 3.5.2.3).
     pub fn within(a: Seq, x: Seq, b: Seq) -> bool
         ensures counted { IsTrue result ↔ LiesFrom Tagged a x b }
         ensures compared { result ≡ lies_within Tagged a x b }

@@ -1,14 +1,14 @@
--- A slice that is filled piece by piece, each behind the one before.
+-- A slice that is filled piece by piece, one after the other.
 use Rattle.std.proofs.Common.{◌≡◌, ℕ, ◌+◌, ◌-◌, ◌≤◌, List, ◌++◌, arith, length, take, slice_range, sym, ap, ◌∙◌, le_refl, drop_at, length-take-le}
 use Rattle.std.proofs.lemmas.Slice.{take-put_mid_below}
 use borrow.Rule.Slice.PartMut.{put_mid, post_of}
 use lib.Seq.{take-add, take-append-le}
 
--- the first octets stay
+-- the octets before the piece are unchanged
 pub take-filled : (filled room : ℕ) (octets piece : List ℕ) → filled ≤ length octets → take filled (put_mid filled room octets piece) ≡ take filled octets
 take-filled filled room octets piece within = take-put_mid_below _ _ _ _ _ (le_refl _) within
 
--- behind them come the first of the piece
+-- they are followed by the front of the piece
 pub take-filled_more : (filled room count : ℕ) (octets piece : List ℕ) → filled ≤ length octets → count ≤ length piece
     → take filled octets ++ take count piece ≡ take (filled + count) (put_mid filled room octets piece)
 take-filled_more filled room count octets piece within fits =

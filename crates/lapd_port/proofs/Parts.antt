@@ -1,4 +1,4 @@
--- Less than the text of a frame, taken from a source where a read fails.
+-- A read fails after it consumed less than the text of a frame.
 use Rattle.std.proofs.Common.{◌≡◌, ◌⊎◌, inl, inr, ℕ, ◌<◌, ◌≤◌, nat_le, nat_lt, true, List, [], ◌∷◌, ◌++◌, length, take, length-take-le, Option, Result, Ok, Err, IsErrAnd, refl, ap, subst, ◌∙◌, arith}
 use Rattle.std.proofs.lemmas.Bool.{le-leb}
 use Rattle.std.proofs.lemmas.Nat.{div-add-mod'}
@@ -9,7 +9,7 @@ use Rattle.lapd_port.specs.declared.port_fault.PortFault.TheVariants.{End, BadLe
 use Rattle.lapd_port.specs.SocketText.{IsFrameLength, frame_of_length, length_octets, next_frame}
 use Rattle.lapd_port.specs.Port.{ReadsNext, TakesPart}
 
--- less than a length
+-- fewer octets than a length has
 shows_cut_length : (octets : List ℕ) → length octets < 2 → (next_frame octets ≡ Err End) ⊎ (next_frame octets ≡ Err Cut)
 shows_cut_length [] few = inl refl
 shows_cut_length (octet ∷ []) few = inr refl
@@ -21,7 +21,7 @@ part_of_length old new octets two part =
     let few : length (take part.0 octets) < 2 = omega (arith, length-take-le part.0 octets) in
     (take part.0 octets, part.2, shows_cut_length (take part.0 octets) few)
 
--- fewer octets than a good length says
+-- fewer octets than a valid length says
 shows_cut_frame : (n : ℕ) (octets : List ℕ) → IsFrameLength n → length octets < n → next_frame (length_octets n ++ octets) ≡ Err Cut
 shows_cut_frame n octets fits few =
     let least : nat_le 3 n ≡ true = le-leb _ _ fits.0 in
@@ -39,7 +39,7 @@ part_of_frame old mid new before octets two n fits says length_taken is_two most
     let F : List ℕ → Type 0 = λ x. Consumes old mid x in
     (length_octets n ++ take part.0 octets, Consumes-trans old mid new _ _ (subst F first length_taken) part.2, inr (shows_cut_frame n (take part.0 octets) fits few))
 
--- the fault of a device, or of too many turns, is passed on
+-- a fault of the source, or S5, is passed on
 pub passes_part : (old new : Option (List ℕ)) (result : Result ℕ PortFault) (fault : PortFault) (buffer : List ℕ) → IsErrAnd result (λ e. e ≡ fault) → (fault ≡ Device) ⊎ (fault ≡ TooManyTurns) → TakesPart old new → ReadsNext old new result buffer
 passes_part old new (Ok count) fault buffer is which part = absurd is
 passes_part old new (Err End) fault buffer is (inl d) part = let e : End ≡ Device = is ∙ d in absurd cc

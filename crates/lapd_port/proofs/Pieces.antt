@@ -1,14 +1,14 @@
--- A text that is written piece by piece, each behind the one before.
+-- A text that is written piece by piece, one after the other.
 use Rattle.std.proofs.Common.{◌≡◌, ◌<◌, ◌-◌, ℕ, List, ◌++◌, length, take, drop, sym, ap, ◌∙◌, append_assoc, take-append-drop, Option}
 use Rattle.std.proofs.lemmas.List.{take_rest}
 use Rattle.std.specs.Io.KnownBytes.{Appends, Keeps}
 use Rattle.std.proofs.KnownBytes.{Appends-trans, Appends-kept}
 
--- of the text a front is written, and this rest is not, which is some octets
+-- a front of the text is written, and this rest, which is not empty, is not written
 abbrev pub IsLeft : List ℕ → List ℕ → Option (List ℕ) → Option (List ℕ) → Type 0
 IsLeft text rest old new = ((front : List ℕ) × (text ≡ front ++ rest) × Appends old new front) × (0 < length rest)
 
--- a piece more is written
+-- one more piece is written
 pub left_after : (text rest : List ℕ) (count : ℕ) (old mid new : Option (List ℕ)) → IsLeft text rest old mid → Appends mid new (take count rest) → 0 < length (take (length rest - count) (drop count rest))
     → IsLeft text (take (length rest - count) (drop count rest)) old new
 left_after text rest count old mid new left piece some =

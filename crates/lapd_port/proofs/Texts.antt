@@ -1,4 +1,4 @@
--- The text of a frame, and what an input shows that begins with it.
+-- The text of a frame, and the next frame of an input that begins with it.
 use Rattle.std.proofs.Common.{◌≡◌, ℕ, ◌≤◌, nat_le, nat_lt, true, false, List, [], ◌∷◌, ◌++◌, append-nil, append_assoc, length, take, take_all, Option, Some, None, Result, Ok, Err, OnOk, sym, ap, subst, ◌∙◌, arith, length-append}
 use Rattle.std.specs.Prelude.{⊤}
 use Rattle.std.proofs.lemmas.Bool.{le-leb, le-ltb}
@@ -12,7 +12,7 @@ use Rattle.lapd_port.specs.declared.port_fault.PortFault.TheVariants.{End, BadLe
 use Rattle.lapd_port.specs.SocketText.{IsFrameLength, frame_of_length, frame_text, length_octets, next_frame, socket_text}
 use Rattle.lapd_port.specs.Port.{ReadsNext, ReadsFirst, Shows, WritesText}
 
--- behind its length stands the frame
+-- the frame follows its length
 frame_of_length-frame : (frame more : List ℕ) → IsFrameLength (length frame) → frame_of_length (length frame) (frame ++ more) ≡ Ok frame
 frame_of_length-frame frame more fits =
     let least : nat_le 3 (length frame) ≡ true = le-leb _ _ fits.0 in
@@ -20,12 +20,12 @@ frame_of_length-frame frame more fits =
     let there : nat_lt (length (frame ++ more)) (length frame) ≡ false = le-ltb _ _ (omega (arith, length-append frame more)) in
     rw (least, most, there) (ap Ok (take-append_seam frame more))
 
--- an input that begins with the text of a frame shows this frame
+-- the next frame of an input that begins with the text of a frame is this frame
 pub next_frame-text : (frame more : List ℕ) → IsFrameLength (length frame) → next_frame (frame_text frame ++ more) ≡ Ok frame
 next_frame-text frame more fits =
     ap (λ n. frame_of_length n (frame ++ more)) (div-add-mod' (length frame) 256) ∙ frame_of_length-frame frame more fits
 
--- a known input that loses the text of a frame showed this frame
+-- if a known input loses the text of a frame, this frame was next
 shows_frame : (old new : Option (List ℕ)) (frame : List ℕ) → IsFrameLength (length frame) → Consumes old new (frame_text frame) → Shows old (Ok frame)
 shows_frame None new frame fits taken = tt
 shows_frame (Some octets) None frame fits taken = absurd taken
@@ -49,13 +49,13 @@ frame_read old mid new before octets after two got n fits says length_taken is_t
 
 -- ---- Lists of frames.
 
--- the text of frames with one more behind them
+-- appending a frame to a list appends its text
 pub socket_text-append : (frames : List (List ℕ)) (frame : List ℕ) → socket_text (frames ++ frame ∷ []) ≡ socket_text frames ++ frame_text frame
 socket_text-append [] frame = append-nil (frame_text frame)
 socket_text-append (first ∷ frames) frame =
     ap (λ text. frame_text first ++ text) (socket_text-append frames frame) ∙ sym (append_assoc (frame_text first) (socket_text frames) (frame_text frame))
 
--- a frame is written behind others
+-- a frame is appended to others
 pub writes_list : (old new : Option (List ℕ)) (result : Result ⊤ PortFault) (frames : List (List ℕ)) (frame : List ℕ) → old ≡ Some (socket_text frames) → WritesText old new result (frame_text frame)
     → OnOk result (new ≡ Some (socket_text (frames ++ frame ∷ [])))
 writes_list old new (Err fault) frames frame is written = tt
@@ -67,14 +67,14 @@ writes_list old new (Ok done) frames frame is written =
     appended None grew = absurd grew
     appended (Some octets) grew = ap Some (grew ∙ sym (socket_text-append frames frame))
 
--- a source that shows a frame shows no other, and no fault
+-- if a frame is next in a source, no other frame and no fault is next
 shows_same : (old : Option (List ℕ)) (octets : List ℕ) (one other : Result (List ℕ) PortFault) → old ≡ Some octets → next_frame octets ≡ one → Shows old other → one ≡ other
 shows_same old octets one other is shown shows =
     let F : Option (List ℕ) → Type 0 = λ known. Shows known other in
     let h : next_frame octets ≡ other = subst F is shows in
     sym shown ∙ h
 
--- the text of a frame is taken, and that of the others is left
+-- the text of the first frame is consumed, and the text of the others is left
 left_of_first : (frame : List ℕ) (frames : List (List ℕ)) (old new : Option (List ℕ)) → old ≡ Some (socket_text (frame ∷ frames)) → Consumes old new (frame_text frame) → new ≡ Some (socket_text frames)
 left_of_first frame frames old new is taken =
     let F : Option (List ℕ) → Type 0 = λ known. Consumes known new (frame_text frame) in
@@ -84,7 +84,7 @@ left_of_first frame frames old new is taken =
     same_left None lost = absurd lost
     same_left (Some octets) lost = ap Some (sym (append_cancel_left (frame_text frame) (socket_text frames) octets lost))
 
--- a source that shows the text of frames gives the first of them
+-- a source with the text of frames returns the first of them
 pub reads_first : (old new : Option (List ℕ)) (result : Result ℕ PortFault) (buffer frame : List ℕ) (frames : List (List ℕ)) → IsFrameLength (length frame) → old ≡ Some (socket_text (frame ∷ frames))
     → ReadsNext old new result buffer → ReadsFirst frame frames new result buffer
 reads_first old new (Ok count) buffer frame frames fits is reads =

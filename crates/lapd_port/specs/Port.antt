@@ -1,4 +1,4 @@
--- What a call of a port answers, and what it does to its devices.
+-- The result of a call of a port, and its effect on the source and sink.
 use Rattle.std.specs.Prelude.{◌≡◌, ℕ, ◌≤◌, ◌<◌, ◌⊎◌, Bool, true, false, List, [], ◌++◌, length, take, Option, Some, Result, Ok, Err, IfSome, ⊤}
 use Rattle.std.specs.Io.KnownBytes.{Appends, Consumes, IsAtEnd}
 use Rattle.lapd_port.specs.declared.port_fault.PortFault.{PortFault}
@@ -7,17 +7,18 @@ use Rattle.lapd_port.specs.declared.device_error.DeviceError.TheVariants.{Failed
 use Rattle.lapd_port.specs.Device.{Turns, failures_after}
 use Rattle.lapd_port.specs.SocketText.{frame_text, length_octets, next_frame, socket_text}
 
--- a source whose octets are known shows this next
+-- the next frame or fault of a source with known octets
 abbrev pub Shows : Option (List ℕ) → Result (List ℕ) PortFault → Type 0
 Shows rest answer = IfSome rest (λ octets. next_frame octets ≡ answer)
 
--- octets are taken from a source that are less than the text of a frame
+-- the octets that are consumed from a source are less than the text of a frame
 abbrev pub TakesPart : Option (List ℕ) → Option (List ℕ) → Type 0
 TakesPart old new = (part : List ℕ) × Consumes old new part
     × ((next_frame part ≡ Err End) ⊎ (next_frame part ≡ Err Cut))
 
--- a read that answers none of S4 to S6 answers what the source shows next; a frame's text is taken from the source, and
--- no octet more; at S1 nothing is taken, at S2 a length, at S3 all, and at S4 and S5 less than a frame's text
+-- A read that does not return S4 to S6 returns the next frame or fault of the source. It consumes
+-- exactly the text of the frame; nothing at S1, a length at S2, all octets at S3, and less than a
+-- frame's text at S4 and S5.
 abbrev pub ReadsNext : Option (List ℕ) → Option (List ℕ) → Result ℕ PortFault → List ℕ → Type 0
 ReadsNext old new (Ok count) buffer = Shows old (Ok (take count buffer))
     × Consumes old new (frame_text (take count buffer))
@@ -29,14 +30,14 @@ ReadsNext old new (Err Device) buffer = TakesPart old new
 ReadsNext old new (Err TooManyTurns) buffer = TakesPart old new
 ReadsNext old new (Err Failed) buffer = ⊤
 
--- a write appends the whole text, or, at a fault, a front of it and not the whole
+-- a write appends the whole text, or, on a fault, a front of the text that is not the whole
 abbrev pub WritesText : Option (List ℕ) → Option (List ℕ) → Result ⊤ PortFault → List ℕ → Type 0
 WritesText old new (Ok done) text = Appends old new text
 WritesText old new (Err fault) text = (front : List ℕ) × (missing : List ℕ)
     × (text ≡ front ++ missing) × (0 < length missing) × Appends old new front
 
--- S4 stands where a call of the device failed, and only there: its count of failures rose then, or stood at its greatest
--- value
+-- S4 is returned exactly if a call of the source or sink failed: its count of failures rose, or was
+-- at its greatest value
 abbrev pub CountsAsDevice : {T : Type 0} → Result T PortFault → ℕ → ℕ → Type 0
 CountsAsDevice (Ok answer) old new = new ≡ old
 CountsAsDevice (Err End) old new = new ≡ old
@@ -46,13 +47,14 @@ CountsAsDevice (Err Device) old new = new ≡ failures_after DeviceFailed old
 CountsAsDevice (Err TooManyTurns) old new = new ≡ old
 CountsAsDevice (Err Failed) old new = new ≡ old
 
--- a call of a port makes at most 4,096 turns, and answers S5 only where it made them all
+-- a call of a port makes at most 4,096 calls of its source or sink, and returns S5 only if it made
+-- all of them
 abbrev pub MakesTurns : {D T : Type 0} → (D → D → Type 0) → Result T PortFault → D → D → Type 0
 MakesTurns turn result old new =
     (count : ℕ) × Turns turn count old new × (count ≤ 4096)
     × (result ≡ Err TooManyTurns → count ≡ 4096)
 
--- the answer makes a port fail: S2 to S5, and S6 of one that failed before
+-- the port has failed after this result: S2 to S5, and S6 if it had failed before
 abbrev pub is_failure : {T : Type 0} → Result T PortFault → Bool
 is_failure (Ok answer) = false
 is_failure (Err End) = false
@@ -62,7 +64,7 @@ is_failure (Err Device) = true
 is_failure (Err TooManyTurns) = true
 is_failure (Err Failed) = true
 
--- S4 to S6, which say nothing of the input
+-- S4 to S6, which say nothing about the input
 abbrev pub IsApartFromInput : PortFault → Type 0
 IsApartFromInput End = ⊥
 IsApartFromInput BadLength = ⊥
@@ -71,10 +73,10 @@ IsApartFromInput Device = ⊤
 IsApartFromInput TooManyTurns = ⊤
 IsApartFromInput Failed = ⊤
 
--- ---- Of lists of frames.
+-- ---- Lists of frames.
 
--- of a source that shows a frame and then others, that frame is read and the text of the others is left, or S4 to S6 is
--- answered
+-- If a frame and then others are next in a source, a read returns that frame and leaves the text of
+-- the others, or it returns S4 to S6.
 abbrev pub ReadsFirst : List ℕ → List (List ℕ) → Option (List ℕ) → Result ℕ PortFault → List ℕ
     → Type 0
 ReadsFirst frame frames left (Ok count) buffer = (take count buffer ≡ frame)

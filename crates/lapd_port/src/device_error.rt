@@ -5,19 +5,21 @@ ghost use Rattle.lapd_port.specs.Device.{device_error_of, failures_after};
 use std::io::{self, ErrorKind};
 use thiserror::Error;
 
-/// Why a call of a device gave or took nothing.
+/// Why a call of a source or sink failed.
 #[derive(Clone, Copy, Debug, PartialEq, Eq, Error)]
 pub enum DeviceError {
-    /// The call was interrupted before it did anything. It may be made again, and is no failure.
+    /// The call was interrupted before it did anything. It may be repeated, and does not count as a
+    /// failure.
     #[error("interrupted")]
     Interrupted,
-    /// The device failed.
+    /// The source or sink failed.
     #[error("device failed")]
     Failed,
 }
 
 impl DeviceError {
-    /// What an error of std is to a port: interrupted, where its kind is `Interrupted`, and otherwise a failure.
+    /// Converts an error of std: the kind `Interrupted` is an interruption, any other kind a
+    /// failure.
     pub fn of(error: &io::Error) -> DeviceError
         ensures { result ≡ device_error_of (error_kind error.now) }
     {
@@ -27,8 +29,8 @@ impl DeviceError {
         }
     }
 
-    /// How often a device has failed after this error, where it had failed so often before: once more at a failure, but
-    /// not past the greatest number.
+    /// The count of failures after this error, if it was `failures` before: a failure adds one, up
+    /// to the greatest number.
     pub fn counted(self, failures: u64) -> u64
         ensures { result ≡ failures_after self failures }
     {

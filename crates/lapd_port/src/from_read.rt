@@ -4,7 +4,8 @@ use crate::device_error::DeviceError;
 use crate::source::Source;
 use std::io::Read;
 
-/// A reader of std as a source. A read that was interrupted is told so; each other error is a failure.
+/// A reader of std as a source. An interrupted read is reported as such; any other error is a
+/// failure.
 #[derive(Debug, Drop)]
 pub struct FromRead<R> {
     reader: R,
@@ -12,7 +13,7 @@ pub struct FromRead<R> {
 }
 
 impl<R: Read> FromRead<R> {
-    /// The reader as a source that has not failed yet.
+    /// Makes a source from a reader. It has not failed yet.
     pub fn new(reader: R) -> FromRead<R>
         ensures { result ≡ record { reader = reader; failures = 0 } }
     {

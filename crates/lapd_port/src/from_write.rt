@@ -4,7 +4,8 @@ use crate::device_error::DeviceError;
 use crate::sink::Sink;
 use std::io::Write;
 
-/// A writer of std as a sink. A write that was interrupted is told so; each other error is a failure.
+/// A writer of std as a sink. An interrupted write is reported as such; any other error is a
+/// failure.
 #[derive(Debug, Drop)]
 pub struct FromWrite<W> {
     writer: W,
@@ -12,7 +13,7 @@ pub struct FromWrite<W> {
 }
 
 impl<W: Write> FromWrite<W> {
-    /// The writer as a sink that has not failed yet.
+    /// Makes a sink from a writer. It has not failed yet.
     pub fn new(writer: W) -> FromWrite<W>
         ensures { result ≡ record { writer = writer; failures = 0 } }
     {

@@ -1,11 +1,12 @@
-//! Frames of the ISDN D channel over a stream of octets, such as a socket: each frame's length in two octets, high
-//! first, then its octets.
+//! Frames of the ISDN D channel over a stream of octets, such as a socket: each frame's length in
+//! two octets, high octet first, followed by the frame's octets.
 //!
-//! Begin with [`Port`], which reads frames from a [`Source`] and writes them to a [`Sink`]. Both are devices that give or
-//! take some octets a call, and may fail. [`FromRead`] and [`FromWrite`] make them of any reader and writer of std. What a
-//! port answers in place of a frame is a [`PortFault`], S1 to S6. No call takes memory.
+//! Begin with [`Port`], which reads frames from a [`Source`] and writes them to a [`Sink`]. A
+//! source or sink (a device) reads or writes some octets a call, and may fail. [`FromRead`] and
+//! [`FromWrite`] make them from any reader and writer of std. If a port can't read or write a
+//! frame, it returns a [`PortFault`], S1 to S6. No call allocates.
 //!
-//! Nothing here knows what a frame says: it is 3 to 264 octets.
+//! The content of a frame is not checked here: a frame is any 3 to 264 octets.
 #![tactic(auto)]
 
 mod device_error;

@@ -1,14 +1,14 @@
-/// The fewest octets of a frame.
+/// The least length of a frame, in octets.
 pub const LEAST_OCTETS: usize = 3;
 
-/// The most octets of a frame.
+/// The greatest length of a frame, in octets.
 pub const MOST_OCTETS: usize = 264;
 
-/// How many octets the length before a frame has.
+/// The size of the length before a frame, in octets.
 pub(crate) const LENGTH_OCTETS: usize = 2;
 
-/// How many octets the text of a frame has at most.
+/// The greatest size of a frame with its length, in octets.
 pub(crate) const TEXT_OCTETS: usize = LENGTH_OCTETS + MOST_OCTETS;
 
-/// How many turns, which are calls of a device, one call of a port makes at most.
+/// The most calls of a source or sink (turns) that one call of a port makes.
 pub const MOST_TURNS: u16 = 4096;

@@ -9,10 +9,11 @@ use crate::sink::Sink;
 use crate::source::Source;
 use crate::writing::write_next;
 
-/// Frames over a source and a sink.
+/// Reads frames from a source and writes frames to a sink.
 ///
-/// A call of a port calls its device in turns, at most 4,096 of them. It asks the source for no more octets than it
-/// wants, so those behind a frame stay unread, and it hands a frame to the sink with its length in one piece.
+/// One call of a port makes at most 4,096 calls of its source or sink. It never requests octets
+/// from the source after the frame, so they stay unread. It passes a frame to the sink together
+/// with its length, in one piece.
 #[derive(Debug, Drop)]
 pub struct Port<R, W> {
     source: R,
@@ -21,7 +22,7 @@ pub struct Port<R, W> {
 }
 
 impl<R: Source, W: Sink> Port<R, W> {
-    /// A port that has not failed.
+    /// Makes a port that has not failed.
     pub fn new(source: R, sink: W) -> Port<R, W>
         ensures { result ≡ record { source = source; sink = sink; failed = false } }
     {
@@ -32,25 +33,26 @@ impl<R: Source, W: Sink> Port<R, W> {
         }
     }
 
-    /// The device that frames are read from.
+    /// The source that frames are read from.
     pub fn source(&self) -> &R
         ensures { result.now ≡ self.now.source }
     {
         &self.source
     }
 
-    /// The device that frames are written to.
+    /// The sink that frames are written to.
     pub fn sink(&self) -> &W
         ensures { result.now ≡ self.now.sink }
     {
         &self.sink
     }
 
-    /// Reads the next frame into the front of these octets, and tells how many octets it has, 3 to 264.
+    /// Reads the next frame into the front of these octets, and returns its length in octets, 3 to
+    /// 264.
     ///
     /// # Errors
     ///
-    /// S1 to S6. After S1 the port goes on; after each other it has failed.
+    /// S1 to S6. After S1 the port can be used again; after any other fault it has failed.
     pub fn read_frame(&mut self, frame: &mut [u8; MOST_OCTETS]) -> Result<usize, PortFault>
         ensures length { IfOk result IsFrameLength }
         ensures next { ReadsNext (R.rest self.old.source)
@@ -75,11 +77,12 @@ impl<R: Source, W: Sink> Port<R, W> {
         read
     }
 
-    /// Writes a frame. That it has 3 to 264 octets is the caller's condition.
+    /// Writes a frame. The caller must pass 3 to 264 octets.
     ///
     /// # Errors
     ///
-    /// S4 to S6. The port has failed then. A front of the frame's length and octets was written, and not all of them.
+    /// S4 to S6. The port has failed then. A front of the frame's length and octets was written,
+    /// but not all of them.
     pub fn write_frame(&mut self, frame: &[u8]) -> Result<(), PortFault>
         requires { IsFrameLength (length frame.now) }
         ensures text { WritesText (W.written self.old.sink) (W.written self.new.sink) result
@@ -106,7 +109,7 @@ impl<R: Source, W: Sink> Port<R, W> {
     }
 }
 
-// Whether a port has failed after it answered this.
+// Whether a port has failed after this result.
 fn is_failure(answer: &Result<usize, PortFault>) -> bool
     ensures { result ≡ makes_fail answer.now }
 {

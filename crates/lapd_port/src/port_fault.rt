@@ -1,26 +1,26 @@
 use thiserror::Error;
 
-/// What a port answers in place of a frame.
+/// Why a port did not read or write a frame.
 ///
-/// After S2 to S5 each later call answers S6, and calls no device.
+/// After S2 to S5 each later call returns S6, and does not call the source or sink.
 #[derive(Clone, Copy, Debug, PartialEq, Eq, Error)]
 pub enum PortFault {
-    /// The input ends where a frame would begin.
+    /// The input ends before the next frame.
     #[error("S1 End")]
     End,
     /// A length is not from 3 to 264.
     #[error("S2 BadLength")]
     BadLength,
-    /// The input ends inside a length or a frame.
+    /// The input ends within a length or a frame.
     #[error("S3 Cut")]
     Cut,
-    /// The device failed in this call.
+    /// The source or sink failed in this call.
     #[error("S4 Device")]
     Device,
-    /// 4,096 turns were made, and the frame is not whole.
+    /// 4,096 calls were made, and the frame is not complete.
     #[error("S5 TooManyTurns")]
     TooManyTurns,
-    /// S2 to S5 was answered before.
+    /// S2 to S5 was returned before.
     #[error("S6 Failed")]
     Failed,
 }

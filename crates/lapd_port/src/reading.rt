@@ -11,7 +11,7 @@ use crate::limits::{LEAST_OCTETS, LENGTH_OCTETS, MOST_OCTETS, MOST_TURNS};
 use crate::port_fault::PortFault;
 use crate::source::Source;
 
-// Reads the next frame of a source.
+// Reads the next frame from a source.
 pub(crate) fn read_next<R: Source>(
     source: &mut R,
     frame: &mut [u8; MOST_OCTETS],
@@ -41,7 +41,7 @@ pub(crate) fn read_next<R: Source>(
     Ok(count)
 }
 
-// The length that two octets say, high first.
+// The length in two octets, high octet first.
 fn length_of(octets: [u8; LENGTH_OCTETS]) -> usize
     ensures { octets ≡ length_octets result }
 {
@@ -49,14 +49,14 @@ fn length_of(octets: [u8; LENGTH_OCTETS]) -> usize
     usize::from(u16::from_be_bytes([high, low]))
 }
 
-// Whether a frame may have so many octets.
+// Whether this is a valid length of a frame.
 fn is_frame_length(count: usize) -> bool
     ensures { IsTrue result ↔ IsFrameLength count }
 {
     (LEAST_OCTETS..=MOST_OCTETS).contains(&count)
 }
 
-// Reads until the octets are full or the input ends, and tells how many were read.
+// Reads until the slice is full or the input ends, and returns how many octets were read.
 fn fill<R: Source>(source: &mut R, octets: &mut [u8], turns: &mut u16) -> Result<usize, PortFault>
     requires { turns.old ≤ MOST_TURNS }
     ensures bound { IfOk result (λ count. count ≤ length octets.new) }
@@ -90,7 +90,7 @@ fn fill<R: Source>(source: &mut R, octets: &mut [u8], turns: &mut u16) -> Result
     Ok(filled)
 }
 
-// Whether these are all the turns that a call makes.
+// Whether no more calls of the source or sink may be made.
 fn are_all(turns: u16) -> bool
     ensures { IsTrue result ↔ (turns ≡ MOST_TURNS) }
 {

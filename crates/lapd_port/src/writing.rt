@@ -10,7 +10,7 @@ use crate::port_fault::PortFault;
 use crate::sink::Sink;
 use arrayvec::ArrayVec;
 
-// Writes a frame behind its length.
+// Writes a frame's length, followed by the frame.
 pub(crate) fn write_next<W: Sink>(sink: &mut W, frame: &[u8]) -> Result<(), PortFault>
     requires { IsFrameLength (length frame.now) }
     ensures text { WritesText (W.written sink.old) (W.written sink.new) result
@@ -24,7 +24,7 @@ pub(crate) fn write_next<W: Sink>(sink: &mut W, frame: &[u8]) -> Result<(), Port
     write_all(sink, text.as_slice())
 }
 
-// The text of a frame.
+// A frame's length, followed by the frame.
 fn text_of(frame: &[u8]) -> ArrayVec<u8, TEXT_OCTETS>
     requires { IsFrameLength (length frame.now) }
     ensures { result.items ≡ frame_text frame.now }
@@ -39,7 +39,7 @@ fn text_of(frame: &[u8]) -> ArrayVec<u8, TEXT_OCTETS>
     text
 }
 
-// A length in two octets, high first.
+// A length in two octets, high octet first.
 fn length_octets_of(count: usize) -> [u8; LENGTH_OCTETS]
     requires { IsFrameLength count }
     ensures { result ≡ length_octets count }
@@ -47,7 +47,7 @@ fn length_octets_of(count: usize) -> [u8; LENGTH_OCTETS]
     (count as u16).to_be_bytes()
 }
 
-// Writes all octets, of which there are some.
+// Writes all octets; there is at least one.
 fn write_all<W: Sink>(sink: &mut W, octets: &[u8]) -> Result<(), PortFault>
     requires { 0 < length octets.now }
     ensures text { WritesText (W.written sink.old) (W.written sink.new) result octets.now }

@@ -1,4 +1,4 @@
--- What the proofs need about the octets of a list of messages.
+-- Lemmas about the octets of a list of messages.
 use Rattle.std.proofs.lemmas.List.{length-map, map-append, drop-map}
 use Rattle.std.proofs.lemmas.Option.{slice_get-map}
 

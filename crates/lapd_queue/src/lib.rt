@@ -1,10 +1,11 @@
-//! The I queue of one data link, after ITU-T Q.921 (09/97), clauses 5.5 and 5.6: the messages that layer 3 gave in
-//! DL-DATA requests and that are neither acknowledged nor discarded, in the order in which they were given.
+//! The I queue of one data link, after ITU-T Q.921 (09/97), clauses 5.5 and 5.6: the messages of
+//! layer 3's DL-DATA requests that are neither acknowledged nor discarded, in the order of the
+//! requests.
 //!
-//! Begin with [`IQueue`], the only type. The messages at its front have been sent in I frames and wait for their
-//! acknowledgement, the others wait to be sent. All room is taken when the queue is made, so that no later call takes
-//! memory. Messages are acknowledged at the front, and the cost of that grows with their number and not with the length
-//! of the queue.
+//! Begin with [`IQueue`], the only type. The messages at its front have been sent in I frames and
+//! are not yet acknowledged; the others are not sent yet. The queue allocates all of its room when
+//! it is made, and no later call allocates. The cost of an acknowledgement depends on the number of
+//! acknowledged messages, not on the length of the queue.
 #![tactic(auto)]
 
 mod queue;

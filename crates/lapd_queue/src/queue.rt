@@ -5,9 +5,9 @@ use circular_buffer::HeapCircularBuffer;
 use std::alloc::{AllocError, Global};
 use std::marker::Model;
 
-/// Messages of layer 3 in the order in which they were given, of which some at the front are sent.
+/// Messages of layer 3 in the order of their requests; some at the front are sent.
 ///
-/// It is a ring of the size that it was made with: no call but `new` takes memory.
+/// The queue is a ring of a fixed size: no call but `new` allocates.
 #[derive(Drop)]
 pub struct IQueue {
     messages: HeapCircularBuffer<Vec<u8>>,
@@ -31,7 +31,8 @@ impl Model for IQueue {
 
 #[tactic(auto, using(crate::proofs::Messages::messages), unfolding(crate::specs::Waiting::with_room, crate::specs::Waiting::with_message, crate::specs::Waiting::one_more_sent, crate::specs::Waiting::without_first, crate::specs::Waiting::all_unsent, crate::specs::Waiting::emptied))]
 impl IQueue {
-    /// An empty queue with room for `room` messages, from 1 to 1,024. All of it is taken here, or the error answered.
+    /// Makes an empty queue with room for `room` messages, from 1 to 1,024, or fails if it can't be
+    /// allocated.
     pub fn new(alloc: Global, room: u16) -> Result<IQueue, AllocError>
         requires positive { 1 ≤ room }
         requires at_most { room ≤ 1024 }
@@ -51,7 +52,7 @@ impl IQueue {
         self.messages.capacity() as u16
     }
 
-    /// How many messages wait, sent or not.
+    /// How many messages it holds, sent or not.
     pub fn len(&self) -> u16
         ensures count { result ≡ length self.now.messages }
         ensures at_most { result ≤ self.now.room }
@@ -59,7 +60,7 @@ impl IQueue {
         self.messages.len() as u16
     }
 
-    /// Whether no message waits.
+    /// Whether it holds no message.
     pub fn is_empty(&self) -> bool
         ensures { result ≡ (length self.now.messages == 0) }
     {
@@ -93,15 +94,16 @@ impl IQueue {
         message.as_slice()
     }
 
-    /// The octets of the message at place `i`, counted from 0 at the front, or `None` where no more than `i` wait.
+    /// The octets of the message at place `i`, counted from 0 at the front; `None` if `i` is not
+    /// below `len`.
     pub fn get(&self, i: u16) -> Option<&[u8]>
         ensures { option_copied result ≡ slice_get self.now.messages i }
     {
         self.messages.get(usize::from(i)).map(Vec::as_slice)
     }
 
-    /// Puts a message at the end, unsent (Q.921 5.6.1). Where `room` messages wait, it is handed back and the queue is
-    /// unchanged.
+    /// Appends a message, unsent (Q.921 5.6.1). If the queue is full, the message is returned and
+    /// the queue is unchanged.
     #[inline(always)]
     pub fn put(&mut self, message: Vec<u8>) -> Result<(), Vec<u8>>
         ensures full { is_err result ≡ (length self.old.messages == self.old.room) }
@@ -112,7 +114,7 @@ impl IQueue {
         self.messages.try_push_back(message)
     }
 
-    /// Marks the first unsent message as sent (Q.921 5.6.1). There has to be one.
+    /// Marks the first unsent message as sent (Q.921 5.6.1). At least one message must be unsent.
     pub fn sent_one(&mut self)
         requires { self.old.sent < length self.old.messages }
         ensures { self.new ≡ one_more_sent self.old }
@@ -120,8 +122,8 @@ impl IQueue {
         self.sent += 1;
     }
 
-    /// Removes the `n` messages at the front, at most `sent`, which are now acknowledged (Q.921 5.6.3.2). The cost grows
-    /// with `n` and not with the length of the queue.
+    /// Removes the `n` messages at the front, at most `sent`, which are now acknowledged (Q.921
+    /// 5.6.3.2). The cost grows with `n` and not with the length of the queue.
     #[inline(always)]
     pub fn acknowledge(&mut self, n: u16)
         requires { n ≤ self.old.sent }
@@ -134,14 +136,14 @@ impl IQueue {
         self.sent -= n;
     }
 
-    /// Marks all messages as unsent, to be sent again (Q.921 5.6.4).
+    /// Marks all messages as unsent, to be retransmitted (Q.921 5.6.4).
     pub fn go_back(&mut self)
         ensures { self.new ≡ all_unsent self.old }
     {
         self.sent = 0;
     }
 
-    /// Drops all messages, sent or not, and tells how many there were (Q.921 5.5.1, 5.5.3).
+    /// Drops all messages, sent or not, and returns how many there were (Q.921 5.5.1, 5.5.3).
     pub fn discard(&mut self) -> u16
         ensures dropped { result ≡ length self.old.messages }
         ensures empty { self.new ≡ emptied self.old }

@@ -8,12 +8,12 @@ use Rattle.lapd_supervision.specs.StateVariables.{StateVariables, without_ack_pe
 
 -- ---- N(R)
 
--- a valid N(R) acknowledges no more than is outstanding
+-- a valid N(R) acknowledges at most the outstanding I frames
 pub acknowledged_count_at_most : (r : Reading) (nr : ℕ) (m : StateVariables) → is_valid_nr r nr m ≡ true → acknowledged_count r nr m ≤ outstanding r m
 unfolding is_valid_nr acknowledged_count
 acknowledged_count_at_most r nr m valid = steps_to_between r m.va nr m.vs valid
 
--- what it does not acknowledge stays outstanding
+-- the frames that it does not acknowledge stay outstanding
 pub outstanding_with_va : (r : Reading) (nr : ℕ) (m : StateVariables) → is_valid_nr r nr m ≡ true → outstanding r (with_va nr m) + acknowledged_count r nr m ≡ outstanding r m
 unfolding is_valid_nr with_va acknowledged_count
 outstanding_with_va r nr m valid = omega (arith, steps_add_up r m.va nr m.vs valid)
@@ -22,29 +22,29 @@ same_as_vs : (nr : ℕ) (m : StateVariables) → acknowledges_all nr m ≡ true 
 unfolding acknowledges_all
 same_as_vs nr m all = grind (arith, nat_tests)
 
--- where it acknowledges all, nothing stays outstanding
+-- if it acknowledges all, nothing stays outstanding
 pub outstanding_after_all : (r : Reading) (nr : ℕ) (m : StateVariables) → acknowledges_all nr m ≡ true → outstanding r (with_va nr m) ≡ 0
 unfolding with_va
 outstanding_after_all r nr m all = let same = same_as_vs nr m all in rw same (no_steps r m.vs)
 
--- back to N(R), nothing is outstanding
+-- if V(S) is set back to N(R), nothing is outstanding
 pub outstanding_with_vs : (r : Reading) (nr : ℕ) (m : StateVariables) → outstanding r (with_vs nr (with_va nr m)) ≡ 0
 unfolding with_vs with_va
 outstanding_with_vs r nr m = no_steps r nr
 
--- ---- I frames go out
+-- ---- Sending I frames
 
--- one that may be sent leaves room in the window
+-- if an I frame may be sent, the window has room for it
 pub may_send_leaves_room : (r : Reading) (k : ℕ) (m : StateVariables) → may_send r k m ≡ true → outstanding r m < k
 unfolding may_send
 may_send_leaves_room r k m opened = grind (arith, nat_tests, common_steps)
 
--- each one sent is outstanding
+-- each sent frame is outstanding
 pub outstanding_after_sending : (r : Reading) (m : StateVariables) → reaches r m.va m.vs ≡ true → outstanding r m < 127 → outstanding r (after_sending r m) ≡ outstanding r m + 1
 unfolding after_sending
 outstanding_after_sending r m counted room = one_more_step r m.va m.vs counted room
 
--- and no more than k are
+-- and at most k are outstanding
 pub at_most_k_after_sending : (r : Reading) (k : ℕ) (m : StateVariables) → reaches r m.va m.vs ≡ true → k ≤ 127 → may_send r k m ≡ true → outstanding r (after_sending r m) ≤ k
 at_most_k_after_sending r k m counted small allowed = let room = may_send_leaves_room r k m allowed in
     omega (arith, outstanding_after_sending r m counted (omega arith))
@@ -63,7 +63,7 @@ pub outstanding_with_peer_busy : (r : Reading) (busy : Bool) (m : StateVariables
 unfolding with_peer_busy
 outstanding_with_peer_busy r busy m = refl
 
--- ---- V(S) stays to be reached from V(A), which on tags it always is.
+-- ---- V(S) can still be reached from V(A); on tags this is always true.
 
 reaches_itself : (r : Reading) (n : ℕ) → reaches r n n ≡ true
 reaches_itself Whole n = reaches_holds n n (omega arith)

@@ -1,4 +1,4 @@
--- Each action gives tags where it is given tags.
+-- The counters of each action are tags if they were tags before.
 use Rattle.std.proofs.Common.{ℕ, ◌<◌, Bool, true, false, if◌then◌else◌, arith}
 use Rattle.lapd_mod128.specs.Counting.{Tagged, after}
 use Rattle.lapd_mod128.proofs.Steps.{after_is_number}

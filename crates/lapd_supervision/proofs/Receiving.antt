@@ -1,4 +1,4 @@
--- The cases of an I frame, by the marks that it finds and its N(S).
+-- The cases of an I frame, by the conditions of this end and its N(S).
 use Rattle.std.proofs.Common.{◌≡◌, ◌≢◌, ℕ, Bool, true, false, not, ◌&&◌, ◌==◌, if◌then◌else◌, Some, None, refl, ap, ◌∙◌, arith}
 use Rattle.std.proofs.lemmas.Bool.Decides.{nat_tests}
 use Rattle.lapd_field.specs.declared.control.Control.TheVariants.{Rr, Rnr, Rej}
@@ -37,7 +37,7 @@ other_is_rejected_once : (ns : ℕ) (m : StateVariables) → m.own_busy ≡ fals
 unfolding is_rejected
 other_is_rejected_once ns m free other = rw (free, is_no_next ns m.vr other) refl
 
--- ---- What becomes of it, from that.
+-- ---- The result, from that.
 
 -- neither: discarded, and a poll is answered
 discarded : (r : Reading) (ns : ℕ) (p : Bool) (m : StateVariables) → is_accepted ns m ≡ false → is_rejected ns m ≡ false →
@@ -65,7 +65,7 @@ received_in_sequence r ns p m free same = let accepted = next_is_accepted ns m f
   answered = rw (rejected, accepted, free) refl;
 }
 
--- the first out of sequence: discarded, and answered by REJ with F as its P
+-- the first out of sequence: discarded, and answered by REJ with F equal to its P
 pub received_out_of_sequence : (r : Reading) (ns : ℕ) (p : Bool) (m : StateVariables) → m.own_busy ≡ false → ns ≢ m.vr → m.rejecting ≡ false →
     Receives r ns p m (record m { rejecting = true; ack_pending = false }) false (Some (Rej m.vr p))
 unfolding after_i_frame i_frame_response
@@ -75,7 +75,7 @@ received_out_of_sequence r ns p m free other fresh = let accepted = other_is_not
   answered = rw rejected refl;
 }
 
--- those that follow: discarded, and a poll is answered
+-- the frames that follow: discarded, and a poll is answered
 pub received_while_rejecting : (r : Reading) (ns : ℕ) (p : Bool) (m : StateVariables) → m.own_busy ≡ false → ns ≢ m.vr → m.rejecting ≡ true →
     Receives r ns p m (record m { ack_pending = not p && m.ack_pending }) false (poll_response p m)
 received_while_rejecting r ns p m free other rejecting =

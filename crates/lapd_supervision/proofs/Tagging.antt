@@ -1,4 +1,4 @@
--- On tags each action does what it does on numbers without a bound, as long as the numbers lie near each other.
+-- Each action has the same effect on tags as on whole numbers, if the numbers are near each other.
 use Rattle.std.proofs.Common.{◌≡◌, ◌<◌, ℕ, ◌+◌, ◌≤◌, Bool, true, false, if◌then◌else◌, Option, Some, option_map, refl, ap, arith}
 use Rattle.lapd_field.specs.declared.control.Control.{Control}
 use Rattle.lapd_field.specs.declared.control.Control.TheVariants.{Rr, Rnr, Rej}
@@ -7,7 +7,7 @@ use Rattle.lapd_mod128.proofs.Tags.{tag_of_after, tag_of_before, equality_on_tag
 use Rattle.lapd_supervision.specs.StateVariables.{StateVariables, initial_variables, without_exceptions, with_zero_counters, status_frame, acknowledgement, without_ack_pending, poll_response, is_accepted, is_rejected, after_i_frame, i_frame_response, is_valid_nr, with_va, acknowledged_count, acknowledges_all, with_vs, outstanding, may_send, next_i_frame, last_i_frame, after_sending, with_own_busy, with_peer_busy}
 use Rattle.lapd_supervision.specs.Tags.{tag_variables, tag_control, IsWindow, IsNearWindow}
 
--- ---- Actions that count nothing
+-- ---- Actions without counting
 
 pub initial_variables_on_tags : tag_variables initial_variables ≡ initial_variables
 unfolding tag_variables initial_variables tag
@@ -33,7 +33,7 @@ pub peer_busy_on_tags : (busy : Bool) (m : StateVariables) → tag_variables (wi
 unfolding tag_variables with_peer_busy
 peer_busy_on_tags busy m = refl
 
--- ---- Frames that go out
+-- ---- Frames that are sent
 
 status_of : (busy pf : Bool) (n : ℕ) → tag_control (if busy then Rnr n pf else Rr n pf) ≡ (if busy then Rnr (tag n) pf else Rr (tag n) pf)
 unfolding tag_control
@@ -68,7 +68,7 @@ pub may_send_on_tags : (k : ℕ) (m : StateVariables) → IsWindow m.va m.vs →
 unfolding tag_variables may_send
 may_send_on_tags k m window = rw (outstanding_on_tags m window) refl
 
--- ---- An N(R) comes
+-- ---- Receiving an N(R)
 
 pub within_is_near : (nr va vs : ℕ) → va ≤ nr → nr ≤ vs → vs ≤ va + 127 → IsNearWindow nr va vs
 within_is_near nr va vs low high most = record {
@@ -97,7 +97,7 @@ pub with_vs_on_tags : (nr : ℕ) (m : StateVariables) → tag_variables (with_vs
 unfolding tag_variables with_vs
 with_vs_on_tags nr m = refl
 
--- ---- An I frame comes
+-- ---- Receiving an I frame
 
 pub is_accepted_on_tags : (ns : ℕ) (m : StateVariables) → AreNear ns m.vr → is_accepted (tag ns) (tag_variables m) ≡ is_accepted ns m
 unfolding tag_variables is_accepted

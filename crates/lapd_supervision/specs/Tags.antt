@@ -1,4 +1,4 @@
--- How the actions of tags stand for those of numbers without a bound.
+-- How the actions on tags represent those on numbers without a bound.
 use Rattle.std.specs.Prelude.{ℕ, ◌+◌, ◌≤◌}
 use Rattle.lapd_field.specs.declared.control.Control.{Control}
 use Rattle.lapd_field.specs.declared.control.Control.TheVariants.{I, Rr, Rnr, Rej, Sabme, Dm, Ui, Disc, Ua, Frmr, Xid}

@@ -1,4 +1,4 @@
-//! Laws of the actions, in both readings. Each is the contract of a function that does nothing.
+//! Laws of the actions, in both readings. Each is the contract of a function without effect.
 
 ghost use Rattle.std.specs.Prelude.{◌≡◌, ◌≢◌, ℕ, ◌+◌, ◌<◌, ◌≤◌, ◌&&◌, Bool, true, false, not, if◌then◌else◌, Some, None, option_map};
 ghost use Rattle.lapd_field.specs.declared.control.Control.TheVariants.{Rr, Rnr, Rej};
@@ -6,8 +6,8 @@ ghost use Rattle.lapd_mod128.specs.Counting.{Reading, Whole, Tagged, tag, after,
 ghost use Rattle.lapd_supervision.specs.StateVariables.{StateVariables, status_frame, poll_response, is_accepted, after_i_frame, i_frame_response, Receives, is_valid_nr, with_va, acknowledged_count, acknowledges_all, with_vs, outstanding, may_send, after_sending};
 ghost use Rattle.lapd_supervision.specs.Tags.{tag_variables, tag_control, IsWindow, IsNearWindow};
 
-/// An I frame has four cases (Q.921 5.6.2, 5.6.6, 5.8.1): this end is busy, or it is the next one, or the first out of
-/// sequence, or one that follows the first out of sequence.
+/// An I frame has four cases (Q.921 5.6.2, 5.6.6, 5.8.1): this end is busy, the frame is the next
+/// one, it is the first out of sequence, or it follows the first out of sequence.
 pub fn cases_of_an_i_frame()
     ensures busy { (r : Reading) (ns : ℕ) (p : Bool) (m : StateVariables) →
         m.own_busy ≡ true →
@@ -28,7 +28,7 @@ pub fn cases_of_an_i_frame()
         (poll_response p m) }
 {}
 
-/// The status is RNR in the own receiver busy condition, and else RR; N(R) is V(R) (Q.921 5.6.6).
+/// The status is RNR in the own receiver busy condition, else RR, with N(R) = V(R) (Q.921 5.6.6).
 #[tactic(auto, using(crate::proofs::Receiving::status_while_busy, crate::proofs::Receiving::status_while_free))]
 pub fn status_by_the_busy_condition()
     ensures busy { (pf : Bool) (m : StateVariables) → m.own_busy ≡ true
@@ -37,8 +37,8 @@ pub fn status_by_the_busy_condition()
         → status_frame pf m ≡ Rr m.vr pf }
 {}
 
-/// A valid N(R) takes as many I frames from those outstanding as it acknowledges, and where it is V(S) or V(S) is set
-/// back to it, none is left (Q.921 5.6.3.2, 5.8.3).
+/// A valid N(R) reduces the outstanding I frames by those that it acknowledges. If N(R) is V(S), or
+/// V(S) is set back to N(R), no I frame is outstanding (Q.921 5.6.3.2, 5.8.3).
 #[tactic(auto, using(crate::proofs::Outstanding::outstanding_with_va, crate::proofs::Outstanding::outstanding_after_all, crate::proofs::Outstanding::outstanding_with_vs))]
 pub fn what_an_nr_acknowledges()
     ensures part { (r : Reading) (nr : ℕ) (m : StateVariables) → is_valid_nr r nr m ≡ true →
@@ -49,7 +49,8 @@ pub fn what_an_nr_acknowledges()
         → outstanding r (with_vs nr (with_va nr m)) ≡ 0 }
 {}
 
-/// An I frame that may be sent is one more outstanding, and at most k are (Q.921 5.9.5).
+/// If an I frame may be sent, sending it adds one to the outstanding I frames, and at most k are
+/// outstanding (Q.921 5.9.5).
 #[tactic(auto, using(crate::proofs::Outstanding::outstanding_after_sending, crate::proofs::Outstanding::at_most_k_after_sending))]
 pub fn at_most_k_are_outstanding()
     ensures more { (r : Reading) (m : StateVariables) → reaches r m.va m.vs ≡ true
@@ -60,7 +61,8 @@ pub fn at_most_k_are_outstanding()
         may_send r k m ≡ true → outstanding r (after_sending r m) ≤ k }
 {}
 
-/// An I frame is taken on tags as on whole numbers, where its N(S) lies within 127 of V(R).
+/// Receiving an I frame has the same effect on tags as on whole numbers, if its N(S) lies within
+/// 127 of V(R).
 pub fn receiving_on_tags()
     ensures accepted { (ns : ℕ) (m : StateVariables) → AreNear ns m.vr →
         is_accepted (tag ns) (tag_variables m) ≡ is_accepted ns m }
@@ -72,14 +74,15 @@ pub fn receiving_on_tags()
         ≡ i_frame_response Tagged (tag ns) p (tag_variables m) }
 {}
 
-/// An N(R) from V(A) to V(S) lies within 127 of both, where at most 127 I frames are outstanding (Q.921 3.5.2.3, 5.9.5).
+/// An N(R) from V(A) to V(S) lies within 127 of both, if at most 127 I frames are outstanding
+/// (Q.921 3.5.2.3, 5.9.5).
 #[tactic(auto, using(crate::proofs::Tagging::within_is_near))]
 pub fn within_is_near()
     ensures { (nr va vs : ℕ) → va ≤ nr → nr ≤ vs → vs ≤ va + 127 → IsNearWindow nr va vs }
 {}
 
-/// An N(R) is taken on tags as on whole numbers, where at most 127 I frames are outstanding and it lies within 127 of
-/// V(A) and V(S).
+/// Receiving an N(R) has the same effect on tags as on whole numbers, if at most 127 I frames are
+/// outstanding and it lies within 127 of V(A) and V(S).
 pub fn acknowledging_on_tags()
     ensures valid { (nr : ℕ) (m : StateVariables) → IsWindow m.va m.vs → IsNearWindow nr m.va m.vs →
         is_valid_nr Tagged (tag nr) (tag_variables m) ≡ is_valid_nr Whole nr m }
@@ -89,7 +92,8 @@ pub fn acknowledging_on_tags()
         → acknowledges_all (tag nr) (tag_variables m) ≡ acknowledges_all nr m }
 {}
 
-/// I frames go out on tags as on whole numbers, where at most 127 are outstanding.
+/// Sending an I frame has the same effect on tags as on whole numbers, if at most 127 are
+/// outstanding.
 pub fn sending_on_tags()
     ensures allowed { (k : ℕ) (m : StateVariables) → IsWindow m.va m.vs
         → may_send Tagged k (tag_variables m) ≡ may_send Whole k m }

@@ -1,10 +1,10 @@
 use lapd_field::Control;
 
-/// What becomes of an I frame by its N(S) (Q.921 5.6.2).
+/// The result of a received I frame, by its N(S) (Q.921 5.6.2).
 #[derive(Clone, Copy, Debug, PartialEq, Eq)]
 pub struct Receipt {
-    /// Whether its information is handed to layer 3; otherwise it is discarded.
+    /// Whether its information is delivered to layer 3; otherwise it is discarded.
     pub accepted: bool,
-    /// The response that is due at once: RR or RNR with F=1, or REJ.
+    /// The response to send at once: RR or RNR with F=1, or REJ.
     pub answer: Option<Control>,
 }

@@ -9,9 +9,9 @@ use std::marker::Model;
 
 /// The counters and conditions of one end in multiple frame operation (Q.921 3.5.2, 5.6, 5.8).
 ///
-/// V(S) is the number of the next I frame to send, V(A) the first one not yet acknowledged, V(R) the next one
-/// expected; each goes from 0 to 127, and after 127 comes 0. A call changes the fields that its text names, and no
-/// other. Every supervisory frame that it gives has N(R) = V(R).
+/// V(S) is the number of the next I frame to send, V(A) the first one not yet acknowledged, V(R)
+/// the next one expected. Each counts from 0 to 127, and 0 follows 127. A call changes only the
+/// fields that its text names. Every supervisory frame that it returns has N(R) = V(R).
 #[derive(Clone, Copy, Debug, Default, PartialEq, Eq)]
 pub struct Window {
     vs: Seq,
@@ -52,10 +52,10 @@ impl Model for Window {
     } };
 }
 
-/// The window as it begins, and its readers.
+/// The initial window, and its fields.
 #[tactic(auto, unfolding(crate::specs::StateVariables::initial_variables))]
 impl Window {
-    /// All counters 0 and all marks false.
+    /// All counters 0 and all conditions false.
     pub fn new() -> Window
         ensures { result ≡ initial_variables }
     {
@@ -86,7 +86,7 @@ impl Window {
         self.vr
     }
 
-    /// Whether the peer has said that it is busy (Q.921 5.6.5).
+    /// Whether the peer has reported that it is busy (Q.921 5.6.5).
     pub fn peer_busy(self) -> bool
         ensures { result ≡ self.peer_busy }
     {
@@ -100,7 +100,7 @@ impl Window {
         self.own_busy
     }
 
-    /// Whether a REJ was sent and the I frame that it asks for has not come (Q.921 5.8.1).
+    /// Whether a REJ was sent and the I frame that it requests has not been received (Q.921 5.8.1).
     pub fn rejecting(self) -> bool
         ensures { result ≡ self.rejecting }
     {
@@ -118,7 +118,7 @@ impl Window {
 /// Establishment (Q.921 5.5.1.2).
 #[tactic(auto, unfolding(crate::specs::StateVariables::without_exceptions, crate::specs::StateVariables::with_zero_counters))]
 impl Window {
-    /// All four marks false.
+    /// Sets all four conditions to false.
     pub fn clear(self) -> Window
         ensures { result ≡ without_exceptions self }
     {
@@ -131,7 +131,7 @@ impl Window {
         }
     }
 
-    /// V(S), V(A) and V(R) 0.
+    /// Sets V(S), V(A) and V(R) to 0.
     pub fn zero(self) -> Window
         ensures { result ≡ with_zero_counters self }
     {
@@ -148,7 +148,7 @@ impl Window {
 /// Supervisory frames.
 #[tactic(auto, unfolding(crate::specs::StateVariables::status_frame, crate::specs::StateVariables::acknowledgement, crate::specs::StateVariables::without_ack_pending))]
 impl Window {
-    /// RR, or RNR where own busy, with this P or F.
+    /// RR, or RNR if own busy, with this P or F.
     fn status(self, pf: bool) -> Control
         ensures { result ≡ status_frame pf self }
     {
@@ -160,7 +160,7 @@ impl Window {
         }
     }
 
-    /// Ack pending false.
+    /// Sets ack pending to false.
     fn nothing_pending(self) -> Window
         ensures { result ≡ without_ack_pending self }
     {
@@ -170,7 +170,7 @@ impl Window {
         }
     }
 
-    /// The RR with F=0 that acknowledges what was accepted (Q.921 5.6.2.2); ack pending false.
+    /// The RR with F=0 that acknowledges the accepted I frames (Q.921 5.6.2.2); ack pending false.
     pub fn acknowledge(self) -> (Window, Control)
         ensures window { result.0 ≡ without_ack_pending self }
         ensures control { result.1 ≡ acknowledgement self }
@@ -180,11 +180,11 @@ impl Window {
     }
 }
 
-/// A poll comes, or goes out.
+/// Polls, received and sent.
 #[tactic(auto)]
 impl Window {
-    /// The response to a command with P=1: RR with F=1, or RNR where own busy (Q.921 5.6.2.1, 5.6.6); ack pending
-    /// false.
+    /// The response to a command with P=1: RR with F=1, or RNR if own busy (Q.921 5.6.2.1, 5.6.6);
+    /// ack pending false.
     pub fn answer_poll(self) -> (Window, Control)
         ensures window { result.0 ≡ without_ack_pending self }
         ensures control { result.1 ≡ status_frame true self }
@@ -193,8 +193,8 @@ impl Window {
         (self.nothing_pending(), answer)
     }
 
-    /// The command that asks the peer for its status: RR with P=1, or RNR where own busy (Q.921 5.6.7); ack pending
-    /// false.
+    /// The command that requests the peer's status: RR with P=1, or RNR if own busy (Q.921 5.6.7);
+    /// ack pending false.
     pub fn enquiry(self) -> (Window, Control)
         ensures window { result.0 ≡ without_ack_pending self }
         ensures control { result.1 ≡ status_frame true self }
@@ -203,7 +203,7 @@ impl Window {
         (self.nothing_pending(), poll)
     }
 
-    /// Answers where `p` is a poll.
+    /// Answers if `p` is a poll.
     #[tactic(auto, unfolding(crate::specs::StateVariables::poll_response, crate::specs::StateVariables::without_ack_pending))]
     fn polled(self, p: bool) -> (Window, Option<Control>)
         ensures window { result.0 ≡ record self { ack_pending = not p && self.ack_pending } }
@@ -218,16 +218,16 @@ impl Window {
     }
 }
 
-/// An I frame comes, by its N(S).
+/// Receiving an I frame, by its N(S).
 #[tactic(auto, unfolding(crate::specs::StateVariables::is_accepted, crate::specs::StateVariables::is_rejected, crate::specs::StateVariables::after_i_frame, crate::specs::StateVariables::i_frame_response, crate::specs::StateVariables::poll_response, crate::specs::StateVariables::status_frame))]
 impl Window {
-    /// What becomes of an I frame with this N(S) and P.
+    /// Receives an I frame with this N(S) and P.
     ///
     /// - Own busy: it is discarded, and a poll is answered (Q.921 5.6.6).
-    /// - N(S) = V(R): it is accepted, V(R) goes one on and rejecting ends; a poll is answered, else ack pending is true
-    ///   (5.6.2).
-    /// - Otherwise it is discarded. The first such frame is answered by REJ with F=P, rejecting is true and ack pending
-    ///   false; of those that follow, a poll is answered (5.8.1).
+    /// - N(S) = V(R): it is accepted, V(R) is incremented and rejecting ends; a poll is answered,
+    ///   else ack pending is true (5.6.2).
+    /// - Otherwise it is discarded. The first such frame is answered by REJ with F=P; rejecting is
+    ///   true and ack pending false. For the frames that follow, a poll is answered (5.8.1).
     #[inline(always)]
     pub fn take_ns(self, ns: Number, p: bool) -> (Window, Receipt)
         ensures window { result.0 ≡ after_i_frame Tagged ns p self }
@@ -261,7 +261,7 @@ impl Window {
         )
     }
 
-    /// Takes the I frame that is the next one.
+    /// Accepts the I frame, which is the next one.
     fn accept(self, p: bool) -> (Window, Receipt)
         ensures window { result.0 ≡ record self {
           vr = after Tagged self.vr;
@@ -287,7 +287,7 @@ impl Window {
         )
     }
 
-    /// Asks for the I frames from V(R) on.
+    /// Requests the I frames from V(R) on.
     fn reject(self, p: bool) -> (Window, Receipt)
         ensures window { result.0 ≡ record self { rejecting = true; ack_pending = false } }
         ensures accepted { result.1.accepted ≡ false }
@@ -312,11 +312,11 @@ impl Window {
     }
 }
 
-/// An N(R) comes.
+/// Receiving an N(R).
 #[tactic(auto, unfolding(crate::specs::StateVariables::is_valid_nr, crate::specs::StateVariables::with_va, crate::specs::StateVariables::acknowledged_count, crate::specs::StateVariables::acknowledges_all, crate::specs::StateVariables::with_vs))]
 impl Window {
-    /// Sets V(A) to this N(R), and tells what it acknowledges; `None` where it does not lie from V(A) to V(S), counted
-    /// modulo 128 (Q.921 3.5.2.3, 5.6.3.2, 5.8.2).
+    /// Sets V(A) to this N(R), and returns what it acknowledges; `None` if it does not lie from
+    /// V(A) to V(S), counted modulo 128 (Q.921 3.5.2.3, 5.6.3.2, 5.8.2).
     #[inline(always)]
     pub fn take_nr(self, nr: Number) -> Option<(Window, Advance)>
         ensures valid { is_some result ≡ is_valid_nr Tagged nr self }
@@ -334,8 +334,8 @@ impl Window {
         }
     }
 
-    /// Sets V(S) to this N(R), so that the I frames from it on are sent again (Q.921 5.6.4, 5.8.3). It follows
-    /// `take_nr` of the same N(R).
+    /// Sets V(S) to this N(R), so that the I frames from it on are retransmitted (Q.921 5.6.4,
+    /// 5.8.3). Call `take_nr` with the same N(R) first.
     pub fn go_back(self, nr: Number) -> Window
         ensures { result ≡ with_vs nr self }
     {
@@ -346,11 +346,11 @@ impl Window {
     }
 }
 
-/// An I frame goes out.
+/// Sending an I frame.
 #[tactic(auto, unfolding(crate::specs::StateVariables::may_send, crate::specs::StateVariables::next_i_frame, crate::specs::StateVariables::after_sending, crate::specs::StateVariables::without_ack_pending))]
 impl Window {
-    /// Whether one more I frame may be sent: the peer is not busy, and fewer than `k` are outstanding
-    /// (Q.921 5.6.1, 5.9.5).
+    /// Whether one more I frame may be sent: the peer is not busy, and fewer than `k` are
+    /// outstanding (Q.921 5.6.1, 5.9.5).
     pub fn may_send(self, k: u8) -> bool
         requires positive { 1 ≤ k }
         requires at_most { k ≤ 127 }
@@ -359,7 +359,7 @@ impl Window {
         !self.peer_busy && Seq::window_open(self.va, self.vs, k)
     }
 
-    /// The next I frame, with P=0; V(S) one on, ack pending false (Q.921 5.6.1).
+    /// The next I frame, with P=0; V(S) is incremented, ack pending false (Q.921 5.6.1).
     pub fn send(self) -> (Window, Control)
         ensures window { result.0 ≡ after_sending Tagged self }
         ensures control { result.1 ≡ next_i_frame self }
@@ -376,7 +376,8 @@ impl Window {
         (window, control)
     }
 
-    /// The last I frame that was sent, again, with P=1: N(S) = V(S) - 1; V(S) stays, ack pending false (Q.921 5.6.7 b).
+    /// The last sent I frame again, with P=1: N(S) = V(S) - 1; V(S) is unchanged, ack pending false
+    /// (Q.921 5.6.7 b).
     #[tactic(auto, unfolding(crate::specs::StateVariables::last_i_frame, crate::specs::StateVariables::without_ack_pending))]
     pub fn send_last(self) -> (Window, Control)
         ensures window { result.0 ≡ without_ack_pending self }
@@ -394,8 +395,8 @@ impl Window {
 /// Busy conditions begin and end.
 #[tactic(auto, unfolding(crate::specs::StateVariables::with_own_busy, crate::specs::StateVariables::with_peer_busy, crate::specs::StateVariables::without_ack_pending))]
 impl Window {
-    /// The own receiver busy condition begins or ends: the RNR or RR with F=0 that tells the peer; ack pending false
-    /// (Q.921 5.6.6).
+    /// Begins or ends the own receiver busy condition, and returns the RNR or RR with F=0 that
+    /// reports it to the peer; ack pending false (Q.921 5.6.6).
     pub fn own(self, busy: bool) -> (Window, Control)
         ensures window { result.0 ≡ with_own_busy busy self }
         ensures control { result.1 ≡ status_frame false (with_own_busy busy self) }
@@ -407,7 +408,7 @@ impl Window {
         (window, window.status(false))
     }
 
-    /// The peer receiver busy condition begins or ends (Q.921 5.6.5).
+    /// Begins or ends the peer receiver busy condition (Q.921 5.6.5).
     pub fn peer(self, busy: bool) -> Window
         ensures { result ≡ with_peer_busy busy self }
     {
@@ -418,7 +419,7 @@ impl Window {
     }
 }
 
-/// The sequence number that a counter is sent as.
+/// The sequence number of a counter.
 fn number(counter: Seq) -> Number
     ensures { result ≡ counter }
 {
@@ -428,7 +429,7 @@ fn number(counter: Seq) -> Number
     }
 }
 
-/// The counter that a sequence number stands for.
+/// The counter with a sequence number.
 fn counter(number: Number) -> Seq
     ensures same { result ≡ number }
     ensures in_range { result < 128 }

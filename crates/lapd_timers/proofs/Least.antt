@@ -1,4 +1,4 @@
--- The timers are looked at one after another, and the least pair of those looked at is kept.
+-- The code compares one timer after another, and keeps the least pair so far.
 use Rattle.std.proofs.Common.{◌≡◌, ℕ, ◌+◌, ◌<◌, ◌≤◌, suc, zero, Option, Some, None, inl, inr, refl, sym, ap, ◌∙◌, arith, ◌⊎◌}
 use Rattle.std.proofs.lemmas.Bool.{leb-true, leb-false, cases_lt, cond_both}
 use Rattle.std.specs.Prelude.{nat_le}
@@ -7,7 +7,7 @@ use Rattle.lapd_timers.specs.declared.timer.Timer.TheVariants.{T200, T201, T202,
 use Rattle.lapd_timers.specs.declared.timer_set.TimerDeadline.{TimerDeadline}
 use Rattle.lapd_timers.specs.Due.{Timers, HasExpired, IsNoGreater, IsLeast, IsDue, deadline_of, place, sooner, sooner_of, timer_of}
 
--- the pair of a timer before this place, where it has expired
+-- the pair of a timer before this place, if it has expired
 record IsAmong (now : ℕ) (s : Timers) (n : ℕ) (e : TimerDeadline) : Type 0 where
   expired : HasExpired now s e
   early : place e.timer < n
@@ -28,7 +28,7 @@ timer_again T203 = refl
 same_place : (a b : Timer) → place a ≡ place b → a ≡ b
 same_place a b same = sym (timer_again a) ∙ (ap timer_at same ∙ timer_again b)
 
--- one place further there is one timer more
+-- the next place has one more timer
 divided : (now : ℕ) (s : Timers) (timer : Timer) (f : TimerDeadline) → IsAmong now s (place timer + 1) f → IsAmong now s (place timer) f ⊎ (f.timer ≡ timer)
 divided now s timer f h = elim (cases_lt (place f.timer) (place timer)) [
   | inl early ↦ inl (record { expired = h.expired; early = early })
@@ -38,7 +38,7 @@ divided now s timer f h = elim (cases_lt (place f.timer) (place timer)) [
 further : (now : ℕ) (s : Timers) (n : ℕ) (e : TimerDeadline) → IsAmong now s n e → IsAmong now s (n + 1) e
 further now s n e h = record { expired = h.expired; early = omega arith }
 
--- a timer that has not expired leaves the least as it is
+-- a timer that has not expired does not change the least pair
 as_before : (now : ℕ) (s : Timers) (timer : Timer) (least : Option TimerDeadline)
     → ((f : TimerDeadline) → HasExpired now s f → f.timer ≡ timer → ⊥)
     → IsLeast (IsAmong now s (place timer)) least → IsLeast (IsAmong now s (place timer + 1)) least
@@ -48,7 +48,7 @@ as_before now s timer (Some e) none old = (
   λ f h. elim (divided now s timer f h) [ inl a ↦ old.1 f a | inr same ↦ absurd (none f h.expired same) ],
 )
 
--- the pair of a timer is the only one that it has
+-- a timer has only one pair
 its_deadline : (now : ℕ) (s : Timers) (e f : TimerDeadline) → HasExpired now s e → HasExpired now s f → f.timer ≡ e.timer → e.deadline ≡ f.deadline
 its_deadline now s e f h k same = let q : Some e.deadline ≡ Some f.deadline = sym h.runs ∙ (sym (ap (λ t. deadline_of t s) same) ∙ k.runs) in cc
 
@@ -104,7 +104,7 @@ comes_later s timer other deadline its now q runs same past later =
     let k : Some deadline ≡ Some its = sym q ∙ (sym (ap (λ t. deadline_of t s) same) ∙ runs) in
     let j : deadline ≡ its = cc in omega arith
 
--- one timer more is looked at
+-- the next timer is compared
 one_more : (now : ℕ) (s : Timers) (timer : Timer) (least : Option TimerDeadline) (deadline : Option ℕ) → deadline_of timer s ≡ deadline
     → IsLeast (IsAmong now s (place timer)) least → IsLeast (IsAmong now s (place timer + 1)) (sooner now timer deadline least)
 one_more now s timer least None q old = as_before now s timer least (λ f h same. stands_still s timer f.timer f.deadline q h.runs same) old
@@ -142,7 +142,7 @@ found now s a b c d timer e f g h k = record {
   is_its = k;
 }
 
--- there is one least pair at most
+-- there is at most one least pair
 same_pair : (e f : TimerDeadline) → IsNoGreater e f → IsNoGreater f e → e.timer ≡ f.timer
 same_pair e f (inl a) (inl b) = absurd (omega arith)
 same_pair e f (inl a) (inr b) = absurd (omega (arith, b.0))

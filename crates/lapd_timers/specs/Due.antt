@@ -1,12 +1,12 @@
--- The timers of a side, and which of them is due: among the timers that run with a deadline at most now, the one whose
--- pair (deadline, timer) is the least.
+-- The timers of a side, and which of them is due: among the timers that run with a deadline at most
+-- now, the timer with the least pair (deadline, timer).
 use Rattle.std.specs.Prelude.{◌≡◌, ℕ, ◌+◌, ◌<◌, ◌≤◌, min, nat_le, if◌then◌else◌, Option, Some, None, ◌⊎◌}
 use Rattle.lapd_timers.specs.declared.timer.Timer.{Timer}
 use Rattle.lapd_timers.specs.declared.timer.Timer.TheVariants.{T200, T201, T202, T203}
 use Rattle.lapd_timers.specs.declared.timer_set.TimerDeadline.{TimerDeadline}
 use Rattle.lapd_timers.specs.Durations.{Lengths}
 
--- how long each timer runs, and the deadline of each that runs, in milliseconds
+-- how long each timer runs, and the deadline of each running timer, in milliseconds
 pub record Timers : Type 0 where
   pub durations : Lengths
   pub t200 : Option ℕ
@@ -14,7 +14,7 @@ pub record Timers : Type 0 where
   pub t202 : Option ℕ
   pub t203 : Option ℕ
 
--- as they are made: none runs
+-- new timers: none runs
 abbrev pub at_rest : Lengths → Timers
 at_rest durations = record {
   durations = durations;
@@ -30,14 +30,14 @@ deadline_of T201 s = s.t201
 deadline_of T202 s = s.t202
 deadline_of T203 s = s.t203
 
--- the same, but for the deadline of one timer
+-- the same timers, with another deadline of one timer
 abbrev pub with_deadline : Timer → Option ℕ → Timers → Timers
 with_deadline T200 deadline s = record s { t200 = deadline }
 with_deadline T201 deadline s = record s { t201 = deadline }
 with_deadline T202 deadline s = record s { t202 = deadline }
 with_deadline T203 deadline s = record s { t203 = deadline }
 
--- the last moment that can be told, and the deadline of a timer that is started now
+-- the greatest moment, and the deadline of a timer that is started now
 abbrev pub last_moment : ℕ
 last_moment = 18446744073709551615
 
@@ -56,12 +56,13 @@ pub record HasExpired (now : ℕ) (s : Timers) (e : TimerDeadline) : Type 0 wher
   pub runs : deadline_of e.timer s ≡ Some e.deadline
   pub is_past : e.deadline ≤ now
 
--- one pair is no greater than another: its deadline is less, or the same and its timer comes no later in the order
+-- One pair is no greater than another: its deadline is less, or its deadline is the same and its
+-- timer is not later in the order.
 abbrev pub IsNoGreater : TimerDeadline → TimerDeadline → Type 0
 IsNoGreater e f = (e.deadline < f.deadline) ⊎ ((e.deadline ≡ f.deadline)
     × (place e.timer ≤ place f.timer))
 
--- the least of some pairs, or none where there are none
+-- the least of some pairs, if there are any
 abbrev pub IsLeast : (TimerDeadline → Type 0) → Option TimerDeadline → Type 0
 IsLeast Among None = (f : TimerDeadline) → Among f → ⊥
 IsLeast Among (Some e) = Among e × ((f : TimerDeadline) → Among f → IsNoGreater e f)
@@ -70,13 +71,14 @@ abbrev pub timer_of : Option TimerDeadline → Option Timer
 timer_of None = None
 timer_of (Some e) = Some e.timer
 
--- the timer that is due now, where one is
+-- the timer that is due now, if there is one
 pub record IsDue (now : ℕ) (s : Timers) (timer : Option Timer) : Type 0 where
   pub least : Option TimerDeadline
   pub is_least : IsLeast (HasExpired now s) least
   pub is_its : timer ≡ timer_of least
 
--- of the least so far and the deadline of one timer more, where it runs and is past
+-- the lesser of the least pair so far and the pair of one more timer, if that timer runs and has
+-- expired
 abbrev pub sooner_of : Option TimerDeadline → TimerDeadline → Option TimerDeadline
 sooner_of None e = Some e
 sooner_of (Some least) e = if nat_le least.deadline e.deadline then Some least else Some e

@@ -3,7 +3,7 @@ use Rattle.std.specs.Prelude.{ℕ, ◌≤◌, ◌&&◌, nat_le, if◌then◌else
 use Rattle.lapd_timers.specs.declared.timer.Timer.{Timer}
 use Rattle.lapd_timers.specs.declared.timer.Timer.TheVariants.{T200, T201, T202, T203}
 
--- in milliseconds
+-- all in milliseconds
 pub record Lengths : Type 0 where
   pub t200 : ℕ
   pub t201 : ℕ
@@ -24,7 +24,7 @@ pub record AreInRange (l : Lengths) : Type 0 where
   pub t203_low : 1 ≤ l.t203
   pub t203_high : l.t203 ≤ 3600000
 
--- these four, where each is in its range
+-- these four durations, if each is in its range
 abbrev pub lengths_of : ℕ → ℕ → ℕ → ℕ → Option Lengths
 lengths_of t200 t201 t202 t203 =
     if is_length t200 && (is_length t201 && (is_length t202 && is_length t203))

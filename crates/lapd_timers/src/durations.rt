@@ -4,7 +4,7 @@ ghost use Rattle.lapd_timers.specs.Durations.{is_length, lengths_of, standard_le
 use crate::Timer;
 use std::marker::Model;
 
-/// The longest that a timer may run, in milliseconds: an hour.
+/// The greatest duration of a timer, in milliseconds: an hour.
 const LONGEST: u32 = 3_600_000;
 
 /// How long each timer runs, in milliseconds (Q.921 5.9).
@@ -34,7 +34,7 @@ impl Model for Durations {
 }
 
 impl Durations {
-    /// These durations in milliseconds, each from 1 to 3,600,000. `None` where one is out of its range.
+    /// These durations in milliseconds, each from 1 to 3,600,000. `None` if one is out of range.
     pub fn new(t200: u32, t201: u32, t202: u32, t203: u32) -> Option<Durations>
         ensures { result ≡ lengths_of t200 t201 t202 t203 }
     {
@@ -50,7 +50,7 @@ impl Durations {
         }
     }
 
-    /// What Q.921 5.9 gives: T200 and T201 run a second, T202 two and T203 ten.
+    /// The defaults of Q.921 5.9: one second for T200 and T201, two for T202, ten for T203.
     pub fn standard() -> Durations
         ensures { result ≡ standard_lengths }
     {
@@ -77,7 +77,7 @@ impl Durations {
     }
 }
 
-/// Whether a timer may run so long.
+/// Whether this is a valid duration of a timer.
 fn is_in_range(duration: u32) -> bool
     ensures { result ≡ is_length duration }
 {

@@ -1,7 +1,8 @@
 //! The timers of a data link and of its management, after ITU-T Q.921 (09/97), clause 5.9.
 //!
-//! [`Timer`] names the four of them, [`Durations`] says how long each runs, and [`TimerSet`] which of them run and which
-//! is due: begin there. It has no clock: the moment is handed in, in milliseconds.
+//! Begin with [`TimerSet`]: it says which timers run and which is due. [`Timer`] names the four
+//! timers, and [`Durations`] says how long each runs. There is no clock here: the caller passes the
+//! moment, in milliseconds.
 #![tactic(auto)]
 
 mod durations;

@@ -6,13 +6,13 @@ use std::fmt;
 /// A timer (Q.921 5.9, Table 9).
 #[derive(Clone, Copy, Debug, PartialEq, Eq)]
 pub enum Timer {
-    /// How long an answer is waited for before a frame is sent again (Q.921 5.9.1).
+    /// How long to wait for a response before a frame is retransmitted (Q.921 5.9.1).
     T200,
-    /// The least time between two checks of a terminal endpoint identifier (Q.921 5.9.6).
+    /// The least time between two TEI identity checks (Q.921 5.9.6).
     T201,
-    /// The least time between two requests for a terminal endpoint identifier (Q.921 5.9.7).
+    /// The least time between two TEI identity requests (Q.921 5.9.7).
     T202,
-    /// The longest time without a frame exchanged, in an established link (Q.921 5.9.8).
+    /// The longest time without an exchange of frames on an established link (Q.921 5.9.8).
     T203,
 }
 

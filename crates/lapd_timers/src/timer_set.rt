@@ -5,8 +5,8 @@ ghost use Rattle.lapd_timers.specs.Due.{at_rest, deadline_of, with_deadline, dea
 use crate::{Durations, Timer};
 use std::marker::Model;
 
-/// The timers of one link, or of TEI management: which of them run, and until when. A moment is a number of milliseconds;
-/// the caller's clock says from when on.
+/// The timers of one link, or of TEI management: which of them run, and until when. A moment is a
+/// number of milliseconds; the caller's clock defines its origin.
 #[derive(Clone, Copy, Debug, PartialEq, Eq)]
 pub struct TimerSet {
     durations: Durations,
@@ -46,7 +46,7 @@ struct TimerDeadline {
 }
 
 impl TimerSet {
-    /// Timers that run so long when they are started. None runs yet.
+    /// Makes timers with these durations. None runs yet.
     pub fn new(durations: Durations) -> TimerSet
         ensures { result ≡ at_rest durations }
     {
@@ -66,7 +66,8 @@ impl TimerSet {
         self.durations
     }
 
-    /// Starts the timer anew, at the moment `now`. Its deadline is `now` and its duration, at most the greatest `u64`.
+    /// Starts or restarts the timer at the moment `now`. Its deadline is `now` plus its duration,
+    /// at most the greatest `u64`.
     pub fn start(&mut self, timer: Timer, now: u64)
         ensures { self.new ≡ with_deadline timer (Some
             (deadline_from now (length_of timer self.old.durations))) self.old }
@@ -75,21 +76,21 @@ impl TimerSet {
         self.set_deadline(timer, Some(now.saturating_add(u64::from(duration))));
     }
 
-    /// Stops the timer. One that does not run stays so.
+    /// Stops the timer, if it runs.
     pub fn stop(&mut self, timer: Timer)
         ensures { self.new ≡ with_deadline timer None self.old }
     {
         self.set_deadline(timer, None);
     }
 
-    /// Whether the timer runs. One whose deadline is past runs until it is stopped or started.
+    /// Whether the timer runs. After its deadline it still runs, until it is stopped or started.
     pub fn running(&self, timer: Timer) -> bool
         ensures { result ≡ is_some (deadline_of timer self.now) }
     {
         self.deadline(timer).is_some()
     }
 
-    /// The deadline of the timer, `None` where it does not run.
+    /// The deadline of the timer; `None` if it does not run.
     pub fn deadline(&self, timer: Timer) -> Option<u64>
         ensures { result ≡ deadline_of timer self.now }
     {
@@ -101,9 +102,9 @@ impl TimerSet {
         }
     }
 
-    /// The timer that is due at the moment `now`: of those that run with a deadline at most `now` the one with the least
-    /// deadline, and of several with the same the first of T200, T201, T202, T203. The caller does what it calls for, and
-    /// stops it or starts it anew.
+    /// The timer that is due at the moment `now`: among those that run with a deadline at most
+    /// `now`, the one with the least deadline; if several have the same, the first of T200, T201,
+    /// T202, T203. The caller then handles its expiry, and stops or restarts it.
     pub fn due(&self, now: u64) -> Option<Timer>
         ensures { IsDue now self.now result }
     {
@@ -126,7 +127,8 @@ impl TimerSet {
     }
 }
 
-/// The lesser of the least so far and the pair of this timer, where it runs and its deadline is at most `now`.
+/// The lesser of the least pair so far and this timer's pair, if the timer runs and its deadline is
+/// at most `now`.
 fn sooner(
     least: Option<TimerDeadline>,
     timer: Timer,

@@ -1,4 +1,4 @@
--- The line of the octets that a frame is written as is that of the frame.
+-- The line for the octets of a frame is the line for the frame.
 use Rattle.std.proofs.Common.{◌≡◌, ◌++◌, length, None, Result, ap}
 use Rattle.lapd_frame.specs.declared.Side.{Side}
 use Rattle.lapd_frame.specs.declared.FrameFault.{FrameFault}

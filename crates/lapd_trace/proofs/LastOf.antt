@@ -3,7 +3,7 @@ use Rattle.std.proofs.Common.{◌≡◌, ℕ, ◌+◌, ◌-◌, List, [], ◌∷
 use Rattle.std.proofs.lemmas.List.{drop-append-le, drop-drop, drop-map, length-drop, length-append, length-map, map-append}
 use Rattle.lapd_trace.specs.KeptLines.{last_of}
 
--- of the last n lines and one more, the last n are the last n of them all
+-- the last n lines of the last n and one new line are the last n lines of all
 pub last_of_more : (n : ℕ) (lines : List (List ℕ)) (line : List ℕ)
     → last_of n (last_of n lines ++ line ∷ []) ≡ last_of n (lines ++ line ∷ [])
 last_of_more n lines line =
@@ -15,7 +15,7 @@ last_of_more n lines line =
     omega (arith, length-append (drop first lines) (line ∷ []), length-append lines (line ∷ []), length-drop first lines) in
     ap (λ (t : List (List ℕ)). drop more t) (sym kept) ∙ drop-drop more first grown ∙ ap (λ (k : ℕ). drop k grown) place
 
--- the octets of the last texts are the last of all their octets
+-- the octets of the last texts are the last of the octets of all texts
 pub last_octets : {Text : Type 0} (octets : Text → List ℕ) (n : ℕ) (texts : List Text) (text : Text)
     → map octets (drop (length (texts ++ text ∷ []) - n) (texts ++ text ∷ [])) ≡ last_of n (map octets texts ++ octets text ∷ [])
 last_octets octets n texts text =

@@ -1,4 +1,4 @@
--- What a history shows: its room and the lines that it keeps.
+-- A history's room and the lines that it keeps.
 use Rattle.std.specs.Prelude.{ℕ, ◌-◌, List, length, drop}
 
 pub record KeptLines : Type 0 where

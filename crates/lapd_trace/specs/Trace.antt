@@ -1,4 +1,4 @@
--- The line of text that octets are in a trace: a frame by the names of its fields, or a fault.
+-- The line of text for octets in a trace: a frame by the names of its fields, or a fault.
 use Rattle.std.specs.Prelude.{ℕ, Bool, true, false, List, [], ◌∷◌, ◌++◌, codes, Result, Ok, Err}
 use Rattle.std.specs.Fmt.{decimal}
 use Rattle.hex.specs.Hex.{encode_lower}
@@ -36,7 +36,7 @@ abbrev pub address_text : Address → List ℕ
 address_text a = codes "SAPI " ++ (decimal (sapi_value a.sapi)
     ++ (codes " TEI " ++ (decimal a.tei ++ role_text a.role)))
 
--- each control field (Q.921 Table 5), in a frame of this role
+-- each control field (Q.921 Table 5), in a frame with this role
 abbrev pub control_text : Role → Control → List ℕ
 control_text role (I ns nr p) = codes "I N(S)="
     ++ (decimal ns ++ (codes " N(R)=" ++ (decimal nr ++ poll_text role p)))
@@ -51,7 +51,7 @@ control_text role (Ua f) = codes "UA" ++ poll_text role f
 control_text role (Frmr f) = codes "FRMR" ++ poll_text role f
 control_text role (Xid pf) = codes "XID" ++ poll_text role pf
 
--- these octets in hexadecimal behind these words, where there are any
+-- these words, then these octets in hexadecimal; nothing if there are no octets
 abbrev pub octets_text : List ℕ → List ℕ → List ℕ
 octets_text words [] = []
 octets_text words (octet ∷ octets) = words ++ encode_lower (octet ∷ octets)
@@ -69,6 +69,6 @@ abbrev pub text_of : List ℕ → Result Fields FrameFault → List ℕ
 text_of octets (Ok frame) = frame_text frame
 text_of octets (Err fault) = fault_name fault.kind ++ octets_text (codes " ") octets
 
--- the line of octets that this side sent
+-- the line for octets that this side sent
 abbrev pub trace_line : Side → List ℕ → List ℕ
 trace_line from octets = direction_text from ++ text_of octets (frame_at from octets)

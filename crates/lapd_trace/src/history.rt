@@ -29,8 +29,8 @@ impl Model for History {
 }
 
 impl History {
-    /// An empty history that keeps the last `n` lines, 1 to 1,024. It takes the memory of its `n` places now, and no
-    /// more later.
+    /// Makes an empty history that keeps the last `n` lines, 1 to 1,024. It allocates its `n`
+    /// places now, and no more later.
     pub fn new(alloc: Global, n: usize) -> Result<History, AllocError>
         requires least { 1 ≤ n }
         requires most { n ≤ 1024 }
@@ -41,21 +41,21 @@ impl History {
         })
     }
 
-    /// Puts a line behind the others. Where the history is full, the oldest line is dropped.
+    /// Appends a line. If the history is full, the oldest line is dropped.
     pub fn push(&mut self, line: String)
         ensures push { self.new ≡ record self.old {
           lines = last_of self.old.room
               (self.old.lines ++ string_bytes line ∷ []);
         } }
 
-        // So it keeps the last of all lines that were pushed.
+        // It keeps the last of all lines that were pushed.
         ensures all { (pushed : List (List ℕ)) → self.old.lines ≡ last_of self.old.room pushed
             → self.new.lines ≡ last_of self.old.room (pushed ++ string_bytes line ∷ []) }
     {
         self.lines.push_back(line);
     }
 
-    /// The lines that it keeps, from the oldest.
+    /// The lines that it keeps, oldest first.
     pub fn lines(&self) -> Lines<'_>
         ensures { result ≡ self.now.lines }
     {

@@ -1,9 +1,11 @@
 //! Frames of the ISDN D channel (ITU-T Q.921) as lines of text, and a history of the last lines.
 //!
-//! Begin with [`line`]: it takes any octets and who sent them, and gives the text of the frame, or of the first fault
-//! where they are none. [`push_line`] appends it to a text, and [`line_of`] gives that of a frame that is there. [`push_octets`] appends the digits of any octets. [`History`] keeps the last lines of a trace in
-//! room that is taken once, and [`Lines`] goes over them from the oldest. Rows of lines for every frame and fault stand
-//! in `lapd_link_tests`.
+//! Begin with [`line`]: it takes any octets and who sent them, and returns the text of the frame,
+//! or of the first fault if they do not form a valid frame. [`push_line`] appends this line to a
+//! text, and [`line_of`] returns the line of a [`lapd_frame::Frame`]. [`push_octets`] appends the
+//! digits of any octets. [`History`] keeps the last lines of a trace in room that is allocated
+//! once, and [`Lines`] iterates over them, oldest first. `lapd_link_tests` has tables of lines for
+//! every frame and fault.
 #![tactic(auto)]
 
 mod history;

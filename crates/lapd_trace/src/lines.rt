@@ -3,7 +3,7 @@ ghost use Rattle.std.specs.Iterator.{YieldsFirstBy, item_count};
 use circular_buffer::Iter;
 use std::marker::Model;
 
-/// The lines of a history, from the oldest.
+/// The lines of a history, oldest first.
 #[derive(Drop)]
 pub struct Lines<'a> {
     pub(crate) rest: Iter<'a, String>,

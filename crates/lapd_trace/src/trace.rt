@@ -9,18 +9,20 @@ ghost use Rattle.lapd_trace.specs.Trace.{trace_line, frame_line, frame_text, dir
 use lapd_frame::{Address, Control, Frame, N201, Number, Role, Sapi, Side};
 use std::alloc::{AllocError, Global};
 
-/// The greatest length of a line, in octets of text, beside two digits for each octet of the frame. An I frame with
-/// information, SAPI 16 or 63 and numbers of three digits has it.
+/// The greatest length of a line, in octets of text, less two digits for each octet of the frame.
+/// An I frame with information, SAPI 16 or 63 and numbers of three digits has this length.
 const MOST_BESIDE_DIGITS: usize = 43;
 
-/// How many octets of address and control field a frame has at most.
+/// The most octets that the address and control field of a frame have.
 const MOST_FIELD_OCTETS: usize = 4;
 
-/// How many octets are few, such as those of a short message.
+/// The most octets whose digits are written through the small buffer, such as those of a short
+/// message.
 const FEW: usize = 32;
 
-/// The line of text for `bytes`, which `from` sent: a frame by the names and values of its fields, or the first fault
-/// and the octets. For the user's frames it begins with `U>N`, for the network's with `N>U`.
+/// The line of text for `bytes`, which `from` sent: a frame by the names and values of its fields,
+/// or the first fault and the octets. For the user's frames it begins with `U>N`, for the network's
+/// with `N>U`.
 ///
 /// ```text
 /// N>U SAPI 0 TEI 64 C RR N(R)=0 P=1
@@ -28,11 +30,11 @@ const FEW: usize = 32;
 /// U>N F3 SapiNotServed 04817f
 /// ```
 ///
-/// It takes the room of the line once, with at most 43 octets to spare.
+/// It allocates the line once, with at most 43 octets to spare.
 ///
 /// # Errors
 ///
-/// `AllocError` where there was no memory for the line.
+/// `AllocError` if the line cannot be allocated.
 pub fn line(alloc: Global, from: Side, bytes: &[u8]) -> Result<String, AllocError>
     ensures { IfOk result (λ s. string_bytes s ≡ trace_line from bytes.now) }
 {
@@ -41,11 +43,12 @@ pub fn line(alloc: Global, from: Side, bytes: &[u8]) -> Result<String, AllocErro
     Ok(text)
 }
 
-/// Appends the line of text for `bytes`, which `from` sent, as [`line`] gives it. So one text serves for many lines.
+/// Appends the line of text for `bytes`, which `from` sent, as [`line`] returns it, so one text can
+/// be used for many lines.
 ///
 /// # Errors
 ///
-/// `AllocError` where there was no memory for the line. A front of it may have been appended.
+/// `AllocError` if an allocation fails. The first part of the line may have been appended.
 pub fn push_line(
     alloc: Global,
     text: &mut String,
@@ -65,17 +68,17 @@ pub fn push_line(
     }
 }
 
-/// The line of text for a frame that `from` sends: that of the frame's octets, which need not be there.
+/// The line of text for a frame that `from` sends: the line of its octets, without writing them.
 ///
-/// It takes the room of the line once.
+/// It allocates the line once.
 ///
 /// # Errors
 ///
-/// `AllocError` where there was no memory for the line.
+/// `AllocError` if the line cannot be allocated.
 pub fn line_of(alloc: Global, from: Side, frame: &Frame<'_>) -> Result<String, AllocError>
     ensures line { IfOk result (λ s. string_bytes s ≡ frame_line from frame.now) }
 
-    // It is the line of the octets that the frame is written as.
+    // The line is that of the frame's octets.
     ensures spelled { IsFrame frame.now
         → IfOk result (λ s. string_bytes s ≡ trace_line from (spelling from frame.now)) }
 {
@@ -86,7 +89,7 @@ pub fn line_of(alloc: Global, from: Side, frame: &Frame<'_>) -> Result<String, A
     Ok(text)
 }
 
-/// An empty text, with room for a line that has the digits of so many octets.
+/// An empty text, with room for a line with the digits of this many octets.
 fn line_room(alloc: Global, octets: usize) -> Result<String, AllocError>
     ensures { IfOk result (λ s. string_bytes s ≡ []) }
 {
@@ -169,11 +172,11 @@ fn push_unnumbered(text: &mut String, name: &str, poll: &str) -> Result<(), Allo
     text.push_str(poll)
 }
 
-/// Appends these words and octets in lower case hexadecimal, or nothing where there are no octets.
+/// Appends these words and the octets in lower case hexadecimal, or nothing if there are no octets.
 ///
 /// # Errors
 ///
-/// `AllocError` where there was no memory for it. A front of it may have been appended.
+/// `AllocError` if an allocation fails. The first part may have been appended.
 pub fn push_octets(
     alloc: Global,
     text: &mut String,
@@ -193,8 +196,8 @@ pub fn push_octets(
     push_hex(text, octets)
 }
 
-/// Appends at most 260 octets in lower case hexadecimal. Their digits take no memory of their own, and the room for those of a
-/// few octets is a small one, as it is cleared first.
+/// Appends at most 260 octets in lower case hexadecimal. The digits are built on the stack. Few
+/// octets use a small buffer, since a buffer is cleared before it is used.
 fn push_hex(text: &mut String, octets: &[u8]) -> Result<(), AllocError>
     requires { length octets.now ≤ N201 }
     ensures { OnOk result (string_bytes text.new
@@ -207,7 +210,7 @@ fn push_hex(text: &mut String, octets: &[u8]) -> Result<(), AllocError>
     }
 }
 
-/// Appends octets in lower case hexadecimal, whose digits this has room for.
+/// Appends octets in lower case hexadecimal, through `room`, which has space for their digits.
 fn push_digits(text: &mut String, octets: &[u8], room: &mut [u8]) -> Result<(), AllocError>
     requires { 2 * length octets.now ≤ length room.old }
     ensures { OnOk result (string_bytes text.new
@@ -223,7 +226,7 @@ fn push_digits(text: &mut String, octets: &[u8], room: &mut [u8]) -> Result<(), 
     text.push_str(digits)
 }
 
-/// The first words of a line behind its direction, up to the TEI.
+/// The first words of a line after its direction, up to the TEI.
 fn sapi_words(sapi: Sapi) -> &'static str
     ensures { result.now ≡ codes "SAPI " ++ (decimal (sapi_value sapi) ++ codes " TEI ") }
 {
@@ -234,7 +237,7 @@ fn sapi_words(sapi: Sapi) -> &'static str
     }
 }
 
-/// Who sent a frame, and to whom.
+/// Who sent a frame, and to whom, in the words of a line.
 fn direction_name(from: Side) -> &'static str
     ensures { result.now ≡ direction_text from }
 {

@@ -9,7 +9,8 @@ use crate::machine::Machine;
 use lapd_frame::{Control, Role};
 use lapd_link_definition::{Letter, Out, State};
 
-/// What layer 3 is told of the end of a link: a release that was asked for is confirmed, any other is indicated.
+/// The primitive for the end of a link: a release that layer 3 requested is confirmed, any other is
+/// indicated.
 fn release_primitive(asked: bool) -> Out
     ensures { result ≡ release_primitive asked }
 {
@@ -24,7 +25,7 @@ fn release_primitive(asked: bool) -> Out
 impl Machine {
     ghost use Rattle.lapd_link_machine.specs.StandsFor.{Does, HasRoom, Grows};
 
-    /// A frame (Figure B.5).
+    /// Receives a frame (Figure B.5).
     pub(crate) fn awaiting_establishment_heard(
         &mut self,
         control: Control,
@@ -54,7 +55,8 @@ impl Machine {
         }
     }
 
-    /// DL-ESTABLISH request, not refused: layer 3 establishes, in place of the data link itself (Figure B.5).
+    /// DL-ESTABLISH request, not refused: layer 3 establishes, instead of the data link itself
+    /// (Figure B.5).
     pub(crate) fn awaiting_establishment_establish(&mut self, outs: &mut Outs)
         requires room { HasRoom 1 outs.old }
         ensures step { Does self.old outs.old self.new outs.new (awaiting_establishment Establish) }
@@ -65,7 +67,7 @@ impl Machine {
         self.layer3_initiated_to(true);
     }
 
-    /// DL-RELEASE request: the release waits for the answer to the SABME (Figure B.5).
+    /// DL-RELEASE request: the release is pending until the response to the SABME (Figure B.5).
     pub(crate) fn awaiting_establishment_release(&mut self, outs: &mut Outs)
         requires room { HasRoom 1 outs.old }
         ensures step { Does self.old outs.old self.new outs.new (awaiting_establishment Release) }
@@ -75,7 +77,7 @@ impl Machine {
         self.release_pending_to(true);
     }
 
-    /// UA with F=1 (Figure B.5).
+    /// Receives a UA with F=1 (Figure B.5).
     fn ua_final(&mut self, outs: &mut Outs)
         requires room { HasRoom 4 outs.old }
         ensures step { Does self.old outs.old self.new outs.new ua_final }
@@ -96,8 +98,8 @@ impl Machine {
         }
     }
 
-    /// Layer 3 is told that the link is established as it asked for, or, where messages are lost, that it was
-    /// established again (Figure B.5).
+    /// Confirms to layer 3 the establishment that it requested. Otherwise, if messages are lost,
+    /// indicates to it that the link was re-established (Figure B.5).
     fn confirm_or_indicate(&mut self, outs: &mut Outs)
         requires room { HasRoom 2 outs.old }
         ensures step { Does self.old outs.old self.new outs.new confirm_or_indicate }
@@ -110,7 +112,7 @@ impl Machine {
         }
     }
 
-    /// T200 expires: the SABME is sent again, N200 times at most (Figure B.5).
+    /// T200 expires: the SABME is retransmitted, N200 times at most (Figure B.5).
     pub(crate) fn awaiting_establishment_t200(&mut self, outs: &mut Outs)
         requires room { HasRoom 3 outs.old }
         ensures step { Does self.old outs.old self.new outs.new awaiting_establishment_t200 }

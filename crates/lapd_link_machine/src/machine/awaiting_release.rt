@@ -12,7 +12,7 @@ use lapd_link_definition::{Letter, Out, State};
 impl Machine {
     ghost use Rattle.lapd_link_machine.specs.StandsFor.{Does, HasRoom, Grows};
 
-    /// A frame (Figure B.6).
+    /// Receives a frame (Figure B.6).
     pub(crate) fn awaiting_release_heard(&mut self, control: Control, role: Role, outs: &mut Outs)
         requires room { HasRoom 6 outs.old }
         ensures step { Does self.old outs.old self.new outs.new
@@ -44,7 +44,7 @@ impl Machine {
         self.state_to(State::TeiAssigned);
     }
 
-    /// T200 expires: the DISC is sent again, N200 times at most (Figure B.6).
+    /// T200 expires: the DISC is retransmitted, N200 times at most (Figure B.6).
     pub(crate) fn awaiting_release_t200(&mut self, outs: &mut Outs)
         requires room { HasRoom 2 outs.old }
         ensures step { Does self.old outs.old self.new outs.new awaiting_release_t200 }

@@ -1,4 +1,4 @@
-//! Where an establishment begins (Q.921 5.5.1.2).
+//! The steps in which an establishment begins (Q.921 5.5.1.2).
 
 ghost use Rattle.std.specs.Prelude.{◌≡◌, []};
 ghost use Rattle.lapd_link_definition.specs.Begins.{is_sabme, is_final_ua, begins};
@@ -10,7 +10,7 @@ use crate::machine::Machine;
 use lapd_frame::{Control, Role};
 use lapd_link_definition::{Event, State};
 
-/// A SABME.
+/// Whether a frame is a SABME command.
 fn is_sabme(control: &Control, role: Role) -> bool
     ensures { result ≡ is_sabme (Heard control.now role) }
 {
@@ -20,7 +20,7 @@ fn is_sabme(control: &Control, role: Role) -> bool
     }
 }
 
-/// The answer to a SABME.
+/// Whether a frame is a UA with F=1, the response to a SABME.
 fn is_final_ua(control: &Control, role: Role) -> bool
     ensures { result ≡ is_final_ua (Heard control.now role) }
 {

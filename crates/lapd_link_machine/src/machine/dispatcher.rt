@@ -1,4 +1,4 @@
-//! The row of the state table for each event, in whatever state the link is.
+//! The row of the state table for each event, in any state of the link.
 
 ghost use Rattle.std.specs.Prelude.{◌≡◌, false};
 ghost use Rattle.lapd_mod128.specs.Counting.{Tagged};
@@ -24,7 +24,7 @@ fn fault_letter(kind: FaultKind) -> Letter
     }
 }
 
-/// UI.
+/// Whether a frame is a UI command.
 fn is_unit_data(control: &Control, role: Role) -> bool
     ensures { result ≡ is_unit_data control.now role }
 {
@@ -39,7 +39,7 @@ impl Machine {
     ghost use Rattle.lapd_link_machine.specs.Sent.{IsBetweenSteps};
     ghost use Rattle.lapd_link_machine.specs.StandsFor.{Does, HasRoom, Grows};
 
-    /// An event.
+    /// Makes the row of an event.
     #[inline(always)]
     pub(crate) fn row(&mut self, event: Event, outs: &mut Outs)
         requires room { HasRoom 6 outs.old }
@@ -62,7 +62,7 @@ impl Machine {
         }
     }
 
-    /// A frame.
+    /// Makes the row of a received frame.
     #[inline(always)]
     fn heard(&mut self, control: Control, role: Role, outs: &mut Outs)
         requires room { HasRoom 6 outs.old }
@@ -78,7 +78,7 @@ impl Machine {
         }
     }
 
-    /// A frame that is not UI.
+    /// Makes the row of a received frame other than a UI command.
     fn heard_by_state(&mut self, control: Control, role: Role, outs: &mut Outs)
         requires room { HasRoom 6 outs.old }
         requires between { IsBetweenSteps self.old }
@@ -95,7 +95,7 @@ impl Machine {
         }
     }
 
-    /// A fault in a frame is reported, and breaks an established link.
+    /// Reports a fault in a frame, which breaks an established link.
     fn fault(&mut self, kind: FaultKind, outs: &mut Outs)
         requires room { HasRoom 6 outs.old }
         ensures step { Does self.old outs.old self.new outs.new
@@ -114,7 +114,7 @@ impl Machine {
         }
     }
 
-    /// T200 expires, where it runs.
+    /// T200 expires, if it runs.
     fn t200_expiry(&mut self, outs: &mut Outs)
         requires room { HasRoom 6 outs.old }
         requires between { IsBetweenSteps self.old }
@@ -127,7 +127,7 @@ impl Machine {
         }
     }
 
-    /// T200 has run and expires.
+    /// T200, which was running, expires.
     fn t200_expiry_by_state(&mut self, outs: &mut Outs)
         requires room { HasRoom 6 outs.old }
         requires between { IsBetweenSteps self.old }
@@ -144,7 +144,7 @@ impl Machine {
         }
     }
 
-    /// T203 expires, where it runs.
+    /// T203 expires, if it runs.
     fn t203_expiry(&mut self, outs: &mut Outs)
         requires room { HasRoom 6 outs.old }
         ensures step { Does self.old outs.old self.new outs.new
@@ -156,7 +156,7 @@ impl Machine {
         }
     }
 
-    /// T203 has run and expires.
+    /// T203, which was running, expires.
     fn t203_expiry_by_state(&mut self, outs: &mut Outs)
         requires room { HasRoom 6 outs.old }
         ensures step { Does self.old outs.old self.new outs.new

@@ -1,4 +1,5 @@
-//! The end of a step: messages go out while the window is open, and then the acknowledgement that is still pending.
+//! The end of a step: messages are sent while the window is open, and then the acknowledgement that
+//! is still pending.
 
 ghost use Rattle.std.specs.Prelude.{◌≡◌, ◌≤◌, ◌<◌, ◌+◌, List, true, length, false};
 ghost use Rattle.arrayvec.specs.ArrayVec.{array_vec_len};
@@ -18,7 +19,7 @@ impl Machine {
     ghost use Rattle.lapd_link_machine.specs.Bounds.{told_count};
     ghost use Rattle.lapd_link_machine.specs.StandsFor.{StandsFor, Does, Grows};
 
-    /// The end of a step.
+    /// Ends a step.
     #[inline(always)]
     pub fn end_step(&mut self, outs: &mut Outs)
         requires room { array_vec_len outs.old ≤ 6 }
@@ -33,7 +34,7 @@ impl Machine {
         self.counts_by_tags();
     }
 
-    /// Messages go out, in state 7, while the window is open.
+    /// Sends messages, in state 7, while the window is open.
     #[inline(always)]
     fn send_all(&mut self, outs: &mut Outs)
         requires room { array_vec_len outs.old ≤ 6 }
@@ -50,7 +51,7 @@ impl Machine {
         }
     }
 
-    /// Whether one more goes out.
+    /// Whether one more message is sent.
     fn may_send_next(&self) -> bool
         ensures shown { (s : StepState) (outs : List Out) → StandsFor self.now outs s
             → result ≡ may_send_next Tagged s }
@@ -63,7 +64,7 @@ impl Machine {
             && self.window.may_send(self.params.k())
     }
 
-    /// The acknowledgement that is pending goes out.
+    /// Sends the pending acknowledgement.
     fn acknowledge_pending(&mut self, outs: &mut Outs)
         requires room { array_vec_len outs.old ≤ 135 }
         ensures step { Does self.old outs.old self.new outs.new acknowledge_pending }
@@ -75,7 +76,7 @@ impl Machine {
         }
     }
 
-    /// V(S), V(A) and V(R) are tags (Q.921 3.5.2.1), as their type says. It does nothing when it is called.
+    /// V(S), V(A) and V(R) are tags (Q.921 3.5.2.1), as their type says. Calling it has no effect.
     #[inline(always)]
     fn counts_by_tags(&self)
         ensures { AreTags self.now.window }

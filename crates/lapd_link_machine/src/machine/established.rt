@@ -1,4 +1,5 @@
-//! The rows of state 7, multiple frame established (Q.921 Figure B.7), and those that it has in common with state 8.
+//! The rows of state 7, multiple frame established (Q.921 Figure B.7), and the rows that it shares
+//! with state 8.
 
 ghost use Rattle.std.specs.Prelude.{◌≡◌, ◌<◌, ◌==◌, true, false, IfSome, IfNone};
 ghost use Rattle.lapd_mod128.specs.Counting.{Tagged};
@@ -14,7 +15,7 @@ use lapd_link_definition::{Letter, Out, Recovery, State};
 use lapd_supervision::{Advance, Window};
 use lapd_timers::Timer;
 
-/// The rows that states 7 and 8 have in common.
+/// The rows that states 7 and 8 share.
 #[tactic(auto, using(crate::proofs::Rows::then_row, crate::proofs::Rows::else_row), unfolding(lapd_link_definition::specs::Established::in_7_and_8, lapd_link_definition::specs::Established::busy_on, lapd_link_definition::specs::Established::busy_off))]
 impl Machine {
     ghost use Rattle.lapd_link_machine.specs.StandsFor.{Does, HasRoom, Grows};
@@ -45,7 +46,7 @@ impl Machine {
         self.state_to(State::AwaitingRelease);
     }
 
-    /// Own receiver busy begins, where that is new (Figures B.7 and B.8).
+    /// Own receiver busy begins, if it was not set (Figures B.7 and B.8).
     pub(crate) fn busy_on(&mut self, outs: &mut Outs)
         requires room { HasRoom 1 outs.old }
         ensures step { Does self.old outs.old self.new outs.new busy_on }
@@ -67,7 +68,7 @@ impl Machine {
         }
     }
 
-    /// A frame that is taken alike in both states (Figures B.7 and B.8).
+    /// Receives a frame that both states handle alike (Figures B.7 and B.8).
     pub(crate) fn in_7_and_8_heard(&mut self, control: Control, role: Role, outs: &mut Outs)
         requires room { HasRoom 6 outs.old }
         ensures step { Does self.old outs.old self.new outs.new (in_7_and_8 (Heard control role)) }
@@ -89,7 +90,7 @@ impl Machine {
         }
     }
 
-    /// SABME: the peer establishes the link again (Figures B.7 and B.8).
+    /// SABME: the peer re-establishes the link (Figures B.7 and B.8).
     fn established_sabme(&mut self, p: bool, outs: &mut Outs)
         requires room { HasRoom 6 outs.old }
         ensures step { Does self.old outs.old self.new outs.new
@@ -128,7 +129,7 @@ impl Machine {
     ghost use Rattle.lapd_link_machine.specs.Sent.{SentAreOutstanding};
     ghost use Rattle.lapd_link_machine.specs.StandsFor.{Does, HasRoom, Grows};
 
-    /// A frame (Figure B.7).
+    /// Receives a frame (Figure B.7).
     #[inline(always)]
     pub(crate) fn established_heard(&mut self, control: Control, role: Role, outs: &mut Outs)
         requires room { HasRoom 6 outs.old }
@@ -164,7 +165,7 @@ impl Machine {
         }
     }
 
-    /// An I frame (Figure B.7).
+    /// Receives an I frame (Figure B.7).
     #[inline(always)]
     fn established_i_frame(&mut self, ns: Number, nr: Number, p: bool, role: Role, outs: &mut Outs)
         requires room { HasRoom 6 outs.old }
@@ -182,7 +183,7 @@ impl Machine {
         }
     }
 
-    /// DM (Figure B.7).
+    /// Receives a DM (Figure B.7).
     fn established_dm(&mut self, f: bool, role: Role, outs: &mut Outs)
         requires room { HasRoom 4 outs.old }
         ensures step { Does self.old outs.old self.new outs.new
@@ -199,7 +200,7 @@ impl Machine {
         }
     }
 
-    /// A command with P=1 is answered, and a response with F=1 was not asked for (Figure B.7).
+    /// A command with P=1 is answered, and a response with F=1 is unsolicited (Figure B.7).
     fn poll_or_final(&mut self, role: Role, pf: bool, outs: &mut Outs)
         requires room { HasRoom 1 outs.old }
         ensures step { Does self.old outs.old self.new outs.new (poll_or_final role pf) }
@@ -213,7 +214,7 @@ impl Machine {
         }
     }
 
-    /// T203 expires: the peer is asked how far it is (Figure B.7).
+    /// T203 expires: an enquiry is sent (Figure B.7).
     pub(crate) fn established_t203(&mut self, outs: &mut Outs)
         requires room { HasRoom 2 outs.old }
         ensures step { Does self.old outs.old self.new outs.new
@@ -226,7 +227,7 @@ impl Machine {
         self.state_to(State::TimerRecovery);
     }
 
-    /// T200 expires: the last I frame goes out again, or the peer is asked how far it is (Figure B.7).
+    /// T200 expires: the last I frame is retransmitted, or an enquiry is sent (Figure B.7).
     pub(crate) fn established_t200(&mut self, outs: &mut Outs)
         requires room { HasRoom 2 outs.old }
         requires counted { SentAreOutstanding self.old }
@@ -246,7 +247,8 @@ impl Machine {
         }
     }
 
-    /// The recovery is the last message, the peer is not busy, and a message is outstanding.
+    /// Whether T200 retransmits the last message: the recovery is `LastMessage`, the peer is not
+    /// busy, and a message is outstanding.
     #[tactic(auto, using(crate::proofs::Outstanding::some_are_sent))]
     fn sends_last(&self) -> bool
         requires counted { SentAreOutstanding self.now }
@@ -264,13 +266,13 @@ impl Machine {
     }
 }
 
-/// State 7, what an N(R) does.
+/// State 7, the effect of an N(R).
 #[tactic(auto, using(crate::proofs::Rows::then_row, crate::proofs::Rows::else_row), unfolding(lapd_link_definition::specs::Established::acknowledge_with_timers, lapd_link_definition::specs::Established::i_frame_nr, lapd_link_definition::specs::Established::rr_nr, lapd_link_definition::specs::Established::rej_nr, lapd_link_definition::specs::Established::rnr_nr))]
 impl Machine {
     ghost use Rattle.lapd_link_machine.specs.Sent.{SentAreOutstanding, IsTaken};
     ghost use Rattle.lapd_link_machine.specs.StandsFor.{Does, HasRoom, Grows};
 
-    /// What a valid N(R) leaves of the window, and what it acknowledges. Nothing is done yet.
+    /// The window after a valid N(R), and what it acknowledges. The machine is unchanged.
     #[inline(always)]
     pub(crate) fn acknowledged_by(&self, nr: Number) -> Option<(Window, Advance)>
         ensures valid { IfSome result (λ taken. IsTaken nr self.now.window taken) }
@@ -279,14 +281,14 @@ impl Machine {
         self.window.take_nr(nr)
     }
 
-    /// It acknowledges nothing new.
+    /// Whether this N(R) acknowledges nothing new.
     fn acknowledges_nothing_new(&self, nr: Number) -> bool
         ensures { result ≡ (nr == self.now.window.va) }
     {
         nr.value() == self.window.va().value()
     }
 
-    /// The N(R) of an I frame; while the peer is busy, T200 goes on (Figure B.7).
+    /// Processes the N(R) of an I frame; while the peer is busy, T200 keeps running (Figure B.7).
     #[inline(always)]
     fn i_frame_nr(&mut self, nr: Number, outs: &mut Outs)
         requires room { HasRoom 4 outs.old }
@@ -306,7 +308,7 @@ impl Machine {
         }
     }
 
-    /// The N(R) of an RR frame (Figure B.7).
+    /// Processes the N(R) of an RR frame (Figure B.7).
     #[inline(always)]
     fn rr_nr(&mut self, nr: Number, outs: &mut Outs)
         requires room { HasRoom 4 outs.old }
@@ -320,7 +322,8 @@ impl Machine {
         }
     }
 
-    /// A valid N(R), and T200 and T203 by whether it acknowledges all, nothing new, or some (Figure B.7).
+    /// Processes a valid N(R), and T200 and T203 by whether it acknowledges all, nothing new, or
+    /// some (Figure B.7).
     #[inline(always)]
     fn acknowledge_with_timers(&mut self, nr: Number, taken: (Window, Advance), outs: &mut Outs)
         requires room { HasRoom 3 outs.old }
@@ -340,7 +343,7 @@ impl Machine {
         }
     }
 
-    /// The N(R) of a REJ frame (Figure B.7).
+    /// Processes the N(R) of a REJ frame (Figure B.7).
     fn rej_nr(&mut self, nr: Number, outs: &mut Outs)
         requires room { HasRoom 4 outs.old }
         requires counted { SentAreOutstanding self.old }
@@ -358,7 +361,7 @@ impl Machine {
         }
     }
 
-    /// The N(R) of an RNR frame (Figure B.7).
+    /// Processes the N(R) of an RNR frame (Figure B.7).
     fn rnr_nr(&mut self, nr: Number, outs: &mut Outs)
         requires room { HasRoom 4 outs.old }
         requires counted { SentAreOutstanding self.old }

@@ -1,5 +1,5 @@
-//! The actions of the state table, and the procedures of Q.921 Figure B.9, each a method that does to a machine what the
-//! action does to an end.
+//! The actions of the state table, and the procedures of Q.921 Figure B.9. Each is a method with
+//! the effect of the action on an end.
 
 ghost use Rattle.std.specs.Prelude.{◌≡◌, ◌≤◌, ◌<◌, ◌+◌, ◌==◌, length, if◌then◌else◌, true, OnOk, OnErr, IfErr, is_err};
 ghost use Rattle.arrayvec.specs.ArrayVec.{array_vec_len};
@@ -15,14 +15,14 @@ use lapd_link_definition::{Letter, Out, State};
 use lapd_supervision::{Advance, Window};
 use lapd_timers::Timer;
 
-/// Actions that set one thing.
+/// Actions that set one value.
 #[tactic(auto, unfolding(lapd_link_definition::specs::Procedures::put, lapd_link_definition::specs::Procedures::state_to, lapd_link_definition::specs::Procedures::rc_to, lapd_link_definition::specs::Procedures::increment_rc, lapd_link_definition::specs::Procedures::layer3_initiated_to, lapd_link_definition::specs::Procedures::release_pending_to, lapd_link_definition::specs::Procedures::start, lapd_link_definition::specs::Procedures::stop, lapd_link_definition::specs::Procedures::expired))]
 impl Machine {
     ghost use Rattle.lapd_link_machine.specs.Sent.{SentAreOutstanding, IsTaken};
     ghost use Rattle.lapd_link_machine.specs.Bounds.{told_count};
     ghost use Rattle.lapd_link_machine.specs.StandsFor.{Does, DoesQuietly, HasRoom, Grows};
 
-    /// An output.
+    /// Adds an output.
     pub(crate) fn put(&mut self, out: Out, outs: &mut Outs)
         requires room { HasRoom 1 outs.old }
         ensures step { Does self.old outs.old self.new outs.new (put out) }
@@ -32,7 +32,7 @@ impl Machine {
         push(outs, out);
     }
 
-    /// The state.
+    /// Sets the state.
     pub(crate) fn state_to(&mut self, state: State)
         ensures step { DoesQuietly self.old self.new (state_to state) }
         ensures state { self.new.state ≡ state }
@@ -40,14 +40,14 @@ impl Machine {
         self.state = state;
     }
 
-    /// RC.
+    /// Sets RC.
     pub(crate) fn rc_to(&mut self, rc: u8)
         ensures step { DoesQuietly self.old self.new (rc_to rc) }
     {
         self.rc = rc;
     }
 
-    /// RC is one more.
+    /// Increments RC.
     pub(crate) fn increment_rc(&mut self)
         requires { self.old.rc < 255 }
         ensures step { DoesQuietly self.old self.new increment_rc }
@@ -55,7 +55,7 @@ impl Machine {
         self.rc += 1;
     }
 
-    /// Whether layer 3 initiated the establishment.
+    /// Sets whether layer 3 initiated the establishment.
     pub(crate) fn layer3_initiated_to(&mut self, on: bool)
         ensures step { DoesQuietly self.old self.new (layer3_initiated_to on) }
         ensures state { self.new.state ≡ self.old.state }
@@ -63,14 +63,14 @@ impl Machine {
         self.layer3_initiated = on;
     }
 
-    /// Whether a release waits.
+    /// Sets whether a release is pending.
     pub(crate) fn release_pending_to(&mut self, on: bool)
         ensures step { DoesQuietly self.old self.new (release_pending_to on) }
     {
         self.release_pending = on;
     }
 
-    /// START T200: it runs anew.
+    /// START T200: it is started or restarted.
     pub(crate) fn start_t200(&mut self, outs: &mut Outs)
         requires room { HasRoom 1 outs.old }
         ensures step { Does self.old outs.old self.new outs.new (start Timer.T200) }
@@ -83,7 +83,7 @@ impl Machine {
         push(outs, Out::Start(Timer::T200));
     }
 
-    /// STOP T200: stopped where it runs.
+    /// STOP T200: it is stopped if it runs.
     pub(crate) fn stop_t200(&mut self, outs: &mut Outs)
         requires room { HasRoom 1 outs.old }
         ensures step { Does self.old outs.old self.new outs.new (stop Timer.T200) }
@@ -95,7 +95,7 @@ impl Machine {
         }
     }
 
-    /// T200 has expired.
+    /// T200 has expired, so it no longer runs.
     pub(crate) fn expired_t200(&mut self)
         ensures queue { self.new.queue ≡ self.old.queue }
         ensures step { DoesQuietly self.old self.new (expired Timer.T200) }
@@ -103,7 +103,7 @@ impl Machine {
         self.t200 = false;
     }
 
-    /// START T203: it runs anew.
+    /// START T203: it is started or restarted.
     pub(crate) fn start_t203(&mut self, outs: &mut Outs)
         requires room { HasRoom 1 outs.old }
         ensures step { Does self.old outs.old self.new outs.new (start Timer.T203) }
@@ -113,7 +113,7 @@ impl Machine {
         push(outs, Out::Start(Timer::T203));
     }
 
-    /// STOP T203: stopped where it runs.
+    /// STOP T203: it is stopped if it runs.
     pub(crate) fn stop_t203(&mut self, outs: &mut Outs)
         requires room { HasRoom 1 outs.old }
         ensures step { Does self.old outs.old self.new outs.new (stop Timer.T203) }
@@ -127,7 +127,7 @@ impl Machine {
         }
     }
 
-    /// T203 has expired.
+    /// T203 has expired, so it no longer runs.
     pub(crate) fn expired_t203(&mut self)
         ensures step { DoesQuietly self.old self.new (expired Timer.T203) }
     {
@@ -142,7 +142,7 @@ impl Machine {
     ghost use Rattle.lapd_link_machine.specs.Bounds.{told_count};
     ghost use Rattle.lapd_link_machine.specs.StandsFor.{Does, DoesQuietly, HasRoom, Grows};
 
-    /// CLEAR EXCEPTION CONDITIONS: busy, rejecting and a pending acknowledgement are forgotten.
+    /// CLEAR EXCEPTION CONDITIONS: clears busy, rejecting and a pending acknowledgement.
     pub(crate) fn clear_exception_conditions(&mut self)
         ensures step { DoesQuietly self.old self.new clear_exception_conditions }
     {
@@ -164,7 +164,7 @@ impl Machine {
         self.window = self.window.peer(on);
     }
 
-    /// SET or CLEAR OWN RECEIVER BUSY, of which the peer is told.
+    /// SET or CLEAR OWN RECEIVER BUSY, and report it to the peer.
     pub(crate) fn set_own_busy(&mut self, on: bool, outs: &mut Outs)
         requires room { HasRoom 1 outs.old }
         ensures step { Does self.old outs.old self.new outs.new (set_own_busy on) }
@@ -187,7 +187,7 @@ impl Machine {
         push(outs, Out::Send(Role::Answer, control));
     }
 
-    /// TRANSMIT ENQUIRY: the peer is asked how far it is.
+    /// TRANSMIT ENQUIRY: polls the peer, and starts T200.
     pub(crate) fn transmit_enquiry(&mut self, outs: &mut Outs)
         requires room { HasRoom 2 outs.old }
         ensures step { Does self.old outs.old self.new outs.new transmit_enquiry }
@@ -200,7 +200,7 @@ impl Machine {
         push(outs, Out::Start(Timer::T200));
     }
 
-    /// The pending acknowledgement goes out.
+    /// Sends the pending acknowledgement.
     pub(crate) fn transmit_rr(&mut self, outs: &mut Outs)
         requires room { HasRoom 1 outs.old }
         ensures step { Does self.old outs.old self.new outs.new transmit_rr }
@@ -212,7 +212,7 @@ impl Machine {
         push(outs, Out::Send(Role::Answer, control));
     }
 
-    /// The N(S) and P of an I frame.
+    /// Processes the N(S) and P of an I frame.
     #[inline(always)]
     pub(crate) fn i_frame_ns(&mut self, ns: Number, p: bool, outs: &mut Outs)
         requires room { HasRoom 2 outs.old }
@@ -238,7 +238,7 @@ impl Machine {
     ghost use Rattle.lapd_link_machine.specs.Bounds.{told_count};
     ghost use Rattle.lapd_link_machine.specs.StandsFor.{Does, DoesQuietly, HasRoom, Grows};
 
-    /// A message joins the queue, or is handed back where the queue is full.
+    /// Queues a message, or returns it if the queue is full.
     #[inline(always)]
     pub fn queue_up(&mut self, message: Vec<u8>) -> Result<(), Vec<u8>>
         ensures full { is_err result ≡ (length self.old.queue.messages == self.old.queue.room) }
@@ -262,7 +262,7 @@ impl Machine {
         }
     }
 
-    /// V(A) = N(R): what lies before a valid N(R), which was taken, is acknowledged and leaves the queue.
+    /// V(A) = N(R): the messages before a valid N(R) are acknowledged and removed from the queue.
     #[inline(always)]
     pub(crate) fn acknowledge(&mut self, nr: Number, taken: (Window, Advance), outs: &mut Outs)
         requires room { HasRoom 1 outs.old }
@@ -279,7 +279,7 @@ impl Machine {
         }
     }
 
-    /// INVOKE RETRANSMISSION: what is left is to be sent again, from this number on.
+    /// INVOKE RETRANSMISSION: the remaining messages are to be retransmitted, from this number on.
     pub(crate) fn invoke_retransmission(&mut self, nr: Number)
         ensures step { DoesQuietly self.old self.new (invoke_retransmission nr) }
     {
@@ -287,7 +287,8 @@ impl Machine {
         self.queue.go_back();
     }
 
-    /// DISCARD I QUEUE and an indication of the establishment, where messages were sent and not acknowledged.
+    /// DISCARD I QUEUE and an indication of the establishment, if messages were sent and not
+    /// acknowledged.
     pub(crate) fn discard_unacknowledged(&mut self, outs: &mut Outs)
         requires room { HasRoom 2 outs.old }
         ensures step { Does self.old outs.old self.new outs.new discard_unacknowledged }
@@ -299,7 +300,7 @@ impl Machine {
         }
     }
 
-    /// The first unsent message goes out.
+    /// Sends the first unsent message.
     pub(crate) fn transmit_i_frame(&mut self, outs: &mut Outs)
         requires room { HasRoom 1 outs.old }
         requires unsent { self.old.queue.sent < length self.old.queue.messages }
@@ -317,12 +318,12 @@ impl Machine {
     }
 }
 
-/// The last sent message goes out again.
+/// The last sent message is retransmitted.
 #[tactic(auto, using(crate::proofs::Tails::tail_last_place), unfolding(lapd_link_definition::specs::Procedures::retransmit_last_i_frame))]
 impl Machine {
     ghost use Rattle.lapd_link_machine.specs.StandsFor.{Does, HasRoom, Grows};
 
-    /// With P=1, and T200 is started.
+    /// Retransmits it with P=1, and starts T200.
     pub(crate) fn retransmit_last_i_frame(&mut self, outs: &mut Outs)
         requires room { HasRoom 2 outs.old }
         requires sent { 0 < self.old.queue.sent }
@@ -338,14 +339,14 @@ impl Machine {
     }
 }
 
-/// T200 guards what was sent.
+/// T200 runs while sent frames are outstanding.
 #[tactic(auto, using(crate::proofs::Guards::guard_starts, crate::proofs::Guards::guard_runs))]
 impl Machine {
     ghost use Rattle.lapd_link_machine.specs.Sent.{SentAreOutstanding, IsTaken};
     ghost use Rattle.lapd_link_machine.specs.Bounds.{told_count};
     ghost use Rattle.lapd_link_machine.specs.StandsFor.{Does, DoesQuietly, HasRoom, Grows};
 
-    /// Where T200 does not run, T203 is stopped and it is started.
+    /// If T200 does not run, stops T203 and starts T200.
     pub(crate) fn ensure_t200(&mut self, outs: &mut Outs)
         requires room { array_vec_len outs.old + (if self.old.t200 then 0 else 2) ≤ MOST_OUTPUTS }
         ensures step { Does self.old outs.old self.new outs.new ensure_t200 }
@@ -362,12 +363,12 @@ impl Machine {
     }
 }
 
-/// Procedures made of these.
+/// Procedures made of these actions.
 #[tactic(auto, unfolding(lapd_link_definition::specs::Procedures::establish_data_link, lapd_link_definition::specs::Procedures::reestablish_data_link, lapd_link_definition::specs::Procedures::nr_error_recovery))]
 impl Machine {
     ghost use Rattle.lapd_link_machine.specs.StandsFor.{Does, HasRoom, Grows};
 
-    /// ESTABLISH DATA LINK: a SABME is sent, and its answer awaited.
+    /// ESTABLISH DATA LINK: sends a SABME, whose response is then awaited.
     pub(crate) fn establish_data_link(&mut self, outs: &mut Outs)
         requires room { HasRoom 3 outs.old }
         ensures step { Does self.old outs.old self.new outs.new establish_data_link }
@@ -393,7 +394,7 @@ impl Machine {
         self.establish_data_link(outs);
     }
 
-    /// N(R) ERROR RECOVERY: an N(R) that is not valid.
+    /// N(R) ERROR RECOVERY: the response to an N(R) that is not valid.
     pub(crate) fn nr_error_recovery(&mut self, outs: &mut Outs)
         requires room { HasRoom 4 outs.old }
         ensures step { Does self.old outs.old self.new outs.new nr_error_recovery }

@@ -1,4 +1,4 @@
-//! What is refused, in the order in which it is looked for.
+//! The requests that are refused, in the order in which they are checked.
 
 ghost use Rattle.std.specs.Prelude.{◌≡◌, [], ℕ, List, Bool, Some, None, length, MatchOption, ◌==◌};
 ghost use Rattle.lapd_link_definition.specs.End.{End, begin};
@@ -9,8 +9,8 @@ use crate::machine::Machine;
 use lapd_frame::N201;
 use lapd_link_definition::{Event, LinkFault, State};
 
-/// Why a message is refused whether or not the queue is full, by the state, whether a release waits, and whether layer 3
-/// initiated the establishment.
+/// Why a message is refused whether or not the queue is full, by the state, whether a release is
+/// pending, and whether layer 3 initiated the establishment.
 fn give_refused(state: State, release_pending: bool, layer3_initiated: bool) -> Option<LinkFault>
     ensures { (full : Bool) → MatchOption result
         (give_refused state release_pending layer3_initiated full ≡ refused_when_full full)
@@ -47,7 +47,7 @@ fn establish_refused(state: State, release_pending: bool) -> Option<LinkFault>
     }
 }
 
-/// More octets than a frame carries.
+/// Why this many octets of information are refused: more than a frame carries.
 fn refused_when_long(len: usize) -> Option<LinkFault>
     ensures { result ≡ refused_when_long len }
 {
@@ -80,7 +80,7 @@ impl Machine {
         }
     }
 
-    /// Why a message of so many octets is refused, whether or not the queue is full.
+    /// Why a message of this many octets is refused, whether or not the queue is full.
     pub fn refuses_message(&self, len: usize) -> Option<LinkFault>
         ensures { (message : List ℕ) (e : End) → length message ≡ len
             → StandsFor self.now [] (begin e) → MatchOption result

@@ -1,4 +1,4 @@
-//! A step from end to end.
+//! A whole step.
 
 ghost use Rattle.std.specs.Prelude.{◌≡◌, [], IfOk};
 ghost use Rattle.lapd_mod128.specs.Counting.{Tagged};
@@ -21,7 +21,7 @@ impl Machine {
     ghost use Rattle.lapd_link_machine.specs.Sent.{IsBetweenSteps};
     ghost use Rattle.lapd_link_machine.specs.StandsFor.{StandsFor};
 
-    /// A machine in state 4.
+    /// Makes a machine in state 4. It allocates its I queue.
     pub fn new(alloc: Global, params: Params) -> Result<Machine, AllocError>
         ensures end { IfOk result (λ m. StandsFor m [] (begin (new_end params))) }
         ensures between { IfOk result IsBetweenSteps }
@@ -40,7 +40,7 @@ impl Machine {
         })
     }
 
-    /// A step that is not refused: its row, and what ends it.
+    /// A step that is not refused: its row, and the end of the step.
     #[inline(always)]
     pub fn step(&mut self, event: Event, outs: &mut Outs)
         requires empty { outs.old.items ≡ [] }

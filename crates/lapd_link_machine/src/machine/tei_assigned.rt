@@ -20,7 +20,7 @@ pub fn unsolicited_ua(f: bool) -> Letter
 impl Machine {
     ghost use Rattle.lapd_link_machine.specs.StandsFor.{Does, HasRoom, Grows};
 
-    /// A frame (Figure B.4).
+    /// Receives a frame (Figure B.4).
     pub(crate) fn tei_assigned_heard(&mut self, control: Control, role: Role, outs: &mut Outs)
         requires room { HasRoom 6 outs.old }
         ensures step { Does self.old outs.old self.new outs.new

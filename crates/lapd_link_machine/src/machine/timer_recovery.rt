@@ -1,4 +1,4 @@
-//! The rows of state 8, timer recovery (Q.921 Figure B.8), that state 7 has otherwise.
+//! The rows of state 8, timer recovery (Q.921 Figure B.8), that differ from state 7.
 
 ghost use Rattle.std.specs.Prelude.{◌≡◌};
 ghost use Rattle.lapd_mod128.specs.Counting.{Tagged};
@@ -10,7 +10,7 @@ use crate::machine::Machine;
 use lapd_frame::{Control, Number, Role};
 use lapd_link_definition::{Letter, Out, State};
 
-/// A response with F=1 answers the enquiry.
+/// Whether a frame is a response with F=1, which answers the enquiry.
 fn is_final(role: Role, pf: bool) -> bool
     ensures { result ≡ is_final role pf }
 {
@@ -25,7 +25,7 @@ impl Machine {
     ghost use Rattle.lapd_link_machine.specs.Sent.{SentAreOutstanding};
     ghost use Rattle.lapd_link_machine.specs.StandsFor.{Does, HasRoom, Grows};
 
-    /// A frame (Figure B.8).
+    /// Receives a frame (Figure B.8).
     pub(crate) fn timer_recovery_heard(&mut self, control: Control, role: Role, outs: &mut Outs)
         requires room { HasRoom 6 outs.old }
         requires counted { SentAreOutstanding self.old }
@@ -60,7 +60,7 @@ impl Machine {
         }
     }
 
-    /// An I frame (Figure B.8).
+    /// Receives an I frame (Figure B.8).
     fn timer_recovery_i_frame(
         &mut self,
         ns: Number,
@@ -84,7 +84,7 @@ impl Machine {
         }
     }
 
-    /// DM (Figure B.8).
+    /// Receives a DM (Figure B.8).
     fn timer_recovery_dm(&mut self, f: bool, role: Role, outs: &mut Outs)
         requires room { HasRoom 4 outs.old }
         ensures step { Does self.old outs.old self.new outs.new
@@ -104,7 +104,7 @@ impl Machine {
         }
     }
 
-    /// A command with P=1 is answered (Figure B.8).
+    /// Answers a command with P=1 (Figure B.8).
     fn poll(&mut self, role: Role, pf: bool, outs: &mut Outs)
         requires room { HasRoom 1 outs.old }
         ensures step { Does self.old outs.old self.new outs.new (poll role pf) }
@@ -117,7 +117,7 @@ impl Machine {
         }
     }
 
-    /// The N(R) of an I frame (Figure B.8).
+    /// Processes the N(R) of an I frame (Figure B.8).
     fn i_frame_nr_in_recovery(&mut self, nr: Number, outs: &mut Outs)
         requires room { HasRoom 4 outs.old }
         requires counted { SentAreOutstanding self.old }
@@ -130,7 +130,7 @@ impl Machine {
         }
     }
 
-    /// The N(R) of an RR or REJ frame; a final ends the recovery (Figure B.8).
+    /// Processes the N(R) of an RR or REJ frame; a final ends the recovery (Figure B.8).
     fn rr_nr_in_recovery(&mut self, last: bool, nr: Number, outs: &mut Outs)
         requires room { HasRoom 4 outs.old }
         requires counted { SentAreOutstanding self.old }
@@ -153,7 +153,7 @@ impl Machine {
         }
     }
 
-    /// The N(R) of an RNR frame; a final ends the recovery (Figure B.8).
+    /// Processes the N(R) of an RNR frame; a final ends the recovery (Figure B.8).
     fn rnr_nr_in_recovery(&mut self, last: bool, nr: Number, outs: &mut Outs)
         requires room { HasRoom 4 outs.old }
         requires counted { SentAreOutstanding self.old }
@@ -176,7 +176,7 @@ impl Machine {
         }
     }
 
-    /// T200 expires: the enquiry is sent again, N200 times at most (Figure B.8).
+    /// T200 expires: the enquiry is retransmitted, N200 times at most (Figure B.8).
     pub(crate) fn timer_recovery_t200(&mut self, outs: &mut Outs)
         requires room { HasRoom 4 outs.old }
         ensures step { Does self.old outs.old self.new outs.new timer_recovery_t200 }

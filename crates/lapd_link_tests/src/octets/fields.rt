@@ -1,11 +1,11 @@
-//! Numbers, and the address and control fields, over all octets (Q.921 3.3 to 3.6). What each is called is told by the rows of
-//! frames.
+//! Numbers, and the address and control fields, over all octets (Q.921 3.3 to 3.6). The rows of
+//! frames test their names.
 
 use lapd_frame::FieldFault::{BadAddress, SapiNotServed, TooShort, Undefined};
 use lapd_frame::{Address, Control, Number, Role, Sapi, Side, Tei};
 use lapd_mod128::Seq;
 
-/// Whether a value of seven bits is a counter, a number and a TEI, and one of eight bits is none of them.
+/// Whether a value is accepted as a counter, a number and a TEI exactly if it is at most 127.
 fn has_seven_bits(value: u8) -> bool {
     match (Seq::new(value), Number::new(value), Tei::new(value)) {
         (Some(counter), Some(number), Some(tei)) => {
@@ -16,7 +16,7 @@ fn has_seven_bits(value: u8) -> bool {
     }
 }
 
-/// Whether a value is a service access point that is served, or none.
+/// Whether a value is read as a service access point exactly if it is served.
 fn is_served(value: u8) -> bool {
     let served = match value {
         0 => Some(Sapi::Call),
@@ -30,8 +30,8 @@ fn is_served(value: u8) -> bool {
     }
 }
 
-/// Whether two octets are an address of this side: EA is 0 in the first and 1 in the second, the SAPI is served, and C/R is 1 in
-/// commands of the network and responses of the user.
+/// Whether two octets are an address of this side: EA is 0 in the first and 1 in the second, the
+/// SAPI is served, and C/R is 1 in commands of the network and responses of the user.
 fn is_address(octets: [u8; 2], from: Side) -> bool {
     let [first, second] = octets;
     let extends = first % 2 == 0 && second % 2 == 1;
@@ -50,8 +50,8 @@ fn is_address(octets: [u8; 2], from: Side) -> bool {
     }
 }
 
-/// Whether a control field is read of two octets as of more, and of one alone where that is the field of a U frame; and is
-/// written as it was.
+/// Whether a control field is read from two octets as from more, and from the first alone if it is
+/// the field of a U frame; and whether it is written unchanged.
 fn is_control(octets: [u8; 2]) -> bool {
     let [first, second] = octets;
     let alone = Control::read(&[first]);
@@ -64,7 +64,7 @@ fn is_control(octets: [u8; 2]) -> bool {
     is_alone && more == Control::read(&octets) && is_written(octets)
 }
 
-/// Whether the field that two octets begin with is written as it was, or they begin with none.
+/// Whether the field at the front of two octets is written unchanged, or there is no field.
 fn is_written(octets: [u8; 2]) -> bool {
     match Control::read(&octets) {
         Ok((field, length)) => octets.get(..length) == Some(field.write().as_slice()),
@@ -72,11 +72,11 @@ fn is_written(octets: [u8; 2]) -> bool {
     }
 }
 
-/// How many pairs of octets begin with a control field: those of the I frames, of three S frames, and of seven U frames with P/F
-/// of 0 and 1.
+/// How many pairs of octets begin with a control field: I frames, three S frames, and seven U
+/// frames with P/F 0 and 1.
 const FIELDS: u32 = 128 * 256 + 3 * 256 + 14 * 256;
 
-/// What is wrong of values and of pairs of octets.
+/// The first wrong result for values and pairs of octets.
 pub(crate) fn wrong() -> Option<&'static str> {
     let mut fields = 0u32;
     for number in 0..65_536u32 {

@@ -1,5 +1,5 @@
-//! Octets, the frames that they are, and the first fault of octets that are none (Q.921 2.9, 3.3 to 3.6, Table 5), as lines of
-//! text.
+//! Octets, the frames in them, and the first fault of octets that do not form a valid frame (Q.921
+//! 2.9, 3.3 to 3.6, Table 5), as lines of text.
 
 use crate::text::{Subject, Text, split, with_octets, wrong_row};
 use lapd_frame::{
@@ -9,8 +9,9 @@ use lapd_frame::{
 use lapd_trace::line;
 use std::alloc::Global;
 
-/// Octets in hexadecimal, and their lines, which tell who sent them; behind the line of a fault that is of a link, its address.
-/// First each control field of each role with each value of the P/F bit.
+/// Octets in hexadecimal, and their lines, which begin with who sent them; the line of a fault for
+/// a link is followed by its address. First each control field with each role and each value of the
+/// P/F bit.
 const LINES: &str = "\
 00810204 | U>N SAPI 0 TEI 64 C I N(S)=1 N(R)=2 P=0
 0081feff | U>N SAPI 0 TEI 64 C I N(S)=127 N(R)=127 P=1
@@ -229,7 +230,7 @@ faff7f | U>N F3 SapiNotServed faff7f
 00810100aa+260*aa | U>N F6 WrongSize 00810100aa+260*aa | SAPI 0 TEI 64 C
 ";
 
-/// The octets of a row of text, and what it says of them.
+/// The octets of a row, and the expected text.
 #[derive(Drop)]
 struct Octets {
     alloc: Global,
@@ -249,7 +250,7 @@ impl Subject for Octets {
     }
 }
 
-/// Whether octets are what a row says of them, behind ` | `.
+/// Whether the line of octets is the text of a row after ` | `.
 fn is_so(alloc: Global, row: &str) -> bool {
     let (digits, told) = split(row, " | ");
     match hex::decode(alloc, digits) {
@@ -258,7 +259,8 @@ fn is_so(alloc: Global, row: &str) -> bool {
     }
 }
 
-/// Whether the line of these octets is this one, and what is read of them is a frame, or a fault with the address behind ` | `.
+/// Whether the line of these octets is this text, and they are read as a frame, or as a fault with
+/// the address after ` | `.
 fn are_so(alloc: Global, octets: &[u8], told: &str) -> bool {
     let (text, address) = split(told, " | ");
     let from = if text.starts_with("U") {
@@ -269,7 +271,7 @@ fn are_so(alloc: Global, octets: &[u8], told: &str) -> bool {
     prints(alloc, from, octets, text) && is_read(octets, from, address)
 }
 
-/// Whether the line of these octets is this text, and memory was taken for it once.
+/// Whether the line of these octets is this text, and is allocated once.
 fn prints(alloc: Global, from: Side, octets: &[u8], text: &str) -> bool {
     match line(alloc, from, octets) {
         Ok(printed) => {
@@ -280,8 +282,8 @@ fn prints(alloc: Global, from: Side, octets: &[u8], text: &str) -> bool {
     }
 }
 
-/// Whether these octets are a frame that is written as them, as is the one made of the fields in them; or have a fault with this
-/// address, for which nothing is made of these fields.
+/// Whether these octets are a frame that is written as the same octets, as is the frame made of its
+/// fields; or have a fault with this address, and no frame is made of their fields.
 fn is_read(octets: &[u8], from: Side, address: &str) -> bool {
     match (read(octets, from), made(octets, from)) {
         (Ok(frame), Some(Ok(made))) => {
@@ -293,15 +295,15 @@ fn is_read(octets: &[u8], from: Side, address: &str) -> bool {
     }
 }
 
-/// Whether the frame is written as these octets, with nothing changed behind them.
+/// Whether the frame is written as these octets, and the octets after them are unchanged.
 fn is_written(frame: &Frame<'_>, from: Side, octets: &[u8]) -> bool {
     let mut out = [0x5a; MOST_OCTETS];
     let length = write(frame, from, &mut out);
     out.get(..length) == Some(octets) && out.get(length..) == [0x5a; MOST_OCTETS].get(length..)
 }
 
-/// The frame that is made of the fields in these octets, or why none is; `None` where they have neither an address nor a control
-/// field.
+/// The frame made of the fields in these octets, or its fault; `None` if they do not have both an
+/// address and a control field.
 fn made<'a>(octets: &'a [u8], from: Side) -> Option<Result<Frame<'a>, FaultKind>> {
     match octets {
         [first, second, behind @ ..] => {
@@ -321,7 +323,7 @@ fn made<'a>(octets: &'a [u8], from: Side) -> Option<Result<Frame<'a>, FaultKind>
     }
 }
 
-/// Whether a fault has this address, or none where there is no text.
+/// Whether a fault has this address, or no address if the text is empty.
 fn has_address(fault: &FrameFault, wanted: &str) -> bool {
     let mut text = Text::new();
     if let Some(address) = fault.address {
@@ -336,7 +338,7 @@ fn has_address(fault: &FrameFault, wanted: &str) -> bool {
     text.is(wanted)
 }
 
-/// What is wrong of frames.
+/// The first wrong row of frames.
 pub(crate) fn wrong(alloc: Global) -> Option<&'static str> {
     read_as_spelled();
     one_spelling();

@@ -1,4 +1,4 @@
-//! Histories of lines that overflow, and lines for which memory is refused.
+//! Histories of lines that overflow, and lines whose allocation fails.
 
 use crate::text::{Text, number_of};
 use crate::wants::none_is_wrong;
@@ -6,7 +6,7 @@ use lapd_trace::{History, Side, line};
 use std::alloc::{AllocError, Global};
 use std::test::Fail;
 
-/// Pushes the lines 0 to `pushed` - 1, and tells whether there is memory for them.
+/// Pushes the lines 0 to `pushed` - 1, and returns whether all allocations succeed.
 fn pushes_numbers(alloc: Global, history: &mut History, pushed: u16) -> bool {
     for number in 0..pushed {
         match number.to_string(alloc) {
@@ -29,7 +29,8 @@ fn holds_numbers(history: &History, first: u16, pushed: u16) -> bool {
     number == pushed
 }
 
-/// Whether a history of `room` lines, after the lines 0 to `pushed` - 1, keeps the last of them in order.
+/// Whether a history of `room` lines, after the lines 0 to `pushed` - 1, keeps the last of them in
+/// order.
 fn keeps_the_last(alloc: Global, room: u16, pushed: u16) -> bool {
     if room == 0 || room > 1024 {
         return false;
@@ -43,7 +44,7 @@ fn keeps_the_last(alloc: Global, room: u16, pushed: u16) -> bool {
     }
 }
 
-/// Histories by their room, and how many lines are pushed.
+/// Histories by their room, with the number of pushed lines.
 const HISTORIES: &[(&str, u16, u16)] = &[
     ("none of room for one", 1, 0),
     ("one of room for one", 1, 1),
@@ -65,9 +66,10 @@ pub(crate) fn wrong(alloc: Global) -> Option<&'static str> {
     None
 }
 
-// ---- Memory that is refused: `tools/refuse-memory` refuses each allocation of a run in turn (docs/DEVELOPING.md).
+// ---- Failed allocations: `tools/refuse-memory` makes each allocation of a run fail, one after
+// another (docs/DEVELOPING.md).
 
-/// Who sent octets, and their line: frames and faults for whose lines memory is taken once, and twice.
+/// Who sent octets, and their line: frames and faults whose lines need one allocation, and two.
 const TOLD: &[(Side, &[u8], &str)] = &[
     (Side::User, &[], "U>N F1 TooShort"),
     (
@@ -83,14 +85,14 @@ const TOLD: &[(Side, &[u8], &str)] = &[
     (Side::User, b"\x04\x81\x7f", "U>N F3 SapiNotServed 04817f"),
 ];
 
-/// How often memory was refused: to a line, and to a history.
+/// How often an allocation failed: of a line, and of a history.
 #[derive(Clone, Copy)]
 struct Refusals {
     lines: u32,
     histories: u32,
 }
 
-/// A line, at the second try where the first finds no memory.
+/// A line, at the second try if the first allocation fails.
 fn line_at_last(
     alloc: Global,
     from: Side,
@@ -106,7 +108,7 @@ fn line_at_last(
     }
 }
 
-/// A history of two lines, at the second try where the first finds no memory.
+/// A history of two lines, at the second try if the first allocation fails.
 fn history_at_last(alloc: Global, met: &mut Refusals) -> Result<History, AllocError> {
     match History::new(alloc, 2) {
         Ok(history) => Ok(history),
@@ -117,7 +119,7 @@ fn history_at_last(alloc: Global, met: &mut Refusals) -> Result<History, AllocEr
     }
 }
 
-/// Puts each line into a history, and tells whether each is the one that is wanted.
+/// Pushes each line into a history, and returns whether each is the expected one.
 fn pushes_told(alloc: Global, history: &mut History, met: &mut Refusals) -> bool {
     for (from, octets, text) in TOLD {
         match line_at_last(alloc, *from, octets, met) {
@@ -128,7 +130,7 @@ fn pushes_told(alloc: Global, history: &mut History, met: &mut Refusals) -> bool
     true
 }
 
-/// The lines of a history, one below the other.
+/// The lines of a history, as one text.
 fn lines_of(history: &History) -> Text {
     let mut lines = Text::new();
     for line in history.lines() {

@@ -1,4 +1,5 @@
-//! Links beside the state table as data: 200,000 drawn events, each done by the rows over plain numbers.
+//! Links compared with the state table as data: 200,000 random events, each also executed by the
+//! rows over plain numbers.
 
 mod events;
 mod plain;
@@ -13,10 +14,11 @@ use crate::wants::none_is_wrong;
 use std::alloc::Global;
 use std::test::Fail;
 
-/// How many events each link gets.
+/// How many random events each link receives.
 const EVENTS: u32 = 50_000;
 
-/// Draws an event, and does it with the link and by the table. Gives the event where the link does something else.
+/// Draws an event, and executes it on the link and by the table. Returns the event if the results
+/// differ.
 fn wrong_turn(
     table: &mut Table,
     link: &mut Driven,
@@ -34,7 +36,7 @@ fn wrong_turn(
     }
 }
 
-/// Draws events, and does each with the link and by the table.
+/// Draws events, and executes each on the link and by the table.
 fn wrong_event(table: &mut Table, link: &mut Driven, plain: &mut Plain) -> Option<&'static str> {
     let mut draws = Draws::new(921);
     for _ in 0..EVENTS {
@@ -46,7 +48,7 @@ fn wrong_event(table: &mut Table, link: &mut Driven, plain: &mut Plain) -> Optio
     None
 }
 
-/// Makes a link, and follows it.
+/// Makes a link, and compares it with the table.
 fn wrong_anew(alloc: Global, table: &mut Table, words: &str) -> Option<&'static str> {
     let mut plain = Plain::new(words.starts_with("network"), words.ends_with("last"));
     match Driven::new(alloc, words) {
@@ -55,7 +57,8 @@ fn wrong_anew(alloc: Global, table: &mut Table, words: &str) -> Option<&'static 
     }
 }
 
-/// Follows links of both sides and both recoveries by the table, each row of which is taken, and enough in each state.
+/// Compares links of both sides and both recoveries with the table. Each row must be used, and each
+/// state often enough.
 fn wrong_of(alloc: Global, table: &mut Table) -> Option<&'static str> {
     for words in [
         "network 127 3 200",
@@ -75,7 +78,7 @@ fn wrong_of(alloc: Global, table: &mut Table) -> Option<&'static str> {
     }
 }
 
-/// Reads the table, and follows links by it.
+/// Reads the table, and compares links with it.
 fn wrong(alloc: Global, table: &mut Table) -> Option<&'static str> {
     match wrong_row(table, TABLE) {
         None => wrong_of(alloc, table),

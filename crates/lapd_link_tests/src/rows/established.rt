@@ -1,4 +1,4 @@
-//! Rows of state 7, multiple frame established, with nothing to be acknowledged.
+//! Rows of state 7, multiple frame established, without messages to acknowledge.
 
 /// Each place with its rows.
 pub(super) fn rows() -> &'static str {

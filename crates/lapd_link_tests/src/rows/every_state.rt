@@ -1,6 +1,7 @@
-//! Rows that hold in every state, and those that hold wherever no link is established.
+//! Rows that hold in every state, and rows that hold in every state without an established link.
 
-/// Scripts that lead to each state, with and without layer 3, a release, messages and marks, and what they lead to.
+/// Scripts that lead to each state, with and without layer 3, a release, messages and conditions;
+/// and the condition that each leads to.
 pub(super) const NOT_ESTABLISHED: &str = "\
 state | 4
 establish; frame 02811f | 4 L3I

@@ -4,8 +4,9 @@ use crate::rows::Driven;
 use crate::text::{Subject, Text, split, with_octets, wrong_row};
 use std::alloc::Global;
 
-/// Scripts: a line `link side k n200 room` makes a new link, `event | outputs` is what an event calls for, and `= condition` how
-/// the link stands then. The other lines stand for many events, one for each number from 0 on.
+/// Scripts: a line `link side k n200 room` makes a new link, `event | outputs` is an event with its
+/// outputs, and `= condition` is the condition of the link then. The other lines repeat an event,
+/// once for each number from 0 on.
 const SCRIPTS: &str = "\
 # A user link with a window of three frames loses two messages, asks, and sends them again.
 link user 3 3 512
@@ -190,7 +191,7 @@ impl Subject for Driven {
 }
 
 impl Driven {
-    /// Makes a new link in its place.
+    /// Replaces the link by a new one.
     fn begins(&mut self, words: &str) -> bool {
         match Driven::new(self.alloc, words) {
             Some(link) => {
@@ -201,7 +202,7 @@ impl Driven {
         }
     }
 
-    /// Whether an event calls for outputs, `event | outputs`.
+    /// Whether an event has the outputs of a row `event | outputs`.
     fn plays(&mut self, row: &str) -> bool {
         match with_octets(self.alloc, row, "+260*aa", 260) {
             Some(row) => {
@@ -212,7 +213,8 @@ impl Driven {
         }
     }
 
-    /// So many messages of one octet are given, or come in I frames with N(R)=0 and P=0, whatever they call for.
+    /// Submits this many messages of one octet, or receives them in I frames with N(R)=0 and P=0,
+    /// and ignores the outputs.
     fn takes(&mut self, front: &str, count: u8) -> bool {
         let mut done = true;
         for number in 0..count {
@@ -222,7 +224,7 @@ impl Driven {
     }
 }
 
-/// The line by which the message of this number is given, or comes.
+/// The line that submits or receives the message with this number.
 fn message_line(front: &str, number: u8) -> Text {
     let mut line = Text::new();
     line.put(front);
@@ -233,7 +235,7 @@ fn message_line(front: &str, number: u8) -> Text {
     line
 }
 
-/// The first line of all scripts that is wrong.
+/// The first wrong line of all scripts.
 pub(super) fn wrong(alloc: Global) -> Option<&'static str> {
     match Driven::new(alloc, "user 1 1 1") {
         Some(mut link) => wrong_row(&mut link, SCRIPTS),

@@ -1,4 +1,4 @@
-//! Rows of state 7, multiple frame established, with messages that wait or are to be acknowledged.
+//! Rows of state 7, multiple frame established, with messages to send or to acknowledge.
 
 /// Each place with its rows.
 pub(super) fn rows() -> &'static str {

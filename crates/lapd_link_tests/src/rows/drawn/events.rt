@@ -1,12 +1,12 @@
-//! Events that are drawn, as lines of the command `answer`.
+//! Random events, as lines of the command `answer`.
 
 use crate::rows::drawn::plain::Plain;
 use crate::text::split;
 use rand_core::{Rng, SeedableRng};
 use rand_pcg::Pcg32;
 
-/// Events `event | then | line`, each drawn as often as it stands here. `then` is the event behind it, of a frame with N(R). What
-/// the letters of a line stand for is said by [`Plain::put_words`].
+/// Events `event | then | line`, each drawn as often as the list contains it. `then` is the event
+/// that follows a frame with N(R). [`Plain::put_words`] explains the letters of a line.
 const COMMON: &str = "\
 I | N(R) of I | frame _ c n N I
 I | N(R) of I | frame _ c n N I
@@ -83,13 +83,13 @@ give | - | give _ L
 unit | - | unit J
 unit | - | unit _ L";
 
-/// Information that is drawn.
+/// Information of random frames.
 const INFORMATION: &[&str] = &["", "00", "05aa", "0102ff"];
 
-/// An event of the table, and the event behind it.
+/// An event of the table, and the event that follows it.
 pub(super) type Drawn = (&'static str, &'static str);
 
-/// Of which events one is drawn, by number.
+/// The list of events with this number.
 fn events(number: u8) -> &'static str {
     match number {
         0 => ALL,
@@ -101,7 +101,7 @@ fn events(number: u8) -> &'static str {
     }
 }
 
-/// Draws of events: the random sequence, and the number of the events that are mostly drawn.
+/// Draws of events: the random sequence, and the number of the list that is mostly used.
 #[derive(Drop)]
 pub(super) struct Draws {
     random: Pcg32,
@@ -109,7 +109,7 @@ pub(super) struct Draws {
 }
 
 impl Draws {
-    /// Draws from this seed on.
+    /// Begins with this seed.
     pub(super) fn new(seed: u64) -> Draws {
         Draws {
             random: Pcg32::seed_from_u64(seed),
@@ -117,17 +117,17 @@ impl Draws {
         }
     }
 
-    /// A number below this one.
+    /// A random number below this one.
     fn below(&mut self, limit: u32) -> u32 {
         self.random.next_u32().checked_rem(limit).unwrap_or(0)
     }
 
-    /// A number below this one, at most 256.
+    /// A random number below this one, at most 256.
     fn octet_below(&mut self, limit: u8) -> u8 {
         (self.below(u32::from(limit)) & 0xff) as u8
     }
 
-    /// Draws an event for an end, which hears it, and puts its line together.
+    /// Draws an event for an end, sets the values of its frame, and composes its line.
     pub(super) fn draw(&mut self, plain: &mut Plain) -> Drawn {
         let number = self.number_for(plain);
         let (event, rest) = split(self.line_of(events(number)), " | ");
@@ -137,7 +137,8 @@ impl Draws {
         (event, then)
     }
 
-    /// The number of the events of which one is drawn. While messages are given few are others, so that the queue fills.
+    /// The number of the list to draw from. While messages are queued other lists are rarely used,
+    /// so that the queue fills.
     fn number_for(&mut self, plain: &Plain) -> u8 {
         if self.below(200) == 0 {
             self.mood = self.octet_below(4);
@@ -155,14 +156,15 @@ impl Draws {
         }
     }
 
-    /// A line of a text.
+    /// A random line of a text.
     fn line_of(&mut self, text: &'static str) -> &'static str {
         let count = text.lines().count();
         let place = self.below((count & 0xff) as u32);
         text.lines().nth(place as usize).unwrap_or("")
     }
 
-    /// Numbers, marks and information of a frame. Of one that is calm N(R) is valid, and N(S) mostly the one that is wanted.
+    /// Draws the numbers, bits and information of a frame. In a calm frame N(R) is valid, and N(S)
+    /// mostly the expected one.
     fn hear(&mut self, plain: &mut Plain, calm: bool, long: bool) {
         let mut ns = self.octet_below(128);
         let mut nr = self.octet_below(128);

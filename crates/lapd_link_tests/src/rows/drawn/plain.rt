@@ -1,20 +1,20 @@
-//! One end of a link as plain numbers, and what the words of the table do to it.
+//! One end of a link as plain numbers, and the effect of the table's words on it.
 
 use crate::rows::drawn::table::{FRAMES, PROCEDURES, Table};
 use crate::text::{Text, split};
 use lapd_link::{Link, Timer};
 
-/// The window of the links that are looked at.
+/// The window of the tested links.
 const K: u8 = 127;
 
-/// How often a frame is sent again.
+/// How often a frame is retransmitted.
 const N200: u8 = 3;
 
 /// How many messages the queue has room for.
 const ROOM: u16 = 200;
 
-/// The names of values, of which a mark is 1 or 0: what a link shows of its end, the frame that it hears, what is found by several
-/// numbers, and what stays.
+/// The names of values; a condition is 1 or 0. They are the values that a link shows of its end,
+/// the received frame, values computed from several numbers, and constants.
 const NAMES: &[&str] = &[
     "V(S)",
     "V(A)",
@@ -73,13 +73,14 @@ const VALID: usize = 20;
 
 const LAST_AGAIN: usize = 21;
 
-/// An end of a link, and what it hears. Its messages are numbers, each one more than the one before.
+/// An end of a link, and the frame that it receives. Its messages are numbered, each one more than
+/// the one before.
 #[derive(Drop)]
 pub(super) struct Plain {
     pub(super) network: bool,
     pub(super) state: u8,
     values: [u8; 25],
-    /// The information that it hears, in hexadecimal.
+    /// The received information, in hexadecimal.
     info: &'static str,
     /// The number of the first message in the queue.
     first: u32,
@@ -87,9 +88,9 @@ pub(super) struct Plain {
     queued: u16,
     /// How many of them are sent.
     sent: u16,
-    /// The line or the frame that was put together last.
+    /// The line or the frame that was composed last.
     pub(super) line: Text,
-    /// What is to be printed for the last step.
+    /// The lines that the last step must print.
     pub(super) wanted: Text,
 }
 
@@ -98,7 +99,7 @@ fn steps(from: u8, to: u8) -> u8 {
     to.wrapping_sub(from) % 128
 }
 
-/// Where a value of this name stands.
+/// The index of the value with this name.
 fn place_of(name: &str) -> Option<usize> {
     for (place, known) in NAMES.iter().enumerate() {
         if *known == name {
@@ -108,7 +109,7 @@ fn place_of(name: &str) -> Option<usize> {
     None
 }
 
-/// What stands behind a name in a text of lines `name | meaning`.
+/// The text after a name in lines `name | meaning`.
 fn meaning(text: &'static str, name: &str) -> Option<&'static str> {
     for line in text.lines() {
         let (known, meaning) = split(line, " | ");
@@ -144,7 +145,7 @@ impl Plain {
         steps(self.values[VA], self.values[VS])
     }
 
-    /// The number that lies so many steps behind V(A).
+    /// The number this many steps after V(A).
     pub(super) fn behind_va(&self, count: u8) -> u8 {
         self.values[VA].wrapping_add(count) % 128
     }
@@ -154,7 +155,8 @@ impl Plain {
         self.values[VR]
     }
 
-    /// Hears N(S), N(R), P, whether it is a command and whether it is long, and information.
+    /// Sets the received N(S), N(R), P, whether the frame is a command and whether it is long, and
+    /// its information.
     pub(super) fn hear(&mut self, heard: [u8; 5], info: &'static str) {
         let [ns, nr, p, command, long] = heard;
         self.values[NS] = ns;
@@ -165,7 +167,7 @@ impl Plain {
         self.info = info;
     }
 
-    /// Finds how numbers stand.
+    /// Computes the values that depend on several numbers.
     fn relate(&mut self) {
         let outstanding = self.outstanding();
         let passed = steps(self.values[VA], self.values[NR]);
@@ -180,7 +182,7 @@ impl Plain {
         states.as_bytes().contains(&b'0'.wrapping_add(self.state))
     }
 
-    /// Whether all of these conditions hold, with `, ` between them, or `-` for none.
+    /// Whether all of these conditions hold, separated by `, `, or `-` for none.
     pub(super) fn meets(&self, conditions: &str) -> bool {
         let mut rest = conditions;
         for _ in 0..8 {
@@ -204,7 +206,7 @@ impl Plain {
         }
     }
 
-    /// Whether it is so; `None` where this is no condition of the table.
+    /// Whether a condition holds; `None` if the table has no such condition.
     fn is_so(&self, condition: &str) -> Option<bool> {
         let (one, other) = condition.split_once("=").unwrap_or((condition, "1"));
         match (self.value(one), self.value(other)) {
@@ -221,7 +223,7 @@ impl Plain {
         }
     }
 
-    /// The value of this name becomes this one.
+    /// Sets the value with this name.
     fn set(&mut self, name: &str, value: u8) {
         if let Some(place) = place_of(name) {
             if let Some(old) = self.values.get_mut(place) {
@@ -230,7 +232,8 @@ impl Plain {
         }
     }
 
-    /// Takes a step for an event, and for the one behind it, as far as the table has rows for them.
+    /// Makes a step for an event, and for the event that follows it, if the table has rows for
+    /// them.
     pub(super) fn step(&mut self, table: &mut Table, event: &str, then: &str) {
         self.wanted.clear();
         let _ = self.does(table, event);
@@ -242,7 +245,7 @@ impl Plain {
         }
     }
 
-    /// Does what the row for this event says, and tells whether there is one.
+    /// Executes the row for this event, and returns whether there is one.
     fn does(&mut self, table: &mut Table, event: &str) -> bool {
         self.relate();
         match table.taken(event, self) {
@@ -255,7 +258,7 @@ impl Plain {
         }
     }
 
-    /// Does actions and procedures, with `, ` between them.
+    /// Executes actions and procedures, separated by `, `.
     fn act_all(&mut self, actions: &str) {
         let mut rest = actions;
         for _ in 0..8 {
@@ -268,7 +271,7 @@ impl Plain {
         }
     }
 
-    /// Does actions, with `, ` between them.
+    /// Executes actions, separated by `, `.
     fn act_several(&mut self, actions: &str) {
         let mut rest = actions;
         for _ in 0..12 {
@@ -281,7 +284,7 @@ impl Plain {
         }
     }
 
-    /// Does an action, or nothing for `-`.
+    /// Executes an action, or nothing for `-`.
     fn act(&mut self, action: &str) {
         let (word, rest) = split(action, " ");
         match word {
@@ -302,7 +305,7 @@ impl Plain {
         self.put_line("start ", timer);
     }
 
-    /// Stops a timer where it runs.
+    /// Stops a timer, if it runs.
     fn stop(&mut self, timer: &str) {
         if self.value(timer) == Some(1) {
             self.set(timer, 0);
@@ -310,7 +313,7 @@ impl Plain {
         }
     }
 
-    /// A number goes one on; or does another action.
+    /// Increments a number, or executes another action.
     fn act_on_numbers(&mut self, action: &str) {
         match action.strip_suffix("+1") {
             Some(name) => {
@@ -321,7 +324,7 @@ impl Plain {
         }
     }
 
-    /// Puts a message into the queue or takes messages out, or does another action.
+    /// Queues or removes messages, or executes another action.
     fn act_on_messages(&mut self, action: &str) {
         match action {
             "QUEUE" => self.queued = self.queued.wrapping_add(1),
@@ -340,7 +343,7 @@ impl Plain {
         self.sent = 0;
     }
 
-    /// So many messages leave the queue, which is printed where there are some.
+    /// Removes this many messages from the queue, and prints the count if it is not 0.
     fn put_count(&mut self, word: &str, count: u16) {
         self.wanted.named(word, count);
         self.wanted.mark("\n", count > 0);
@@ -348,7 +351,7 @@ impl Plain {
         self.queued = self.queued.wrapping_sub(count);
     }
 
-    /// V(A) = N(R), and the messages that it passes leave the queue.
+    /// V(A) = N(R); the acknowledged messages are removed from the queue.
     fn acknowledge(&mut self) {
         let count = u16::from(steps(self.values[VA], self.values[NR]));
         self.values[VA] = self.values[NR];
@@ -356,14 +359,14 @@ impl Plain {
         self.put_count("acknowledged ", count);
     }
 
-    /// The same; then V(S) = N(R), and all that is left is unsent.
+    /// The same; then V(S) = N(R), and all remaining messages are unsent.
     fn go_back(&mut self) {
         self.acknowledge();
         self.values[VS] = self.values[NR];
         self.sent = 0;
     }
 
-    /// Sends a frame; anything else is a line that is printed.
+    /// Sends a frame; any other action is a line to print.
     fn print(&mut self, action: &str) {
         match meaning(FRAMES, action) {
             Some(words) => {
@@ -383,7 +386,7 @@ impl Plain {
         self.wanted.put("\n");
     }
 
-    /// The information that was heard goes up.
+    /// Delivers the received information to layer 3.
     fn put_information(&mut self, word: &str) {
         self.wanted.put(word);
         self.wanted.mark(" ", !self.info.is_empty());
@@ -391,13 +394,18 @@ impl Plain {
         self.wanted.put("\n");
     }
 
-    /// Puts together the line of an event, or a frame that is sent, of words: octets, to which `+` adds P, and letters.
+    /// Composes the line of an event, or a frame to send, from words: octets, to which `+` adds P,
+    /// and letters.
     ///
-    /// `C` and `R` are the address of a command and of a response, `c`, `r` and `e` those of the peer, and of either; `V0`, `V1` and
-    /// `V+` are N(R)=V(R) with this P or F; `?` is RR, or RNR where own receiver busy is set; `S` and `s` are V(S) and the number
-    /// before it as N(S), `n` the N(S) and `N` the N(R) with P that were drawn; `M`, `m` and `G` are the message that is sent next,
-    /// the one that was sent last, and the one that is given next; `I` is information, `J` the same behind a space, `L` 261 octets,
-    /// and `_` a space.
+    /// - `C` and `R` are the address of a command and a response; `c`, `r` and `e` are the peer's,
+    ///   `e` for either of both.
+    /// - `V0`, `V1` and `V+` are N(R)=V(R) with this P or F.
+    /// - `?` is RR, or RNR if own receiver busy is set.
+    /// - `S` and `s` are V(S) and the number before it as N(S); `n` is the drawn N(S), and `N` the
+    ///   drawn N(R) with P.
+    /// - `M`, `m` and `G` are the message that is sent next, the one that was sent last, and the
+    ///   one that layer 3 submits next.
+    /// - `I` is information, `J` the same after a space, `L` 261 octets, and `_` a space.
     pub(super) fn put_words(&mut self, words: &str) {
         self.line.clear();
         let mut rest = words;
@@ -411,7 +419,7 @@ impl Plain {
         }
     }
 
-    /// Puts a word behind the others.
+    /// Appends a word.
     fn put_word(&mut self, word: &str) {
         match word.as_bytes() {
             [b'V', pf] => self.put_nr(*pf),
@@ -424,7 +432,7 @@ impl Plain {
         }
     }
 
-    /// Puts N(R)=V(R) behind with P or F, which acknowledges what has come.
+    /// Appends N(R)=V(R) with P or F, which acknowledges the received frames.
     fn put_nr(&mut self, pf: u8) {
         let pf = if pf == b'+' {
             self.values[P]
@@ -435,7 +443,7 @@ impl Plain {
         self.values[ACK_PENDING] = 0;
     }
 
-    /// Puts what a letter stands for behind.
+    /// Appends the meaning of a letter.
     fn put_letter(&mut self, letter: u8) {
         match letter {
             b'C' | b'r' => self.put_address(self.network),
@@ -461,36 +469,36 @@ impl Plain {
         }
     }
 
-    /// Puts the address of a frame behind, whose C/R bit is this.
+    /// Appends the address of a frame with this C/R bit.
     fn put_address(&mut self, is_set: bool) {
         self.line.put(if is_set { "0281" } else { "0081" });
     }
 
-    /// Puts a number behind where P is 0, or where none is.
+    /// Appends an octet with a number in its high seven bits; the low bit, which may be P, is 0.
     fn put_doubled(&mut self, number: u8) {
         self.line.octet(number.wrapping_mul(2));
     }
 
-    /// Puts 261 octets behind.
+    /// Appends 261 octets.
     fn put_long(&mut self) {
         for _ in 0..261u16 {
             self.line.put("aa");
         }
     }
 
-    /// Puts the message behind that stands at a place of the queue.
+    /// Appends the message at a place of the queue.
     fn put_message(&mut self, place: u16) {
         let number = self.first.wrapping_add(u32::from(place));
         self.line.hex(&number.to_be_bytes());
     }
 
-    /// Puts the message behind that is sent next.
+    /// Appends the message that is sent next.
     fn put_next_message(&mut self) {
         self.put_message(self.sent);
         self.sent = self.sent.wrapping_add(1);
     }
 
-    /// Whether a link is at this end.
+    /// Whether a link shows the values of this end.
     pub(super) fn is_of(&self, link: &Link) -> bool {
         let window = link.window();
         let shown = [

@@ -1,21 +1,22 @@
 //! The state table (Q.921 Annex B) as text, written by hand after docs/SPECIFICATION.md.
 //!
-//! A row is `states | event | conditions | actions | next state`, with `-` for none and `=` for the state before. The first row
-//! that fits is taken; where none does, nothing is done. A frame with N(R) is two events, `RR` and then `N(R) of RR`, and the end
-//! of each step is the event `end` for as long as a row of it fits.
+//! A row is `states | event | conditions | actions | next state`, with `-` for none and `=` for the
+//! state before. The first row that matches is used; without one, nothing is done. A frame with
+//! N(R) is two events, `RR` and then `N(R) of RR`. The end of each step is the event `end`, which
+//! repeats while a row of it matches.
 
 use crate::rows::drawn::plain::Plain;
 use crate::text::{Subject, split};
 use std::alloc::Global;
 
-/// What actions mean that are several.
+/// The actions of each procedure.
 pub(super) const PROCEDURES: &str = "\
 CLEAR | clear peer busy, clear own busy, clear rejecting, clear ack pending
 ZERO | clear V(S), clear V(A), clear V(R)
 EST | clear peer busy, clear own busy, clear rejecting, clear ack pending, clear RP, RC:=0, SABME, STOP T203, START T200
 ";
 
-/// The frames that are sent, of the words that [`Plain::put_words`] puts together.
+/// The sent frames, in the words of [`Plain::put_words`].
 pub(super) const FRAMES: &str = "\
 UA | R 63+
 DM | R 0f+
@@ -161,7 +162,7 @@ pub(super) const TABLE: &str = "\
 78 | end | ack pending | RR | =
 ";
 
-/// A row of the table, and how often it was taken.
+/// A row of the table, and how often it was used.
 #[derive(Clone, Copy)]
 pub(super) struct Row {
     line: &'static str,
@@ -173,14 +174,14 @@ pub(super) struct Row {
     met: u32,
 }
 
-/// The rows, and how many events came in each state.
+/// The rows, and how many events were received in each state.
 #[derive(Drop)]
 pub(super) struct Table {
     rows: Vec<Row>,
     counts: [u32; 9],
 }
 
-/// The row that a line is.
+/// The row in a line.
 fn row_of(line: &'static str) -> Row {
     let (states, rest) = split(line, " | ");
     let (event, rest) = split(rest, " | ");
@@ -198,12 +199,12 @@ fn row_of(line: &'static str) -> Row {
 }
 
 impl Row {
-    /// Whether it is taken at this end for this event.
+    /// Whether it matches this event at this end.
     fn fits(&self, event: &str, plain: &Plain) -> bool {
         self.event == event && plain.is_in(self.states) && plain.meets(self.conditions)
     }
 
-    /// The state that it leads to from this one.
+    /// The next state, from this one.
     pub(super) fn leads_to(&self, state: u8) -> u8 {
         match self.next.as_bytes() {
             [digit] if *digit != b'=' => digit.wrapping_sub(b'0'),
@@ -213,7 +214,7 @@ impl Row {
 }
 
 impl Subject for Table {
-    /// Takes a line as its next row, where it is one.
+    /// Adds a line as the next row, if it is a row.
     fn keeps(&mut self, row: &'static str) -> bool {
         let row = row_of(row);
         !row.next.is_empty() && self.rows.push(row).is_ok()
@@ -229,7 +230,7 @@ impl Table {
         }
     }
 
-    /// The row that is taken, which is counted; `None` where the table names none.
+    /// The row that matches, which is counted; `None` if the table has none.
     pub(super) fn taken(&mut self, event: &str, plain: &Plain) -> Option<Row> {
         for row in self.rows.iter_mut() {
             if row.fits(event, plain) {
@@ -240,7 +241,7 @@ impl Table {
         None
     }
 
-    /// The first row that was never taken.
+    /// The first row that was never used.
     pub(super) fn never_taken(&self) -> Option<&'static str> {
         for row in self.rows.iter() {
             if row.met == 0 {
@@ -250,14 +251,14 @@ impl Table {
         None
     }
 
-    /// Counts an event that comes in this state.
+    /// Counts an event in this state.
     pub(super) fn count(&mut self, state: u8) {
         if let Some(count) = self.counts.get_mut(usize::from(state)) {
             *count = count.wrapping_add(1);
         }
     }
 
-    /// Whether enough events came in each state.
+    /// Whether enough events were received in each state.
     pub(super) fn is_lively(&self) -> bool {
         let [_, _, _, _, four, five, six, seven, eight] = self.counts;
         four > 1_000 && five > 1_000 && six > 200 && seven > 50_000 && eight > 20_000

@@ -1,4 +1,4 @@
--- What was filled is what the source gave, in as many turns as are counted.
+-- The filled octets are those that the source returned, in as many calls as are counted.
 use Rattle.std.proofs.Common.{◌≡◌, ℕ, ◌+◌, ◌-◌, ◌≤◌, length, take}
 use Rattle.std.specs.Io.KnownBytes.{Consumes}
 use Rattle.lapd_port.specs.Device.{Turns}

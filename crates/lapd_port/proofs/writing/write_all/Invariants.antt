@@ -1,4 +1,4 @@
--- What is gone from the rest was written, in as many turns as are counted.
+-- The octets that are no longer in the rest were written, in as many calls as are counted.
 use Rattle.std.proofs.Common.{◌≡◌, ◌<◌, ℕ, List, ◌++◌, length}
 use Rattle.std.specs.Io.KnownBytes.{Appends}
 use Rattle.lapd_port.specs.Device.{Turns}

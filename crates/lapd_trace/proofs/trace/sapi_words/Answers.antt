@@ -6,11 +6,11 @@ use Rattle.lapd_frame.specs.Address.{sapi_value}
 use Rattle.lapd_frame.specs.declared.Sapi.{Sapi}
 use Rattle.lapd_trace.proofs.trace.sapi_words.Goals as goal
 
--- with these digits
+-- the words `SAPI` and `TEI` around these digits
 abbrev words : List ℕ → List ℕ
 words digits = codes "SAPI " ++ (digits ++ codes " TEI ")
 
--- of a SAPI
+-- the words for a SAPI
 abbrev words_of : Sapi → List ℕ
 words_of sapi = words (decimal (sapi_value sapi))
 

@@ -8,7 +8,8 @@ use Rattle.lapd_link_machine.specs.Bounds.{told_count}
 use Rattle.lapd_link_machine.specs.StandsFor.{StandsFor}
 use Rattle.lapd_link_machine.proofs.machine.Machine.send_all.Given as goal
 
--- what is left to be sent is the same as from the beginning on, and there is room for all that the window lets out
+-- the rest of the loop sends the same messages as the whole, and there is room for all messages
+-- that the window allows
 abbrev pub invariant-loop-self : goal.invariant-loop-self
 invariant-loop-self l = record {
   room : array_vec_len l.outs + (127 - outstanding Tagged l.self.window) + (if l.self.t200 then 0 else 2) ≤ 135;

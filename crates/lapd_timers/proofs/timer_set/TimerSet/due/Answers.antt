@@ -1,4 +1,4 @@
--- The least pair is found by looking at the four timers in turn.
+-- The least pair is found by comparing the four timers one after another.
 use Rattle.std.proofs.Common.{subst}
 use Rattle.lapd_timers.proofs.Least.{found}
 use Rattle.lapd_timers.specs.Due.{IsDue}
