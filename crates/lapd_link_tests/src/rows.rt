@@ -125,8 +125,8 @@ fn is_told(printed: &[u8], outs: &str) -> bool {
     text.is(outs)
 }
 
-/// The state and all values that are not 0, false or empty, as in `7 V(S)=1 T200 sent 01 unsent
-/// 02`.
+/// The state and all values that are not 0, false or empty, as in
+/// `7 V(S)=1 T200 sent 01 unsent 02`.
 pub(crate) fn condition_of(link: &Link) -> Text {
     let mut text = Text::new();
     text.shown("", &link.state());
