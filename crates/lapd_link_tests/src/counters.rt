@@ -1,7 +1,8 @@
 //! Counters modulo 128 (Q.921 3.5.2).
 
-use crate::text::{Text, number_of, split};
+use crate::text::number_of;
 use lapd_mod128::Seq;
+use lapd_testing::{Text, split};
 
 /// What comes next and before, how many steps lead from a counter to another, whether a counter lies from one to another, and
 /// whether from V(A) to V(S) the window is open.

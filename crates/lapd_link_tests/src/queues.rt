@@ -1,8 +1,9 @@
 //! The I queue (Q.921 5.5, 5.6).
 
 use crate::rows::put_queue;
-use crate::text::{Text, number_of};
+use crate::text::number_of;
 use lapd_queue::IQueue;
+use lapd_testing::Text;
 use std::alloc::Global;
 
 /// What is done with a queue; what it answers; and its messages, those sent first.

@@ -1,8 +1,8 @@
 //! What is told of faults, timers and sides: their names, and what a frame reject says (Q.921 3.6.11, Figure 6).
 
-use crate::text::Text;
 use lapd_frame::{FaultKind, FieldFault, FrameFault, FrmrInfo, Number, Side};
 use lapd_link::LinkFault;
+use lapd_testing::Text;
 use lapd_timers::Timer;
 use std::fmt::Display;
 

@@ -1,10 +1,11 @@
 //! TEIs that are given: none that is held, kept beside the assigner in a set of its own.
 
+use crate::shows::put_tei_message;
 use crate::talk::Talk;
-use crate::text::Text;
 use lapd_frame::Side;
 use lapd_sides::Acts;
 use lapd_tei::{Assigner, AssignerEvent, Tei, TeiKind, TeiMessage, TeiOut};
+use lapd_testing::Text;
 use rand_core::{Rng, SeedableRng};
 use rand_pcg::Pcg32;
 
@@ -115,7 +116,7 @@ pub(crate) fn put_drawn(text: &mut Text) {
         }
         most = held.marks.count_ones().max(most);
     }
-    text.tell("most ", &most);
+    text.item("most ", &most);
 }
 
 /// The message that is the only frame that is given.
@@ -150,7 +151,7 @@ impl Talk {
                     text.shown("", &message.ai);
                     text.put(" ");
                 } else {
-                    text.message(&message);
+                    put_tei_message(text, &message);
                 }
                 held.allows(&message, ri)
             }

@@ -1,8 +1,7 @@
 //! Octets that are drawn, and those that stand at their front.
 
 use arrayvec::ArrayVec;
-use rand_core::{Rng, SeedableRng};
-use rand_pcg::Pcg32;
+use lapd_testing::Draws;
 
 /// The most octets that are drawn.
 pub(super) const MOST: usize = 300;
@@ -44,30 +43,29 @@ pub(super) fn behind(front: &[u8], string: &[u8; MOST]) -> ArrayVec<u8, MOST> {
 
 /// Draws of octets.
 #[derive(Drop)]
-pub(super) struct Draws {
-    random: Pcg32,
+pub(super) struct OctetDraws {
+    draws: Draws,
     octets: ArrayVec<u8, MOST>,
 }
 
-impl Draws {
+impl OctetDraws {
     /// Draws from this seed on.
-    pub(super) fn new(seed: u64) -> Draws {
-        Draws {
-            random: Pcg32::seed_from_u64(seed),
+    pub(super) fn new(seed: u64) -> OctetDraws {
+        OctetDraws {
+            draws: Draws::new(seed),
             octets: ArrayVec::new(),
         }
     }
 
     /// A number below this one.
     fn below(&mut self, limit: usize) -> usize {
-        let drawn = self.random.next_u32() as usize;
-        drawn.checked_rem(limit).unwrap_or(0)
+        self.draws.below(u32::try_from(limit).unwrap_or(0)) as usize
     }
 
     /// 0 to 300 octets. Of every two strings one has a front, and of every two of these one has 10 octets at most.
     pub(super) fn draw(&mut self) -> &[u8] {
         let mut string = [0; MOST];
-        self.random.fill_bytes(&mut string);
+        self.draws.fill(&mut string);
         let sort = self.below(4);
         let front = if sort < 2 {
             self.below(fronts().len())

@@ -1,9 +1,7 @@
 //! Events that are drawn, as lines of the command `answer`.
 
 use crate::rows::drawn::plain::Plain;
-use crate::text::split;
-use rand_core::{Rng, SeedableRng};
-use rand_pcg::Pcg32;
+use lapd_testing::{Draws, split};
 
 /// Events `event | then | line`, each drawn as often as it stands here. `then` is the event behind it, of a frame with N(R). What
 /// the letters of a line stand for is said by [`Plain::put_words`].
@@ -103,23 +101,23 @@ fn events(number: u8) -> &'static str {
 
 /// Draws of events: the random sequence, and the number of the events that are mostly drawn.
 #[derive(Drop)]
-pub(super) struct Draws {
-    random: Pcg32,
+pub(super) struct EventDraws {
+    draws: Draws,
     mood: u8,
 }
 
-impl Draws {
+impl EventDraws {
     /// Draws from this seed on.
-    pub(super) fn new(seed: u64) -> Draws {
-        Draws {
-            random: Pcg32::seed_from_u64(seed),
+    pub(super) fn new(seed: u64) -> EventDraws {
+        EventDraws {
+            draws: Draws::new(seed),
             mood: 0,
         }
     }
 
     /// A number below this one.
     fn below(&mut self, limit: u32) -> u32 {
-        self.random.next_u32().checked_rem(limit).unwrap_or(0)
+        self.draws.below(limit)
     }
 
     /// A number below this one, at most 256.

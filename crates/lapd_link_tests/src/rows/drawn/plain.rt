@@ -1,8 +1,8 @@
 //! One end of a link as plain numbers, and what the words of the table do to it.
 
 use crate::rows::drawn::table::{FRAMES, PROCEDURES, Table};
-use crate::text::{Text, split};
 use lapd_link::{Link, Timer};
+use lapd_testing::{Text, split};
 
 /// The window of the links that are looked at.
 const K: u8 = 127;
@@ -369,7 +369,7 @@ impl Plain {
             Some(words) => {
                 self.put_words(words);
                 self.wanted.put("send ");
-                self.wanted.put_octets(self.line.octets());
+                self.wanted.put_octets(self.line.as_bytes());
                 self.wanted.put("\n");
             }
             None => self.put_line("", action),

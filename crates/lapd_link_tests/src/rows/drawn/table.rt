@@ -5,7 +5,7 @@
 //! of each step is the event `end` for as long as a row of it fits.
 
 use crate::rows::drawn::plain::Plain;
-use crate::text::{Subject, split};
+use lapd_testing::{Subject, split};
 use std::alloc::Global;
 
 /// What actions mean that are several.
