@@ -27,7 +27,7 @@ SECONDS = {
     "lapd_timers": 22,
     "lapd_trace": 42,
     "lapd_tei": 118,
-    "lapd_cli_render": 104,
+    "lapd_cli_render": 95,
     "lapd_link_definition": 48,
     "lapd_pair_laws": 42,
     "lapd_link_machine": 123,
@@ -39,12 +39,14 @@ SECONDS = {
     "lapd_cli_link_commands": 213,
     "lapd_cli_side_lines": 48,
     "lapd_cli_side_commands": 100,
-    "lapd_cli_live": 276,
+    "lapd_cli_outside": 75,
+    "lapd_cli_live": 215,
     "lapd_cli_console": 153,
     "lapd_cli_decode": 57,
     "lapd_cli_values": 70,
     "lapd_cli_options": 168,
-    "lapd_cli": 310,
+    "lapd_cli_io": 220,
+    "lapd_cli": 140,
 }
 OTHER = 50
 

@@ -84,9 +84,10 @@ impl LineDecoder {
 
     /// Prints the frame of a line.
     fn decode<W: Write>(&mut self, line: &[u8], out: &mut W) -> Result<(), LineFault>
-        ensures { LineEndsAs (λ decoder state. state ≡ stood_for decoder)
+        ensures line { LineEndsAs (λ decoder state. state ≡ stood_for decoder)
             (line_step (stood_for self.old) line.now) result self.new
             (W.contents out.old) (W.contents out.new) }
+        ensures kept { stood_for self.new ≡ stood_for self.old }
     {
         let from = self.form.read(self.alloc, line, &mut self.octets)?;
         let octets = self.octets.as_slice();

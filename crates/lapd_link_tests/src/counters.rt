@@ -1,7 +1,8 @@
 //! Counters modulo 128 (Q.921 3.5.2).
 
-use crate::text::{Text, number_of, split};
+use crate::text::number_of;
 use lapd_mod128::Seq;
+use lapd_testing::{Text, split};
 
 /// The next and previous counter, the number of steps from one counter to another, whether a
 /// counter lies between two others, and whether the window from V(A) to V(S) is open.

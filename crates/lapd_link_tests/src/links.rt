@@ -1,9 +1,10 @@
 //! A link of packet communication that is driven by its own calls, and the parameters of links.
 
 use crate::rows::condition_of;
-use crate::text::{Text, number_of, split};
+use crate::text::number_of;
 use lapd_frame::{Control, Number, Role, Sapi, Side, Tei, write};
 use lapd_link::{Event, Link, LinkFault, Out, Outs, Params, Recovery};
+use lapd_testing::{Text, split};
 use std::alloc::Global;
 
 /// Operations on the link of SAPI 16 and TEI 126; the frames that it sends, with `-` for each
@@ -113,7 +114,7 @@ pub(crate) fn put(text: &mut Text, alloc: Global, link: &mut Link, deed: &str, w
         _ => put_frames(text, link),
     }
     text.put(" ");
-    text.put_octets(condition_of(link).octets());
+    text.put_octets(condition_of(link).as_bytes());
 }
 
 /// Makes a new link of this side and room, and appends these as it shows them.

@@ -1,8 +1,9 @@
 //! The I queue (Q.921 5.5, 5.6).
 
 use crate::rows::put_queue;
-use crate::text::{Text, number_of};
+use crate::text::number_of;
 use lapd_queue::IQueue;
+use lapd_testing::Text;
 use std::alloc::Global;
 
 /// Operations on a queue; their results; and its messages, the sent ones first.

@@ -1,9 +1,9 @@
 //! The names of faults, timers and sides, and the information of a frame reject (Q.921 3.6.11,
 //! Figure 6).
 
-use crate::text::Text;
 use lapd_frame::{FaultKind, FieldFault, FrameFault, FrmrInfo, Number, Side};
 use lapd_link::LinkFault;
+use lapd_testing::Text;
 use lapd_timers::Timer;
 use std::fmt::Display;
 

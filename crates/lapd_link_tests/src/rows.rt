@@ -6,6 +6,7 @@
 
 mod awaiting;
 mod drawn;
+mod driven;
 mod established;
 mod every_state;
 mod scripts;
@@ -13,117 +14,16 @@ mod tei_assigned;
 mod timer_recovery;
 mod transfer;
 
-use crate::links::parameters_of;
+use crate::rows::driven::Driven;
 use crate::rows::every_state::{
     ESTABLISHED, FAULTS_REPORTED, FRAMES_WITHOUT_ROW, IN_EVERY_STATE, NOT_ESTABLISHED,
 };
-use crate::text::{Subject, Text, split, with_octets, wrong_row};
+use crate::text::with_octets;
 use crate::wants::none_is_wrong;
-use lapd_cli_link_commands::Answerer;
-use lapd_cli_script::Command;
-use lapd_frame::Side;
-use lapd_link::{IQueue, Link, Params, Timer, Window};
+use lapd_link::{IQueue, Link, Timer, Window};
+use lapd_testing::{Subject, Text, split, wrong_row};
 use std::alloc::Global;
 use std::test::Fail;
-
-/// A link that lines drive, and the lines that it printed for the last one.
-#[derive(Drop)]
-struct Driven {
-    alloc: Global,
-    link: Answerer,
-    printed: Vec<u8>,
-}
-
-impl Driven {
-    /// A new link of `side k n200 room`; a `last` after them selects the recovery of the last
-    /// message. `None` if a number is out of range or an allocation fails.
-    fn new(alloc: Global, words: &str) -> Option<Driven> {
-        let (side, numbers) = split(words, " ");
-        let side = if side == "user" {
-            Side::User
-        } else {
-            Side::Network
-        };
-        match parameters_of(numbers) {
-            Some(params) => Driven::with(alloc, side, params),
-            None => None,
-        }
-    }
-
-    /// A new link of this side, with these parameters.
-    fn with(alloc: Global, side: Side, params: Params) -> Option<Driven> {
-        match Answerer::new(alloc, side, params) {
-            Ok(link) => Some(Driven {
-                alloc,
-                link,
-                printed: Vec::new(alloc),
-            }),
-            Err(_) => None,
-        }
-    }
-
-    /// The link.
-    fn link(&self) -> &Link {
-        self.link.link()
-    }
-
-    /// Executes a line, and returns whether it is valid.
-    fn does(&mut self, line: &[u8]) -> bool {
-        self.printed.clear();
-        self.link.run(line, &mut self.printed).is_ok()
-    }
-
-    /// Whether the last line printed this.
-    fn has_printed(&self, text: &Text) -> bool {
-        self.printed.as_slice() == text.octets()
-    }
-
-    /// Executes the lines of a script, separated by `; `, and ignores their outputs.
-    fn lead(&mut self, script: &str) -> bool {
-        let mut rest = script;
-        let mut done = true;
-        for _ in 0..16 {
-            let (line, behind) = split(rest, "; ");
-            done = done && (line.is_empty() || self.does(line.as_bytes()));
-            rest = behind;
-        }
-        done
-    }
-
-    /// Whether a line has these outputs.
-    fn gives(&mut self, line: &str, outs: &str) -> bool {
-        self.does(line.as_bytes()) && is_told(self.printed.as_slice(), outs)
-    }
-
-    /// Whether the link is in this condition.
-    fn is_in(&self, condition: &str) -> bool {
-        condition_of(self.link()).is(condition)
-    }
-
-    /// Whether an event has these outputs and leads to this condition, after a script that led to
-    /// its own.
-    fn keeps_to(&mut self, [script, before, event, outs, after]: [&str; 5]) -> bool {
-        self.lead(script) && self.is_in(before) && self.gives(event, outs) && self.is_in(after)
-    }
-}
-
-/// Whether printed lines are these outputs, separated by `; `, or `-` for none.
-fn is_told(printed: &[u8], outs: &str) -> bool {
-    let mut text = Text::new();
-    match printed {
-        [lines @ .., _] => {
-            for octet in lines {
-                if *octet == b'\n' {
-                    text.put("; ");
-                } else {
-                    text.put_octets(&[*octet]);
-                }
-            }
-        }
-        _ => text.put("-"),
-    }
-    text.is(outs)
-}
 
 /// The state and all values that are not 0, false or empty, as in
 /// `7 V(S)=1 T200 sent 01 unsent 02`.

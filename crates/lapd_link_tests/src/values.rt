@@ -2,13 +2,13 @@
 //! of windows, queues and links.
 
 use crate::octets::{fields, frames, traces};
-use crate::text::{Subject, Text, split, wrong_row};
 use crate::wants::{first_of, none_is_wrong};
 use crate::{counters, links, queues, reports, windows};
 use lapd_frame::Side;
 use lapd_link::Link;
 use lapd_queue::IQueue;
 use lapd_supervision::Window;
+use lapd_testing::{Subject, Text, split, wrong_row};
 use std::alloc::Global;
 use std::test::Fail;
 

@@ -1,9 +1,10 @@
 //! The state variables and conditions of one end (Q.921 5.6, 5.8).
 
 use crate::rows::put_window;
-use crate::text::{Text, number_of, split};
+use crate::text::{number_of, put_control};
 use lapd_frame::Number;
 use lapd_supervision::Window;
+use lapd_testing::{Text, split};
 
 /// Operations on a window; the control field to send, as octets; and all values of the window that
 /// are not 0 or false. `try` is `take` without a change of the window.
@@ -93,7 +94,7 @@ fn heard(text: &mut Text, window: Window, ns: Number, p: bool) -> Window {
         " discarded"
     });
     if let Some(answer) = receipt.answer {
-        text.control(&answer);
+        put_control(text, &answer);
     }
     after
 }
@@ -120,7 +121,7 @@ fn sent(text: &mut Text, window: Window, count: u8) -> Window {
         window = window.send().0;
     }
     let (after, last) = window.send();
-    text.control(&last);
+    put_control(text, &last);
     after
 }
 
@@ -141,7 +142,7 @@ fn told(text: &mut Text, window: Window, deed: &str) -> Window {
         "enquire" => window.enquiry(),
         _ => return changed(window, deed),
     };
-    text.control(&control);
+    put_control(text, &control);
     after
 }
 

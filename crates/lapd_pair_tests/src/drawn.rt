@@ -2,7 +2,7 @@
 //! received is what the other was given: in order and once each, and without a gap within an establishment. Then come 200 runs of
 //! 500 moves, each with a pair of its own. At the end of each run the line settles.
 
-use crate::draws::{Draws, moves};
+use crate::draws::{MoveDraws, moves};
 use crate::made::new_pair;
 use crate::safe::are_safe;
 use lapd_frame::Side;
@@ -20,7 +20,7 @@ const ENOUGH: u32 = 180;
 
 /// Makes the runs, and looks at whether enough of them were quiet in the end.
 fn right_with(alloc: Global, user: Recovery, network: Recovery) -> Result<(), Fail> {
-    let mut draws = Draws::new(alloc);
+    let mut draws = MoveDraws::new(alloc);
     let mut quiet: u32 = 0;
     let mut wrong = None;
     for run in 0..=RUNS {
@@ -42,7 +42,7 @@ fn right_with(alloc: Global, user: Recovery, network: Recovery) -> Result<(), Fa
 
 /// Makes a run with this pair: what is wrong. Counts it where it was quiet in the end.
 fn run_once(
-    draws: &mut Draws,
+    draws: &mut MoveDraws,
     pair: Option<Pair>,
     is_first: bool,
     quiet: &mut u32,
@@ -54,7 +54,7 @@ fn run_once(
 }
 
 fn run(
-    draws: &mut Draws,
+    draws: &mut MoveDraws,
     pair: &mut Pair,
     is_first: bool,
     quiet: &mut u32,
@@ -84,7 +84,7 @@ fn is_lively(pair: &Pair, side: Side) -> bool {
 
 /// Neither receiver is busy any more, and all is delivered; where an end is not in state 7 then, the user establishes the link,
 /// and all is delivered again. Then both sides give a message, for which there has to be memory, and what is on the line is lost.
-fn is_disturbed(draws: &mut Draws, pair: &mut Pair) -> bool {
+fn is_disturbed(draws: &mut MoveDraws, pair: &mut Pair) -> bool {
     let _ = moves(pair, &Move::Busy(Side::User, false));
     let _ = moves(pair, &Move::Busy(Side::Network, false));
     deliver_all(pair);

@@ -3,23 +3,22 @@
 use crate::safe::are_safe;
 use lapd_frame::Side;
 use lapd_pair::{Move, Pair};
-use rand_core::{Rng, SeedableRng};
-use rand_pcg::Pcg32;
+use lapd_testing::Draws;
 use std::alloc::Global;
 
 /// Draws moves of two ends, and counts the messages and unit data that they give.
 #[derive(Drop)]
-pub(crate) struct Draws {
+pub(crate) struct MoveDraws {
     alloc: Global,
-    random: Pcg32,
+    draws: Draws,
     messages: u32,
 }
 
-impl Draws {
-    pub(crate) fn new(alloc: Global) -> Draws {
-        Draws {
+impl MoveDraws {
+    pub(crate) fn new(alloc: Global) -> MoveDraws {
+        MoveDraws {
             alloc,
-            random: Pcg32::seed_from_u64(921),
+            draws: Draws::new(921),
             messages: 0,
         }
     }
@@ -58,7 +57,7 @@ impl Draws {
 
     /// A number below this one.
     fn below(&mut self, limit: u32) -> u32 {
-        self.random.next_u32().checked_rem(limit).unwrap_or(0)
+        self.draws.below(limit)
     }
 
     /// A move of one of the sides; `None` where there is no memory for it.

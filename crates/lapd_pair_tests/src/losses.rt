@@ -1,9 +1,9 @@
 //! Three hundred messages over a line that loses every tenth frame.
 
-use crate::draws::Draws;
-use crate::text::Text;
+use crate::draws::MoveDraws;
 use lapd_frame::Side;
 use lapd_pair::{Move, Pair};
+use lapd_testing::Text;
 use std::alloc::Global;
 
 /// Frames are numbered from 1 as they come on the line, and one whose number is a multiple of ten is lost.
@@ -46,7 +46,7 @@ impl Lossy<'_> {
     }
 
     /// The user gives a message.
-    fn gives(&mut self, draws: &mut Draws) -> bool {
+    fn gives(&mut self, draws: &mut MoveDraws) -> bool {
         match draws.message(Side::User, false) {
             Some(deed) => self.makes(&deed),
             None => false,
@@ -56,7 +56,7 @@ impl Lossy<'_> {
     /// The user establishes the link and gives all messages, and then one move is made after another, until none is possible.
     /// Whether all are taken, and there is such an end.
     fn plays(&mut self, alloc: Global) -> bool {
-        let mut draws = Draws::new(alloc);
+        let mut draws = MoveDraws::new(alloc);
         let mut are_taken = self.makes(&Move::Establish(Side::User)) && self.turn() && self.turn();
         for _ in 0..300u32 {
             are_taken = are_taken && self.gives(&mut draws);
@@ -78,11 +78,11 @@ pub(crate) fn lose_tenths(alloc: Global, pair: &mut Pair, text: &mut Text) {
         lost: 0,
     };
     let ends = line.plays(alloc) && line.lost == line.frames / 10;
-    text.put(" at rest", ends);
-    text.number(", got ", pair.received(Side::Network).len() as u64);
-    text.number(", acked ", pair.acknowledged(Side::User));
-    text.number(", left ", pair.left());
+    text.mark(" at rest", ends);
+    text.shown(", got ", &pair.received(Side::Network).len());
+    text.shown(", acked ", &pair.acknowledged(Side::User));
+    text.shown(", left ", &pair.left());
     text.made(", begun ", pair.begun(Side::Network));
     let window = pair.link(Side::User).window();
-    text.number(", V(S) ", u64::from(window.vs().value()));
+    text.shown(", V(S) ", &window.vs().value());
 }

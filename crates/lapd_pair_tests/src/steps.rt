@@ -11,10 +11,11 @@ use crate::losses::lose_tenths;
 use crate::made::{Ends, new_pair};
 use crate::named::{move_of, split};
 use crate::safe::are_safe;
-use crate::text::Text;
+use crate::text::{put_frames, put_pair, put_side};
 use lapd_frame::Side;
 use lapd_link::Recovery::{Enquiry, LastMessage};
 use lapd_pair::{Move, Pair};
+use lapd_testing::Text;
 use std::alloc::Global;
 use std::test::Fail;
 
@@ -90,8 +91,8 @@ impl Scene {
         self.text.clear();
         if words.starts_with("new") {
             self.pair = new_pair(self.alloc, ends_of(words));
-            self.text.put(" made", self.pair.is_some());
-            self.text.put(NO_MEMORY, self.pair.is_none());
+            self.text.mark(" made", self.pair.is_some());
+            self.text.mark(NO_MEMORY, self.pair.is_none());
         } else if let Some(pair) = &mut self.pair {
             keep(self.alloc, pair, words, wanted, &mut self.text);
         }
@@ -113,20 +114,20 @@ fn ends_of(words: &str) -> Ends {
 /// Makes a step. Where it is refused, the pair has to show what it showed, and it always has to be safe.
 fn keep(alloc: Global, pair: &mut Pair, words: &str, wanted: &str, text: &mut Text) {
     let mut before = Text::new();
-    before.pair(pair);
+    put_pair(&mut before, pair);
     act(alloc, pair, words, wanted, text);
     let mut now = Text::new();
-    now.pair(pair);
+    put_pair(&mut now, pair);
     let is_changed = text.as_str().starts_with(" refused") && now.as_str() != before.as_str();
-    text.put(", and changed", is_changed);
-    text.put(", and unsafe", !are_safe(pair));
+    text.mark(", and changed", is_changed);
+    text.mark(", and unsafe", !are_safe(pair));
 }
 
 /// Makes a step, and writes what it comes to.
 fn act(alloc: Global, pair: &mut Pair, words: &str, wanted: &str, text: &mut Text) {
     match words {
-        "user shows" => text.side(pair, Side::User),
-        "net shows" => text.side(pair, Side::Network),
+        "user shows" => put_side(text, pair, Side::User),
+        "net shows" => put_side(text, pair, Side::Network),
         "settle" => settle(pair, 0, text),
         "settle in at most 9" => settle(pair, 9, text),
         "lose every tenth" => lose_tenths(alloc, pair, text),
@@ -140,11 +141,11 @@ fn settle(pair: &mut Pair, most: u64, text: &mut Text) {
     match pair.settle() {
         Ok(done) => {
             if done.moves > most {
-                text.number(" moves ", done.moves);
+                text.shown(" moves ", &done.moves);
             }
-            text.put(" at rest", done.rest);
+            text.mark(" at rest", done.rest);
         }
-        Err(fault) => text.fault(" stopped ", fault),
+        Err(fault) => text.shown(" stopped ", &fault),
     }
 }
 
@@ -159,15 +160,15 @@ fn run(alloc: Global, pair: &mut Pair, words: &str, text: &mut Text) {
         };
     }
     match pair.run(all.as_slice()) {
-        Ok(refused) if are_put => text.number(" skipped ", refused),
-        _ => text.put(" stopped", true),
+        Ok(refused) if are_put => text.shown(" skipped ", &refused),
+        _ => text.put(" stopped"),
     }
 }
 
 fn make_named(alloc: Global, pair: &mut Pair, words: &str, wanted: &str, text: &mut Text) {
     match move_of(alloc, words) {
         Some(deed) => make_move(pair, &deed, wanted, text),
-        None => text.put(NO_MEMORY, true),
+        None => text.put(NO_MEMORY),
     }
 }
 
@@ -178,12 +179,12 @@ fn make_move(pair: &mut Pair, deed: &Move, wanted: &str, text: &mut Text) {
     match pair.apply(deed) {
         Ok(outs) => {
             let sent = pair.line(to).get(before..).unwrap_or(&[]);
-            text.put(" nothing", sent.is_empty());
-            text.frames("", sent);
+            text.mark(" nothing", sent.is_empty());
+            put_frames(text, "", sent);
             if wanted.ends_with("]") {
                 text.made(" tells ", outs.as_slice());
             }
         }
-        Err(fault) => text.fault(" refused ", fault),
+        Err(fault) => text.shown(" refused ", &fault),
     }
 }

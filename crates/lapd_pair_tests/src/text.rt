@@ -1,4 +1,4 @@
-//! Text that is put together piece by piece, and what a pair shows, as such text.
+//! What a pair shows, as text.
 //!
 //! A side shows ` state 7, V 3 2 0, RC 1, T200, sent 1 of 03, begun [0], gave 01 02 03, in 1 acked 1 acked 1, line 00810106`: its
 //! state, V(S), V(A) and V(R), each condition that is set, RC, each timer that runs, how many messages of its I queue are sent, for
@@ -9,140 +9,91 @@
 use arrayvec::ArrayVec;
 use lapd_frame::Side;
 use lapd_link::{IQueue, Link, Timer, Window};
-use lapd_pair::{Ending, Fate, Pair, PairFault, Received};
-use std::fmt::Debug;
-use std::io::Write;
+use lapd_pair::{Ending, Fate, Pair, Received};
+use lapd_testing::Text;
 
-/// Text. What has no room is left out, so that the text is not the one that is wanted.
-#[derive(Drop)]
-pub(crate) struct Text {
-    octets: ArrayVec<u8, 4096>,
+/// Puts octets behind a space, in hexadecimal digits.
+fn put_hex(text: &mut Text, octets: &[u8]) {
+    text.put(" ");
+    text.hex(octets);
 }
 
-impl Text {
-    pub(crate) fn new() -> Text {
-        Text {
-            octets: ArrayVec::new(),
-        }
+/// Puts a word and frames behind, where there are some.
+pub(crate) fn put_frames(text: &mut Text, word: &str, frames: &[ArrayVec<u8, 264>]) {
+    text.mark(word, !frames.is_empty());
+    for frame in frames {
+        put_hex(text, frame.as_slice());
     }
+}
 
-    /// Forgets all.
-    pub(crate) fn clear(&mut self) {
-        self.octets.clear();
+/// Puts behind what both sides show.
+pub(crate) fn put_pair(text: &mut Text, pair: &Pair) {
+    put_side(text, pair, Side::User);
+    put_side(text, pair, Side::Network);
+}
+
+/// Puts behind what a side shows.
+pub(crate) fn put_side(text: &mut Text, pair: &Pair, side: Side) {
+    put_link(text, pair.link(side));
+    text.made(", begun ", pair.begun(side));
+    put_messages(text, ", gave", pair.given(side));
+    put_fates(text, pair.fates(side));
+    put_received(text, pair.received(side));
+    put_messages(text, ", units", pair.units(side));
+    put_frames(text, ", line", pair.line(side));
+}
+
+fn put_link(text: &mut Text, link: &Link) {
+    text.shown(" state ", &link.state());
+    put_window(text, &link.window());
+    text.shown(", RC ", &link.rc());
+    text.mark(", T200", link.running(Timer::T200));
+    text.mark(", T203", link.running(Timer::T203));
+    text.mark(", layer 3 initiated", link.layer3_initiated());
+    text.mark(", release pending", link.release_pending());
+    put_queue(text, link.queue());
+}
+
+fn put_window(text: &mut Text, window: &Window) {
+    text.shown(", V ", &window.vs().value());
+    text.shown(" ", &window.va().value());
+    text.shown(" ", &window.vr().value());
+    text.mark(", other busy", window.peer_busy());
+    text.mark(", busy", window.own_busy());
+    text.mark(", rejecting", window.rejecting());
+    text.mark(", acknowledge pending", window.ack_pending());
+}
+
+fn put_queue(text: &mut Text, queue: &IQueue) {
+    if !queue.is_empty() {
+        text.shown(", sent ", &queue.sent());
+        text.put(" of");
     }
-
-    /// The text.
-    pub(crate) fn as_str(&self) -> &str {
-        str::from_utf8(self.octets.as_slice()).unwrap_or("")
+    for place in 0..queue.len() {
+        put_hex(text, queue.at(place));
     }
+}
 
-    /// Puts a word behind, where this holds.
-    pub(crate) fn put(&mut self, word: &str, holds: bool) {
-        if holds {
-            let _ = self.octets.try_extend_from_slice(word.as_bytes());
-        }
+fn put_messages(text: &mut Text, word: &str, messages: &[Vec<u8>]) {
+    text.mark(word, !messages.is_empty());
+    for message in messages {
+        put_hex(text, message.as_slice());
     }
+}
 
-    /// Puts a word and a number behind.
-    pub(crate) fn number(&mut self, word: &str, number: u64) {
-        let _ = write!(self.octets, "{word}{number}");
+fn put_fates(text: &mut Text, fates: &[Fate]) {
+    text.mark(", in", !fates.is_empty());
+    for fate in fates {
+        text.shown(" ", &fate.sent_in.unwrap_or(0));
+        text.mark(" acked", fate.end == Ending::Acked);
+        text.mark(" dropped", fate.end == Ending::Dropped);
     }
+}
 
-    /// Puts octets behind a space, in hexadecimal digits.
-    fn hex(&mut self, octets: &[u8]) {
-        self.put(" ", true);
-        for octet in octets {
-            let _ = write!(self.octets, "{octet:02x}");
-        }
-    }
-
-    /// Puts a word and a fault behind.
-    pub(crate) fn fault(&mut self, word: &str, fault: PairFault) {
-        let _ = write!(self.octets, "{word}{fault}");
-    }
-
-    /// Puts a word and a value behind, as the value is made.
-    pub(crate) fn made<T: Debug + Drop>(&mut self, word: &str, value: T) {
-        let _ = write!(self.octets, "{word}{value:?}");
-    }
-
-    /// Puts a word and frames behind, where there are some.
-    pub(crate) fn frames(&mut self, word: &str, frames: &[ArrayVec<u8, 264>]) {
-        self.put(word, !frames.is_empty());
-        for frame in frames {
-            self.hex(frame.as_slice());
-        }
-    }
-
-    /// Puts behind what both sides show.
-    pub(crate) fn pair(&mut self, pair: &Pair) {
-        self.side(pair, Side::User);
-        self.side(pair, Side::Network);
-    }
-
-    /// Puts behind what a side shows.
-    pub(crate) fn side(&mut self, pair: &Pair, side: Side) {
-        self.link(pair.link(side));
-        self.made(", begun ", pair.begun(side));
-        self.messages(", gave", pair.given(side));
-        self.fates(pair.fates(side));
-        self.received(pair.received(side));
-        self.messages(", units", pair.units(side));
-        self.frames(", line", pair.line(side));
-    }
-
-    fn link(&mut self, link: &Link) {
-        self.number(" state ", u64::from(link.state()));
-        self.window(&link.window());
-        self.number(", RC ", u64::from(link.rc()));
-        self.put(", T200", link.running(Timer::T200));
-        self.put(", T203", link.running(Timer::T203));
-        self.put(", layer 3 initiated", link.layer3_initiated());
-        self.put(", release pending", link.release_pending());
-        self.queue(link.queue());
-    }
-
-    fn window(&mut self, window: &Window) {
-        self.number(", V ", u64::from(window.vs().value()));
-        self.number(" ", u64::from(window.va().value()));
-        self.number(" ", u64::from(window.vr().value()));
-        self.put(", other busy", window.peer_busy());
-        self.put(", busy", window.own_busy());
-        self.put(", rejecting", window.rejecting());
-        self.put(", acknowledge pending", window.ack_pending());
-    }
-
-    fn queue(&mut self, queue: &IQueue) {
-        if !queue.is_empty() {
-            self.number(", sent ", u64::from(queue.sent()));
-            self.put(" of", true);
-        }
-        for place in 0..queue.len() {
-            self.hex(queue.at(place));
-        }
-    }
-
-    fn messages(&mut self, word: &str, messages: &[Vec<u8>]) {
-        self.put(word, !messages.is_empty());
-        for message in messages {
-            self.hex(message.as_slice());
-        }
-    }
-
-    fn fates(&mut self, fates: &[Fate]) {
-        self.put(", in", !fates.is_empty());
-        for fate in fates {
-            self.number(" ", fate.sent_in.unwrap_or(0));
-            self.put(" acked", fate.end == Ending::Acked);
-            self.put(" dropped", fate.end == Ending::Dropped);
-        }
-    }
-
-    fn received(&mut self, received: &[Received]) {
-        self.put(", got", !received.is_empty());
-        for message in received {
-            self.hex(message.octets.as_slice());
-            self.number(" in ", message.establishment);
-        }
+fn put_received(text: &mut Text, received: &[Received]) {
+    text.mark(", got", !received.is_empty());
+    for message in received {
+        put_hex(text, message.octets.as_slice());
+        text.shown(" in ", &message.establishment);
     }
 }

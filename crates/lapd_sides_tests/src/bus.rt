@@ -1,8 +1,10 @@
 //! A bus of terminals and an assigner, driven by words.
 
+use crate::shows::{put_assigner, put_tei_outs, put_terminal};
 use crate::stage::Stage;
-use crate::text::{Text, number_of, numbers_of, split};
+use crate::text::{number_of, numbers_of, put_refused};
 use lapd_tei::{Bus, BusMove, Tei};
+use lapd_testing::{Text, split};
 use std::alloc::{AllocError, Global};
 
 /// The move that these words describe: its name, then the message, the terminal and the reference
@@ -48,8 +50,8 @@ fn moves_of(alloc: Global, words: &str) -> Vec<BusMove> {
 fn put_move(bus: &mut Bus, words: &str, text: &mut Text) {
     match move_of(words) {
         Some(m) => match bus.apply(m) {
-            Ok(outs) => text.tei_outs(outs.as_slice()),
-            Err(fault) => text.refused(&fault, None),
+            Ok(outs) => put_tei_outs(text, outs.as_slice()),
+            Err(fault) => put_refused(text, &fault, None),
         },
         None => text.put("no move"),
     }
@@ -58,21 +60,19 @@ fn put_move(bus: &mut Bus, words: &str, text: &mut Text) {
 /// Makes the moves that these words describe in one run, and writes how many are refused.
 fn put_run(alloc: Global, bus: &mut Bus, words: &str, text: &mut Text) {
     match bus.run(moves_of(alloc, words).as_slice()) {
-        Ok(refused) => text.tell("refused ", &refused),
+        Ok(refused) => text.item("refused ", &refused),
         Err(_) => text.put("no memory"),
     }
 }
 
-impl Text {
-    /// Appends a bus: its first two terminals, and its assigner.
-    fn bus(&mut self, bus: &Bus) {
-        for place in 0..2 {
-            if let Some(terminal) = bus.terminal(place) {
-                self.terminal(terminal);
-            }
+/// Appends a bus: its first two terminals, and its assigner.
+fn put_bus(text: &mut Text, bus: &Bus) {
+    for place in 0..2 {
+        if let Some(terminal) = bus.terminal(place) {
+            put_terminal(text, terminal);
         }
-        self.assigner(bus.assigner());
     }
+    put_assigner(text, bus.assigner());
 }
 
 /// Makes a move of a bus, or several in a run, or writes its state.
@@ -80,7 +80,7 @@ fn step(alloc: Global, bus: &mut Bus, words: &str, text: &mut Text) {
     let (word, behind) = split(words, " ");
     match word {
         "run" => put_run(alloc, bus, behind, text),
-        "shows" => text.bus(bus),
+        "shows" => put_bus(text, bus),
         _ => put_move(bus, words, text),
     }
 }

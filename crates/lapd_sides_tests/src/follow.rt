@@ -2,13 +2,13 @@
 //! produce the same text as the end of the pair: frames, primitives, or a refusal.
 
 use crate::digest::{id_at, of_link};
+use crate::shows::put_out;
 use crate::talk::{Talk, params};
-use crate::text::Text;
+use crate::text::put_refused;
 use lapd_link::{Out, Outs};
 use lapd_pair::{Move, Pair, PairFault};
 use lapd_sides::Side;
-use rand_core::{Rng, SeedableRng};
-use rand_pcg::Pcg32;
+use lapd_testing::{Draws, Text};
 use std::alloc::{AllocError, Global};
 use std::test::Fail;
 
@@ -24,7 +24,7 @@ struct Follow {
     alloc: Global,
     pair: Pair,
     talks: Vec<Talk>,
-    random: Pcg32,
+    draws: Draws,
     messages: u32,
     now: u64,
     call: Text,
@@ -82,45 +82,41 @@ fn word_of(deed: &Move) -> &'static str {
     }
 }
 
-impl Text {
-    /// Appends the expected result: the frames that the end of the pair put on the line after the
-    /// first `before` frames, and its primitives.
-    fn given(&mut self, pair: &Pair, side: Side, before: usize, outs: &[Out]) {
-        for frame in pair.line(side.other()).get(before..).unwrap_or(&[]) {
-            self.hex(frame.as_slice());
-            self.put(";");
-        }
-        for out in outs {
-            self.tell_of(pair, side, out);
-        }
+/// Puts behind what an end of the pair gave: the frames on the line behind as many as `before`, and what its outputs tell.
+fn put_gives(text: &mut Text, pair: &Pair, side: Side, before: usize, outs: &[Out]) {
+    for frame in pair.line(side.other()).get(before..).unwrap_or(&[]) {
+        text.hex(frame.as_slice());
+        text.put(";");
     }
+    for out in outs {
+        put_output(text, pair, side, out);
+    }
+}
 
-    /// Appends the primitive of an output of an end, if it has one, with the last received octets.
-    fn tell_of(&mut self, pair: &Pair, side: Side, out: &Out) {
-        match out {
-            Out::Up => self.data("0 64 data ", last_message(pair, side)),
-            Out::UnitUp => self.data("0 64 unit ", last_unit(pair, side)),
-            Out::Send(..) | Out::SendMessage(..) | Out::SendUnit | Out::Start(_) | Out::Stop(_) =>
-                {}
-            _ => {
-                self.put("0 64 ");
-                self.out(out);
-            }
+/// Puts behind what an output of an end tells, if it tells something. Octets are those that came last.
+fn put_output(text: &mut Text, pair: &Pair, side: Side, out: &Out) {
+    match out {
+        Out::Up => put_data(text, "0 64 data ", last_message(pair, side)),
+        Out::UnitUp => put_data(text, "0 64 unit ", last_unit(pair, side)),
+        Out::Send(..) | Out::SendMessage(..) | Out::SendUnit | Out::Start(_) | Out::Stop(_) => {}
+        _ => {
+            text.put("0 64 ");
+            put_out(text, out);
         }
     }
+}
 
-    /// Appends octets.
-    fn data(&mut self, word: &str, octets: &[u8]) {
-        self.put(word);
-        self.hex(octets);
-        self.put(";");
-    }
+/// Appends octets.
+fn put_data(text: &mut Text, word: &str, octets: &[u8]) {
+    text.put(word);
+    text.hex(octets);
+    text.put(";");
 }
 
 impl Follow {
     /// A random number below this one.
     fn below(&mut self, limit: u32) -> u32 {
-        self.random.next_u32().checked_rem(limit).unwrap_or(0)
+        self.draws.below(limit)
     }
 
     /// Draws a move of one of the sides; `None` if an allocation fails. The octets of a message are
@@ -183,13 +179,13 @@ impl Follow {
         match self.pair.apply_into(deed, &mut self.outs) {
             Ok(()) => {
                 self.made = self.made.wrapping_add(1);
-                self.wanted
-                    .given(&self.pair, deed.side(), before, self.outs.as_slice());
+                let outs = self.outs.as_slice();
+                put_gives(&mut self.wanted, &self.pair, deed.side(), before, outs);
                 true
             }
             Err(PairFault::Refused(fault)) => {
                 self.refused = self.refused.wrapping_add(1);
-                self.wanted.refused(&fault, octets_in(deed));
+                put_refused(&mut self.wanted, &fault, octets_in(deed));
                 true
             }
             Err(fault) => {
@@ -283,7 +279,7 @@ fn sides_follow_pair(rt: HostRuntime) -> Result<(), Fail> {
         alloc,
         pair: Pair::new(alloc, params(), params())?,
         talks: Vec::new(alloc),
-        random: Pcg32::seed_from_u64(921),
+        draws: Draws::new(921),
         messages: 0,
         now: 0,
         call: Text::new(),

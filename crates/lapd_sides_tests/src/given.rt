@@ -1,10 +1,11 @@
 //! Checks that no held TEI is assigned again, with a separate set of the held TEIs.
 
+use crate::shows::put_tei_message;
 use crate::talk::Talk;
-use crate::text::Text;
 use lapd_frame::Side;
 use lapd_sides::Acts;
 use lapd_tei::{Assigner, AssignerEvent, Tei, TeiKind, TeiMessage, TeiOut};
+use lapd_testing::Text;
 use rand_core::{Rng, SeedableRng};
 use rand_pcg::Pcg32;
 
@@ -116,7 +117,7 @@ pub(crate) fn put_drawn(text: &mut Text) {
         }
         most = held.marks.count_ones().max(most);
     }
-    text.tell("most ", &most);
+    text.item("most ", &most);
 }
 
 /// The message in the only frame of `acts`.
@@ -151,7 +152,7 @@ impl Talk {
                     text.shown("", &message.ai);
                     text.put(" ");
                 } else {
-                    text.message(&message);
+                    put_tei_message(text, &message);
                 }
                 held.allows(&message, ri)
             }

@@ -5,7 +5,7 @@ mod discards;
 mod drawn;
 mod watch;
 
-use crate::hostile::drawn::{Draws, MOST, behind, fronts};
+use crate::hostile::drawn::{MOST, OctetDraws, behind, fronts};
 use crate::hostile::watch::Watch;
 use crate::talk::octets_of;
 use std::alloc::Global;
@@ -112,7 +112,7 @@ impl Watch {
 
     /// Passes random strings to new sides whose link is set to state 4 and state 7 alternately.
     fn hear_drawn(&mut self, links: &str) {
-        let mut draws = Draws::new(921);
+        let mut draws = OctetDraws::new(921);
         for number in 0..STRINGS {
             if number % STRINGS_OF_SIDE == 0 {
                 let half = number / STRINGS_OF_SIDE % 2;

@@ -2,12 +2,14 @@
 
 ghost use Rattle.std.specs.Prelude.{◌≢◌, ◌<◌, IsTrue};
 
+use crate::shows::{put_link, put_out};
 use crate::stage::Stage;
 use crate::talk::{behind_link, link_of, octets_of};
-use crate::text::{Text, split};
+use crate::text::put_refused;
 use lapd_frame::{Frame, MOST_OCTETS, Sapi, Side};
 use lapd_link::{Event, Link, Out, Params};
 use lapd_table::{LinkId, LinkTable, TableFault};
+use lapd_testing::{Text, split};
 use std::alloc::Global;
 
 /// Whether a link can have this id: neither management nor the group TEI.
@@ -20,27 +22,25 @@ fn is_of_link(id: LinkId) -> bool
     }
 }
 
-impl Text {
-    /// Appends the outputs of a link: frames as octets, other outputs by name.
-    fn outs(&mut self, link: Option<&Link>, outs: &[Out]) {
-        let Some(link) = link else {
-            return self.put("no link");
-        };
-        for out in outs {
-            match link.frame(out, &[]) {
-                Some(frame) => self.frame(&frame),
-                None => self.out(out),
-            }
+/// Appends what a link gave: its frames as octets, and other outputs by their names.
+fn put_outs(text: &mut Text, link: Option<&Link>, outs: &[Out]) {
+    let Some(link) = link else {
+        return text.put("no link");
+    };
+    for out in outs {
+        match link.frame(out, &[]) {
+            Some(frame) => put_frame(text, &frame),
+            None => put_out(text, out),
         }
     }
+}
 
-    /// Appends the octets of a frame.
-    fn frame(&mut self, frame: &Frame<'_>) {
-        let mut room = [0; MOST_OCTETS];
-        let len = lapd_frame::write(frame, Side::Network, &mut room);
-        self.hex(room.get(..len).unwrap_or(&[]));
-        self.put(";");
-    }
+/// Appends the octets of a frame.
+fn put_frame(text: &mut Text, frame: &Frame<'_>) {
+    let mut room = [0; MOST_OCTETS];
+    let len = lapd_frame::write(frame, Side::Network, &mut room);
+    text.hex(room.get(..len).unwrap_or(&[]));
+    text.put(";");
 }
 
 /// Adds a link with the parameters of primary rate access, and writes the result.
@@ -51,7 +51,7 @@ fn put_added(alloc: Global, table: &mut LinkTable, id: &LinkId, text: &mut Text)
     match Link::new(alloc, table.side(), id.sapi, id.tei, Params::primary()) {
         Ok(link) => match table.add(link) {
             Ok(()) => text.put("done"),
-            Err((fault, _)) => text.refused(&fault, None),
+            Err((fault, _)) => put_refused(text, &fault, None),
         },
         Err(_) => text.put("no memory"),
     }
@@ -61,7 +61,7 @@ fn put_added(alloc: Global, table: &mut LinkTable, id: &LinkId, text: &mut Text)
 fn put_removed(table: &mut LinkTable, id: &LinkId, text: &mut Text) {
     match table.remove(*id) {
         Some(_) => text.put("done"),
-        None => text.refused(&TableFault::NoLink, None),
+        None => put_refused(text, &TableFault::NoLink, None),
     }
 }
 
@@ -70,10 +70,10 @@ fn put_removed(table: &mut LinkTable, id: &LinkId, text: &mut Text) {
 fn put_heard(table: &mut LinkTable, octets: &[u8], text: &mut Text) {
     match table.dispatch(octets) {
         Ok((id, outs)) => {
-            text.tell("", &id);
-            text.outs(table.link(id), outs.as_slice());
+            text.item("", &id);
+            put_outs(text, table.link(id), outs.as_slice());
         }
-        Err(fault) => text.refused(&fault, None),
+        Err(fault) => put_refused(text, &fault, None),
     }
 }
 
@@ -82,7 +82,7 @@ fn put_links(table: &LinkTable, text: &mut Text) {
     match table.ids() {
         Ok(ids) => {
             for id in ids.as_slice() {
-                text.tell("", id);
+                text.item("", id);
             }
         }
         Err(_) => text.put("no memory"),
@@ -95,8 +95,8 @@ fn put_establishment(table: &mut LinkTable, id: &LinkId, text: &mut Text) {
         return text.put("no link");
     }
     match table.handle(*id, Event::Establish) {
-        Ok(outs) => text.outs(table.link(*id), outs.as_slice()),
-        Err(fault) => text.refused(&fault, None),
+        Ok(outs) => put_outs(text, table.link(*id), outs.as_slice()),
+        Err(fault) => put_refused(text, &fault, None),
     }
 }
 
@@ -107,7 +107,7 @@ fn put_given(table: &mut LinkTable, id: &LinkId, message: Vec<u8>, text: &mut Te
     }
     match table.give(*id, message) {
         Ok(_) => text.put("taken"),
-        Err(refused) => text.refused(&refused.fault, Some(refused.message.as_slice())),
+        Err(refused) => put_refused(text, &refused.fault, Some(refused.message.as_slice())),
     }
 }
 
@@ -119,7 +119,7 @@ impl Stage {
             "new" => self.table = LinkTable::new(self.alloc, Side::Network),
             "hear" => self.hear(behind, text),
             "links" => put_links(&self.table, text),
-            "memory" => text.tell("", &TableFault::Memory),
+            "memory" => text.item("", &TableFault::Memory),
             _ => match link_of(behind) {
                 Some(id) => self.step_of_link(word, &id, behind_link(behind), text),
                 None => text.put("no link has these numbers"),
@@ -134,7 +134,7 @@ impl Stage {
             "remove" => put_removed(&mut self.table, id, text),
             "establish" => put_establishment(&mut self.table, id, text),
             "give" => self.give(id, digits, text),
-            _ => text.link(self.table.link(*id)),
+            _ => put_link(text, self.table.link(*id)),
         }
     }
 

@@ -3,11 +3,13 @@
 ghost use Rattle.std.specs.Prelude.{◌≡◌, ◌<◌, IfOk};
 ghost use Rattle.std.specs.List.{All};
 
-use crate::text::{Text, number_of, numbers_of, split};
+use crate::shows::put_readers;
+use crate::text::{number_of, numbers_of, put_octets, put_refused};
 use lapd_sides::{
     Acts, Config, Durations, EitherSide, LinkId, NetSide, Params, Request, Sapi, SideFault, Tei,
     UserSide,
 };
+use lapd_testing::{Text, split};
 use std::alloc::{AllocError, Global};
 
 /// A side, and the results of its last call.
@@ -157,7 +159,7 @@ impl Talk {
     pub(crate) fn step(&mut self, words: &str, text: &mut Text) {
         let (word, behind) = split(words, " ");
         match word {
-            "shows" => text.readers(&self.side, behind),
+            "shows" => put_readers(text, &self.side, behind),
             "exact" => text.put(if self.is_exact() { "yes" } else { "no" }),
             "requests" => self.requests(text),
             _ => self.call(words, text),
@@ -178,14 +180,17 @@ impl Talk {
             }
             _ => self.ask(word, behind, number_of(now), text),
         }
-        text.acts(&self.acts);
+        put_acts(text, &self.acts);
     }
 
     /// Passes octets to the side. Writes a refusal. If the octets cannot be allocated, says so, and
     /// discards the results of the call before.
     fn take(&mut self, digits: &str, now: u64, text: &mut Text) {
         match octets_of(self.alloc, digits) {
-            Some(octets) => text.end(&self.side.take(octets.as_slice(), now, &mut self.acts)),
+            Some(octets) => put_end(
+                text,
+                &self.side.take(octets.as_slice(), now, &mut self.acts),
+            ),
             None => {
                 self.acts.clear();
                 text.put("no memory");
@@ -196,7 +201,7 @@ impl Talk {
     /// Makes a request, and writes a refusal.
     fn ask(&mut self, word: &str, behind: &str, now: u64, text: &mut Text) {
         match request_of(self.alloc, word, behind) {
-            Some(request) => text.end(&self.side.request(request, now, &mut self.acts)),
+            Some(request) => put_end(text, &self.side.request(request, now, &mut self.acts)),
             None => {
                 self.acts.clear();
                 text.put("no memory");
@@ -217,25 +222,23 @@ impl Talk {
     }
 }
 
-impl Text {
-    /// Appends the results of a call: each frame and each primitive, followed by `;`.
-    fn acts(&mut self, acts: &Acts) {
-        for frame in acts.frames() {
-            self.octets(frame.as_slice());
-            self.put(";");
-        }
-        for primitive in acts.primitives() {
-            self.tell("", primitive);
-        }
+/// Appends what a call gave: each frame and each primitive, with `;` behind it.
+fn put_acts(text: &mut Text, acts: &Acts) {
+    for frame in acts.frames() {
+        put_octets(text, frame.as_slice());
+        text.put(";");
     }
+    for primitive in acts.primitives() {
+        text.item("", primitive);
+    }
+}
 
-    /// Appends a refusal, if any, and the message that it returns.
-    fn end(&mut self, done: &Result<(), SideFault>) {
-        if let Err(fault) = done {
-            match &fault.message {
-                Some(message) => self.refused(&fault.kind, Some(message.as_slice())),
-                None => self.refused(&fault.kind, None),
-            }
+/// Appends a refusal, where there is one, and the message that is handed back.
+fn put_end(text: &mut Text, done: &Result<(), SideFault>) {
+    if let Err(fault) = done {
+        match &fault.message {
+            Some(message) => put_refused(text, &fault.kind, Some(message.as_slice())),
+            None => put_refused(text, &fault.kind, None),
         }
     }
 }

@@ -1,10 +1,13 @@
 //! Timers and TEI management (Q.921 5.3), driven by words.
 
-use crate::shows::name_of;
+use crate::shows::{
+    name_of, put_assigner, put_tei_message, put_tei_outs, put_terminal, put_timers,
+};
 use crate::talk::{octets_of, tei};
-use crate::text::{Text, number_of, numbers_of, split};
+use crate::text::{number_of, numbers_of};
 use lapd_frame::Side;
 use lapd_tei::{Assigner, AssignerEvent, Tei, TeiKind, TeiMessage, Terminal, TerminalEvent};
+use lapd_testing::{Text, split};
 use lapd_timers::{Durations, Timer, TimerSet};
 use std::alloc::Global;
 
@@ -25,7 +28,7 @@ pub(crate) fn step_of_timers(timers: &mut TimerSet, words: &str, text: &mut Text
     let (word, behind) = split(words, " ");
     match word {
         "new" => *timers = TimerSet::new(Durations::standard()),
-        "due" => text.told("", timers.due(number_of(behind))),
+        "due" => text.item_if("", timers.due(number_of(behind))),
         "durations" => put_durations(behind, text),
         _ => put_timed(timers, word, behind, text),
     }
@@ -39,7 +42,7 @@ fn put_timed(timers: &mut TimerSet, word: &str, behind: &str, text: &mut Text) {
         Some(timer) => timers.stop(timer),
         None => text.put("no timer"),
     }
-    text.timers(Some(timers));
+    put_timers(text, Some(timers));
 }
 
 /// Writes the durations with these values.
@@ -49,7 +52,7 @@ fn put_durations(words: &str, text: &mut Text) {
         Some(durations) => {
             for timer in [Timer::T200, Timer::T201, Timer::T202, Timer::T203] {
                 text.put(timer.name());
-                text.tell(" ", &durations.of(timer));
+                text.item(" ", &durations.of(timer));
             }
         }
         None => text.put("refused"),
@@ -94,7 +97,7 @@ pub(crate) fn step_of_messages(alloc: Global, words: &str, text: &mut Text) {
 
 fn put_read(info: &[u8], text: &mut Text) {
     match TeiMessage::read(info) {
-        Ok(message) => text.message(&message),
+        Ok(message) => put_tei_message(text, &message),
         Err(fault) => text.put(fault.name()),
     }
 }
@@ -135,11 +138,11 @@ pub(crate) fn step_of_terminal(terminal: &mut Terminal, words: &str, text: &mut 
         "begins" => *terminal = Terminal::new(None),
         "begins 64" => *terminal = Terminal::new(Some(tei(64))),
         _ => match terminal_event(words) {
-            Some(event) => text.tei_outs(terminal.handle(event).as_slice()),
+            Some(event) => put_tei_outs(text, terminal.handle(event).as_slice()),
             None => text.put("no event"),
         },
     }
-    text.terminal(terminal);
+    put_terminal(text, terminal);
 }
 
 /// An assigner that knows these TEIs.
@@ -167,7 +170,7 @@ pub(crate) fn step_of_assigner(assigner: &mut Assigner, words: &str, text: &mut 
     if let Some(known) = words.strip_prefix("begins") {
         *assigner = begun(known.trim_start());
     } else if let Some(event) = assigner_event(words) {
-        text.tei_outs(assigner.handle(event).as_slice());
+        put_tei_outs(text, assigner.handle(event).as_slice());
     }
-    text.assigner(assigner);
+    put_assigner(text, assigner);
 }

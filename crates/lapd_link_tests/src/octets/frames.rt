@@ -1,11 +1,12 @@
 //! Octets, the frames in them, and the first fault of octets that do not form a valid frame (Q.921
 //! 2.9, 3.3 to 3.6, Table 5), as lines of text.
 
-use crate::text::{Subject, Text, split, with_octets, wrong_row};
+use crate::text::with_octets;
 use lapd_frame::{
     Address, Control, FaultKind, Frame, FrameFault, MOST_OCTETS, N201, Role, Side, one_frame,
     one_spelling, read, read_as_spelled, write,
 };
+use lapd_testing::{Subject, Text, split, wrong_row};
 use lapd_trace::line;
 use std::alloc::Global;
 

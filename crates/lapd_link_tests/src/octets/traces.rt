@@ -1,7 +1,8 @@
 //! Histories of lines that overflow, and lines whose allocation fails.
 
-use crate::text::{Text, number_of};
+use crate::text::number_of;
 use crate::wants::none_is_wrong;
+use lapd_testing::Text;
 use lapd_trace::{History, Side, line};
 use std::alloc::{AllocError, Global};
 use std::test::Fail;

@@ -6,11 +6,11 @@ mod plain;
 mod table;
 
 use crate::rows::Driven;
-use crate::rows::drawn::events::Draws;
+use crate::rows::drawn::events::EventDraws;
 use crate::rows::drawn::plain::Plain;
 use crate::rows::drawn::table::{TABLE, Table};
-use crate::text::wrong_row;
 use crate::wants::none_is_wrong;
+use lapd_testing::wrong_row;
 use std::alloc::Global;
 use std::test::Fail;
 
@@ -23,11 +23,11 @@ fn wrong_turn(
     table: &mut Table,
     link: &mut Driven,
     plain: &mut Plain,
-    draws: &mut Draws,
+    draws: &mut EventDraws,
 ) -> Option<&'static str> {
     table.count(plain.state);
     let (event, then) = draws.draw(plain);
-    let done = link.does(plain.line.octets());
+    let done = link.does(plain.line.as_bytes());
     plain.step(table, event, then);
     if done && link.has_printed(&plain.wanted) && plain.is_of(link.link()) {
         None
@@ -38,7 +38,7 @@ fn wrong_turn(
 
 /// Draws events, and executes each on the link and by the table.
 fn wrong_event(table: &mut Table, link: &mut Driven, plain: &mut Plain) -> Option<&'static str> {
-    let mut draws = Draws::new(921);
+    let mut draws = EventDraws::new(921);
     for _ in 0..EVENTS {
         let wrong = wrong_turn(table, link, plain, &mut draws);
         if wrong.is_some() {

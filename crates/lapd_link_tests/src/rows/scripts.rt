@@ -1,7 +1,8 @@
 //! Worked scripts, each over one link from its beginning.
 
 use crate::rows::Driven;
-use crate::text::{Subject, Text, split, with_octets, wrong_row};
+use crate::text::with_octets;
+use lapd_testing::{Subject, Text, split, wrong_row};
 use std::alloc::Global;
 
 /// Scripts: a line `link side k n200 room` makes a new link, `event | outputs` is an event with its
@@ -218,7 +219,7 @@ impl Driven {
     fn takes(&mut self, front: &str, count: u8) -> bool {
         let mut done = true;
         for number in 0..count {
-            done = done && self.does(message_line(front, number).octets());
+            done = done && self.does(message_line(front, number).as_bytes());
         }
         done
     }

@@ -1,8 +1,7 @@
 //! Random octets, and the octets that they begin with.
 
 use arrayvec::ArrayVec;
-use rand_core::{Rng, SeedableRng};
-use rand_pcg::Pcg32;
+use lapd_testing::Draws;
 
 /// The maximum number of random octets.
 pub(super) const MOST: usize = 300;
@@ -46,31 +45,30 @@ pub(super) fn behind(front: &[u8], string: &[u8; MOST]) -> ArrayVec<u8, MOST> {
 
 /// A generator of random octets.
 #[derive(Drop)]
-pub(super) struct Draws {
-    random: Pcg32,
+pub(super) struct OctetDraws {
+    draws: Draws,
     octets: ArrayVec<u8, MOST>,
 }
 
-impl Draws {
-    /// A generator with this seed.
-    pub(super) fn new(seed: u64) -> Draws {
-        Draws {
-            random: Pcg32::seed_from_u64(seed),
+impl OctetDraws {
+    /// Draws from this seed on.
+    pub(super) fn new(seed: u64) -> OctetDraws {
+        OctetDraws {
+            draws: Draws::new(seed),
             octets: ArrayVec::new(),
         }
     }
 
     /// A random number below this one.
     fn below(&mut self, limit: usize) -> usize {
-        let drawn = self.random.next_u32() as usize;
-        drawn.checked_rem(limit).unwrap_or(0)
+        self.draws.below(u32::try_from(limit).unwrap_or(0)) as usize
     }
 
     /// Draws 0 to 300 octets. Half of the strings begin with one of `FRONTS`, and half of these
     /// have at most 10 octets.
     pub(super) fn draw(&mut self) -> &[u8] {
         let mut string = [0; MOST];
-        self.random.fill_bytes(&mut string);
+        self.draws.fill(&mut string);
         let sort = self.below(4);
         let front = if sort < 2 {
             self.below(fronts().len())

@@ -3,9 +3,9 @@
 use crate::digest::{PLACES, at_place, id_at};
 use crate::hostile::discards::{is_discarded, is_for_management};
 use crate::talk::Talk;
-use crate::text::Text;
 use lapd_frame::{Frame, MOST_OCTETS, read, write};
 use lapd_sides::{Request, Side};
+use lapd_testing::Text;
 use std::alloc::{AllocError, Global};
 use std::test::Fail;
 

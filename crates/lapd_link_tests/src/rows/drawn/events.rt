@@ -1,9 +1,7 @@
 //! Random events, as lines of the command `answer`.
 
 use crate::rows::drawn::plain::Plain;
-use crate::text::split;
-use rand_core::{Rng, SeedableRng};
-use rand_pcg::Pcg32;
+use lapd_testing::{Draws, split};
 
 /// Events `event | then | line`, each drawn as often as the list contains it. `then` is the event
 /// that follows a frame with N(R). [`Plain::put_words`] explains the letters of a line.
@@ -103,23 +101,23 @@ fn events(number: u8) -> &'static str {
 
 /// Draws of events: the random sequence, and the number of the list that is mostly used.
 #[derive(Drop)]
-pub(super) struct Draws {
-    random: Pcg32,
+pub(super) struct EventDraws {
+    draws: Draws,
     mood: u8,
 }
 
-impl Draws {
-    /// Begins with this seed.
-    pub(super) fn new(seed: u64) -> Draws {
-        Draws {
-            random: Pcg32::seed_from_u64(seed),
+impl EventDraws {
+    /// Draws from this seed on.
+    pub(super) fn new(seed: u64) -> EventDraws {
+        EventDraws {
+            draws: Draws::new(seed),
             mood: 0,
         }
     }
 
     /// A random number below this one.
     fn below(&mut self, limit: u32) -> u32 {
-        self.random.next_u32().checked_rem(limit).unwrap_or(0)
+        self.draws.below(limit)
     }
 
     /// A random number below this one, at most 256.

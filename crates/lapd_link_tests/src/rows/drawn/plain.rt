@@ -1,8 +1,8 @@
 //! One end of a link as plain numbers, and the effect of the table's words on it.
 
 use crate::rows::drawn::table::{FRAMES, PROCEDURES, Table};
-use crate::text::{Text, split};
 use lapd_link::{Link, Timer};
+use lapd_testing::{Text, split};
 
 /// The window of the tested links.
 const K: u8 = 127;
@@ -372,7 +372,7 @@ impl Plain {
             Some(words) => {
                 self.put_words(words);
                 self.wanted.put("send ");
-                self.wanted.put_octets(self.line.octets());
+                self.wanted.put_octets(self.line.as_bytes());
                 self.wanted.put("\n");
             }
             None => self.put_line("", action),

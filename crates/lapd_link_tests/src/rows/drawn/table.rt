@@ -6,7 +6,7 @@
 //! repeats while a row of it matches.
 
 use crate::rows::drawn::plain::Plain;
-use crate::text::{Subject, split};
+use lapd_testing::{Subject, split};
 use std::alloc::Global;
 
 /// The actions of each procedure.

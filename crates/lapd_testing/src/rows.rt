@@ -1,0 +1,22 @@
+//! Rows of text.
+
+/// What rows of text are about.
+pub trait Subject {
+    /// Does what a row says, and returns whether it comes to what the row wants.
+    fn keeps(&mut self, row: &'static str) -> bool;
+}
+
+/// Returns the first row that is wrong. Empty lines and those that begin with `#` are not rows.
+pub fn wrong_row<S: Subject>(subject: &mut S, rows: &'static str) -> Option<&'static str> {
+    for row in rows.lines() {
+        if !row.is_empty() && !row.starts_with("#") && !subject.keeps(row) {
+            return Some(row);
+        }
+    }
+    None
+}
+
+/// Splits a text at the first such mark. Without the mark, the second part is empty.
+pub fn split<'a>(text: &'a str, mark: &str) -> (&'a str, &'a str) {
+    text.split_once(mark).unwrap_or((text, ""))
+}
