@@ -82,7 +82,8 @@ fn word_of(deed: &Move) -> &'static str {
     }
 }
 
-/// Puts behind what an end of the pair gave: the frames on the line behind as many as `before`, and what its outputs tell.
+/// Appends the frames that the end of the pair put on the line after the first `before` frames, and
+/// its primitives.
 fn put_gives(text: &mut Text, pair: &Pair, side: Side, before: usize, outs: &[Out]) {
     for frame in pair.line(side.other()).get(before..).unwrap_or(&[]) {
         text.hex(frame.as_slice());
@@ -93,7 +94,7 @@ fn put_gives(text: &mut Text, pair: &Pair, side: Side, before: usize, outs: &[Ou
     }
 }
 
-/// Puts behind what an output of an end tells, if it tells something. Octets are those that came last.
+/// Appends the primitive of an output of an end, if it has one, with the last received octets.
 fn put_output(text: &mut Text, pair: &Pair, side: Side, out: &Out) {
     match out {
         Out::Up => put_data(text, "0 64 data ", last_message(pair, side)),

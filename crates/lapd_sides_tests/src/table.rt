@@ -22,7 +22,7 @@ fn is_of_link(id: LinkId) -> bool
     }
 }
 
-/// Appends what a link gave: its frames as octets, and other outputs by their names.
+/// Appends the outputs of a link: frames as octets, other outputs by name.
 fn put_outs(text: &mut Text, link: Option<&Link>, outs: &[Out]) {
     let Some(link) = link else {
         return text.put("no link");

@@ -222,7 +222,7 @@ impl Talk {
     }
 }
 
-/// Appends what a call gave: each frame and each primitive, with `;` behind it.
+/// Appends the results of a call: each frame and each primitive, followed by `;`.
 fn put_acts(text: &mut Text, acts: &Acts) {
     for frame in acts.frames() {
         put_octets(text, frame.as_slice());
@@ -233,7 +233,7 @@ fn put_acts(text: &mut Text, acts: &Acts) {
     }
 }
 
-/// Appends a refusal, where there is one, and the message that is handed back.
+/// Appends a refusal, if any, and the message that it returns.
 fn put_end(text: &mut Text, done: &Result<(), SideFault>) {
     if let Err(fault) = done {
         match &fault.message {

@@ -21,7 +21,7 @@ pub(crate) fn put_octets(text: &mut Text, octets: &[u8]) {
     text.put("]");
 }
 
-/// Puts behind why something is refused, and the octets that are handed back, where there are some.
+/// Appends the reason of a refusal, and the octets that it returns, if any.
 pub(crate) fn put_refused<T: Display>(text: &mut Text, fault: &T, message: Option<&[u8]>) {
     text.shown("refused ", fault);
     if let Some(octets) = message {

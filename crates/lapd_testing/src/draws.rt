@@ -1,16 +1,16 @@
-//! Numbers and octets that are drawn.
+//! Random numbers and octets.
 
 use rand_core::{Rng, SeedableRng};
 use rand_pcg::Pcg32;
 
-/// A sequence of drawn numbers, the same for the same seed.
+/// A sequence of random numbers, the same for the same seed.
 #[derive(Drop)]
 pub struct Draws {
     random: Pcg32,
 }
 
 impl Draws {
-    /// Begins the sequence of this seed.
+    /// Starts the sequence of this seed.
     pub fn new(seed: u64) -> Draws {
         Draws {
             random: Pcg32::seed_from_u64(seed),
@@ -22,7 +22,7 @@ impl Draws {
         self.random.next_u32().checked_rem(limit).unwrap_or(0)
     }
 
-    /// Fills a room with drawn octets.
+    /// Fills a buffer with random octets.
     pub fn fill(&mut self, octets: &mut [u8]) {
         self.random.fill_bytes(octets);
     }

@@ -1,7 +1,7 @@
-//! What the crates of tests share.
+//! Helpers that the test crates share.
 //!
-//! A [`Text`] is put together piece by piece and compared as a whole. A [`Subject`] is led through rows of text, and
-//! [`wrong_row`] finds the first that it does not keep to. [`Draws`] draws numbers and octets.
+//! A [`Text`] is built piece by piece and compared as a whole. A [`Subject`] runs rows of text, and
+//! [`wrong_row`] finds the first that fails. [`Draws`] is a sequence of random numbers and octets.
 #![tactic(auto)]
 
 mod draws;

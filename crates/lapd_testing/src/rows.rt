@@ -1,8 +1,8 @@
 //! Rows of text.
 
-/// What rows of text are about.
+/// A thing that rows of text test.
 pub trait Subject {
-    /// Does what a row says, and returns whether it comes to what the row wants.
+    /// Runs a row, and returns whether the result is the expected one.
     fn keeps(&mut self, row: &'static str) -> bool;
 }
 

@@ -1,17 +1,18 @@
-//! Text that is put together piece by piece.
+//! Text that is built piece by piece.
 
 use arrayvec::ArrayVec;
 use std::fmt::{Debug, Display};
 use std::io::Write;
 
-/// Text of at most 4,096 octets. A piece that does not fit is left out, so that the text is not the one that is wanted.
+/// A text of at most 4,096 octets. Pieces that do not fit are left out, so that the text differs
+/// from the expected one.
 #[derive(Drop)]
 pub struct Text {
     octets: ArrayVec<u8, 4096>,
 }
 
 impl Text {
-    /// No text.
+    /// An empty text.
     pub fn new() -> Text {
         Text {
             octets: ArrayVec::new(),
@@ -28,12 +29,12 @@ impl Text {
         str::from_utf8(self.as_bytes()).unwrap_or("")
     }
 
-    /// Whether the text is this.
+    /// Whether the text equals this one.
     pub fn is(&self, wanted: &str) -> bool {
         self.as_bytes() == wanted.as_bytes()
     }
 
-    /// Removes all.
+    /// Clears the text.
     pub fn clear(&mut self) {
         self.octets.clear();
     }

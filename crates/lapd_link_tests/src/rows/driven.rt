@@ -22,8 +22,8 @@ pub(super) struct Driven {
 }
 
 impl Driven {
-    /// A new link of `side k n200 room`, where `last` stands behind with the recovery of the last message; `None` where a number is
-    /// out of range or no memory is left.
+    /// A new link of `side k n200 room`; a `last` after them selects the recovery of the last
+    /// message. `None` if a number is out of range or an allocation fails.
     pub(super) fn new(alloc: Global, words: &str) -> Option<Driven> {
         let (side, numbers) = split(words, " ");
         let side = if side == "user" {
@@ -171,7 +171,8 @@ impl Driven {
         condition_of(self.link()).is(condition)
     }
 
-    /// Whether an event calls for these outputs, and leaves the link in this condition, where a script led to one.
+    /// Whether an event has these outputs and leads to this condition, after a script that led to
+    /// its own.
     pub(super) fn keeps_to(&mut self, [script, before, event, outs, after]: [&str; 5]) -> bool {
         self.lead(script) && self.is_in(before) && self.gives(event, outs) && self.is_in(after)
     }
@@ -234,7 +235,7 @@ fn put_other(text: &mut Text, out: &Out, handed: &[u8]) {
     }
 }
 
-/// Puts octets that go to layer 3.
+/// Appends octets for layer 3.
 fn put_data(text: &mut Text, word: &str, octets: &[u8]) {
     text.put(word);
     text.mark(" ", !octets.is_empty());
