@@ -120,7 +120,7 @@ impl Driven {
             Some(address) if self.link.is_for(address) => self.steps(Event::Fault(fault.kind), &[]),
             Some(_) => self.printed.put("not-mine\n"),
             None => {
-                self.printed.shown("discarded ", &fault.kind.name());
+                put_words(&mut self.printed, "discarded ", fault.kind.name());
                 self.printed.put("\n");
             }
         }
@@ -228,11 +228,17 @@ fn put_other(text: &mut Text, out: &Out, handed: &[u8]) {
         Out::ReleaseConfirm => text.put("release-confirmed"),
         Out::Acknowledged(count) => text.shown("acknowledged ", count),
         Out::Dropped(count) => text.shown("dropped ", count),
-        Out::Report(letter) => text.shown("report ", &letter.name()),
-        Out::Start(timer) => text.shown("start ", &timer.name()),
-        Out::Stop(timer) => text.shown("stop ", &timer.name()),
+        Out::Report(letter) => put_words(text, "report ", letter.name()),
+        Out::Start(timer) => put_words(text, "start ", timer.name()),
+        Out::Stop(timer) => put_words(text, "stop ", timer.name()),
         Out::Send(..) | Out::SendMessage(..) | Out::SendUnit => text.put("no frame"),
     }
+}
+
+/// Appends a word and a name.
+fn put_words(text: &mut Text, word: &str, name: &str) {
+    text.put(word);
+    text.put(name);
 }
 
 /// Appends octets for layer 3.
@@ -244,6 +250,6 @@ fn put_data(text: &mut Text, word: &str, octets: &[u8]) {
 
 /// Puts why a request is refused.
 fn put_refusal(text: &mut Text, fault: LinkFault) {
-    text.shown("refused ", &fault.name());
+    put_words(text, "refused ", fault.name());
     text.put("\n");
 }
