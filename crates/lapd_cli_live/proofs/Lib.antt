@@ -7,3 +7,4 @@ pub mod WaitingLines
 pub mod InTime
 pub mod StateAnswers
 pub mod SentLater
+pub mod Sessions

@@ -1,11 +1,16 @@
 //! Lines of input of a side that is served: a script, or lines that a person types.
 
-ghost use Rattle.std.specs.Prelude.{◌≡◌};
-ghost use Rattle.lapd_cli_script.specs.Script.{is_passed_over as passed_over};
+ghost use Rattle.std.specs.Prelude.{◌≡◌, IfOk, IfSome, OnOk};
+ghost use Rattle.lapd_cli_script.specs.Script.{is_passed_over as passed_over, lines_of};
+ghost use Rattle.lapd_cli_script.specs.declared.script.ScriptFault.TheVariants.{Memory};
+ghost use Rattle.lapd_cli_live.specs.declared.input.LiveStop.TheVariants.{Script};
+ghost use Rattle.lapd_cli_live.specs.Log.{Between};
+ghost use Rattle.lapd_cli_live.specs.Sessions.{LineEnds, LinesEnd, ReadsPart, ScriptEnds, ServesOn, stop_of};
 ghost use Rattle.lapd_cli_live.specs.Typed.{deed_of};
 
 use crate::fault::LiveFault;
 use crate::live_side::LiveSide;
+use crate::obeyed::Obeyed;
 use crate::outside::{Lines, Outside};
 use crate::service::Came;
 use crate::typed_lines::TypedLines;
@@ -23,6 +28,26 @@ pub enum LiveStop {
     Script(ScriptFault),
     /// An expected line was not printed in time.
     Unmet,
+}
+
+impl From<LiveFault> for LiveStop {
+    ghost from_gives = { λ fault stop. stop ≡ stop_of fault };
+
+    fn from(fault: LiveFault) -> LiveStop {
+        LiveStop::Script(match fault {
+            LiveFault::Port(fault) => ScriptFault::Port(fault),
+            LiveFault::Line(LineFault::Memory) => ScriptFault::Memory,
+            LiveFault::Line(LineFault::Bad | LineFault::Device) => ScriptFault::Device,
+        })
+    }
+}
+
+impl From<AllocError> for LiveStop {
+    ghost from_gives = { λ _ stop. stop ≡ Script Memory };
+
+    fn from(_error: AllocError) -> LiveStop {
+        LiveStop::Script(ScriptFault::Memory)
+    }
 }
 
 /// What a person at a terminal is told beside what is printed. No call may wait.
@@ -57,22 +82,26 @@ pub(crate) enum TypedDeed {
     Obey,
 }
 
-/// Serves a side over a script: also while the next line of the script is awaited. The first line that is no line of the side ends
-/// it, and so does an expected line that is not printed in time. With `serve_on` the side is served behind the script's end, until
-/// the connection is closed. The side is returned.
+/// Serves a side over a script, also while the next line of the script is awaited. Each line is done once and in order, unless it is
+/// passed over. The first line that is not a line of the side ends the script, and so does an expected line that is not printed in
+/// time. With `serve_on` the side is then served behind the end of the script, until the connection is closed. The side is returned.
+///
+/// If the octets of the script are known, as in memory, `Ok` means that all its lines were done.
 ///
 /// # Errors
 ///
-/// `BadLine` at the first line that is no line of the side, `Device`, `Memory`, `Port` and `Unmet`.
+/// `BadLine` at the first line that is not a line of the side, `Unmet`, `Device`, `Memory` and `Port`.
 pub fn live_script<R: Read, O: Outside, W: Write>(
     alloc: Global,
     mut live: LiveSide<O, W>,
     script: &mut R,
     serve_on: bool,
-) -> (Result<(), LiveStop>, LiveSide<O, W>) {
-    let mut number = 0;
-    let ended = go_over(alloc, &mut live, script, &mut number, serve_on);
-    (stopped_at(ended, number), live)
+) -> (Result<(), LiveStop>, LiveSide<O, W>)
+    ensures { IfSome (R.remaining script.old) (λ octets. Between O.deeds W.contents live result.1
+        (ScriptEnds serve_on result.0 (lines_of octets))) }
+{
+    let ended = go_over(alloc, &mut live, script, serve_on);
+    (ended, live)
 }
 
 /// Serves a side while lines are typed, until the connection is closed or the lines end. Each line is done once it is typed whole,
@@ -91,43 +120,35 @@ pub fn live_session<R: Read, P: Person, O: Outside, W: Write>(
     serve_on: bool,
 ) -> (Result<(), LiveStop>, LiveSide<O, W>) {
     person.greet();
-    let ended = converse(alloc, &mut live, lines, person, serve_on);
-    (stopped_at(ended, 0), live)
-}
-
-/// Why lines of input ended, the last of which had this number.
-fn stopped_at(ended: Result<(), LiveFault>, number: u64) -> Result<(), LiveStop> {
-    match ended {
-        Ok(()) => Ok(()),
-        Err(LiveFault::Unmet) => Err(LiveStop::Unmet),
-        Err(LiveFault::Port(fault)) => Err(LiveStop::Script(ScriptFault::Port(fault))),
-        Err(LiveFault::Line(fault)) => Err(LiveStop::Script(match fault {
-            LineFault::Bad => ScriptFault::BadLine(number),
-            LineFault::Device => ScriptFault::Device,
-            LineFault::Memory => ScriptFault::Memory,
-        })),
+    match converse(alloc, &mut live, lines, person, serve_on) {
+        Ok(()) => (Ok(()), live),
+        Err(fault) => (Err(LiveStop::from(fault)), live),
     }
 }
 
-/// Serves a side over a script, and counts its lines.
+/// Serves a side over a script.
 fn go_over<R: Read, O: Outside, W: Write>(
     alloc: Global,
     live: &mut LiveSide<O, W>,
     script: &mut R,
-    number: &mut u64,
     serve_on: bool,
-) -> Result<(), LiveFault> {
+) -> Result<(), LiveStop>
+    ensures { IfSome (R.remaining script.old) (λ octets. Between O.deeds W.contents live.old live.new
+        (ScriptEnds serve_on result (lines_of octets))) }
+{
     let mut lines = TypedLines::new(alloc);
+    let mut number: u64 = 0;
     for _read in 0..u64::MAX {
         // If the connection is closed, the script goes on all the same.
         live.await_input()?;
         if !read_part(script, &mut lines)? {
-            do_script_line(live, lines.last_line(), number)?;
-            return serve_to_end(live, serve_on);
+            do_script_line(live, lines.last_line(), &mut number)?;
+            serve_to_end(live, serve_on)?;
+            return Ok(());
         }
-        do_script_lines(live, &mut lines, number)?;
+        do_script_lines(live, &mut lines, &mut number)?;
     }
-    Ok(())
+    Err(LiveStop::Script(ScriptFault::Device))
 }
 
 /// Does the lines of a script that have ended.
@@ -135,14 +156,17 @@ fn do_script_lines<O: Outside, W: Write>(
     live: &mut LiveSide<O, W>,
     lines: &mut TypedLines,
     number: &mut u64,
-) -> Result<(), LiveFault> {
+) -> Result<(), LiveStop>
+    ensures { Between O.deeds W.contents live.old live.new
+        (LinesEnd result lines.old.text.items lines.new.text.items number.old number.new) }
+{
     for _line in 0..u64::MAX {
         let Some(line) = lines.next_line()? else {
             return Ok(());
         };
         do_script_line(live, line.as_slice(), number)?;
     }
-    Ok(())
+    Err(LiveStop::Script(ScriptFault::Device))
 }
 
 /// Counts a line of a script, and does it unless it is passed over.
@@ -150,12 +174,22 @@ fn do_script_line<O: Outside, W: Write>(
     live: &mut LiveSide<O, W>,
     line: &[u8],
     number: &mut u64,
-) -> Result<(), LiveFault> {
-    *number = number.saturating_add(1);
+) -> Result<(), LiveStop>
+    ensures { Between O.deeds W.contents live.old live.new
+        (LineEnds result line.now number.old number.new) }
+{
+    let Some(this) = number.checked_add(1) else {
+        return Err(LiveStop::Script(ScriptFault::Device));
+    };
+    *number = this;
     if is_passed_over(line) {
         return Ok(());
     }
-    live.obey(line, Lines::Ignored)
+    match live.obey(line, Lines::Ignored)? {
+        Obeyed::Done => Ok(()),
+        Obeyed::Bad => Err(LiveStop::Script(ScriptFault::BadLine(this))),
+        Obeyed::Unmet => Err(LiveStop::Unmet),
+    }
 }
 
 /// Serves a side while lines are typed.
@@ -244,21 +278,20 @@ fn obey_typed<P: Person, O: Outside, W: Write>(
     line: &[u8],
     person: &mut P,
 ) -> Result<(), LiveFault> {
-    match live.obey(line, Lines::Awaited) {
-        Err(LiveFault::Line(LineFault::Bad)) => {
-            person.refuse_line(line);
-            Ok(())
-        }
-        Err(LiveFault::Unmet) => Ok(()),
-        obeyed => obeyed,
+    match live.obey(line, Lines::Awaited)? {
+        Obeyed::Bad => person.refuse_line(line),
+        Obeyed::Done | Obeyed::Unmet => {}
     }
+    Ok(())
 }
 
 /// Serves the side until the connection is closed, if that is wanted.
 fn serve_to_end<O: Outside, W: Write>(
     live: &mut LiveSide<O, W>,
     serve_on: bool,
-) -> Result<(), LiveFault> {
+) -> Result<(), LiveFault>
+    ensures { OnOk result (Between O.deeds W.contents live.old live.new (ServesOn serve_on)) }
+{
     if serve_on {
         return live.run(None, Lines::Ignored);
     }
@@ -266,7 +299,10 @@ fn serve_to_end<O: Outside, W: Write>(
 }
 
 /// Reads lines once. `false` if they have ended.
-fn read_part<R: Read>(lines: &mut R, read: &mut TypedLines) -> Result<bool, LiveFault> {
+fn read_part<R: Read>(lines: &mut R, read: &mut TypedLines) -> Result<bool, LiveFault>
+    ensures { IfOk result (λ more. ReadsPart more (R.remaining lines.old) (R.remaining lines.new)
+        read.old.text.items read.new.text.items) }
+{
     let mut part = [0; PART];
     match lines.read(&mut part) {
         Ok(0) => Ok(false),
