@@ -1,11 +1,12 @@
 //! Lines of input of a side that is served: a script, or lines that a person types.
 
-ghost use Rattle.std.specs.Prelude.{◌≡◌, IfOk, IfSome, OnOk};
+ghost use Rattle.std.specs.Prelude.{◌≡◌, ℕ, ◌∷◌, [], List, Option, None, true, IfOk, IfSome, OnOk};
 ghost use Rattle.lapd_cli_script.specs.Script.{is_passed_over as passed_over, lines_of};
 ghost use Rattle.lapd_cli_script.specs.declared.script.ScriptFault.TheVariants.{Memory};
 ghost use Rattle.lapd_cli_live.specs.declared.input.LiveStop.TheVariants.{Script};
 ghost use Rattle.lapd_cli_live.specs.Log.{Between};
-ghost use Rattle.lapd_cli_live.specs.Sessions.{LineEnds, LinesEnd, ReadsPart, ScriptEnds, ServesOn, stop_of};
+ghost use Rattle.lapd_cli_live.specs.Sessions.{GreetedAndEnds, Greets, Hears, Helps, LineEnds, LinesEnd, LinesType, ReadsPart, Refuses, ScriptEnds, ServesOn, SessionEnds, Told, TypedEnds, Types, TypesLast, session_of, stop_of};
+ghost use Rattle.lapd_cli_live.specs.declared.input.TypedDeed.TheVariants.{Obey};
 ghost use Rattle.lapd_cli_live.specs.Typed.{deed_of};
 
 use crate::fault::LiveFault;
@@ -50,23 +51,36 @@ impl From<AllocError> for LiveStop {
     }
 }
 
-/// What a person at a terminal is told beside what is printed. No call may wait.
+/// What a person at a terminal is told, beside what is printed. No call may wait.
+///
+/// An implementation that records what the person was told returns it by `told`, and one whose rule for tidying lines is known
+/// states the rule by `tidy`. Clauses that speak of them hold for such an implementation; all others hold for each.
 pub trait Person {
-    /// Lines are awaited.
-    fn greet(&mut self);
+    /// The person's tidied form of a line, if it is known.
+    ghost tidy: { List ℕ → Option (List ℕ) } = { λ _. None };
 
-    /// A line as it is meant: without spaces around it, and without `0x`, spaces and colons inside hexadecimal digits.
+    /// What the person was told so far, if it is known.
+    ghost told: { Self → Option (List Told) } = { λ _. None };
+
+    /// Lines are awaited.
+    fn greet(&mut self)
+        ensures { Hears (told self.old) (told self.new) (Greets ∷ []) };
+
+    /// The line as it is meant: without spaces around it, and without `0x`, spaces and colons inside hexadecimal digits.
     ///
     /// # Errors
     ///
     /// `AllocError`.
-    fn tidied(&self, line: &[u8]) -> Result<Vec<u8>, AllocError>;
+    fn tidied(&self, line: &[u8]) -> Result<Vec<u8>, AllocError>
+        ensures { IfOk result (λ text. IfSome (tidy line.now) (λ is. text.items ≡ is)) };
 
-    /// A line is not done, since it is no line of the side.
-    fn refuse_line(&mut self, line: &[u8]);
+    /// The line is not done, since it is not a line of the side.
+    fn refuse_line(&mut self, line: &[u8])
+        ensures { Hears (told self.old) (told self.new) (Refuses line.now ∷ []) };
 
     /// The lines of the side are listed.
-    fn help(&mut self);
+    fn help(&mut self)
+        ensures { Hears (told self.old) (told self.new) (Helps ∷ []) };
 }
 
 /// What is done with a line that was typed.
@@ -105,9 +119,12 @@ pub fn live_script<R: Read, O: Outside, W: Write>(
 }
 
 /// Serves a side while lines are typed, until the connection is closed or the lines end. Each line is done once it is typed whole,
-/// in order, as the line of a script. A line that is no line of the side is reported, and the session goes on, as it does after
+/// in order, as the line of a script. A line that is not a line of the side is reported, and the session goes on, as it does after
 /// a line that was expected in vain. `help` lists the lines, and `quit` and `exit` end the session. With `serve_on` the side is
 /// served behind the end of the lines, until the connection is closed. The side is returned.
+///
+/// If the octets of the lines are known, as in memory, `Ok` means that all lines were done, or those before `quit`, or those
+/// that were typed before the connection was closed.
 ///
 /// # Errors
 ///
@@ -118,7 +135,12 @@ pub fn live_session<R: Read, P: Person, O: Outside, W: Write>(
     lines: &mut R,
     person: &mut P,
     serve_on: bool,
-) -> (Result<(), LiveStop>, LiveSide<O, W>) {
+) -> (Result<(), LiveStop>, LiveSide<O, W>)
+    ensures { IfSome (R.remaining lines.old) (λ octets. OnOk result.0
+        (GreetedAndEnds P.tidy serve_on (lines_of octets)
+        (session_of O.deeds W.contents P.told live person.old)
+        (session_of O.deeds W.contents P.told result.1 person.new))) }
+{
     person.greet();
     match converse(alloc, &mut live, lines, person, serve_on) {
         Ok(()) => (Ok(()), live),
@@ -199,21 +221,28 @@ fn converse<R: Read, P: Person, O: Outside, W: Write>(
     lines: &mut R,
     person: &mut P,
     serve_on: bool,
-) -> Result<(), LiveFault> {
+) -> Result<(), LiveFault>
+    ensures { IfSome (R.remaining lines.old) (λ octets. OnOk result
+        (SessionEnds P.tidy serve_on (lines_of octets)
+        (session_of O.deeds W.contents P.told live.old person.old)
+        (session_of O.deeds W.contents P.told live.new person.new))) }
+{
     let mut typed = TypedLines::new(alloc);
     for _read in 0..u64::MAX {
-        if live.await_input()? == Came::Closed {
+        if let Came::Closed = live.await_input()? {
             return Ok(());
         }
         if !read_part(lines, &mut typed)? {
-            do_typed(live, typed.last_line(), person)?;
+            if !do_last(live, typed.last_line(), person)? {
+                return Ok(());
+            }
             return serve_to_end(live, serve_on);
         }
         if !do_typed_lines(live, &mut typed, person)? {
             return Ok(());
         }
     }
-    Ok(())
+    Err(LiveFault::Line(LineFault::Device))
 }
 
 /// Does the lines that were typed whole. `false` if one of them ends the session.
@@ -221,7 +250,12 @@ fn do_typed_lines<P: Person, O: Outside, W: Write>(
     live: &mut LiveSide<O, W>,
     typed: &mut TypedLines,
     person: &mut P,
-) -> Result<bool, LiveFault> {
+) -> Result<bool, LiveFault>
+    ensures { IfOk result (λ goes_on.
+        LinesType P.tidy goes_on typed.old.text.items typed.new.text.items
+        (session_of O.deeds W.contents P.told live.old person.old)
+        (session_of O.deeds W.contents P.told live.new person.new)) }
+{
     for _line in 0..u64::MAX {
         let Some(line) = typed.next_line()? else {
             return Ok(true);
@@ -230,7 +264,23 @@ fn do_typed_lines<P: Person, O: Outside, W: Write>(
             return Ok(false);
         }
     }
-    Ok(true)
+    Err(LiveFault::Line(LineFault::Device))
+}
+
+/// Does what was typed of the last line, if it lacks its line feed. `false` if it ends the session.
+fn do_last<P: Person, O: Outside, W: Write>(
+    live: &mut LiveSide<O, W>,
+    line: &[u8],
+    person: &mut P,
+) -> Result<bool, LiveFault>
+    ensures { IfOk result (λ goes_on. TypesLast P.tidy line.now goes_on
+        (session_of O.deeds W.contents P.told live.old person.old)
+        (session_of O.deeds W.contents P.told live.new person.new)) }
+{
+    match line {
+        [] => Ok(true),
+        [..] => do_typed(live, line, person),
+    }
 }
 
 /// Does a line that was typed. `false` if it ends the session.
@@ -238,16 +288,25 @@ fn do_typed<P: Person, O: Outside, W: Write>(
     live: &mut LiveSide<O, W>,
     line: &[u8],
     person: &mut P,
-) -> Result<bool, LiveFault> {
+) -> Result<bool, LiveFault>
+    ensures { IfOk result (λ goes_on. Types P.tidy line.now goes_on
+        (session_of O.deeds W.contents P.told live.old person.old)
+        (session_of O.deeds W.contents P.told live.new person.new)) }
+{
     let line = person.tidied(line)?;
     let line = line.as_slice();
     match typed_deed(line) {
-        TypedDeed::Pass => {}
-        TypedDeed::Help => person.help(),
-        TypedDeed::Quit => return Ok(false),
-        TypedDeed::Obey => obey_typed(live, line, person)?,
+        TypedDeed::Pass => Ok(true),
+        TypedDeed::Help => {
+            person.help();
+            Ok(true)
+        }
+        TypedDeed::Quit => Ok(false),
+        TypedDeed::Obey => {
+            obey_typed(live, line, person)?;
+            Ok(true)
+        }
     }
-    Ok(true)
 }
 
 /// What is done with a line.
@@ -277,12 +336,18 @@ fn obey_typed<P: Person, O: Outside, W: Write>(
     live: &mut LiveSide<O, W>,
     line: &[u8],
     person: &mut P,
-) -> Result<(), LiveFault> {
+) -> Result<(), LiveFault>
+    ensures { OnOk result (TypedEnds Obey line.now true
+        (session_of O.deeds W.contents P.told live.old person.old)
+        (session_of O.deeds W.contents P.told live.new person.new)) }
+{
     match live.obey(line, Lines::Awaited)? {
-        Obeyed::Bad => person.refuse_line(line),
-        Obeyed::Done | Obeyed::Unmet => {}
+        Obeyed::Bad => {
+            person.refuse_line(line);
+            Ok(())
+        }
+        Obeyed::Done | Obeyed::Unmet => Ok(()),
     }
-    Ok(())
 }
 
 /// Serves the side until the connection is closed, if that is wanted.

@@ -1,5 +1,5 @@
 use Rattle.std.proofs.Common.{Ok, Err, true, false}
-use Rattle.lapd_cli_live.proofs.Sessions.{around_ends, comes_further, end_stops, line_by, part_by, part_stops, script_ends}
+use Rattle.lapd_cli_live.proofs.Sessions.{around_ends, script_further, end_stops, line_by, part_by, part_stops, script_ends}
 use Rattle.lapd_cli_live.proofs.input.go_over.Goals as goal
 
 pub returns-in_err-read_part : goal.returns-in_err-read_part
@@ -35,7 +35,7 @@ returns-in_err-do_script_lines g c =
 
 pub loop-read-preserved : goal.loop-read-preserved
 loop-read-preserved g c =
-    comes_further (g.R.Read.remaining c.args.script.now) (g.R.Read.remaining c.loop-read.script) (g.R.Read.remaining c.read_part.new.lines) c.loop-read.lines.text.items
+    script_further (g.R.Read.remaining c.args.script.now) (g.R.Read.remaining c.loop-read.script) (g.R.Read.remaining c.read_part.new.lines) c.loop-read.lines.text.items
     c.read_part.new.read.text.items c.do_script_lines.new.lines.text.items c.loop-read.number c.do_script_lines.new.number c.in_ok-await_input.field-0 _ _ _ _
     c.loop-read.invariant c.in_ok-await_input.ensures (part_by c.in_ok-read_part.field-0 true _ _ _ _ c.if-not-branch.false c.in_ok-read_part.ensures)
     c.in_ok-do_script_lines.ensures
