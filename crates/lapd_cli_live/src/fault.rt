@@ -6,7 +6,8 @@ use std::io;
 /// Why a side is served no longer.
 #[derive(Clone, Copy)]
 pub enum LiveFault {
-    /// A reader or the writer failed, or an allocation did.
+    /// A reader or the writer failed, or an allocation did. It is never `Bad`: [`LiveSide::obey`](crate::LiveSide::obey) returns
+    /// that a line is bad.
     Line(LineFault),
     /// What is around the side returned this.
     Port(PortFault),
