@@ -4,3 +4,4 @@ pub mod Steps
 pub mod WaitingLines
 pub mod InTime
 pub mod StateAnswers
+pub mod Sessions

@@ -7,3 +7,4 @@ pub mod StateLines
 pub mod LineDone
 pub mod PromptLine
 pub mod Typed
+pub mod Sessions

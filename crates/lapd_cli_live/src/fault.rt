@@ -6,12 +6,11 @@ use std::io;
 /// Why a side is served no longer.
 #[derive(Clone, Copy)]
 pub enum LiveFault {
-    /// A line is none of the side's, the writer failed, or memory ran out.
+    /// A reader or the writer failed, or an allocation did. It is never `Bad`: [`LiveSide::obey`](crate::LiveSide::obey) returns
+    /// that a line is bad.
     Line(LineFault),
-    /// What is around the side answered this.
+    /// What is around the side returned this.
     Port(PortFault),
-    /// A line was not printed in time that was waited for.
-    Unmet,
 }
 
 impl From<LineFault> for LiveFault {

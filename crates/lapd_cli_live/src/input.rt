@@ -1,11 +1,17 @@
 //! Lines of input of a side that is served: a script, or lines that a person types.
 
-ghost use Rattle.std.specs.Prelude.{◌≡◌};
-ghost use Rattle.lapd_cli_script.specs.Script.{is_passed_over as passed_over};
+ghost use Rattle.std.specs.Prelude.{◌≡◌, ℕ, ◌∷◌, [], List, Option, None, true, IfOk, IfSome, OnOk};
+ghost use Rattle.lapd_cli_script.specs.Script.{is_passed_over as passed_over, lines_of};
+ghost use Rattle.lapd_cli_script.specs.declared.script.ScriptFault.TheVariants.{Memory};
+ghost use Rattle.lapd_cli_live.specs.declared.input.LiveStop.TheVariants.{Script};
+ghost use Rattle.lapd_cli_live.specs.Log.{Between};
+ghost use Rattle.lapd_cli_live.specs.Sessions.{GreetedAndEnds, Greets, Hears, Helps, LineEnds, LinesEnd, LinesType, ReadsPart, Refuses, ScriptEnds, ServesOn, SessionEnds, Told, TypedEnds, Types, TypesLast, session_of, stop_of};
+ghost use Rattle.lapd_cli_live.specs.declared.input.TypedDeed.TheVariants.{Obey};
 ghost use Rattle.lapd_cli_live.specs.Typed.{deed_of};
 
 use crate::fault::LiveFault;
 use crate::live_side::LiveSide;
+use crate::obeyed::Obeyed;
 use crate::service::Came;
 use crate::typed_lines::TypedLines;
 use lapd_cli_outside::{Lines, Outside};
@@ -25,23 +31,56 @@ pub enum LiveStop {
     Unmet,
 }
 
-/// What a person at a terminal is told beside what is printed. No call may wait.
-pub trait Person {
-    /// Lines are awaited.
-    fn greet(&mut self);
+impl From<LiveFault> for LiveStop {
+    ghost from_gives = { λ fault stop. stop ≡ stop_of fault };
 
-    /// A line as it is meant: without spaces around it, and without `0x`, spaces and colons inside hexadecimal digits.
+    fn from(fault: LiveFault) -> LiveStop {
+        LiveStop::Script(match fault {
+            LiveFault::Port(fault) => ScriptFault::Port(fault),
+            LiveFault::Line(LineFault::Memory) => ScriptFault::Memory,
+            LiveFault::Line(LineFault::Bad | LineFault::Device) => ScriptFault::Device,
+        })
+    }
+}
+
+impl From<AllocError> for LiveStop {
+    ghost from_gives = { λ _ stop. stop ≡ Script Memory };
+
+    fn from(_error: AllocError) -> LiveStop {
+        LiveStop::Script(ScriptFault::Memory)
+    }
+}
+
+/// What a person at a terminal is told, beside what is printed. No call may wait.
+///
+/// An implementation that records what the person was told returns it by `told`, and one whose rule for tidying lines is known
+/// states the rule by `tidy`. Clauses that speak of them hold for such an implementation; all others hold for each.
+pub trait Person {
+    /// The person's tidied form of a line, if it is known.
+    ghost tidy: { List ℕ → Option (List ℕ) } = { λ _. None };
+
+    /// What the person was told so far, if it is known.
+    ghost told: { Self → Option (List Told) } = { λ _. None };
+
+    /// Lines are awaited.
+    fn greet(&mut self)
+        ensures { Hears (told self.old) (told self.new) (Greets ∷ []) };
+
+    /// The line as it is meant: without spaces around it, and without `0x`, spaces and colons inside hexadecimal digits.
     ///
     /// # Errors
     ///
     /// `AllocError`.
-    fn tidied(&self, line: &[u8]) -> Result<Vec<u8>, AllocError>;
+    fn tidied(&self, line: &[u8]) -> Result<Vec<u8>, AllocError>
+        ensures { IfOk result (λ text. IfSome (tidy line.now) (λ is. text.items ≡ is)) };
 
-    /// A line is not done, since it is no line of the side.
-    fn refuse_line(&mut self, line: &[u8]);
+    /// The line is not done, since it is not a line of the side.
+    fn refuse_line(&mut self, line: &[u8])
+        ensures { Hears (told self.old) (told self.new) (Refuses line.now ∷ []) };
 
     /// The lines of the side are listed.
-    fn help(&mut self);
+    fn help(&mut self)
+        ensures { Hears (told self.old) (told self.new) (Helps ∷ []) };
 }
 
 /// What is done with a line that was typed.
@@ -57,28 +96,35 @@ pub(crate) enum TypedDeed {
     Obey,
 }
 
-/// Serves a side over a script: also while the next line of the script is awaited. The first line that is no line of the side ends
-/// it, and so does an expected line that is not printed in time. With `serve_on` the side is served behind the script's end, until
-/// the connection is closed. The side is returned.
+/// Serves a side over a script, also while the next line of the script is awaited. Each line is done once and in order, unless it is
+/// passed over. The first line that is not a line of the side ends the script, and so does an expected line that is not printed in
+/// time. With `serve_on` the side is then served behind the end of the script, until the connection is closed. The side is returned.
+///
+/// If the octets of the script are known, as in memory, `Ok` means that all its lines were done.
 ///
 /// # Errors
 ///
-/// `BadLine` at the first line that is no line of the side, `Device`, `Memory`, `Port` and `Unmet`.
+/// `BadLine` at the first line that is not a line of the side, `Unmet`, `Device`, `Memory` and `Port`.
 pub fn live_script<R: Read, O: Outside, W: Write>(
     alloc: Global,
     mut live: LiveSide<O, W>,
     script: &mut R,
     serve_on: bool,
-) -> (Result<(), LiveStop>, LiveSide<O, W>) {
-    let mut number = 0;
-    let ended = go_over(alloc, &mut live, script, &mut number, serve_on);
-    (stopped_at(ended, number), live)
+) -> (Result<(), LiveStop>, LiveSide<O, W>)
+    ensures { IfSome (R.remaining script.old) (λ octets. Between O.deeds W.contents live result.1
+        (ScriptEnds serve_on result.0 (lines_of octets))) }
+{
+    let ended = go_over(alloc, &mut live, script, serve_on);
+    (ended, live)
 }
 
 /// Serves a side while lines are typed, until the connection is closed or the lines end. Each line is done once it is typed whole,
-/// in order, as the line of a script. A line that is no line of the side is reported, and the session goes on, as it does after
+/// in order, as the line of a script. A line that is not a line of the side is reported, and the session goes on, as it does after
 /// a line that was expected in vain. `help` lists the lines, and `quit` and `exit` end the session. With `serve_on` the side is
 /// served behind the end of the lines, until the connection is closed. The side is returned.
+///
+/// If the octets of the lines are known, as in memory, `Ok` means that all lines were done, or those before `quit`, or those
+/// that were typed before the connection was closed.
 ///
 /// # Errors
 ///
@@ -89,45 +135,42 @@ pub fn live_session<R: Read, P: Person, O: Outside, W: Write>(
     lines: &mut R,
     person: &mut P,
     serve_on: bool,
-) -> (Result<(), LiveStop>, LiveSide<O, W>) {
+) -> (Result<(), LiveStop>, LiveSide<O, W>)
+    ensures { IfSome (R.remaining lines.old) (λ octets. OnOk result.0
+        (GreetedAndEnds P.tidy serve_on (lines_of octets)
+        (session_of O.deeds W.contents P.told live person.old)
+        (session_of O.deeds W.contents P.told result.1 person.new))) }
+{
     person.greet();
-    let ended = converse(alloc, &mut live, lines, person, serve_on);
-    (stopped_at(ended, 0), live)
-}
-
-/// Why lines of input ended, the last of which had this number.
-fn stopped_at(ended: Result<(), LiveFault>, number: u64) -> Result<(), LiveStop> {
-    match ended {
-        Ok(()) => Ok(()),
-        Err(LiveFault::Unmet) => Err(LiveStop::Unmet),
-        Err(LiveFault::Port(fault)) => Err(LiveStop::Script(ScriptFault::Port(fault))),
-        Err(LiveFault::Line(fault)) => Err(LiveStop::Script(match fault {
-            LineFault::Bad => ScriptFault::BadLine(number),
-            LineFault::Device => ScriptFault::Device,
-            LineFault::Memory => ScriptFault::Memory,
-        })),
+    match converse(alloc, &mut live, lines, person, serve_on) {
+        Ok(()) => (Ok(()), live),
+        Err(fault) => (Err(LiveStop::from(fault)), live),
     }
 }
 
-/// Serves a side over a script, and counts its lines.
+/// Serves a side over a script.
 fn go_over<R: Read, O: Outside, W: Write>(
     alloc: Global,
     live: &mut LiveSide<O, W>,
     script: &mut R,
-    number: &mut u64,
     serve_on: bool,
-) -> Result<(), LiveFault> {
+) -> Result<(), LiveStop>
+    ensures { IfSome (R.remaining script.old) (λ octets. Between O.deeds W.contents live.old live.new
+        (ScriptEnds serve_on result (lines_of octets))) }
+{
     let mut lines = TypedLines::new(alloc);
+    let mut number: u64 = 0;
     for _read in 0..u64::MAX {
         // If the connection is closed, the script goes on all the same.
         live.await_input()?;
         if !read_part(script, &mut lines)? {
-            do_script_line(live, lines.last_line(), number)?;
-            return serve_to_end(live, serve_on);
+            do_script_line(live, lines.last_line(), &mut number)?;
+            serve_to_end(live, serve_on)?;
+            return Ok(());
         }
-        do_script_lines(live, &mut lines, number)?;
+        do_script_lines(live, &mut lines, &mut number)?;
     }
-    Ok(())
+    Err(LiveStop::Script(ScriptFault::Device))
 }
 
 /// Does the lines of a script that have ended.
@@ -135,14 +178,17 @@ fn do_script_lines<O: Outside, W: Write>(
     live: &mut LiveSide<O, W>,
     lines: &mut TypedLines,
     number: &mut u64,
-) -> Result<(), LiveFault> {
+) -> Result<(), LiveStop>
+    ensures { Between O.deeds W.contents live.old live.new
+        (LinesEnd result lines.old.text.items lines.new.text.items number.old number.new) }
+{
     for _line in 0..u64::MAX {
         let Some(line) = lines.next_line()? else {
             return Ok(());
         };
         do_script_line(live, line.as_slice(), number)?;
     }
-    Ok(())
+    Err(LiveStop::Script(ScriptFault::Device))
 }
 
 /// Counts a line of a script, and does it unless it is passed over.
@@ -150,12 +196,22 @@ fn do_script_line<O: Outside, W: Write>(
     live: &mut LiveSide<O, W>,
     line: &[u8],
     number: &mut u64,
-) -> Result<(), LiveFault> {
-    *number = number.saturating_add(1);
+) -> Result<(), LiveStop>
+    ensures { Between O.deeds W.contents live.old live.new
+        (LineEnds result line.now number.old number.new) }
+{
+    let Some(this) = number.checked_add(1) else {
+        return Err(LiveStop::Script(ScriptFault::Device));
+    };
+    *number = this;
     if is_passed_over(line) {
         return Ok(());
     }
-    live.obey(line, Lines::Ignored)
+    match live.obey(line, Lines::Ignored)? {
+        Obeyed::Done => Ok(()),
+        Obeyed::Bad => Err(LiveStop::Script(ScriptFault::BadLine(this))),
+        Obeyed::Unmet => Err(LiveStop::Unmet),
+    }
 }
 
 /// Serves a side while lines are typed.
@@ -165,21 +221,28 @@ fn converse<R: Read, P: Person, O: Outside, W: Write>(
     lines: &mut R,
     person: &mut P,
     serve_on: bool,
-) -> Result<(), LiveFault> {
+) -> Result<(), LiveFault>
+    ensures { IfSome (R.remaining lines.old) (λ octets. OnOk result
+        (SessionEnds P.tidy serve_on (lines_of octets)
+        (session_of O.deeds W.contents P.told live.old person.old)
+        (session_of O.deeds W.contents P.told live.new person.new))) }
+{
     let mut typed = TypedLines::new(alloc);
     for _read in 0..u64::MAX {
-        if live.await_input()? == Came::Closed {
+        if let Came::Closed = live.await_input()? {
             return Ok(());
         }
         if !read_part(lines, &mut typed)? {
-            do_typed(live, typed.last_line(), person)?;
+            if !do_last(live, typed.last_line(), person)? {
+                return Ok(());
+            }
             return serve_to_end(live, serve_on);
         }
         if !do_typed_lines(live, &mut typed, person)? {
             return Ok(());
         }
     }
-    Ok(())
+    Err(LiveFault::Line(LineFault::Device))
 }
 
 /// Does the lines that were typed whole. `false` if one of them ends the session.
@@ -187,7 +250,12 @@ fn do_typed_lines<P: Person, O: Outside, W: Write>(
     live: &mut LiveSide<O, W>,
     typed: &mut TypedLines,
     person: &mut P,
-) -> Result<bool, LiveFault> {
+) -> Result<bool, LiveFault>
+    ensures { IfOk result (λ goes_on.
+        LinesType P.tidy goes_on typed.old.text.items typed.new.text.items
+        (session_of O.deeds W.contents P.told live.old person.old)
+        (session_of O.deeds W.contents P.told live.new person.new)) }
+{
     for _line in 0..u64::MAX {
         let Some(line) = typed.next_line()? else {
             return Ok(true);
@@ -196,7 +264,23 @@ fn do_typed_lines<P: Person, O: Outside, W: Write>(
             return Ok(false);
         }
     }
-    Ok(true)
+    Err(LiveFault::Line(LineFault::Device))
+}
+
+/// Does what was typed of the last line, if it lacks its line feed. `false` if it ends the session.
+fn do_last<P: Person, O: Outside, W: Write>(
+    live: &mut LiveSide<O, W>,
+    line: &[u8],
+    person: &mut P,
+) -> Result<bool, LiveFault>
+    ensures { IfOk result (λ goes_on. TypesLast P.tidy line.now goes_on
+        (session_of O.deeds W.contents P.told live.old person.old)
+        (session_of O.deeds W.contents P.told live.new person.new)) }
+{
+    match line {
+        [] => Ok(true),
+        [..] => do_typed(live, line, person),
+    }
 }
 
 /// Does a line that was typed. `false` if it ends the session.
@@ -204,16 +288,25 @@ fn do_typed<P: Person, O: Outside, W: Write>(
     live: &mut LiveSide<O, W>,
     line: &[u8],
     person: &mut P,
-) -> Result<bool, LiveFault> {
+) -> Result<bool, LiveFault>
+    ensures { IfOk result (λ goes_on. Types P.tidy line.now goes_on
+        (session_of O.deeds W.contents P.told live.old person.old)
+        (session_of O.deeds W.contents P.told live.new person.new)) }
+{
     let line = person.tidied(line)?;
     let line = line.as_slice();
     match typed_deed(line) {
-        TypedDeed::Pass => {}
-        TypedDeed::Help => person.help(),
-        TypedDeed::Quit => return Ok(false),
-        TypedDeed::Obey => obey_typed(live, line, person)?,
+        TypedDeed::Pass => Ok(true),
+        TypedDeed::Help => {
+            person.help();
+            Ok(true)
+        }
+        TypedDeed::Quit => Ok(false),
+        TypedDeed::Obey => {
+            obey_typed(live, line, person)?;
+            Ok(true)
+        }
     }
-    Ok(true)
 }
 
 /// What is done with a line.
@@ -243,14 +336,17 @@ fn obey_typed<P: Person, O: Outside, W: Write>(
     live: &mut LiveSide<O, W>,
     line: &[u8],
     person: &mut P,
-) -> Result<(), LiveFault> {
-    match live.obey(line, Lines::Awaited) {
-        Err(LiveFault::Line(LineFault::Bad)) => {
+) -> Result<(), LiveFault>
+    ensures { OnOk result (TypedEnds Obey line.now true
+        (session_of O.deeds W.contents P.told live.old person.old)
+        (session_of O.deeds W.contents P.told live.new person.new)) }
+{
+    match live.obey(line, Lines::Awaited)? {
+        Obeyed::Bad => {
             person.refuse_line(line);
             Ok(())
         }
-        Err(LiveFault::Unmet) => Ok(()),
-        obeyed => obeyed,
+        Obeyed::Done | Obeyed::Unmet => Ok(()),
     }
 }
 
@@ -258,7 +354,9 @@ fn obey_typed<P: Person, O: Outside, W: Write>(
 fn serve_to_end<O: Outside, W: Write>(
     live: &mut LiveSide<O, W>,
     serve_on: bool,
-) -> Result<(), LiveFault> {
+) -> Result<(), LiveFault>
+    ensures { OnOk result (Between O.deeds W.contents live.old live.new (ServesOn serve_on)) }
+{
     if serve_on {
         return live.run(None, Lines::Ignored);
     }
@@ -266,7 +364,10 @@ fn serve_to_end<O: Outside, W: Write>(
 }
 
 /// Reads lines once. `false` if they have ended.
-fn read_part<R: Read>(lines: &mut R, read: &mut TypedLines) -> Result<bool, LiveFault> {
+fn read_part<R: Read>(lines: &mut R, read: &mut TypedLines) -> Result<bool, LiveFault>
+    ensures { IfOk result (λ more. ReadsPart more (R.remaining lines.old) (R.remaining lines.new)
+        read.old.text.items read.new.text.items) }
+{
     let mut part = [0; PART];
     match lines.read(&mut part) {
         Ok(0) => Ok(false),

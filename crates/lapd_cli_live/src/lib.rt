@@ -4,8 +4,9 @@
 //! device in memory. [`LiveSide::serve`] goes step by step. A step receives every frame that has arrived, then expires every timer
 //! that is due, and then waits once, until the next deadline. So no timer expires while its answer has arrived: *before you expire
 //! timers for a moment, pass in every frame that had arrived by then.* specs/Steps.antt defines a step, and specs/Entries.antt what
-//! is printed and counted. [`live_script`] serves a side over a script, and [`live_session`] while lines are typed. A [`Tapped`]
-//! line passes each frame to a [`Tap`], and an [`Impaired`] line loses and delays frames on purpose.
+//! is printed and counted. [`live_script`] serves a side over a script, and [`live_session`] while lines are typed;
+//! specs/Sessions.antt defines which lines are done, in which order, and what ends them. A [`Tapped`] line passes each frame to a
+//! [`Tap`], and an [`Impaired`] line loses and delays frames on purpose.
 #![tactic(auto)]
 
 mod fault;
@@ -13,6 +14,7 @@ mod input;
 mod laws;
 mod live_lines;
 mod live_side;
+mod obeyed;
 mod printer;
 mod service;
 mod style;
@@ -25,6 +27,7 @@ pub use lapd_cli_outside::{Impaired, Impairment, Lines, Outside, Sending, Tap, T
 pub use lapd_cli_side_lines::LineStyle;
 pub use laws::no_timer_expires_early;
 pub use live_side::LiveSide;
+pub use obeyed::Obeyed;
 pub use printer::Printer;
 pub use service::{Came, Service, Until};
 pub use style::Style;

@@ -4,39 +4,50 @@ ghost use Rattle.std.specs.Prelude.{◌≡◌, IfOk, OnOk};
 
 use crate::fault::LiveFault;
 use crate::live_side::LiveSide;
+use crate::obeyed::Obeyed;
 use crate::service::{Came, Service, Until};
 use lapd_cli_live_text::{LiveLine, awaited_text, push_link, push_management, read_live_line};
 use lapd_cli_outside::{Lines, Outside};
+use lapd_cli_script::LineFault;
 use lapd_sides::{EitherSide, LinkId, SideKind, Tei};
 use std::io::Write;
 
 impl<O: Outside, W: Write> LiveSide<O, W> {
     ghost use Rattle.lapd_cli_live.specs.Log.{Between};
     ghost use Rattle.lapd_cli_live.specs.StateLines.{PutsManagement, PutsState, StateEach, StatesAll, StatesCounts, StatesLink};
-    ghost use Rattle.lapd_cli_live.specs.LineDone.{ExpectDone, LineDone, Obeys};
+    ghost use Rattle.lapd_cli_live.specs.LineDone.{ExpectDone};
+    ghost use Rattle.lapd_cli_live.specs.Sessions.{AwaitsInput, ObeysAs, RequestEnds};
     ghost use Rattle.lapd_cli_live.specs.WaitingLines.{Expects, Reads, Runs};
 
     /// Does what a line requests, which comes without its line feed. If `lines` are awaited, a further line of input cuts the waits
     /// of this one short. Whatever the line requests, every frame that had arrived is taken before, and then what is due is
-    /// done.
+    /// done. Returns what became of the line.
     ///
     /// # Errors
     ///
-    /// `Line(Bad)` if the line is no line of the side, `Unmet` if an expected line was not printed in time, `Line(Device)`,
-    /// `Line(Memory)` and `Port`.
-    pub fn obey(&mut self, line: &[u8], lines: Lines) -> Result<(), LiveFault>
-        ensures { OnOk result (Between O.deeds W.contents self.old self.new
-            (Obeys line.now lines)) }
+    /// `Line(Device)`, `Line(Memory)` and `Port`.
+    pub fn obey(&mut self, line: &[u8], lines: Lines) -> Result<Obeyed, LiveFault>
+        ensures { IfOk result (λ obeyed. Between O.deeds W.contents self.old self.new
+            (ObeysAs obeyed line.now lines)) }
     {
         let side = self.side.side();
         let own = self.own_tei();
-        let line = read_live_line(self.alloc, side, own, line)?;
+        let line = match read_live_line(self.alloc, side, own, line) {
+            Ok(line) => line,
+            Err(LineFault::Bad) => return Ok(Obeyed::Bad),
+            Err(fault) => return Err(LiveFault::Line(fault)),
+        };
         self.begin_line(matches!(&line, LiveLine::Expect(..)));
-        if let Err(fault) = self.do_line(line, lines) {
-            let _ = self.printer.flush();
-            return Err(fault);
+        match self.do_line(line, lines) {
+            Ok(obeyed) => {
+                self.printer.flush()?;
+                Ok(obeyed)
+            }
+            Err(fault) => {
+                let _ = self.printer.flush();
+                Err(fault)
+            }
         }
-        self.printer.flush()
     }
 
     /// A line of input is done now. Unless it expects a line, those that were printed before are forgotten.
@@ -50,30 +61,26 @@ impl<O: Outside, W: Write> LiveSide<O, W> {
         }
     }
 
-    /// Does what is requested.
-    fn do_line(&mut self, line: LiveLine<'_>, lines: Lines) -> Result<(), LiveFault>
-        ensures { OnOk result (Between O.deeds W.contents self.old self.new
-            (LineDone line.entry lines)) }
+    /// Does what is requested. `Unmet` if a line was expected in vain, else `Done`.
+    fn do_line(&mut self, line: LiveLine<'_>, lines: Lines) -> Result<Obeyed, LiveFault>
+        ensures { IfOk result (λ obeyed. Between O.deeds W.contents self.old self.new
+            (RequestEnds obeyed line.entry lines)) }
     {
         match line {
-            LiveLine::Read(ms) => self.read(ms, lines),
-            LiveLine::Run(ms) => self.run(ms, lines),
+            LiveLine::Read(ms) => self.read(ms, lines)?,
+            LiveLine::Run(ms) => self.run(ms, lines)?,
             LiveLine::Expect(words, ms) => {
-                if self.expect(words, ms, lines)? {
-                    Ok(())
-                } else {
-                    Err(LiveFault::Unmet)
+                if !self.expect(words, ms, lines)? {
+                    return Ok(Obeyed::Unmet);
                 }
             }
-            LiveLine::State(Some(id)) => self.put_link(&id),
-            LiveLine::State(None) => self.put_links(),
-            LiveLine::Stats => self.put_stats(),
-            LiveLine::Ask(request) => self.ask(request),
-            LiveLine::Impair(impairment) => {
-                self.outside.impair(impairment);
-                Ok(())
-            }
+            LiveLine::State(Some(id)) => self.put_link(&id)?,
+            LiveLine::State(None) => self.put_links()?,
+            LiveLine::Stats => self.put_stats()?,
+            LiveLine::Ask(request) => self.ask(request)?,
+            LiveLine::Impair(impairment) => self.outside.impair(impairment),
         }
+        Ok(Obeyed::Done)
     }
 
     /// The TEI of the links that a line of the user side names: its own, or the group TEI if it has none.
@@ -85,7 +92,10 @@ impl<O: Outside, W: Write> LiveSide<O, W> {
     }
 
     /// Serves the side until a line of input can be read, or the connection is closed.
-    pub(crate) fn await_input(&mut self) -> Result<Came, LiveFault> {
+    pub(crate) fn await_input(&mut self) -> Result<Came, LiveFault>
+        ensures { IfOk result (λ came. Between O.deeds W.contents self.old self.new
+            (AwaitsInput came)) }
+    {
         self.printer.keep_unseen();
         self.serve(Service {
             end: None,

@@ -1,0 +1,279 @@
+-- Which lines of input a served side does, in which order, and what ends them: the lines of a script, and those that are typed.
+use Rattle.std.specs.Prelude.{◌≡◌, ◌⊎◌, ℕ, ◌+◌, Bool, true, false, List, [], ◌∷◌, ◌++◌, length, Option, None, Some, Result, Ok, Err, ⊤, IfSome}
+use Rattle.std.specs.Io.KnownBytes.{Consumes, IsAtEnd}
+use Rattle.lapd_sides.specs.Either.{side_of}
+use Rattle.lapd_cli_live_text.specs.LiveWishes.{live_wish_of, live_wish_of_line}
+use Rattle.lapd_cli_live_text.specs.declared.words.LiveLine.{LiveLine}
+use Rattle.lapd_cli_live_text.specs.declared.words.LiveLine.TheVariants as line
+use Rattle.lapd_cli_script.specs.Script.{is_passed_over, lines_of}
+use Rattle.lapd_cli_script.specs.WalkState.{HasNoFeed}
+use Rattle.lapd_cli_script.specs.declared.script.LineFault.TheVariants as line_fault
+use Rattle.lapd_cli_script.specs.declared.script.ScriptFault.TheVariants.{BadLine, Device, Memory, Port}
+use Rattle.lapd_cli_live.specs.declared.fault.LiveFault.{LiveFault}
+use Rattle.lapd_cli_live.specs.declared.fault.LiveFault.TheVariants as fault
+use Rattle.lapd_cli_live.specs.declared.input.LiveStop.{LiveStop}
+use Rattle.lapd_cli_live.specs.declared.input.TypedDeed.{TypedDeed}
+use Rattle.lapd_cli_live.specs.declared.input.TypedDeed.TheVariants.{Pass, Help, Quit, Obey}
+use Rattle.lapd_cli_live.specs.declared.live_side.LiveSide.{LiveSide}
+use Rattle.lapd_cli_live.specs.declared.input.LiveStop.TheVariants.{Script, Unmet}
+use Rattle.lapd_cli_live.specs.declared.obeyed.Obeyed.{Obeyed}
+use Rattle.lapd_cli_live.specs.declared.obeyed.Obeyed.TheVariants as obeyed
+use Rattle.lapd_cli_outside.specs.declared.outside.Lines.{Lines}
+use Rattle.lapd_cli_outside.specs.declared.outside.Lines.TheVariants.{Awaited, Ignored}
+use Rattle.lapd_cli_live.specs.declared.service.Came.{Came}
+use Rattle.lapd_cli_live.specs.declared.service.Came.TheVariants as came
+use Rattle.lapd_cli_live.specs.declared.service.Until.TheVariants as until
+use Rattle.lapd_cli_outside.specs.Deeds.{Deed}
+use Rattle.lapd_cli_live.specs.Typed.{deed_of}
+use Rattle.lapd_cli_live.specs.Log.{Chain, HappenBeside, LiveState, state_of}
+use Rattle.lapd_cli_live.specs.Steps.{IsServed}
+use Rattle.lapd_cli_live.specs.WaitingLines.{Runs, service}
+use Rattle.lapd_cli_live.specs.LineDone.{LineDone, MissesLine, Obeys}
+
+-- ---- One line.
+
+-- what a request comes to: it is done, or it expects a line that was not printed in time
+abbrev pub RequestEnds : Obeyed → LiveLine → Lines → LiveState → LiveState → Type 0
+RequestEnds obeyed.Done asked lines a b = LineDone asked lines a b
+RequestEnds obeyed.Unmet (line.Expect words ms) lines a b = MissesLine words.now ms lines a b
+RequestEnds obeyed.Unmet asked lines a b = ⊥
+RequestEnds obeyed.Bad asked lines a b = ⊥
+
+-- a line is not a line of the side, and nothing happens
+pub record IsBad (octets : List ℕ) (a b : LiveState) : Type 0 where
+  pub own : ℕ
+  pub none : live_wish_of_line (side_of a.side) own octets ≡ None
+  pub same : b ≡ a
+
+-- a line of the side expects a line that was not printed in time
+pub record IsUnmet (octets : List ℕ) (lines : Lines) (a b : LiveState) : Type 0 where
+  pub own : ℕ
+  pub asked : LiveLine
+  pub is : live_wish_of_line (side_of a.side) own octets ≡ Some (live_wish_of asked)
+  pub missed_at : LiveState
+  pub misses : RequestEnds obeyed.Unmet asked lines a missed_at
+  pub beside : HappenBeside [] missed_at b
+
+-- what becomes of a line
+abbrev pub ObeysAs : Obeyed → List ℕ → Lines → LiveState → LiveState → Type 0
+ObeysAs obeyed.Done octets lines a b = Obeys octets lines a b
+ObeysAs obeyed.Bad octets lines a b = IsBad octets a b
+ObeysAs obeyed.Unmet octets lines a b = IsUnmet octets lines a b
+
+-- ---- Waits for input.
+
+-- the side is served until a line of input can be read, or the connection is closed
+abbrev pub AwaitsInput : Came → LiveState → LiveState → Type 0
+AwaitsInput came a b = IsServed (service None until.End Awaited) came a b
+
+abbrev pub AwaitsOnce : LiveState → LiveState → Type 0
+AwaitsOnce a b = (came : Came) × AwaitsInput came a b
+
+-- and nothing else happens, as often as input is awaited
+pub record Awaits (a b : LiveState) : Type 0 where
+  pub passed : List LiveState
+  pub are : Chain AwaitsOnce passed a b
+
+-- ---- Octets that are read, and their lines.
+
+-- A read puts the octets that it takes from the reader behind those that are held. Or the reader has ended, and they stay.
+abbrev pub ReadsPart : Bool → Option (List ℕ) → Option (List ℕ) → List ℕ → List ℕ → Type 0
+ReadsPart true before after held holds = (part : List ℕ) × Consumes before after part
+    × (holds ≡ held ++ part)
+ReadsPart false before after held holds = Consumes before after [] × IsAtEnd after
+    × (holds ≡ held)
+
+-- these lines are taken off the front of some octets: whatever follows, they come first, and then the lines of what is left
+abbrev pub AreTaken : List (List ℕ) → List ℕ → List ℕ → Type 0
+AreTaken lines before after = (more : List ℕ)
+    → lines_of (before ++ more) ≡ lines ++ lines_of (after ++ more)
+
+-- ---- Lines, one after another.
+
+-- each of these lines is done so, once and in order; before each, and behind the last, nothing happens but that input is awaited
+abbrev pub InOrder : {S : Type 0} → (S → S → Type 0) → (List ℕ → S → S → Type 0) → List (List ℕ)
+    → S → S → Type 0
+InOrder Waits Does [] a b = Waits a b
+InOrder {S} Waits Does (line ∷ lines) a b = (ready : S) × (done : S) × Waits a ready
+    × Does line ready done × InOrder Waits Does lines done b
+
+-- lines are taken off the front of some octets, are counted, and are done
+pub record TakesLines {S : Type 0} (Waits : S → S → Type 0) (Does : List ℕ → S → S → Type 0)
+    (before after : List ℕ) (n m : ℕ) (a b : S) : Type 0 where
+  pub lines : List (List ℕ)
+  pub taken : AreTaken lines before after
+  pub counted : m ≡ n + length lines
+  pub done : InOrder Waits Does lines a b
+
+-- behind the end of the input the side is served until the connection is closed, if that is wanted
+abbrev pub ServesOn : Bool → LiveState → LiveState → Type 0
+ServesOn true a b = Runs None Ignored a b
+ServesOn false a b = b ≡ a
+
+-- ---- Scripts.
+
+-- a line of a script is obeyed, unless it is passed over
+abbrev pub ObeysUnless : Bool → List ℕ → LiveState → LiveState → Type 0
+ObeysUnless true octets a b = b ≡ a
+ObeysUnless false octets a b = Obeys octets Ignored a b
+
+abbrev pub DoesLine : List ℕ → LiveState → LiveState → Type 0
+DoesLine octets a b = ObeysUnless (is_passed_over octets) octets a b
+
+-- The lines before one of them are done. This becomes of that one, and none behind it is done. It is counted as the line of this
+-- number, if so many lines came before them all.
+pub record StopsAt (why : Obeyed) (number count : ℕ) (lines : List (List ℕ)) (a b : LiveState) : Type 0
+  where
+    pub before : List (List ℕ)
+    pub stopping : List ℕ
+    pub behind : List (List ℕ)
+    pub are : lines ≡ before ++ stopping ∷ behind
+    pub number_is : number ≡ count + length before + 1
+    pub met : LiveState
+    pub done : InOrder Awaits DoesLine before a met
+    pub not_passed : is_passed_over stopping ≡ false
+    pub stops : ObeysAs why stopping Ignored met b
+
+-- a fault of what is around the side may stop it anywhere
+abbrev pub StopsBy : LiveStop → ℕ → List (List ℕ) → LiveState → LiveState → Type 0
+StopsBy Unmet count lines a b = (number : ℕ) × StopsAt obeyed.Unmet number count lines a b
+StopsBy (Script (BadLine number)) count lines a b = StopsAt obeyed.Bad number count lines a b
+StopsBy (Script Device) count lines a b = ⊤
+StopsBy (Script Memory) count lines a b = ⊤
+StopsBy (Script (Port fault)) count lines a b = ⊤
+
+-- one line of a script, with this number of lines before it and behind it
+abbrev pub LineEnds : Result ⊤ LiveStop → List ℕ → ℕ → ℕ → LiveState → LiveState → Type 0
+LineEnds (Ok done) octets n m a b = DoesLine octets a b × (m ≡ n + 1)
+LineEnds (Err stop) octets n m a b = (behind : List (List ℕ)) → StopsBy stop n (octets ∷ behind) a b
+
+-- the lines that have ended in some octets are done, and the others are left
+abbrev pub LinesEnd : Result ⊤ LiveStop → List ℕ → List ℕ → ℕ → ℕ → LiveState → LiveState → Type 0
+LinesEnd (Ok done) before after n m a b = TakesLines Awaits DoesLine before after n m a b
+    × HasNoFeed after
+LinesEnd (Err stop) before after n m a b = (more : List ℕ)
+    → StopsBy stop n (lines_of (before ++ more)) a b
+
+-- A script ends well once each of its lines is done; then the side is served on, if that is wanted. Else it stops at the first
+-- line that is bad or unmet.
+abbrev pub ScriptEnds : Bool → Result ⊤ LiveStop → List (List ℕ) → LiveState → LiveState → Type 0
+ScriptEnds serve_on (Ok done) lines a b = (ended : LiveState) × InOrder Awaits DoesLine lines a ended
+    × ServesOn serve_on ended b
+ScriptEnds serve_on (Err stop) lines a b = StopsBy stop 0 lines a b
+
+-- ---- Typed lines.
+
+-- what a person is told: that lines are awaited, the lines of the side, or that a line is not done
+pub data Told : Type 0 where
+  Greets : Told
+  Helps : Told
+  Refuses : (octets : List ℕ) → Told
+
+-- where it is known what a person was told, exactly this was told since
+abbrev pub Hears : Option (List Told) → Option (List Told) → List Told → Type 0
+Hears None after told = ⊤
+Hears (Some before) None told = ⊥
+Hears (Some before) (Some after) told = after ≡ before ++ told
+
+-- a served side, and what the person was told
+pub record Session : Type 0 where
+  pub live : LiveState
+  pub told : Option (List Told)
+
+abbrev pub session_of : {O W P : Type 0} → (O → Option (List Deed)) → (W → Option (List ℕ))
+    → (P → Option (List Told)) → LiveSide O W → P → Session
+session_of deeds contents told live person = record {
+  live = state_of deeds contents live;
+  told = told person;
+}
+
+-- input is awaited, and nothing is told
+abbrev pub AwaitsQuietly : Session → Session → Type 0
+AwaitsQuietly a b = Awaits a.live b.live × (b.told ≡ a.told)
+
+-- a bad line is refused
+abbrev pub refusals : Obeyed → List ℕ → List Told
+refusals obeyed.Bad octets = Refuses octets ∷ []
+refusals obeyed.Done octets = []
+refusals obeyed.Unmet octets = []
+
+-- what is done with a line, and whether the session goes on
+abbrev pub TypedEnds : TypedDeed → List ℕ → Bool → Session → Session → Type 0
+TypedEnds Pass octets goes_on a b = (goes_on ≡ true) × (b ≡ a)
+TypedEnds Help octets goes_on a b = (goes_on ≡ true) × (b.live ≡ a.live)
+    × Hears a.told b.told (Helps ∷ [])
+TypedEnds Quit octets goes_on a b = (goes_on ≡ false) × (b ≡ a)
+TypedEnds Obey octets goes_on a b = (goes_on ≡ true) × (why : Obeyed)
+    × ObeysAs why octets Awaited a.live b.live × Hears a.told b.told (refusals why octets)
+
+-- a typed line, which the person's reader tidies first
+pub record Types (tidy : List ℕ → Option (List ℕ)) (octets : List ℕ) (goes_on : Bool)
+    (a b : Session) : Type 0 where
+  pub tidied : List ℕ
+  pub is_tidied : IfSome (tidy octets) (λ text. tidied ≡ text)
+  pub does : TypedEnds (deed_of tidied) tidied goes_on a b
+
+abbrev pub TypesOn : (List ℕ → Option (List ℕ)) → List ℕ → Session → Session → Type 0
+TypesOn tidy octets a b = Types tidy octets true a b
+
+-- the last line, if it lacks its line feed
+abbrev pub TypesLast : (List ℕ → Option (List ℕ)) → List ℕ → Bool → Session → Session → Type 0
+TypesLast tidy [] goes_on a b = (goes_on ≡ true) × (b ≡ a)
+TypesLast tidy (octet ∷ octets) goes_on a b = Types tidy (octet ∷ octets) goes_on a b
+
+-- the lines before one of them are done, and that one ends the session
+pub record Quits (tidy : List ℕ → Option (List ℕ)) (lines : List (List ℕ)) (a b : Session) : Type 0
+  where
+    pub before : List (List ℕ)
+    pub quit : List ℕ
+    pub behind : List (List ℕ)
+    pub are : lines ≡ before ++ quit ∷ behind
+    pub met : Session
+    pub done : InOrder AwaitsQuietly (TypesOn tidy) before a met
+    pub quits : Types tidy quit false met b
+
+-- the lines that have ended in some octets are done, or one of them ends the session
+abbrev pub LinesType : (List ℕ → Option (List ℕ)) → Bool → List ℕ → List ℕ → Session → Session
+    → Type 0
+LinesType tidy true before after a b = (count : ℕ)
+    × TakesLines AwaitsQuietly (TypesOn tidy) before after 0 count a b × HasNoFeed after
+LinesType tidy false before after a b = (more : List ℕ) → Quits tidy (lines_of (before ++ more)) a b
+
+-- all lines are done, and then the side is served on, if that is wanted
+pub record EndsByInput (tidy : List ℕ → Option (List ℕ)) (serve_on : Bool) (lines : List (List ℕ))
+    (a b : Session) : Type 0 where
+  pub ended : Session
+  pub done : InOrder AwaitsQuietly (TypesOn tidy) lines a ended
+  pub serves : ServesOn serve_on ended.live b.live
+  pub told : b.told ≡ ended.told
+
+-- or the connection is closed while a line is awaited; those before it are done
+pub record EndsByClose (tidy : List ℕ → Option (List ℕ)) (lines : List (List ℕ)) (a b : Session) :
+    Type 0 where
+  pub before : List (List ℕ)
+  pub behind : List (List ℕ)
+  pub are : lines ≡ before ++ behind
+  pub met : Session
+  pub done : InOrder AwaitsQuietly (TypesOn tidy) before a met
+  pub closes : AwaitsInput came.Closed met.live b.live
+  pub told : b.told ≡ met.told
+
+-- how a session ends well
+abbrev pub SessionEnds : (List ℕ → Option (List ℕ)) → Bool → List (List ℕ) → Session → Session → Type 0
+SessionEnds tidy serve_on lines a b = EndsByInput tidy serve_on lines a b ⊎ Quits tidy lines a b
+    ⊎ EndsByClose tidy lines a b
+
+-- the person is greeted first
+pub record GreetedAndEnds (tidy : List ℕ → Option (List ℕ)) (serve_on : Bool)
+    (lines : List (List ℕ)) (a b : Session) : Type 0 where
+  pub greeted : Option (List Told)
+  pub greets : Hears a.told greeted (Greets ∷ [])
+  pub ends : SessionEnds tidy serve_on lines (record { live = a.live; told = greeted }) b
+
+-- ---- What stops lines of input beside the lines themselves.
+
+abbrev pub stop_of : LiveFault → LiveStop
+stop_of (fault.Line line_fault.Memory) = Script Memory
+stop_of (fault.Line line_fault.Device) = Script Device
+stop_of (fault.Line line_fault.Bad) = Script Device
+stop_of (fault.Port fault) = Script (Port fault)
