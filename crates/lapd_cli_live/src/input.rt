@@ -1,7 +1,7 @@
 //! Lines of input of a side that is served: a script, or lines that a person types.
 
 ghost use Rattle.std.specs.Prelude.{◌≡◌, ℕ, ◌∷◌, [], List, Option, None, true, IfOk, IfSome, OnOk};
-ghost use Rattle.lapd_cli_script.specs.Script.{is_passed_over as passed_over, lines_of};
+ghost use Rattle.lapd_cli_script.specs.Script.{lines_of};
 ghost use Rattle.lapd_cli_script.specs.declared.script.ScriptFault.TheVariants.{Memory};
 ghost use Rattle.lapd_cli_live.specs.declared.input.LiveStop.TheVariants.{Script};
 ghost use Rattle.lapd_cli_live.specs.Log.{Between};
@@ -15,7 +15,7 @@ use crate::obeyed::Obeyed;
 use crate::service::Came;
 use crate::typed_lines::TypedLines;
 use lapd_cli_outside::{Lines, Outside};
-use lapd_cli_script::{LineFault, ScriptFault};
+use lapd_cli_script::{LineFault, ScriptFault, is_passed_over};
 use std::alloc::{AllocError, Global};
 use std::io::{ErrorKind, Read, Write};
 
@@ -322,13 +322,6 @@ pub(crate) fn typed_deed(line: &[u8]) -> TypedDeed
     } else {
         TypedDeed::Obey
     }
-}
-
-/// Whether a line is empty, or begins with `#`.
-fn is_passed_over(line: &[u8]) -> bool
-    ensures { result ≡ passed_over line.now }
-{
-    matches!(line, [] | [b'#', ..])
 }
 
 /// Does a line of a person, or reports why it is no line of the side.
