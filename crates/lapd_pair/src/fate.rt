@@ -4,7 +4,7 @@ pub struct Fate {
     /// The number of the sender's establishment in which it was last sent, from 1; `None` if it was
     /// never sent.
     pub sent_in: Option<u64>,
-    /// Whether it is acknowledged or dropped.
+    /// Whether it is acknowledged, dropped, or still waits.
     pub end: Ending,
 }
 

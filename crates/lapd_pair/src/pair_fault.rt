@@ -5,10 +5,10 @@ use lapd_frame::Side;
 use lapd_link::LinkFault;
 use thiserror::Error;
 
-/// Why a move is refused. The pair is unchanged.
+/// Why the pair refused a move or could not make it. The pair is unchanged.
 #[derive(Clone, Copy, Debug, PartialEq, Eq, Error)]
 pub enum PairFault {
-    /// P1: no such frame is on the line.
+    /// P1: no such frame is in transit.
     #[error("P1 NothingThere")]
     NothingThere,
     /// P2: the timer does not run.
