@@ -199,7 +199,7 @@ drained_pair old new done settles = ∥∥₁_map old.reached (λ x.
       drained = λ q. every_quiet_line_drains Tagged x.user x.network x.few_of_user x.few_of_network x.some_of_user x.some_of_network x.moves q;
     })
 
--- ---- All worlds that one pair represents agree on whether they are quiet and on how many messages are left.
+-- ---- All worlds that one pair represents agree on quietness and on the messages left.
 
 no_frames : (from : Side) (line : Line) (none other : List Flight) → none ≡ [] → IsOn from line none → IsOn from line other → other ≡ []
 no_frames from line none [] is on on_other = refl

@@ -9,9 +9,9 @@ ghost use Rattle.lapd_pair_laws.specs.Kept.{IsKeptWorld};
 ghost use Rattle.lapd_pair_laws.specs.Move.{Move};
 ghost use Rattle.lapd_pair_laws.specs.World.{World, Happened, happens, view_of};
 
-/// Each output of a move that sends a frame has a valid frame, read from the side's state after the
-/// move: the message that it carries exists, and its parts form a frame of the control table (Q.921
-/// Table 5, 5.6.1, 5.9.3).
+/// In every move, each output that sends a frame has one: the message that it carries exists in the
+/// side's state after the move, and its parts form a frame of the control table (Q.921 Table 5,
+/// 5.6.1, 5.9.3).
 pub fn sent_outputs_of_moves_have_frames()
     ensures { (move : Move) (w : World) (happened : Happened) → IsKeptWorld Tagged w
         → happens Tagged move w ≡ Ok happened

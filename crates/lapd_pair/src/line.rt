@@ -7,18 +7,17 @@ use crate::frame_octets::{FrameOctets, marked_place};
 use lapd_frame::{Frame, Role, Side, write_over};
 use std::alloc::{AllocError, Global};
 
-/// The number of free slots at the front from which moving the frames forward may be worth its
-/// cost.
+/// From this many removed frames on, reusing their slots may be worth moving the frames in transit.
 const MANY: usize = 32;
 
 /// One direction of the line: the octets of the frames in transit, in the order in which they were
 /// sent.
 ///
-/// Slots of removed frames stay at the front until no frame is in transit, or until they are at
-/// least 32 and three times the frames in transit. Then the frames swap into the front slots, and
-/// later frames overwrite the others. So the average cost of a frame does not depend on how many
-/// are in transit. If a frame is lost, the frames before it or those after it move, whichever are
-/// fewer.
+/// Slots of removed frames stay at the front until no frame is in transit, or until they number at
+/// least 32 and at least three times the frames in transit. Then the frames swap into the front
+/// slots, and later frames overwrite the others. So the average cost of a frame does not depend on
+/// how many are in transit. If a frame is lost, the frames before it or those after it move,
+/// whichever are fewer.
 ///
 /// A search for the first command with P=1, or the first response with F=1, continues where the
 /// last search of its kind ended. Each search reads a frame once, and again only if it stops at it.
@@ -151,8 +150,8 @@ impl Line {
         }
     }
 
-    /// Removes the frame at this index, from 0, as lost, and returns whether it existed. Otherwise
-    /// nothing changes.
+    /// Loses the frame at this index, from 0. Returns `false` and changes nothing if it does not
+    /// exist.
     pub fn lose(&mut self, place: usize) -> bool
         ensures there { (from : Side) (frames : List Flight) → IsOn from self.old frames
             → result ≡ nat_lt place (length frames) }

@@ -280,7 +280,7 @@ impl Pair {
     }
 }
 
-/// Letting a pair settle.
+/// Settling a pair.
 impl Pair {
     ghost use Rattle.std.specs.Prelude.{option_map};
     ghost use Rattle.lapd_pair_laws.specs.World.{World};

@@ -14,8 +14,8 @@ pub enum PairFault {
     /// P2: the timer does not run.
     #[error("P2 NotRunning")]
     NotRunning,
-    /// P3: T200 may not expire yet. A command with P=1 that this end sent, or a response with F=1
-    /// to it, is in transit to this side, at this index of that direction, from 0.
+    /// P3: T200 may not expire yet. A command with P=1 from its end, or a response with F=1 to its
+    /// end, is in transit to the named side, at the index that follows, from 0.
     #[error("P3 NotYet {0} {1}")]
     NotYet(Side, usize),
     /// P4: the link refuses the request.

@@ -50,7 +50,7 @@ impl RecordedLink {
     ghost use Rattle.lapd_pair.specs.Moves.{IsRefusedAs};
     ghost use Rattle.lapd_pair.specs.Telling.{IsTelling, IsCopy, flight_of, with_sent, history_told};
 
-    /// Creates a side in state 4 with an empty history, and the end of its link.
+    /// Creates a side with its end of the link in state 4 and an empty history.
     pub fn new(alloc: Global, side: Side, params: Params) -> Result<RecordedLink, AllocError>
         ensures station { IfOk result (λ s. IsStation side s (new_station params)) }
         ensures window { params.k ≤ 127 }

@@ -41,7 +41,8 @@ fn right_with(alloc: Global, user: Recovery, network: Recovery) -> Result<(), Fa
     }
 }
 
-/// Makes a run with this pair, and returns the error. Counts the run if it was quiet at the end.
+/// Makes a run with this pair, and returns the error, if any. Counts the run if it was quiet at the
+/// end.
 fn run_once(
     draws: &mut MoveDraws,
     pair: Option<Pair>,

@@ -71,8 +71,8 @@ impl Lossy<'_> {
     }
 }
 
-/// Runs the whole exchange, and writes its result. The reports that two ends may make (F to I) only
-/// arise with a release or another establishment, which the network then begins too.
+/// Runs the whole exchange, and writes its result. Two ends report errors (F to I) only with a
+/// release or a new establishment, and the network's `begun` counts a new establishment too.
 pub(crate) fn lose_tenths(alloc: Global, pair: &mut Pair, text: &mut Text) {
     let mut line = Lossy {
         pair,

@@ -1,12 +1,12 @@
 //! Steps of a pair as text, such as `user give 0801: 008100000801`: a move, and after the colon its
 //! expected result.
 //!
-//! The result of a move is the frames that it puts on the line, in hexadecimal, or `nothing`. In
-//! some rows its outputs follow `tells`. A refused move results in `refused` and the fault, and
-//! must leave the state of the pair unchanged. `user shows` prints the state of a side, `settle`
-//! whether the line is at rest (and how many moves that took, if more than allowed), and `run` how
-//! many of its moves are skipped because they are refused. After each step both histories must be
-//! safe.
+//! The result of a move is the frames that it puts on the line, in hexadecimal, or `nothing`. If a
+//! row expects them, the outputs follow after `tells`. A refused move results in `refused` and the
+//! fault, and must leave the state of the pair unchanged. `user shows` prints the state of a side,
+//! `settle` whether the line is at rest (and how many moves that took, if more than allowed), and
+//! `run` how many of its moves are skipped because they are refused. After each step both histories
+//! must be safe.
 //!
 //! A step whose allocation fails is noted and made again; the second result must be the expected
 //! one.
@@ -154,7 +154,7 @@ fn settle(pair: &mut Pair, most: u64, text: &mut Text) {
     }
 }
 
-/// Makes the moves after the word `run`, which `, ` separates, in one call, and writes how many are
+/// Makes the moves after the word `run`, separated by `, `, in one call, and writes how many are
 /// skipped.
 fn run(alloc: Global, pair: &mut Pair, words: &str, text: &mut Text) {
     let mut all = Vec::new(alloc);
