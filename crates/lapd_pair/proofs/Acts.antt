@@ -1,4 +1,4 @@
--- What a move comes to at its side.
+-- The result of a move at its side.
 use Rattle.std.proofs.Common.{◌≡◌, ◌≤◌, ℕ, Bool, true, false, if◌then◌else◌, nat_lt, List, [], length, Option, Some, None, Vec, Result, Ok, Err, IfOk, IfErr, OnErr, is_ok, refl, sym, ap, subst, arith}
 use Rattle.std.proofs.lemmas.Bool.Decides.{nat_tests}
 use Rattle.std.specs.declared.alloc.Global.{Global}
@@ -41,7 +41,7 @@ pub on_err : {X E : Type 0} (P Q : Type 0) (r : Result X E) → (P → Q) → On
 on_err P Q (Ok x) h p = tt
 on_err P Q (Err e) h p = h p
 
--- ---- A step is refused, or it is admitted.
+-- ---- A step is refused or admitted.
 
 pub takes_refused : (i : Input) (octets : List ℕ) (v : View) (fault : LinkFault) → refused i v.station.end ≡ Some fault → takes Tagged i octets v ≡ Err (Refused fault)
 unfolding takes step
@@ -65,7 +65,7 @@ few : (long : Bool) (len : ℕ) → nat_lt 260 len ≡ long → (if long then So
 few false len long h = grind (arith, nat_tests)
 few true len long h = cc
 
--- unit data that is not refused is short
+-- unit data that the link does not refuse has at most N201 octets
 pub asked_is_short : (i : Input) (octets : List ℕ) (v : View) → IsAsked i octets → refused i v.station.end ≡ None → length octets ≤ n201
 asked_is_short (input.Heard control role) octets v h free = absurd h
 asked_is_short (input.Faulty kind) octets v h free = absurd h
@@ -73,7 +73,7 @@ asked_is_short (input.Give message) octets v h free = absurd h
 asked_is_short (input.UnitData len) octets v h free = let short : len ≤ n201 = few (nat_lt 260 len) len refl free in rw (← h) short
 asked_is_short other octets v h free = rw h (omega arith)
 
--- ---- What is made room for shows what it showed.
+-- ---- After an allocation, the side and the line represent what they did before.
 
 abbrev pub StationsSame : RecordedLink → RecordedLink → Type 0
 StationsSame old made = (side : Side) (t : world.Station) → IsStation side old t → IsStation side made t
@@ -91,7 +91,7 @@ shows_still old made new outward outward_made outward_new (Err fault) station li
 
 -- ---- A request or an expiry.
 
--- how a step for an input is stated
+-- the statement of a step for an input
 abbrev pub StepsTo : Input → List ℕ → Option (Vec ℕ Global) → RecordedLink → Line → RecordedLink → Line → ArrayVec Out → Type 0
 StepsTo i octets copy made outward_made new outward_new outs = (side : Side) (place : ℕ) (v : View) → IsKept Tagged v.station → IsStation side made v.station → IsOn side outward_made v.outgoing → length octets ≤ n201 → IsHanded i octets copy
     → IsActed side new outward_new (stepped octets place v (step Tagged i v.station.end)) outs.items

@@ -17,7 +17,7 @@ use Rattle.lapd_pair.specs.Fates.{ended, with_endings}
 use Rattle.lapd_pair.specs.declared.log.Log.{Log}
 use Rattle.lapd_pair.specs.Histories.{ending_at, fate_at, fates_of, IsHistory}
 
--- ---- Lists made from a function of the place.
+-- ---- Lists made from a function of the index.
 
 map_on : (f g : ℕ → Fate) (first n : ℕ) → ((k : ℕ) → first ≤ k → k < first + n → f k ≡ g k) → map f (range_with_len first n) ≡ map g (range_with_len first n)
 map_on f g first zero same = refl
@@ -67,7 +67,8 @@ ended_within f g ending first n rest below within above =
     let split = ended_middle ending first n (map f (range_with_len 0 first)) (map f (range_with_len first n)) (map f (range_with_len (first + n) rest)) (length-map-range_with_len f 0 first) (length-map-range_with_len f first n) in
     rw (map_three f first n rest, map_three g first n rest) (split ∙ rw (a, b, c) refl)
 
--- what is f everywhere but on so many places from `first` on
+-- the list of g is that of f with this ending at n indices from `first` on, if f and g differ only
+-- so
 pub ended_fates : (f g : ℕ → Fate) (ending : Ending) (first n all : ℕ) → first + n ≤ all
     → ((k : ℕ) → k < first → f k ≡ g k)
     → ((k : ℕ) → first ≤ k → k < first + n → ended ending (f k) ≡ g k)
@@ -111,7 +112,7 @@ dropped_fates h n all are le = ended_fates (fate_at h) (fate_at (with_dropped n 
     (λ k low high. dropped_now (h.sent_in k) (is_one_of h.acked k) _ (neither_above _ _ k h.passed (are.settled k) low).0 (in_next h.dropped h.passed n k low high))
     (λ k high. ap (λ d. fate_from (h.sent_in k) (is_one_of h.acked k) d) (sym (above_next h.dropped h.passed n k high)))
 
--- ---- A message that is given, and one that is sent.
+-- ---- A message is submitted, and one is sent.
 
 new_fate : (sent_in : Option ℕ) (a d : Bool) → sent_in ≡ None → (a ≡ false) × (d ≡ false) → fate_from None false false ≡ fate_from sent_in a d
 new_fate sent_in a d n both = let f = both.0 in let g = both.1 in cc
@@ -153,7 +154,7 @@ sent_fates h all at establishment fates fate e lt read =
     let n : all ≡ at + (1 + (all - (at + 1))) = omega arith in
     rw (e, n) (sent_within h at (all - (at + 1)) establishment fate (ap (λ f. f.end) here))
 
--- ---- Of a history that is kept.
+-- ---- A recorded history.
 
 pub fates_len : {kept : Log} {messages : List (List ℕ)} {h : world.History} → IsHistory kept messages h → vec_len kept.fates ≡ length messages
 fates_len {kept} {messages} {h} is = kept.fates.ok.0 ∙ ap length is.fates ∙ length-map-range_with_len (fate_at h) 0 (length messages)

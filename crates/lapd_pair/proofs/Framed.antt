@@ -1,4 +1,4 @@
--- The outputs of a move have their frames.
+-- Each output of a move that sends a frame has a valid frame.
 use Rattle.std.proofs.Common.{◌≡◌, ℕ, nat_lt, if◌then◌else◌, Bool, true, false, List, [], ◌∷◌, drop, length, Option, Some, None, Result, Ok, Err, refl, subst}
 use Rattle.std.proofs.lemmas.List.Elements.{All-nil}
 use Rattle.lapd_frame.specs.declared.Side.{Side}
@@ -22,7 +22,7 @@ use Rattle.lapd_pair.specs.Setup.{setup_for}
 
 -- ---- A step.
 
--- the outputs of a deed have their frames, of the end after it
+-- the outputs of an action have their frames, by the end after it
 abbrev HasFrames : Setup → Turn → Type 0
 HasFrames setup acted = HaveFrames setup (drop acted.view.station.end.first acted.view.station.end.given) acted.outs
 
@@ -52,7 +52,7 @@ delivers_framed setup [] v acted kept is = cc
 delivers_framed setup (frame ∷ rest) v acted kept is =
     stepped_framed setup (input.Heard frame.control frame.role) frame.info frame.place (record v { incoming = rest }) acted (step Tagged (input.Heard frame.control frame.role) v.station.end) kept refl is
 
--- where nothing is put out
+-- an action without outputs
 quietly_framed : (setup : Setup) (now : View) (acted : Turn) → quietly now ≡ Ok acted → HasFrames setup acted
 quietly_framed setup now acted is =
     subst (HasFrames setup) (same_acted (record { view = now; outs = [] }) acted is)
@@ -103,7 +103,7 @@ kept_station : (who : Side) (w : World) → IsKeptWorld Tagged w → IsKept Tagg
 kept_station side.User w kept = kept.user
 kept_station side.Network w kept = kept.network
 
--- the side that made the move has the frames of these outputs
+-- the outputs have their frames, by the end of the side that made the move
 abbrev Framed : Side → Happened → Type 0
 Framed who happened = HaveFrames (setup_for who) (drop (view_of who happened.world).station.end.first (view_of who happened.world).station.end.given) happened.outs
 

@@ -1,4 +1,5 @@
--- How a line shows the frames on their way: one more behind, the first taken, one lost, and which is marked.
+-- How a line represents the frames in transit when one is appended, removed or lost, and how it
+-- finds the first marked frame.
 use Rattle.std.proofs.Common.{Bor, is_some, IsSome, IfNone, ◌≡◌, ◌<◌, ◌+◌, ◌-◌, ◌≤◌, ℕ, zero, suc, Bool, true, false, not, cond, if◌then◌else◌, nat_lt, List, [], ◌∷◌, ◌++◌, length, map, set, take, drop, slice_range, le_refl, Option, None, Some, Result, Ok, refl, sym, ap, ◌∙◌, subst, arith}
 use Rattle.std.proofs.lemmas.Bool.Decides.{nat_tests}
 use Rattle.std.proofs.lemmas.List.{map-append, append_assoc, length-append, length-map, length-drop, drop-map, drop-drop, drop-append-le, drop-take, drop_at, take_at, take-take, take_more_set, length-take-le}
@@ -18,13 +19,13 @@ use Rattle.lapd_pair.specs.declared.line.Line.{Line}
 use Rattle.lapd_pair.specs.Line.{fields_of, AreFrames, octets_on, polls_passed, finals_passed, IsOn, IsFirst}
 use Rattle.lapd_pair.specs.Marks.{is_marked, is_read_marked, place_of_marked, left_of}
 
--- the octets of a frame on its way
+-- the octets of a frame in transit
 abbrev spelled_by : Side → Flight → List ℕ
 spelled_by from frame = spelling from (fields_of frame)
 
--- ---- The first that passes a test, where one stands before it or not.
+-- ---- The index of the first element that passes a test.
 
--- the place behind the first, where the first does not pass, or else its own
+-- the index in a list whose rest has index n: 0 if the first element passes the test, else 1 + n
 abbrev behind_first : Bool → ℕ → ℕ
 behind_first fails n = cond fails (1 + n) 0
 
@@ -79,14 +80,14 @@ left_where false test xs place count is h = let few : count ≤ place = grind (a
 place_without : {X : Type 0} (test : X → Bool) (xs : List X) (place count : ℕ) → count ≤ position_or_len test xs → left_of place count ≤ position_or_len test (remove xs place)
 place_without test xs place count h = left_where (nat_lt place count) test xs place count refl h
 
--- the first that passes is the first of those behind some that don't
+-- skipping elements that fail the test does not change which element is first
 place_behind : {X : Type 0} (test : X → Bool) (count : ℕ) (xs : List X) → count ≤ position_or_len test xs → count + position_or_len test (drop count xs) ≡ position_or_len test xs
 place_behind test zero xs h = omega arith
 place_behind test (suc count) [] h = absurd (omega (arith, h))
 place_behind test (suc count) (x ∷ xs) h =
     adds (not (test x)) (position_or_len test xs) (position_or_len test (drop count xs)) count h (place_behind test count xs)
 
--- fewer are left than there were, where one of them is lost
+-- if one of n frames is lost, fewer than n of the first `count` are left
 fewer_where : (less : Bool) (place count n : ℕ) → nat_lt place count ≡ less → count ≤ n → place < n → (if less then count - 1 else count) < n
 fewer_where true place count n is few within = omega (arith, few, within)
 fewer_where false place count n is few within = let before : count ≤ place = grind (arith, nat_tests) in omega (arith, before, within)
@@ -94,13 +95,13 @@ fewer_where false place count n is few within = let before : count ≤ place = g
 pub fewer_left : (place count n : ℕ) → count ≤ n → place < n → left_of place count < n
 fewer_left place count n few within = fewer_where (nat_lt place count) place count n refl few within
 
--- ---- One frame more.
+-- ---- One more frame.
 
 frames_more : (frames : List Flight) (sent : Flight) → AreFrames frames → IsFrame (fields_of sent) → AreFrames (frames ++ sent ∷ [])
 frames_more [] sent g h = (h, tt)
 frames_more (frame ∷ frames) sent g h = (g.0, frames_more frames sent g.1 h)
 
--- with as many passed over
+-- an appended frame does not invalidate how many frames a search has passed
 no_further : (test : Flight → Bool) (frames : List Flight) (sent : Flight) (before after : ℕ) → after ≡ before → before ≤ position_or_len test frames → after ≤ position_or_len test (sent_behind frames sent)
 no_further test frames sent before after same h = let more = place_more test frames (sent ∷ []) in omega (arith, same, h, more)
 
@@ -113,40 +114,41 @@ one_behind from old new frames sent f e polls finals g o same = record {
   finals = no_further is_final frames sent (finals_passed old) (finals_passed new) finals o.finals;
 }
 
--- the same frames are shown, where the octets are the same, and none that is looked for is passed over
+-- the line represents the same frames if its octets are the same and no search has passed a frame
+-- of its kind
 pub shown_on : (from : Side) (old new : Line) (frames : List Flight) → octets_on new ≡ octets_on old → polls_passed new ≤ position_or_len is_poll frames → finals_passed new ≤ position_or_len is_final frames → IsOn from old frames → IsOn from new frames
 shown_on from old new frames e polls finals o = record { octets = e ∙ o.octets; grammar = o.grammar; polls = polls; finals = finals }
 
--- so many stand before a place that lies so far behind the first
+-- index `first + count` lies `count` after `first`
 pub counted_from : (first count : ℕ) → first + count - first ≡ count
 counted_from first count = omega arith
 
 pub found_passed : (first place n : ℕ) → place ≡ n → first + place - first ≤ n
 found_passed first place n same = omega (arith, same)
 
--- ---- Places at the front and behind.
+-- ---- Indices at the front and at the end.
 
--- those between two places
+-- the elements between two indices
 pub between : {X : Type 0} (first end : ℕ) (xs : List X) → first ≤ end → take (end - first) (drop first xs) ≡ drop first (take end xs)
 between first end xs h = let whole : end ≡ first + (end - first) = omega arith in sym (drop-take first (end - first) xs) ∙ ap (λ n. drop first (take n xs)) (sym whole)
 
--- the octets on the line, with one more written in the place behind them
+-- the octets on the line after a frame is written into the slot after the last
 pub octets_more : (first end : ℕ) (items : List (ArrayVec ℕ)) (frame : ArrayVec ℕ) → first ≤ end → end < length items
     → map (λ frame. frame.items) (drop first (take (end + 1) (set items end frame))) ≡ map (λ frame. frame.items) (drop first (take end items)) ++ frame.items ∷ []
 octets_more first end items frame h within =
     let taken : first ≤ length (take end items) = rw (length-take-le end items (omega arith)) h in
     rw (take_more_set items end frame within, drop-append-le first (take end items) (frame ∷ []) taken) (map-append (λ (frame : ArrayVec ℕ). frame.items) (drop first (take end items)) (frame ∷ []))
 
--- the octets on the line, where its frames went to the front
+-- the octets on the line after its frames moved to the front
 pub octets_in_front : (first end : ℕ) (old new : List (ArrayVec ℕ)) → first ≤ end → take (end - first) new ≡ take (end - first) (drop first old)
     → map (λ frame. frame.items) (drop 0 (take (end - first) new)) ≡ map (λ frame. frame.items) (drop first (take end old))
 octets_in_front first end old new h e = ap (map (λ (frame : ArrayVec ℕ). frame.items)) (e ∙ between first end old h)
 
--- the octets of those behind some
+-- the octets of the frames after the first `count`
 pub octets_behind : (count : ℕ) (frames : List (ArrayVec ℕ)) (octets : List (List ℕ)) → map (λ frame. frame.items) frames ≡ octets → map (λ frame. frame.items) (slice_range frames count (length frames)) ≡ drop count octets
 octets_behind count frames octets e = ap (map (λ (frame : ArrayVec ℕ). frame.items)) (between_to_end frames count (length frames) (le_refl _)) ∙ sym (drop-map (λ (frame : ArrayVec ℕ). frame.items) count frames) ∙ ap (drop count) e
 
--- ---- The first.
+-- ---- The first frame.
 
 pub nothing_first : (from : Side) (line : Line) (frames : List Flight) → octets_on line ≡ [] → IsOn from line frames → frames ≡ []
 nothing_first from line [] e o = refl
@@ -159,12 +161,12 @@ none_first line [] found None e h same = λ from frames o. nothing_first from li
 none_first line (frame ∷ shown) None None e h same = let no : IsSome {T = Bor (ArrayVec ℕ)} None = h (omega arith) in cc
 none_first line (frame ∷ shown) (Some found) None e h same = cc
 
--- what is read of the octets of the first frame is that frame
+-- the octets of the first frame are read as that frame
 pub first_is_read : (from : Side) (octets : List ℕ) (frame : Flight) (rest : List Flight) (read : Result Fields FrameFault) → ((f : Fields) → IsFrame f → octets ≡ spelling from f → read ≡ Ok f) → IsFirst from octets (frame ∷ rest)
     → read ≡ Ok (fields_of frame)
 first_is_read from octets frame rest read only first = only (fields_of frame) first.1 first.0
 
--- with one less passed over
+-- after the first frame is removed, a search has passed one frame less
 one_passed : (test : Flight → Bool) (frame : Flight) (rest : List Flight) (place first : ℕ) → place - first ≤ position_or_len test (frame ∷ rest) → place - (first + 1) ≤ position_or_len test rest
 one_passed test frame rest place first h = let less = place_after test frame rest in omega (arith, h, less)
 
@@ -177,11 +179,11 @@ without_first from old new frame rest e polls finals o = record {
   finals = at_most_as (finals_passed new) _ (position_or_len is_final rest) finals (one_passed is_final frame rest old.final_from old.first o.finals);
 }
 
--- the octets on the line, without the first
+-- the octets on the line without the first frame
 pub octets_after : (first : ℕ) (items : List (ArrayVec ℕ)) → map (λ frame. frame.items) (drop (first + 1) items) ≡ drop 1 (map (λ frame. frame.items) (drop first items))
 octets_after first items = rw (drop-map, drop-drop) refl
 
--- ---- One of them.
+-- ---- One frame is lost.
 
 frames_without : (frames : List Flight) (place : ℕ) → AreFrames frames → AreFrames (remove frames place)
 frames_without [] zero g = tt
@@ -213,7 +215,7 @@ take-remove (suc n) (suc end) (x ∷ xs) h = ap (λ l. x ∷ l) (take-remove n e
 abbrev octets_of : List (ArrayVec ℕ) → List (List ℕ)
 octets_of frames = map (λ frame. frame.items) frames
 
--- what is left on the line, where those before the one that is lost moved up
+-- the octets on the line after the frames before the lost one moved back
 pub octets_closed_up : (first place end : ℕ) (old new : List (ArrayVec ℕ)) → first + place < end → drop (first + 1) new ≡ remove (drop first old) place
     → octets_of (drop (first + 1) (take end new)) ≡ remove (octets_of (drop first (take end old))) place
 octets_closed_up first place end old new h e =
@@ -224,7 +226,7 @@ octets_closed_up first place end old new h e =
     ∙ ap (λ n. remove (take n (drop first old)) place) whole ∙ ap (λ l. remove l place) (between first end old (omega arith)))
     ∙ sym (remove-map (λ (frame : ArrayVec ℕ). frame.items) (drop first (take end old)) place)
 
--- and where those behind it moved down
+-- the octets on the line after the frames behind the lost one moved forward
 pub octets_closed_down : (first place end : ℕ) (old new : List (ArrayVec ℕ)) → take (end - 1) new ≡ remove (take end old) (first + place)
     → octets_of (drop first (take (end - 1) new)) ≡ remove (octets_of (drop first (take end old))) place
 octets_closed_down first place end old new e =
@@ -240,9 +242,9 @@ without_one from old new place frames e polls finals o = record {
   finals = at_most_as (finals_passed new) _ (position_or_len is_final (without_lost place frames)) finals (place_without is_final frames place (finals_passed old) o.finals);
 }
 
--- ---- A frame moves to one end of some.
+-- ---- A frame moves to one end of a range.
 
--- the one at a place moves before those in front of it
+-- the element at an index moves before those in front of it
 pub moved_to_first : {X : Type 0} (first place count : ℕ) (xs some turned : List X) → first + place < length xs → count ≡ place + 1 → some ≡ take count (drop first xs)
     → turned ≡ drop (length some - 1) some ++ take (length some - 1) some → drop (first + 1) (put_mid first count xs turned) ≡ remove (drop first xs) place
 moved_to_first first place count xs some turned within counts is e =
@@ -262,7 +264,7 @@ moved_to_first first place count xs some turned within counts is e =
     ∙ drop_at it (take place left ++ rest) 1 one
     ∙ ap (λ n. take place left ++ drop n left) counted
 
--- the one at a place moves behind those up to the end
+-- the element at an index moves behind those up to the end
 pub moved_to_last : {X : Type 0} (at end count : ℕ) (xs some turned : List X) → at < end → end ≤ length xs → count ≡ end - at → some ≡ take count (drop at xs)
     → turned ≡ drop 1 some ++ take 1 some → take (end - 1) (put_mid at count xs turned) ≡ remove (take end xs) at
 moved_to_last at end count xs some turned before within counts is e =
@@ -280,7 +282,7 @@ moved_to_last at end count xs some turned before within counts is e =
     ap (take (end - 1)) front ∙ take_at (take at xs ++ others) rest (end - 1) few
     ∙ ap (λ l. take at xs ++ l) later ∙ ap (λ l. l ++ drop (suc at) (take end xs)) (sym (take-take at end xs (omega arith)))
 
--- ---- The first that is marked.
+-- ---- The first frame of a role with its P or F bit set.
 
 marked_alike : (role : Role) (from : Side) (frames : List Flight) → AreFrames frames
     → position_or_len (λ octets. is_read_marked role (frame_at from octets)) (map (spelled_by from) frames) ≡ position_or_len (λ frame. is_marked role (fields_of frame)) frames
@@ -291,7 +293,7 @@ pub position_or_len-map : {X Y : Type 0} (f : X → Y) (test : Y → Bool) (xs :
 position_or_len-map f test [] = refl
 position_or_len-map f test (x ∷ xs) = rw (position_or_len-map f test xs) refl
 
--- the place that a search gives, or the number of all
+-- the index that a search returns, or the number of all elements
 where_found : (found : Bool) (place count : ℕ) → nat_lt place count ≡ found → place ≤ count → unwrap_or (if found then Some place else None) count ≡ place
 where_found true place count is h = refl
 where_found false place count is h = let all : count ≤ place = grind (arith, nat_tests) in omega (arith, all, h)
@@ -306,7 +308,7 @@ place_within test (x ∷ xs) = let less = place_within test xs in let most = all
 no_more : (m n k : ℕ) → m ≤ n → k ≡ n → m ≤ k
 no_more m n k h same = omega (arith, h, same)
 
--- it is no further than all frames
+-- the index found is at most the number of frames
 pub place_in_rest : (role : Role) (from : Side) (passed : ℕ) (frames : List (ArrayVec ℕ)) → passed ≤ length frames → passed + place_of_marked role from (octets_of (slice_range frames passed (length frames))) ≤ length frames
 place_in_rest role from passed frames h =
     let rest = slice_range frames passed (length frames) in
@@ -315,7 +317,7 @@ place_in_rest role from passed frames h =
     let many : length (octets_of rest) ≡ length rest = length-map rest (λ (frame : ArrayVec ℕ). frame.items) in
     omega (arith, h, long, most, many)
 
--- behind those that were passed over is the first of all
+-- the first marked frame after those that a search has passed is the first of all
 pub first_marked_is : (role : Role) (from : Side) (line : Line) (frames : List Flight) (passed : ℕ) → IsOn from line frames → passed ≤ position_or_len (λ frame. is_marked role (fields_of frame)) frames
     → passed + place_of_marked role from (drop passed (octets_on line)) ≡ position_or_len (λ frame. is_marked role (fields_of frame)) frames
 first_marked_is role from line frames passed o h =
@@ -326,7 +328,7 @@ first_marked_is role from line frames passed o h =
 found_so : (test : Flight → Bool) (frames : List Flight) (place count : ℕ) → place ≡ position_or_len test frames → count ≡ length frames → (if nat_lt place count then Some place else None) ≡ position test frames
 found_so test frames place count is long = rw (is, long) refl
 
--- the place that was found, where a frame stands there
+-- the index found, if a frame is in transit at it
 pub place_found : (test : Flight → Bool) (from : Side) (line : Line) (frames : List Flight) (place : ℕ) → IsOn from line frames → place ≡ position_or_len test frames
     → (if nat_lt place (length (octets_on line)) then Some place else None) ≡ position test frames
 place_found test from line frames place o is = found_so test frames place (length (octets_on line)) is (ap length o.octets ∙ length-map frames (spelled_by from))

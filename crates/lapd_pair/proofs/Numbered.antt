@@ -1,4 +1,4 @@
--- The numbers of establishments beside what was received.
+-- The numbers of establishments recorded with the messages received.
 use Rattle.std.proofs.Common.{◌≡◌, ◌⊎◌, inl, inr, ℕ, zero, suc, ◌+◌, ◌<◌, ◌≤◌, nat_le, nat_lt, Bool, true, false, cond, if◌then◌else◌, List, [], ◌∷◌, ◌++◌, length, slice_get, Option, Some, refl, sym, ap, ◌∙◌, length-append, arith}
 use Rattle.std.proofs.lemmas.Bool.Decides.{nat_tests}
 use Rattle.std.proofs.lemmas.List.Sums.{sum_by-append}
@@ -34,7 +34,7 @@ begins_numbered received begun before is are = record {
   next = λ n le. begun_more begun before n (omega (arith, is, le)) ∙ rw (are.next n le) (sym (length-append begun (before ∷ [])));
 }
 
--- an establishment begins, where there is room to write it down
+-- an establishment begins, and is recorded if there is space
 pub begins_where : (room : Bool) (received : List Received) (begun now : List ℕ) (before : ℕ) → now ≡ (if room then begun ++ before ∷ [] else begun) → before ≡ length received
     → AreNumbered received begun → AreNumbered received now
 begins_where true received begun now before is counted are = rw is (begins_numbered received begun before counted are)
@@ -55,7 +55,7 @@ receives_numbered received begun message is are = record {
   next = λ n le. are.next n (omega (arith, le, length-append received (message ∷ [])));
 }
 
--- a message comes, where there is room to write it down
+-- a message arrives, and is recorded if there is space
 pub receives_where : (room : Bool) (received now : List Received) (begun : List ℕ) (message : Received) → now ≡ (if room then received ++ message ∷ [] else received) → message.establishment ≡ length begun
     → AreNumbered received begun → AreNumbered now begun
 receives_where true received now begun message is counted are = rw is (receives_numbered received begun message counted are)

@@ -1,4 +1,4 @@
--- What a pair stands for after a move of one of its sides.
+-- The world that a pair represents after a move of one of its sides.
 use Rattle.std.proofs.Common.{◌≡◌, ◌≤◌, List, [], ◌∷◌, ◌++◌, Result, Ok, Err, IfOk, OnErr, refl, sym, ◌∙◌, subst}
 use Rattle.std.proofs.Math.Logic.{∥∥₁_map}
 use Rattle.arrayvec.specs.ArrayVec.{ArrayVec}
@@ -32,14 +32,14 @@ new_stands user_parameters network_parameters user network to_user to_network sm
 abbrev Happens : Happened → Result Happened Refusal
 Happens happened = Ok happened
 
--- it was admitted, with these outputs, and leads to this world
+-- the world admits the move with these outputs; both sides and lines represent the world after it
 pub record Did (user network : RecordedLink) (to_user to_network : Line) (outcome : Result Happened Refusal) (outs : List Out) : Type 0 where
   pub happened : Happened
   pub is : outcome ≡ Happens happened
   pub same : happened.outs ≡ outs
   pub stand : StandForWorld user network to_user to_network happened.world
 
--- what the user sees, and the network
+-- the views of the user and of the network
 pub user_sees : {user network : RecordedLink} {to_user to_network : Line} {w : World} → StandForWorld user network to_user to_network w → IsView User user to_user to_network (view_of User w)
 user_sees s = record { station = s.user; incoming = s.to_user; outgoing = s.to_network }
 
@@ -79,7 +79,7 @@ network_did m w user network after to_user to_network to_user_after to_network_a
       stand = record { user = s.user; network = d.view.station; to_user = d.view.outgoing; to_network = d.view.incoming; kept = move_kept Tagged m w happened s.kept it };
     }
 
--- a refusal of the side is one of the world
+-- a refusal by the side refuses the move in the world
 refused_so : (fault : PairFault) (who : Side) (w : World) (outcome : Result Turn Refusal) → IsRefusedAs fault outcome → IsRefusedAs fault (in_world who w outcome)
 refused_so fault.NothingThere who w outcome h = rw h refl
 refused_so fault.NotRunning who w outcome h = rw h refl
@@ -110,7 +110,7 @@ network_still w user network after to_user to_network to_user_after to_network_a
     let v = shows Network (view_of Network w) (network_sees s) in
     record { user = s.user; network = v.station; to_user = v.outgoing; to_network = v.incoming; kept = s.kept }
 
--- ---- What was reached by moves is so again.
+-- ---- A pair that moves can reach stays one after a move.
 
 pub run_more : (moves : List Move) (m : Move) (w : World) → run Tagged (moves ++ m ∷ []) w ≡ world_after (run Tagged moves w) (happens Tagged m (run Tagged moves w))
 run_more [] m w = refl

@@ -1,4 +1,4 @@
--- What the moves of a pair report.
+-- The reports among the outputs of a pair's moves.
 use Rattle.std.proofs.Common.{◌≡◌, List, [], ◌∷◌, ◌++◌, Result, Ok, Err, IfOk, subst}
 use Rattle.std.proofs.lemmas.Grind.{not_there}
 use Rattle.arrayvec.specs.ArrayVec.{ArrayVec}
@@ -17,7 +17,7 @@ use Rattle.lapd_pair.specs.Runs.{PairStandsFor, HasHappened}
 use Rattle.lapd_pair.specs.declared.pair.Pair.{Pair}
 use Rattle.lapd_pair.specs.declared.pair_fault.PairFault.{PairFault}
 
--- ---- Whether a report is expected is seen by its letter.
+-- ---- The letter of a report decides whether it is expected.
 
 letter_seen : (l : Letter) → ¬ (¬ (IsExpected l)) → IsExpected l
 letter_seen letter.F h = tt
@@ -34,7 +34,7 @@ outs_seen : (outs : List Out) → ¬ (¬ (AreExpected outs)) → AreExpected out
 outs_seen [] h = tt
 outs_seen (out ∷ outs) h = (out_seen out (λ none. h (λ both. none both.0)), outs_seen outs (λ none. h (λ both. none both.1)))
 
--- ---- The last of a list of moves.
+-- ---- The last move of a list.
 
 last_reports : (moves : List Move) (move : Move) (w : World) → AllReportsExpected (outcomes Tagged (moves ++ move ∷ []) w) → ReportsExpected (happens Tagged move (run Tagged moves w))
 last_reports [] move w all = all.0
@@ -60,7 +60,7 @@ reached_reports p q move outs happened x =
     outs_of_admitted (happens Tagged move (run Tagged x.moves start)) h.happened outs h.is h.same
     (last_reports x.moves move start (every_run_reports Tagged x.user x.network x.few_of_user x.few_of_network (x.moves ++ move ∷ [])))
 
--- the outputs of a move that a pair made
+-- the outputs of an admitted move contain only expected reports
 pub move_reports : (p q : Pair) (move : Move) (result : Result (ArrayVec Out) PairFault)
     → IfOk result (λ outs. (w : World) → PairStandsFor p w → HasHappened q (happens Tagged move w) outs.items) → IfOk result (λ outs. AreExpected outs.items)
 move_reports p q move (Ok outs) happened = outs_seen outs.items (λ none. not_there p.reached (λ x. none (reached_reports p q move outs.items happened x)))

@@ -1,4 +1,4 @@
--- What a side shows when it has started anew.
+-- The state of a side after a restart.
 use Rattle.std.proofs.Common.{◌≡◌, ℕ, List, [], ◌∷◌, length, drop, refl, ap, ◌∙◌, subst, arith}
 use Rattle.lapd_frame.specs.declared.Side.{Side}
 use Rattle.lapd_frame.specs.Address.{other_side}
@@ -28,7 +28,7 @@ drop_all (message ∷ messages) = drop_all messages
 none_waits : (given : List (List ℕ)) (queue : Waiting) → IsTail [] 0 0 queue → IsTail given (length given) (length given) queue
 none_waits given queue h = record { messages = drop_all given ∙ h.messages; within = omega arith; next_is = omega (arith, h.next_is) }
 
--- a new link stands for the end that has started anew, whatever was given to it before
+-- a new link represents the end after a restart, whatever messages were submitted to it before
 new_stands : (link : Link) (e : End) → LinkStandsFor link (new_end e.parameters) → LinkStandsFor link (restarted e)
 unfolding begin
 new_stands link e h = record {

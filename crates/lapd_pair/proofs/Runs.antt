@@ -1,4 +1,4 @@
--- What a pair stands for after a run.
+-- The world that a pair represents after a run.
 use Rattle.std.proofs.Common.{◌≡◌, ◌≤◌, ◌<◌, ◌+◌, ℕ, true, false, List, [], ◌∷◌, ◌++◌, length, take, drop, get_or, Some, Result, Ok, is_ok, refl, sym, ap, ◌∙◌, subst, arith}
 use Rattle.std.proofs.lemmas.List.{drop_more, take_more}
 use Rattle.std.proofs.lemmas.Option.{slice_get-get_or}
@@ -17,14 +17,14 @@ use Rattle.lapd_pair.specs.Runs.{PairStandsFor, HasHappened, HasStoppedAt, refus
 use Rattle.lapd_pair.proofs.Pairs.{run_more, after_did}
 use Rattle.lapd_pair.proofs.Reported.{reports_more, admitted_reports}
 
--- as many moves as this are done, and so many of them were refused
+-- the first `at` moves are made, and `refused` of them were refused
 pub record AreDone (before : Pair) (moves : List Move) (at refused : ℕ) (now : Pair) : Type 0 where
   pub stands : (w : World) → PairStandsFor before w → PairStandsFor now (run Tagged (take at moves) w)
   pub counted : (w : World) → PairStandsFor before w → refused + refusals (drop at moves) (run Tagged (take at moves) w) ≡ refusals moves w
   pub few : refused ≤ at
   pub reports : (w : World) → PairStandsFor before w → AllReportsExpected (outcomes Tagged (take at moves) w)
 
--- the next move leads to the world after it
+-- one more move leads to the world after that move
 next : (moves : List Move) (at : ℕ) (m : Move) (w : World) → take (at + 1) moves ≡ take at moves ++ m ∷ [] → run Tagged (take (at + 1) moves) w ≡ world_after (run Tagged (take at moves) w) (happens Tagged m (run Tagged (take at moves) w))
 next moves at m w split = ap (λ (ms : List Move). run Tagged ms w) split ∙ run_more (take at moves) m w
 
@@ -63,7 +63,7 @@ one_done before now after moves at refused m outs within is happened expected do
           next_reports moves at m w gone (done.reports w s) (admitted_reports (happens Tagged m u) h.happened outs h.is h.same expected);
     }
 
--- what is refused changes nothing, and is counted
+-- a refused move changes nothing, and is counted
 refused_is : (why : PairFault) (u : World) (outcome : Result Happened Refusal) → is_memory why ≡ false → IsRefusedAs why outcome → (refused_of outcome ≡ 1) × (world_after u outcome ≡ u)
 refused_is fault.Memory u outcome skipped is = cc
 refused_is fault.NothingThere u outcome skipped is = rw is (refl, refl)

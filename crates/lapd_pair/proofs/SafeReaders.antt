@@ -1,4 +1,4 @@
--- What the readers of a pair return is safe.
+-- The results of a pair's reading functions are safe.
 use Rattle.std.proofs.Common.{◌≡◌, inl, inr, ℕ, zero, suc, ◌+◌, ◌<◌, ◌==◌, Bool, true, false, if◌then◌else◌, List, [], ◌∷◌, map, length, slice_get, Option, Some, None, Vec, refl, sym, ap, ◌∙◌, add-one, arith}
 use Rattle.std.proofs.Math.Logic.{∥∥₁_map}
 use Rattle.std.proofs.lemmas.Bool.Decides.{nat_tests}
@@ -60,7 +60,7 @@ same_establishments (message ∷ received) (receipt ∷ receipts) e (suc n) = le
 
 -- ---- Places.
 
--- the place behind
+-- the next place
 abbrev next_of : Option ℕ → Option ℕ
 next_of place = option_map (λ place. place + 1) place
 
@@ -85,7 +85,7 @@ read_given : (given : List (Vec ℕ Global)) (places : List ℕ) → map (octets
 read_given given [] = refl
 read_given given (place ∷ places) = rw (slice_get-map (λ (message : Vec ℕ Global). message.items) given place, read_given given places) refl
 
--- each place has a message given
+-- each place is that of a submitted message
 among_given : (given : List (List ℕ)) (places : List ℕ) (receipts : List Receipt) → map (λ place. slice_get given place) places ≡ map (λ message. Some message.octets) receipts
     → (place : ℕ) → IsAmong place places → place < length given
 among_given given [] receipts same place among = absurd among
@@ -137,7 +137,7 @@ acked_at h all place is =
     let ends : ending_at h place ≡ Acked = same_Some _ _ (sym (ap end_of (fate_read h all place within)) ∙ is) in
     among_one_of h.acked place (acked_only (is_one_of h.acked place) (is_one_of h.dropped place) ends)
 
--- ---- One side against the other.
+-- ---- Safety in one direction.
 
 safe_reading : (sender receiver : Log) (messages others : List (List ℕ)) (h g : world.History) → IsHistory sender messages h → IsHistory receiver others g → IsSafe messages h.sent_in h.acked g.received
     → IsSafeReading sender.given.items sender.fates.items receiver.received.items receiver.begun.items

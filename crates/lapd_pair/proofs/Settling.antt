@@ -1,4 +1,4 @@
--- A pair settles: its moves are those of the worlds that it stands for.
+-- A pair settles by the moves of the worlds that it represents.
 use Rattle.std.proofs.Common.{◌≡◌, ℕ, zero, suc, ◌+◌, ◌-◌, ◌*◌, ◌<◌, ◌≤◌, not, Bool, true, false, if◌then◌else◌, List, [], ◌∷◌, ◌++◌, map, length, drop, is_some, is_none, is_ok, option_map, Option, Some, None, IfSome, IfNone, Result, Ok, Err, refl, sym, ap, subst, ◌∙◌, arith}
 use Rattle.std.proofs.Math.Bool.{Bool-set}
 use Rattle.std.proofs.Math.Bridge.{le_prop}
@@ -50,7 +50,7 @@ pub none_starts : {A : Type 0} (from : Side) (line : Line) (o : Option A) (frame
 none_starts from line None frames is none on = none from frames on
 none_starts from line (Some a) frames is none on = cc
 
--- ---- The next move, by what is on the line and which timers run.
+-- ---- The next move, by the frames in transit and the running timers.
 
 abbrev with_lines : World → List Flight → List Flight → World
 with_lines w to_user to_network = record w { to_user = to_user; to_network = to_network }
@@ -76,9 +76,9 @@ no_move = None
 pub nothing_next : (w : World) → w.to_network ≡ [] → w.to_user ≡ [] → w.user.end.t200 ≡ false → w.network.end.t200 ≡ false → no_move ≡ next_move Tagged w
 nothing_next w n u off none = sym (lines_are (λ v. next_move Tagged v ≡ no_move) w [] [] u n (next_none Tagged w.user w.network off none))
 
--- ---- How many at most.
+-- ---- The bound on the number of moves.
 
--- by how many messages wait at each end
+-- from the number of waiting messages at each end
 pub bound_is : (p : Pair) (w : World) (user network : ℕ) → PairStandsFor p w
     → user ≡ length w.user.end.given - w.user.end.first → network ≡ length w.network.end.given - w.network.end.first → 8 * (user + network + 4) ≡ bound w
 bound_is p w user network s user_waits network_waits =
@@ -88,7 +88,7 @@ bound_is p w user network s user_waits network_waits =
     let d = s.kept.network.first in
     omega (arith, user_waits, network_waits, a, b, c, d)
 
--- ---- The moves that are made.
+-- ---- The moves made.
 
 pub none_mapped : {A B : Type 0} (f : A → B) (o : Option A) → is_none (option_map f o) ≡ is_none o
 none_mapped f None = refl
@@ -129,7 +129,7 @@ one_made before now after n m outs made next happened =
     one_longer [] m = omega arith
     one_longer (x ∷ l) m = let rest = one_longer l m in omega (arith, rest)
 
--- none is possible any more
+-- no further move is possible
 pub at_rest : (before now : Pair) (n : ℕ) → AreMade before n now → ((w : World) → PairStandsFor now w → no_move ≡ next_move Tagged w) → (w : World) → PairStandsFor before w → n ≤ bound w → HasSettled now (record { moves = n; rest = true }) w
 at_rest before now n made none w s few =
     let u = run Tagged (settling Tagged n w) w in
@@ -142,7 +142,7 @@ at_rest before now n made none w s few =
       rest = sym (ap (λ v. is_none (next_move Tagged v)) there ∙ ap is_none (sym (none u su)));
     }
 
--- all are made
+-- all moves within the bound are made
 pub all_made : (before now : Pair) (n : ℕ) (rest : Bool) → AreMade before n now → ((w : World) → PairStandsFor now w → rest ≡ is_none (next_move Tagged w)) → (w : World) → PairStandsFor before w → n ≡ bound w → HasSettled now (record { moves = n; rest = rest }) w
 all_made before now n rest made tells w s all =
     let u = run Tagged (settling Tagged n w) w in
@@ -153,7 +153,7 @@ all_made before now n rest made tells w s all =
       rest = tells u (made.stands w s) ∙ ap (λ v. is_none (next_move Tagged v)) there;
     }
 
--- ---- Memory is refused.
+-- ---- An allocation fails.
 
 same_some : (a b : Move) → Some a ≡ Some b → a ≡ b
 same_some a b is = cc
@@ -199,7 +199,7 @@ drained_pair old new done settles = ∥∥₁_map old.reached (λ x.
       drained = λ q. every_quiet_line_drains Tagged x.user x.network x.few_of_user x.few_of_network x.some_of_user x.some_of_network x.moves q;
     })
 
--- ---- What a pair shows of a world, it shows of each that it stands for.
+-- ---- All worlds that one pair represents agree on quietness and on the messages left.
 
 no_frames : (from : Side) (line : Line) (none other : List Flight) → none ≡ [] → IsOn from line none → IsOn from line other → other ≡ []
 no_frames from line none [] is on on_other = refl

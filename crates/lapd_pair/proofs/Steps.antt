@@ -1,4 +1,4 @@
--- What a side shows after a step whose outputs are told.
+-- The state of a side after a step and all its outputs.
 use Rattle.std.proofs.Common.{◌≡◌, ◌≤◌, ◌+◌, ◌==◌, not, if◌then◌else◌, ℕ, Bool, true, false, List, [], ◌∷◌, ◌++◌, length, Option, Some, None, Vec, Result, Ok, refl, sym, ap, ◌∙◌, subst, arith}
 use Rattle.std.proofs.lemmas.Bool.Decides.{nat_tests}
 use Rattle.std.proofs.lemmas.List.{append-nil}
@@ -39,7 +39,7 @@ use Rattle.lapd_pair.specs.Line.{IsOn}
 use Rattle.lapd_pair.specs.Station.{IsStation, IsActed, IsHanded}
 use Rattle.lapd_pair.specs.Telling.{IsCopy, IsTelling}
 
--- ---- What goes up, at most once.
+-- ---- At most one delivery to layer 3.
 
 at_most : (on : Bool) → (if on then 1 else 0) + 0 ≤ 1
 at_most true = omega arith
@@ -64,7 +64,7 @@ copied : (input : Input) (e : End) (s : StepState) (octets : List ℕ) (copy : O
 copied input e s octets None done h = rw (ups_after Tagged input e s done, units_after Tagged input e s done) (none_of_both input e octets h)
 copied input e s octets (Some copy) done h = (rw (ups_after Tagged input e s done, units_after Tagged input e s done) (one_of_both input e), held input octets copy h)
 
--- ---- An establishment begins where the number of establishments is another.
+-- ---- An establishment begins exactly if the number of establishments changes.
 
 beginning_by : (input : Input) (e : End) (s : StepState) (test : Bool) → begins e.state e.release_pending input ≡ test → step Tagged input e ≡ Ok s → test ≡ not (e.establishments == s.end.establishments)
 beginning_by input e s true is done =
@@ -76,13 +76,13 @@ beginning_by input e s false is done =
     let equal : (e.establishments == s.end.establishments) ≡ true = grind (arith, nat_tests) in
     rw equal refl
 
--- ---- Before the first output is told.
+-- ---- Before the first output is executed.
 
--- what a step is told with
+-- the inputs of executing the outputs of a step
 abbrev occasion_of : List ℕ → ℕ → StepState → Occasion
 occasion_of octets place s = record { given = s.end.given; establishment = s.end.establishments; octets = octets; place = place }
 
--- and from
+-- the line and the history before the first output
 abbrev story_before : View → StepState → Story
 story_before v s = record { line = v.outgoing; history = with_beginning v.station.end.establishments s.end.establishments v.station.history }
 
@@ -107,7 +107,7 @@ telling_begins side place input octets copy v s before now outward kept shown on
       copied = copied input e s octets copy done handed;
     }
 
--- ---- When all are told.
+-- ---- After all outputs are executed.
 
 abbrev Did : StepState → Result StepState LinkFault
 Did s = Ok s
@@ -124,7 +124,7 @@ acted_by side place octets copy v s after outward result outs is same h = record
   outgoing = h.line;
 }
 
--- what is said of these outputs is said of those, which are the same
+-- executing these outputs has the defined result; the same holds for an equal list of outputs
 abbrev pub TellsAll : List ℕ → List Out → RecordedLink → Line → Option (Vec ℕ Global) → RecordedLink → Line → Option (Vec ℕ Global) → Type 0
 TellsAll octets outs now outward copy after outward_after copy_after =
     (side : Side) (e : End) (o : Occasion) (t : Story) → octets ≡ o.octets → IsTelling side e o outs now outward copy t → IsTelling side e o [] after outward_after copy_after (told o outs t)
@@ -133,7 +133,7 @@ pub tells_of : (octets : List ℕ) (these those : List Out) (now : RecordedLink)
     → TellsAll octets these now outward copy after outward_after copy_after → TellsAll octets those now outward copy after outward_after copy_after
 tells_of octets these those now outward copy after outward_after copy_after same tells = subst (λ (x : List Out). TellsAll octets x now outward copy after outward_after copy_after) same tells
 
--- a step for an event
+-- a step for an event, with its outputs
 pub step_acted : (side : Side) (place : ℕ) (input : Input) (octets : List ℕ) (copy copy_after : Option (Vec ℕ Global)) (v : View) (outs : List Out) (starts : Bool) (before now after : RecordedLink) (outward outward_after : Line)
     → messages_of input ≡ [] → IsKept Tagged v.station → IsStation side before v.station → IsOn side outward v.outgoing → length octets ≤ n201 → IsHanded input octets copy
     → Steps before.link now.link input outs → setup_of now.link ≡ setup_of before.link
@@ -152,7 +152,7 @@ step_acted side place input octets copy copy_after v outs starts before now afte
     let telling = tells_of octets outs s.outs now outward copy after outward_after copy_after (sym done.2) tells in
     acted_by side place octets copy_after v s after outward_after (step Tagged input e) outs done.1 done.2 (telling side s.end (occasion_of octets place s) (story_before v s) refl start)
 
--- an event is no message
+-- no event submits a message
 pub no_message : (event : Event) → messages_of (input_of event) ≡ []
 no_message (event.Heard frame) = refl
 no_message (event.Fault kind) = refl
@@ -164,7 +164,7 @@ no_message event.BusyOn = refl
 no_message event.BusyOff = refl
 no_message (event.Unit len) = refl
 
--- ---- A message is given.
+-- ---- A message is submitted.
 
 unless_begun : (same : Bool) (kept : Log) (messages : List (List ℕ)) (h : world.History) (n : ℕ) → same ≡ true → IsHistory kept messages h → IsHistory kept messages (record h { begun = if same then h.begun else h.begun ++ n ∷ [] })
 unless_begun true kept messages h n is shown = shown
@@ -177,7 +177,7 @@ begins_none AwaitingRelease release_pending message = refl
 begins_none MultipleFrameEstablished release_pending message = refl
 begins_none TimerRecovery release_pending message = refl
 
--- a message, which begins no establishment
+-- submitting a message, which begins no establishment
 pub give_acted : (side : Side) (message : List ℕ) (copy copy_after : Option (Vec ℕ Global)) (v : View) (outs : List Out) (before now after : RecordedLink) (outward outward_after : Line)
     → copy ≡ None → IsKept Tagged v.station → IsStation side before v.station → IsOn side outward v.outgoing
     → Steps before.link now.link (input.Give message) outs → setup_of now.link ≡ setup_of before.link

@@ -1,4 +1,4 @@
--- What a side shows while the outputs of a step are told.
+-- The state of a side while the outputs of a step are executed.
 use Rattle.std.proofs.Common.{◌≡◌, ◌≤◌, ◌<◌, ◌+◌, ◌-◌, ℕ, false, List, [], ◌∷◌, length, length-drop, drop, get_or, slice_get, Option, Some, None, option_map, IfSome, Vec, refl, sym, ap, ◌∙◌, subst, arith}
 use Rattle.std.proofs.lemmas.List.{get_or-drop}
 use Rattle.std.proofs.lemmas.Option.{slice_get-get_or}
@@ -31,7 +31,7 @@ use Rattle.lapd_pair.specs.Telling.{flight_of, with_sent, history_told, IsCopy, 
 
 -- ---- The frame of an output.
 
--- with parts that are a frame of the control table
+-- parts that the control table allows form a frame
 frame_is : (side : Side) (setup : Setup) (role : Role) (control : Control) (info : List ℕ) → setup ≡ setup_for side → content_fault role control (length info) ≡ None
     → link_frame setup role control info ≡ Some (record { address = link_address role; control = control; info = info })
 frame_is side setup role control info same proper = rw (same, proper) refl
@@ -46,7 +46,7 @@ message_is : (side : Side) (setup : Setup) (control : Control) (found : Option (
     → message_frame setup control found ≡ FrameOf (Some (record { role = Command; control = control; info = message; place = place }))
 message_is side setup control found message place same is proper = rw is (frame_is side setup Command control message same proper)
 
--- the frame that a link makes of an output is the one that is told
+-- the frame that a link makes of an output is the one that the definition sends
 pub sent_is_told : (side : Side) (e : End) (o : Occasion) (passed : ℕ) (out : Out) (rest : List Out) (setup : Setup) → setup ≡ setup_for side → AreInOrder e passed (out ∷ rest) → o.given ≡ e.given → AreShort e.given → length o.octets ≤ n201
     → made_frame setup (drop e.first e.given) o.octets out ≡ FrameOf (flight_of o passed out)
 sent_is_told side e o passed (Send role control) rest setup same order given short fits = frame_is side setup role control [] same order.spoken.0
@@ -57,7 +57,7 @@ sent_is_told side e o passed (SendMessage n control) rest setup same order given
 sent_is_told side e o passed SendUnit rest setup same order given short fits = frame_is side setup Command (Ui false) o.octets same (unit_is_proper (length o.octets) fits)
 sent_is_told side e o passed out rest setup same order given short fits = refl
 
--- ---- One output is told.
+-- ---- One output is executed.
 
 told_where : (from : Side) (before after : Line) (line : List Flight) (flight : Option Flight) (f : Fields) → FrameOf flight ≡ Some f → ((sent : Flight) → fields_of sent ≡ f → IsOn from after (with_sent (Some sent) line)) → IsOn from after (with_sent flight line)
 told_where from before after line (Some flight) f is shows = shows flight (let same : Some (fields_of flight) ≡ Some f = is in cc)
@@ -67,7 +67,7 @@ told_nowhere : (from : Side) (before : Line) (line : List Flight) (flight : Opti
 told_nowhere from before line None is on = on
 told_nowhere from before line (Some flight) is on = cc
 
--- telling an output is sending its frame and writing it down
+-- executing an output means sending its frame and recording it
 pub told_apart : (o : Occasion) (out : Out) (t : Story) → tell o out t ≡ record { line = with_sent (flight_of o t.history.passed out) t.line; history = history_told o out t.history }
 told_apart o (Send role control) t = refl
 told_apart o (SendMessage n control) t = refl
@@ -94,7 +94,7 @@ sent_nothing side e o out rest s before copy t octets is same h =
     let frame = sent_is_told side e o t.history.passed out rest (setup_of s.link) h.setup h.order h.given h.short h.fits in
     told_nowhere side before t.line (flight_of o t.history.passed out) (sym frame ∙ ap (λ x. made_frame (setup_of s.link) (drop e.first e.given) x out) (sym same) ∙ is) h.line
 
--- what an output tells to be acknowledged or dropped was given
+-- the messages that an output acknowledges or drops were submitted
 leaving_within : (e : End) (passed : ℕ) (out : Out) (rest : List Out) → e.first ≤ length e.given → AreInOrder e passed (out ∷ rest) → passed + leaving (out ∷ []) ≤ length e.given
 leaving_within e passed (Acknowledged n) rest within order = omega (arith, order.first, within)
 leaving_within e passed (Dropped n) rest within order = omega (arith, order.first, within)
@@ -103,7 +103,7 @@ leaving_within e passed out rest within order = omega (arith, order.first, withi
 copied_octets : (octets : List ℕ) (n : ℕ) (copy : Option (Vec ℕ Global)) (held : Vec ℕ Global) → copy ≡ Some held → IsCopy octets n copy → held.items ≡ octets
 copied_octets octets n copy held is h = let there : IsCopy octets n (Some held) = rw is at h in there.1
 
--- what is written down, by each output that says something
+-- the history after each output that changes it
 pub written_message : (side : Side) (e : End) (o : Occasion) (out : Out) (rest : List Out) (s : RecordedLink) (line : Line) (copy : Option (Vec ℕ Global)) (t : Story) (after : Log) (n : ℕ) (control : Control)
     → out ≡ SendMessage n control → ((messages : List (List ℕ)) (h : world.History) (establishment : ℕ) → length h.begun ≡ establishment → AreSettled h → IsHistory s.history messages h → IsHistory after messages (with_sending (h.passed + n) establishment h))
     → IsTelling side e o (out ∷ rest) s line copy t → IsHistory after e.given (history_told o out t.history)
@@ -135,9 +135,10 @@ written_receipt side e o out rest s line copy t after octets is held does h =
     let same : octets.items ≡ o.octets = copied_octets o.octets _ copy octets held h.copied in
     rw (is, ← same) (does e.given t.history o.establishment o.place h.begun h.history)
 
--- ---- All outputs are told.
+-- ---- All outputs are executed.
 
--- with `rest` still to be told, what was shown before the first output is shown as far as the others were told
+-- the state while `rest` is pending represents the result of the other outputs, from the state
+-- before the first
 pub record AreToldUpTo (all : List Out) (octets : List ℕ) (before : RecordedLink) (line_before : Line) (copy_before : Option (Vec ℕ Global)) (rest : List Out) (now : RecordedLink) (line_now : Line) (copy_now : Option (Vec ℕ Global)) : Type 0 where
   pub shows : (side : Side) (e : End) (o : Occasion) (t : Story) → octets ≡ o.octets → IsTelling side e o all before line_before copy_before t
       → (u : Story) × IsTelling side e o rest now line_now copy_now u × (told o rest u ≡ told o all t)
@@ -145,7 +146,7 @@ pub record AreToldUpTo (all : List Out) (octets : List ℕ) (before : RecordedLi
   pub line_room : HasRoomFor (length rest) line_now
   pub history_room : IfSome copy_now (λ _. HasRoom data_room now.history)
 
--- one more is told
+-- one more output is executed
 then_told : (side : Side) (e : End) (o : Occasion) (out : Out) (rest : List Out) (s after : RecordedLink) (line line_after : Line) (copy copy_after : Option (Vec ℕ Global)) (t : Story)
     → after.link ≡ s.link → IsOn side line_after (with_sent (flight_of o t.history.passed out) t.line) → IsHistory after.history e.given (history_told o out t.history) → IsCopy o.octets (ups rest + unit_ups rest) copy_after
     → IsTelling side e o (out ∷ rest) s line copy t → IsTelling side e o rest after line_after copy_after (tell o out t)

@@ -1,4 +1,4 @@
--- What a move comes to, with what is on its way to its side.
+-- The result of a move, with the frames in transit to its side.
 use Rattle.std.proofs.Common.{◌≡◌, ◌≤◌, ℕ, Bool, true, false, if◌then◌else◌, List, [], ◌∷◌, length, Some, None, Vec, nat_lt, Result, Ok, Err, IfOk, IfErr, OnErr, refl, sym, ap, ◌∙◌, subst}
 use Rattle.std.specs.declared.alloc.Global.{Global}
 use Rattle.arrayvec.specs.ArrayVec.{ArrayVec}
@@ -33,7 +33,7 @@ use Rattle.lapd_pair.proofs.Lines.{first_is_read}
 abbrev Deed : Type 0
 Deed = Side → View → Result Turn Refusal
 
--- ---- A step takes nothing off the line.
+-- ---- A step removes no frame from the line.
 
 abbrev Did : Turn → Result Turn Refusal
 Did acted = Ok acted
@@ -46,7 +46,7 @@ unfolding view_after
 stepped_takes_none octets place v (Ok s) acted is = ap (λ (a : Turn). a.view.incoming) (sym (same_acted (record { view = view_after octets place v s; outs = s.outs }) acted is))
 stepped_takes_none octets place v (Err fault) acted is = cc
 
--- what comes of a deed leaves what is on its way to the side as it is
+-- the action leaves the frames in transit to the side unchanged
 abbrev pub TakesNone : Deed → Type 0
 TakesNone deed = (side : Side) (v : View) (acted : Turn) → deed side v ≡ Did acted → acted.view.incoming ≡ v.incoming
 
@@ -54,7 +54,7 @@ pub request_takes_none : (i : Input) (octets : List ℕ) → TakesNone (λ side 
 unfolding takes
 request_takes_none i octets side v acted is = stepped_takes_none octets 0 v (step Tagged i v.station.end) acted is
 
--- ---- From a side to what it sees.
+-- ---- From a side to its view.
 
 pub acts_in_view : (deed : Deed) (old new : RecordedLink) (inward outward outward_new : Line) (r : Result (ArrayVec Out) PairFault) → TakesNone deed
     → IfOk r (Acts old outward new outward_new deed) → IfOk r (ActsInView old inward outward new inward outward_new deed)
@@ -78,9 +78,9 @@ shows_view old new inward outward outward_new (Ok outs) h = tt
 shows_view old new inward outward outward_new (Err fault) h = λ side v shown.
     record { station = h.station side v.station shown.station; incoming = shown.incoming; outgoing = h.line side v.outgoing shown.outgoing }
 
--- ---- From what a side sees once it has looked at the line.
+-- ---- The view after the side has searched the line.
 
--- it sees the same, where each line shows the same of its sender
+-- the view is the same if each line still represents the same frames of its sender
 pub seen_alike : (side own other : Side) (s : RecordedLink) (inward inward_seen outward outward_seen : Line) (v : View) → own ≡ side → other_side side ≡ other
     → (IsOn other inward v.incoming → IsOn other inward_seen v.incoming) → (IsOn own outward v.outgoing → IsOn own outward_seen v.outgoing) → IsView side s inward outward v → IsView side s inward_seen outward_seen v
 seen_alike side own other s inward inward_seen outward outward_seen v mine theirs comes goes shown = record {
@@ -99,7 +99,7 @@ pub shows_as_seen : (old new : RecordedLink) (inward inward_seen inward_new outw
 shows_as_seen old new inward inward_seen inward_new outward outward_seen outward_new (Ok outs) seen h = tt
 shows_as_seen old new inward inward_seen inward_new outward outward_seen outward_new (Err fault) seen h = λ side v shown. h side v (seen side v shown)
 
--- ---- A deed that comes to another, where the side shows what it does.
+-- ---- An action that equals another for the states that the side represents.
 
 pub acts_as : (these those : Deed) (old new : RecordedLink) (outward outward_new : Line) (r : Result (ArrayVec Out) PairFault) → ((side : Side) (v : View) → IsStation side old v.station → those side v ≡ these side v)
     → IfOk r (Acts old outward new outward_new these) → IfOk r (Acts old outward new outward_new those)
@@ -150,7 +150,7 @@ pub runs_200 : (side : Side) (v : View) → v.station.end.t200 ≡ true → firs
 unfolding expires_200
 runs_200 side v h poll final = rw (h, poll, final) refl
 
--- whose station it is
+-- the link's side is the side that it represents
 pub side_shown : (side own : Side) (s : RecordedLink) (t : world.Station) → own ≡ s.link.side → IsStation side s t → own ≡ side
 side_shown side own s t h shown = h ∙ ap (λ (setup : Setup). setup.side) shown.setup
 
@@ -160,7 +160,7 @@ pub none_delivered : (v : View) → v.incoming ≡ [] → delivers Tagged v.inco
 unfolding delivers
 none_delivered v h = rw h refl
 
--- what the first frame is read as
+-- the result of reading the first frame
 abbrev pub Read : Fields → Result Fields FrameFault
 Read f = Ok f
 
@@ -205,7 +205,7 @@ delivery_refused side v frame rest old inward outward fault is shown refuses = s
 pub sender_shown : (side own other : Side) (s : RecordedLink) (t : world.Station) → own ≡ s.link.side → other ≡ other_side own → IsStation side s t → other_side side ≡ other
 sender_shown side own other s t mine theirs shown = sym (theirs ∙ ap other_side (side_shown side own s t mine shown))
 
--- ---- Which deed a move is.
+-- ---- The action of each move.
 
 expiry_where : (running : Bool) (side : Side) (v : View) (acted : Turn) → (if running then takes Tagged (Expiry T203) [] v else Refuses NotRunning) ≡ Did acted → acted.view.incoming ≡ v.incoming
 expiry_where true side v acted is = request_takes_none (Expiry T203) [] side v acted is

@@ -1,4 +1,5 @@
--- How the histories of a side that are kept show those of the world, and the room for more.
+-- How the recorded history of a side represents its history in the world, and the space for more
+-- records.
 use Rattle.std.specs.Prelude.{◌≡◌, ◌+◌, ◌≤◌, ℕ, if◌then◌else◌, List, map, length}
 use Rattle.std.specs.List.{range_with_len}
 use Rattle.std.specs.Vec.{vec_len, vec_capacity}
@@ -11,16 +12,16 @@ use Rattle.lapd_pair.specs.declared.fate.Fate.{Fate}
 use Rattle.lapd_pair.specs.declared.fate.Ending.{Ending}
 use Rattle.lapd_pair.specs.declared.fate.Ending.TheVariants.{Waiting, Acked, Dropped}
 
--- what became of the message at this place, as far as acknowledgements and drops are written down
+-- the ending of the message at this place, by the recorded acknowledgements and drops
 abbrev pub ending_at : world.History → ℕ → Ending
 ending_at h place = if is_one_of h.acked place then Acked
     else (if is_one_of h.dropped place then Dropped else Waiting)
 
--- and in which establishment it was last sent
+-- its fate: this ending, and the establishment in which it was last sent
 abbrev pub fate_at : world.History → ℕ → Fate
 fate_at h place = record { sent_in = h.sent_in place; end = ending_at h place }
 
--- of so many messages given
+-- the fates of this many submitted messages
 abbrev pub fates_of : ℕ → world.History → List Fate
 fates_of given h = map (fate_at h) (range_with_len 0 given)
 
@@ -31,7 +32,7 @@ octets_and_establishment message = (message.octets, message.establishment)
 abbrev pub of_received : Received → List ℕ × ℕ
 of_received message = (message.octets.items, message.establishment)
 
--- The histories kept are those of a side that was given these messages.
+-- The recorded history represents the history h of a side that submitted these messages.
 pub record IsHistory (kept : Log) (messages : List (List ℕ)) (h : world.History) : Type 0 where
   pub given : map (λ message. message.items) kept.given.items ≡ messages
   pub received : map of_received kept.received.items ≡ map octets_and_establishment h.received
@@ -41,7 +42,7 @@ pub record IsHistory (kept : Log) (messages : List (List ℕ)) (h : world.Histor
   pub acknowledged : kept.acknowledged ≡ length h.acked
   pub dropped : kept.dropped ≡ length h.dropped
 
--- Nothing is written down: all items are equal, and only the room for more may differ.
+-- Nothing was recorded: all items are equal, and only the capacity may differ.
 pub record AreSame (old new : Log) : Type 0 where
   pub given : new.given.items ≡ old.given.items
   pub received : new.received.items ≡ old.received.items
@@ -51,7 +52,7 @@ pub record AreSame (old new : Log) : Type 0 where
   pub acknowledged : new.acknowledged ≡ old.acknowledged
   pub dropped : new.dropped ≡ old.dropped
 
--- All that is written down but fates is equal.
+-- All records except the fates are equal.
 pub record AreSameButFates (old new : Log) : Type 0 where
   pub given : new.given.items ≡ old.given.items
   pub received : new.received.items ≡ old.received.items
@@ -60,9 +61,9 @@ pub record AreSameButFates (old new : Log) : Type 0 where
   pub acknowledged : new.acknowledged ≡ old.acknowledged
   pub dropped : new.dropped ≡ old.dropped
 
--- ---- Room that needs no more memory.
+-- ---- Space that needs no further allocation.
 
--- for so many messages given, messages received, units of data received, and establishments
+-- space for this many submitted messages, received messages, received unit data and establishments
 pub record Room : Type 0 where
   pub messages : ℕ
   pub receipts : ℕ
@@ -84,15 +85,15 @@ unit_room = record no_room { unit_data = 1 }
 abbrev pub beginning_room : Room
 beginning_room = record no_room { beginnings = 1 }
 
--- what a frame may bring: a message or unit data
+-- what one frame may deliver: a message or unit data
 abbrev pub data_room : Room
 data_room = record { messages = 0; receipts = 1; unit_data = 1; beginnings = 0 }
 
--- as much as one step may need
+-- the most that one step may need
 abbrev pub step_room : Room
 step_room = record { messages = 0; receipts = 1; unit_data = 1; beginnings = 1 }
 
--- there is so much
+-- the history has this much space
 pub record HasRoom (room : Room) (h : Log) : Type 0 where
   pub given : vec_len h.given + room.messages ≤ vec_capacity h.given
   pub fates : vec_len h.fates + room.messages ≤ vec_capacity h.fates
@@ -100,7 +101,7 @@ pub record HasRoom (room : Room) (h : Log) : Type 0 where
   pub units : vec_len h.units + room.unit_data ≤ vec_capacity h.units
   pub begun : vec_len h.begun + room.beginnings ≤ vec_capacity h.begun
 
--- there is less than before by so much, at most
+-- the history lost at most this much space
 pub record TakesRoom (room : Room) (old new : Log) : Type 0 where
   pub given : vec_len new.given + vec_capacity old.given
       ≤ vec_len old.given + vec_capacity new.given + room.messages

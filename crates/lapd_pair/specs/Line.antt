@@ -1,4 +1,4 @@
--- One direction of the line, as octets: what is on it, and how it shows the frames on their way.
+-- One direction of the line as octets, and how it represents the frames in transit.
 use Rattle.std.specs.Prelude.{◌≡◌, ◌+◌, ◌-◌, ◌≤◌, ℕ, List, [], ◌∷◌, map, take, drop}
 use Rattle.std.specs.List.{position_or_len}
 use Rattle.std.specs.Vec.{vec_capacity}
@@ -14,7 +14,7 @@ use Rattle.lapd_pair.specs.declared.line.Line.{Line}
 abbrev pub link_address : Role → Address
 link_address role = record { sapi = Call; tei = 64; role = role }
 
--- the parts of a frame on its way
+-- the fields of a frame in transit
 abbrev pub fields_of : Flight → Fields
 fields_of frame = record {
   address = link_address frame.role;
@@ -22,35 +22,36 @@ fields_of frame = record {
   info = frame.info;
 }
 
--- all are frames of the grammar
+-- all these are valid frames
 abbrev pub AreFrames : List Flight → Type 0
 AreFrames [] = Unit {0}
 AreFrames (frame ∷ frames) = IsFrame (fields_of frame) × AreFrames frames
 
--- the octets of the frames on their way, the first of them first
+-- the octets of the frames in transit, in order
 abbrev pub octets_on : Line → List (List ℕ)
 octets_on line = map (λ frame. frame.items) (drop line.first (take line.end line.frames.items))
 
--- how many at the front were passed over in search of a command with P=1, and of a response with F=1
+-- how many frames at the front the search for a command with P=1 has passed, and the search for a
+-- response with F=1
 abbrev pub polls_passed : Line → ℕ
 polls_passed line = line.poll_from - line.first
 
 abbrev pub finals_passed : Line → ℕ
 finals_passed line = line.final_from - line.first
 
--- What is on the line are the frames on their way, spelled as this side sends them, and none that was passed over is one
--- that was looked for.
+-- The line represents the frames in transit, encoded as the side `from` sends them. Neither search
+-- has passed a frame of the kind that it looks for.
 pub record IsOn (from : Side) (line : Line) (frames : List Flight) : Type 0 where
   pub octets : octets_on line ≡ map (λ frame. spelling from (fields_of frame)) frames
   pub grammar : AreFrames frames
   pub polls : polls_passed line ≤ position_or_len is_poll frames
   pub finals : finals_passed line ≤ position_or_len is_final frames
 
--- so many more frames have room without more memory
+-- n more frames fit without further allocation
 abbrev pub HasRoomFor : ℕ → Line → Type 0
 HasRoomFor n line = line.end + n ≤ vec_capacity line.frames
 
--- these are the octets of the first frame on its way
+-- these are the octets of the first frame in transit
 abbrev pub IsFirst : Side → List ℕ → List Flight → Type 0
 IsFirst from octets [] = ⊥
 IsFirst from octets (frame ∷ rest) = (octets ≡ spelling from (fields_of frame))

@@ -1,4 +1,4 @@
--- How the moves that are handed in show those of the world, and the refusals those that are answered.
+-- How the moves of the code represent those of the world, and the faults its refusals.
 use Rattle.std.specs.Prelude.{◌≡◌, true, is_ok, Result, Err}
 use Rattle.lapd_pair_laws.specs.Move.{Deed, Refusal, Turn, Give, Establish, Release, Deliver, Lose, Expire200, Expire203, Busy, UnitData, Restart, NothingThere, NotRunning, NotYet, Refused}
 use Rattle.lapd_pair_laws.specs.Move as world
@@ -19,7 +19,8 @@ move_of (moves.Busy side on) = record { side = side; deed = Busy on }
 move_of (moves.Unit side octets) = record { side = side; deed = UnitData octets.items }
 move_of (moves.Restart side) = record { side = side; deed = Restart }
 
--- P1 to P4 are answered where the move is so refused; P5 where it is admitted, but memory was refused
+-- P1 to P4: the world refuses the move for the same reason. P5: the world admits the move, but an
+-- allocation failed.
 abbrev pub IsRefusedAs : {X : Type 0} → PairFault → Result X Refusal → Type 0
 IsRefusedAs fault.NothingThere outcome = outcome ≡ Err NothingThere
 IsRefusedAs fault.NotRunning outcome = outcome ≡ Err NotRunning

@@ -1,4 +1,5 @@
--- How a pair shows a world, and what its calls come to.
+-- How a pair represents a world (the model of both ends and the line in lapd_pair_laws), and which
+-- pairs moves can reach.
 use Rattle.std.specs.Prelude.{◌≤◌, List}
 use Rattle.lapd_frame.specs.declared.Side.TheVariants.{User, Network}
 use Rattle.lapd_mod128.specs.Counting.{Tagged}
@@ -11,8 +12,8 @@ use Rattle.lapd_pair.specs.Station.{IsStation}
 use Rattle.lapd_pair.specs.declared.line.Line.{Line}
 use Rattle.lapd_pair.specs.declared.recorded_link.RecordedLink.{RecordedLink}
 
--- Both sides show those of the world, and what is on the line are the world's frames, spelled. What a world keeps under all
--- moves holds of it.
+-- Both sides represent those of the world, and both lines its frames in transit. The world has the
+-- properties that every move keeps.
 pub record StandForWorld (user_side network_side : RecordedLink)
     (line_to_user line_to_network : Line) (w : World) : Type 0 where
   pub user : IsStation User user_side w.user
@@ -21,7 +22,7 @@ pub record StandForWorld (user_side network_side : RecordedLink)
   pub to_network : IsOn User line_to_network w.to_network
   pub kept : IsKeptWorld Tagged w
 
--- The world that some moves lead to, from a new one, in windows of up to 127.
+-- The pair represents the world that some moves lead to from a new one, with windows of 1 to 127.
 pub record IsReached (user_side network_side : RecordedLink) (line_to_user line_to_network : Line) :
     Type 0 where
   pub user : Parameters

@@ -1,4 +1,5 @@
--- What the readers of a pair return, and that it is safe. No world, link or frame is spoken of.
+-- The results of the reading functions of a pair, and that they are safe. These statements name no
+-- world, link or frame.
 use Rattle.std.specs.Prelude.{◌≡◌, ℕ, ◌+◌, ◌<◌, List, length, map, slice_get, option_map, Option, Some, Vec}
 use Rattle.std.specs.declared.alloc.Global.{Global}
 use Rattle.lapd_frame.specs.Address.{other_side}
@@ -13,7 +14,7 @@ use Rattle.lapd_pair.specs.declared.log.Log.{Log}
 use Rattle.lapd_pair.specs.declared.pair.Pair.{Pair}
 use Rattle.lapd_pair.specs.declared.received.Received.{Received}
 
--- ---- What Pair::given, fates, received and begun return of a side.
+-- ---- The results of Pair::given, fates, received and begun for a side.
 
 abbrev pub history_of : Side → Pair → Log
 history_of User p = p.user.history
@@ -31,7 +32,7 @@ received_by side p = (history_of side p).received.items
 abbrev pub begun_by : Side → Pair → List ℕ
 begun_by side p = (history_of side p).begun.items
 
--- ---- What is read of the message at a place, counted from 0.
+-- ---- The content of these results for the message at an index, from 0.
 
 abbrev pub octets_at : List (Vec ℕ Global) → ℕ → Option (List ℕ)
 octets_at given place = option_map (λ message. message.items) (slice_get given place)
@@ -44,17 +45,19 @@ end_at fates place = option_map (λ fate. fate.end) (slice_get fates place)
 
 -- ---- Safe.
 
--- Of a sender: the messages that it was given, and what became of each. Of the receiver: the messages that it received, and
--- for each of its establishments how many had come before it. Each message received has a place among those given, such that:
---   octet_for_octet            its octets are those that were given at its place;
---   in_order_once_each         the places rise strictly;
---   nothing_between            of two that follow each other in one establishment of the receiver, the second has the next
---                              place;
---   nothing_skipped            with each, all at smaller places that were last sent in the same establishment of the sender
---                              were received;
---   acknowledged_was_received  each that is acknowledged was received.
--- And there is a fate for each message given, and each message received has the number of the establishment that was then
--- the last to begin.
+-- The lists are: the messages that the sender submitted, and their fates; the messages that the
+-- receiver received; and for each establishment of the receiver, how many messages it had received
+-- before it began. Each message received has an index among those submitted, such that:
+--   octet_for_octet            its octets are those of the message submitted at its index;
+--   in_order_once_each         the indices rise strictly;
+--   nothing_between            of two consecutive messages in one establishment of the receiver,
+--                              the second has the next index;
+--   nothing_skipped            with each, all messages at smaller indices that were last sent in
+--                              the same establishment of the sender were received;
+--   acknowledged_was_received  each message acknowledged was received;
+--   fate_of_each               each message submitted has a fate;
+--   numbered                   each message received has the number of the establishment that was
+--                              then the latest.
 pub record IsSafeReading (given : List (Vec ℕ Global)) (fates : List Fate)
     (received : List Received) (begun : List ℕ) : Type 0 where
   pub places : List ℕ
@@ -71,12 +74,12 @@ pub record IsSafeReading (given : List (Vec ℕ Global)) (fates : List Fate)
   pub numbered : (n : ℕ) → n < length received → establishment_at received n
       ≡ Some (begun_at begun n)
 
--- what the receiver has received, of what the sender was given
+-- the receiver's messages are safe with respect to those that the sender submitted
 abbrev pub IsSafelyReadFrom : Side → Side → Pair → Type 0
 IsSafelyReadFrom sender receiver p =
     IsSafeReading (given_by sender p) (fates_by sender p) (received_by receiver p)
     (begun_by receiver p)
 
--- each side against the other
+-- safe in both directions
 abbrev pub AreSafeReadings : Pair → Type 0
 AreSafeReadings p = (sender : Side) → ∥ IsSafelyReadFrom sender (other_side sender) p ∥₁

@@ -1,4 +1,4 @@
--- What the calls of a pair come to, by the moves of the world.
+-- The results of the calls of a pair, by the moves of the world.
 use Rattle.std.specs.Prelude.{◌≡◌, ◌+◌, ℕ, true, List, [], ◌∷◌, take, map, slice_get, Some, Result, Ok, Err, is_ok}
 use Rattle.lapd_pair_laws.specs.Reports.{AllReportsExpected}
 use Rattle.lapd_mod128.specs.Counting.{Whole, Tagged}
@@ -13,11 +13,11 @@ use Rattle.lapd_pair.specs.Pair.{StandForWorld}
 use Rattle.lapd_pair.specs.declared.pair.Pair.{Pair}
 use Rattle.lapd_pair.specs.declared.pair_fault.RunFault.{RunFault}
 
--- a pair stands for a world
+-- the pair represents the world
 abbrev pub PairStandsFor : Pair → World → Type 0
 PairStandsFor p w = StandForWorld p.user p.network p.to_user p.to_network w
 
--- the move was admitted, with these outputs, and the pair stands for the world after it
+-- the world admits the move with these outputs, and the pair represents the world after it
 pub record HasHappened (p : Pair) (outcome : Result Happened Refusal) (outs : List Out) :
     Type 0 where
   pub happened : Happened
@@ -25,7 +25,7 @@ pub record HasHappened (p : Pair) (outcome : Result Happened Refusal) (outs : Li
   pub same : happened.outs ≡ outs
   pub stands : PairStandsFor p happened.world
 
--- how many of these moves are refused, one after another
+-- how many of these moves are refused when they are made one after another
 abbrev pub refused_of : Result Happened Refusal → ℕ
 refused_of (Ok happened) = 0
 refused_of (Err refusal) = 1
@@ -35,24 +35,25 @@ refusals [] w = 0
 refusals (move ∷ moves) w = refused_of (happens Tagged move w)
     + refusals moves (world_after w (happens Tagged move w))
 
--- A run found no memory for the move at this place: the pair stands for the world that the moves before it lead to, and
--- that move is admitted there.
+-- An allocation failed for the move at index `at`. The pair represents the world that the moves
+-- before it lead to, and the world admits that move.
 pub record HasStoppedAt (at : ℕ) (moves : List world.Move) (p : Pair) (w : World) : Type 0 where
   pub move : world.Move
   pub there : slice_get moves at ≡ Some move
   pub before : PairStandsFor p (run Tagged (take at moves) w)
   pub admitted : is_ok (happens Tagged move (run Tagged (take at moves) w)) ≡ true
 
--- of these, the moves that a run came to: all, or those before the one that found no memory
+-- the moves that a run made: all, or those before the move whose allocation failed
 abbrev pub moves_made : Result ℕ RunFault → List world.Move → List world.Move
 moves_made (Ok refused) moves = moves
 moves_made (Err fault) moves = take fault.at moves
 
--- A pair that some moves have led to, as every pair is.
---   stands   it stands for the world that these moves lead to, its numbers being tags;
---   same     that is the world of whole numbers, each number in its tag, and so is what each move came to;
---   safe     its histories are safe, each side against the other;
---   reports  no report but F, G, H and I ever arose.
+-- Every pair is the result of some moves from a new pair, such that:
+--   `stands`         it represents the world after these moves, with tags as sequence numbers;
+--   `same`           the same moves over whole numbers lead to the same world, up to the tags;
+--   `same_outcomes`  and each move has the same result there, up to the tags;
+--   `safe`           the histories are safe in both directions;
+--   `reports`        no error report other than F, G, H and I ever arose.
 pub record IsSafePair (p : Pair) : Type 0 where
   pub user : Parameters
   pub network : Parameters

@@ -1,4 +1,4 @@
--- What it comes to that a pair settles.
+-- The result of settling a pair.
 use Rattle.std.specs.Prelude.{◌≡◌, ◌<◌, ◌≤◌, ℕ, true, List, length, is_none}
 use Rattle.lapd_pair_laws.specs.Drained.{IsDrained}
 use Rattle.lapd_pair_laws.specs.Settle.{IsQuiet, next_move, settling, bound, most_moves}
@@ -12,11 +12,11 @@ use Rattle.lapd_pair.specs.declared.pair_fault.PairFault.{PairFault}
 use Rattle.lapd_pair.specs.declared.pair_fault.PairFault.TheVariants.{Memory}
 use Rattle.lapd_pair.specs.declared.settled.Settled.{Settled}
 
--- the world after the moves by which a line settles
+-- the world after it has settled
 abbrev pub settled : World → World
 settled w = run Tagged (settling Tagged (bound w) w) w
 
--- these moves are made, as many as there are, and it is told whether one more is possible
+-- all moves of settling were made; `done` has their number and whether another is possible
 pub record HasSettled (p : Pair) (done : Settled) (w : World) : Type 0 where
   pub stands : PairStandsFor p (settled w)
   pub moves : done.moves ≡ length (settling Tagged (bound w) w)
@@ -25,7 +25,7 @@ pub record HasSettled (p : Pair) (done : Settled) (w : World) : Type 0 where
 abbrev pub Settles : Pair → Pair → Settled → Type 0
 Settles old new done = (w : World) → PairStandsFor old w → HasSettled new done w
 
--- memory was refused for a move, and those before it are made
+-- an allocation failed for a move; the moves before it were made
 pub record HasStoppedSettling (fault : PairFault) (p : Pair) (w : World) : Type 0 where
   pub memory : fault ≡ Memory
   pub made : ℕ
@@ -35,7 +35,8 @@ pub record HasStoppedSettling (fault : PairFault) (p : Pair) (w : World) : Type 
 abbrev pub StopsSettling : Pair → Pair → PairFault → Type 0
 StopsSettling old new fault = (w : World) → PairStandsFor old w → HasStoppedSettling fault new w
 
--- No further move is possible, few were made, nothing is left, and no more is dropped than before.
+-- No further move is possible, at most `most_moves` moves were made, no message is left, and no
+-- further message was dropped.
 pub record IsEmptied (done : Settled) (before after : World) : Type 0 where
   pub rest : done.rest ≡ true
   pub few : done.moves ≤ most_moves before
@@ -43,13 +44,13 @@ pub record IsEmptied (done : Settled) (before after : World) : Type 0 where
   pub user : length after.user.history.dropped ≡ length before.user.history.dropped
   pub network : length after.network.history.dropped ≡ length before.network.history.dropped
 
--- so it is where the pair stood for a quiet world
+-- a pair that represented a quiet world is emptied
 abbrev pub EmptiesWhereQuiet : Pair → Settled → Type 0
 EmptiesWhereQuiet old done =
     (w : World) → PairStandsFor old w → IsQuiet w → IsEmptied done w (settled w)
 
--- A pair that some moves have led to, as every pair is: where the world that they lead to is quiet, it drains. So each message
--- that was not dropped before is acknowledged then, and was received.
+-- Every pair is the result of some moves. If the world that they lead to is quiet, it drains: each
+-- message not dropped before is then acknowledged, and was received.
 pub record IsDrainedPair (old new : Pair) : Type 0 where
   pub user : Parameters
   pub network : Parameters

@@ -1,4 +1,4 @@
--- For whom the links of a pair are made.
+-- The side, SAPI and TEI of each link of a pair.
 use Rattle.lapd_frame.specs.declared.Side.{Side}
 use Rattle.lapd_frame.specs.declared.Sapi.TheVariants.{Call}
 use Rattle.lapd_link.specs.Link.{Setup}

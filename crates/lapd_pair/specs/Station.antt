@@ -1,4 +1,4 @@
--- How one side shows a side of the world, and what it sees of the line.
+-- How one side represents a side of the world, and its view of the line.
 use Rattle.std.specs.Prelude.{◌≡◌, ℕ, List, [], length, Option, Some, None, Result, Ok, Err, Vec, ⊤}
 use Rattle.std.specs.declared.alloc.Global.{Global}
 use Rattle.lapd_frame.specs.declared.Side.{Side}
@@ -25,13 +25,14 @@ pub record IsStation (side : Side) (s : RecordedLink) (t : world.Station) : Type
   pub setup : setup_of s.link ≡ setup_for side
   pub history : IsHistory s.history t.end.given t.history
 
--- with the two directions of the line, as this side sees them
+-- the same with both directions of the line, as this side sees them
 pub record IsView (side : Side) (s : RecordedLink) (inward outward : Line) (v : View) : Type 0 where
   pub station : IsStation side s v.station
   pub incoming : IsOn (other_side side) inward v.incoming
   pub outgoing : IsOn side outward v.outgoing
 
--- A deed was admitted: it came to this, with these outputs, and the side and what it sends on show it.
+-- The world admits an action with these outputs. The side and its outgoing line represent the
+-- result.
 pub record IsActed (side : Side) (s : RecordedLink) (outward : Line) (outcome : Result Turn Refusal)
     (outs : List Out) : Type 0 where
   pub acted : Turn
@@ -40,7 +41,7 @@ pub record IsActed (side : Side) (s : RecordedLink) (outward : Line) (outcome : 
   pub station : IsStation side s acted.view.station
   pub outgoing : IsOn side outward acted.view.outgoing
 
--- the same with what is on its way to the side
+-- the same with the frames in transit to the side
 pub record IsDone (side : Side) (s : RecordedLink) (inward outward : Line)
     (outcome : Result Turn Refusal) (outs : List Out) : Type 0 where
   pub acted : Turn
@@ -48,13 +49,14 @@ pub record IsDone (side : Side) (s : RecordedLink) (inward outward : Line)
   pub same : acted.outs ≡ outs
   pub view : IsView side s inward outward acted.view
 
--- the octets handed in with an input, and the copy of them: of a frame, those of its information, and one copy
+-- the octets passed with an input: for a received frame, its information field, with a copy; other
+-- inputs have no copy
 abbrev pub IsHanded : Input → List ℕ → Option (Vec ℕ Global) → Type 0
 IsHanded (Heard control role) octets None = ⊥
 IsHanded (Heard control role) octets (Some copy) = copy.items ≡ octets
 IsHanded input octets copy = copy ≡ None
 
--- a request with its unit data, or an expiry: no frame and no message
+-- the input is a request, with any unit data, or an expiry; it is not a frame or a message
 abbrev pub IsAsked : Input → List ℕ → Type 0
 IsAsked (Heard control role) octets = ⊥
 IsAsked (Give message) octets = ⊥
@@ -62,14 +64,15 @@ IsAsked (Faulty kind) octets = ⊥
 IsAsked (UnitData len) octets = len ≡ length octets
 IsAsked input octets = octets ≡ []
 
--- a call's result with the outputs that it left in what it was lent
+-- the result of a call, with the outputs that it wrote into its argument
 abbrev pub with_outs : {E : Type 0} → Result ⊤ E → ArrayVec Out → Result (ArrayVec Out) E
 with_outs (Ok done) outs = Ok outs
 with_outs (Err fault) outs = Err fault
 
--- ---- How the moves of a side are stated, whatever side of the world it showed before.
+-- ---- The moves of a side, for every side of the world that it may represent.
 
--- what a side does to itself and to what it sends, without what it hears
+-- an action changes the side and its outgoing line as the world defines it; incoming frames are not
+-- part of the statement
 abbrev pub Acts : RecordedLink → Line → RecordedLink → Line → (Side → View → Result Turn Refusal)
     → ArrayVec Out → Type 0
 Acts old outward_old new outward_new deed outs =
@@ -80,14 +83,14 @@ abbrev pub RefusesAs : RecordedLink → (Side → View → Result Turn Refusal) 
 RefusesAs old deed fault = (side : Side) (v : View) → IsStation side old v.station
     → IsRefusedAs fault (deed side v)
 
--- it shows all that it showed before, and so does the line that it sends on
+-- the side and its outgoing line represent all that they represented before
 pub record ShowsAsBefore (old : RecordedLink) (outward_old : Line) (new : RecordedLink)
     (outward_new : Line) : Type 0 where
   pub station : (side : Side) (t : world.Station) → IsStation side old t → IsStation side new t
   pub line : (from : Side) (frames : List Flight) → IsOn from outward_old frames
       → IsOn from outward_new frames
 
--- the same with what is on its way to it
+-- the same with the frames in transit to the side
 abbrev pub ActsInView : RecordedLink → Line → Line → RecordedLink → Line → Line
     → (Side → View → Result Turn Refusal) → ArrayVec Out → Type 0
 ActsInView old inward_old outward_old new inward_new outward_new deed outs =

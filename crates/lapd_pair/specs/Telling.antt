@@ -1,5 +1,5 @@
--- How the outputs of a step are told one after another: what each puts on the line, what each writes down, and what a side
--- shows while some are still to be told.
+-- How the outputs of a step are executed one after another: the frame that each one sends, what it
+-- records, and what a side represents while some outputs are pending.
 use Rattle.std.specs.Prelude.{◌≡◌, ◌≤◌, ◌+◌, ℕ, List, Option, Some, None, length, Vec}
 use Rattle.std.specs.declared.alloc.Global.{Global}
 use Rattle.lapd_frame.specs.declared.Side.{Side}
@@ -19,19 +19,19 @@ use Rattle.lapd_pair.specs.Setup.{setup_for}
 use Rattle.lapd_pair.specs.declared.line.Line.{Line}
 use Rattle.lapd_pair.specs.declared.recorded_link.RecordedLink.{RecordedLink}
 
--- the frame that an output is; the first message that waits stands at `passed`
+-- the frame that an output sends, if any; `passed` is the place of the first waiting message
 abbrev pub flight_of : Occasion → ℕ → Out → Option Flight
 flight_of o passed (Send role control) = Some (without_info role control)
 flight_of o passed (SendMessage n control) = Some (message_frame o control (passed + n))
 flight_of o passed SendUnit = Some (unit_frame o.octets)
 flight_of o passed out = None
 
--- behind those on their way, where it is one
+-- the line with this frame, if any, appended
 abbrev pub with_sent : Option Flight → List Flight → List Flight
 with_sent None line = line
 with_sent (Some flight) line = sent_behind line flight
 
--- what it writes down
+-- the history after the output is recorded
 abbrev pub history_told : Occasion → Out → History → History
 history_told o (SendMessage n control) h = with_sending (h.passed + n) o.establishment h
 history_told o Up h = with_receipt (record {
@@ -44,13 +44,14 @@ history_told o (Acknowledged n) h = with_acked n h
 history_told o (Dropped n) h = with_dropped n h
 history_told o out h = h
 
--- the copy that was made of the octets just delivered, for the one time that they go up
+-- the copy of the octets just received; n outputs, at most one, have yet to deliver it
 abbrev pub IsCopy : List ℕ → ℕ → Option (Vec ℕ Global) → Type 0
 IsCopy octets n None = n ≡ 0
 IsCopy octets n (Some copy) = (n ≤ 1) × (copy.items ≡ octets)
 
--- While `rest` is still to be told: `e` is the end after the step, `t` is what was told so far, and `copy` is held for what
--- goes up.
+-- The side and its outgoing line while the outputs `rest` are pending. `e` is the end after the
+-- step, `t` the result of the outputs executed so far, and `copy` is kept for the delivery to layer
+-- 3.
 pub record IsTelling (side : Side) (e : End) (o : Occasion) (rest : List Out) (s : RecordedLink)
     (outward : Line) (copy : Option (Vec ℕ Global)) (t : Story) : Type 0 where
   pub link : LinkStandsFor s.link e

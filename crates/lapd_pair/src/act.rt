@@ -1,4 +1,4 @@
-//! What each move comes to at the side whose move it is.
+//! The effect of each move on the side that makes it.
 
 ghost use Rattle.std.specs.Prelude.{◌≡◌, ◌≤◌, [], true, length, IfOk, IfErr, OnErr};
 ghost use Rattle.lapd_frame.specs.Frame.{n201};
@@ -20,11 +20,11 @@ use lapd_link::{Event, Outs, Timer};
 use std::alloc::Global;
 
 impl RecordedLink {
-    /// What this move comes to, `inward` being the line to this side, and `outward` that to the other.
+    /// Makes this move. `inward` carries the frames to this side, and `outward` those to the other.
     ///
     /// # Errors
     ///
-    /// P1 to P5. What this side and the line show is unchanged.
+    /// P1 to P5. This side and the line then represent the same state as before.
     pub fn act(
         &mut self,
         alloc: Global,
@@ -56,7 +56,7 @@ impl RecordedLink {
         }
     }
 
-    /// A request of layer 3, or an expiry. `octets` are the unit data to be sent.
+    /// Executes a request of layer 3 or an expiry of a timer. `octets` are the unit data to send.
     fn take(
         &mut self,
         event: Event,
@@ -82,7 +82,7 @@ impl RecordedLink {
         self.step(event, octets, None, outward, outs)
     }
 
-    /// Its receiver becomes busy, or is no longer.
+    /// Makes the side own busy, or ends that condition.
     fn set_busy(&mut self, on: bool, outward: &mut Line, outs: &mut Outs) -> Result<(), PairFault>
         ensures ok { IfOk (with_outs result outs.new)
             (Acts self.old outward.old self.new outward.new
@@ -99,7 +99,7 @@ impl RecordedLink {
         }
     }
 
-    /// Unit data of layer 3.
+    /// Sends unit data of layer 3.
     fn take_unit(
         &mut self,
         octets: &[u8],
@@ -118,7 +118,7 @@ impl RecordedLink {
         self.take(Event::Unit(octets.len()), octets, outward, outs)
     }
 
-    /// A message of layer 3.
+    /// Submits a message of layer 3.
     fn take_message(
         &mut self,
         alloc: Global,
@@ -149,7 +149,7 @@ impl RecordedLink {
         self.give(queued, kept, outward, outs)
     }
 
-    /// A frame of the other side.
+    /// Processes a frame from the other side.
     fn hear(
         &mut self,
         alloc: Global,
@@ -177,7 +177,7 @@ impl RecordedLink {
         self.step(Event::Heard(frame), frame.info(), Some(copy), outward, outs)
     }
 
-    /// The first frame on its way is taken off the line, and heard.
+    /// Removes the first frame in transit to this side and processes it.
     fn deliver(
         &mut self,
         alloc: Global,
@@ -212,8 +212,9 @@ impl RecordedLink {
         }
     }
 
-    /// T200 expires, where it runs and nothing that it waits for is on its way.
-    // A call of its own, as it is rare: `act` is compiled into one piece, and others would pay for it.
+    /// T200 expires if it runs and no frame that it waits for is in transit.
+    // Not inlined because it is rare: `act` is compiled as one piece, which inlining would slow
+    // down.
     #[inline(never)]
     fn expire_200(
         &mut self,
@@ -242,7 +243,7 @@ impl RecordedLink {
         self.take(Event::T200, &[], outward, outs)
     }
 
-    /// T203 expires, where it runs.
+    /// T203 expires if it runs.
     fn expire_203(&mut self, outward: &mut Line, outs: &mut Outs) -> Result<(), PairFault>
         ensures ok { IfOk (with_outs result outs.new)
             (Acts self.old outward.old self.new outward.new (λ side v. expires_203 Tagged v)) }
@@ -257,7 +258,7 @@ impl RecordedLink {
         self.take(Event::T203, &[], outward, outs)
     }
 
-    /// It starts anew, and what is on the line is dropped in both directions.
+    /// Restarts this side, and drops all frames in transit in both directions.
     fn restart(
         &mut self,
         alloc: Global,
@@ -284,7 +285,7 @@ impl RecordedLink {
         Ok(())
     }
 
-    /// The frame at this place is lost.
+    /// Loses the frame in transit to this side at this index.
     fn lose(
         &self,
         place: usize,

@@ -8,7 +8,7 @@ use lapd_frame::{MOST_OCTETS, Role, Side, read};
 /// The octets of one frame.
 pub type FrameOctets = ArrayVec<u8, MOST_OCTETS>;
 
-/// Whether octets that `from` sent are a frame of this role with its P or F bit set (Q.921 3.5.1).
+/// Whether octets that `from` sent form a frame of this role with its P or F bit set (Q.921 3.5.1).
 pub fn is_marked(octets: &[u8], from: Side, role: Role) -> bool
     ensures { result ≡ is_read_marked role (frame_at from octets.now) }
 {
@@ -23,8 +23,8 @@ pub fn is_marked(octets: &[u8], from: Side, role: Role) -> bool
     }
 }
 
-/// The place of the first of these frames that is of this role with its P or F bit set, or else that behind the last. It is
-/// counted from 0. `from` sent them.
+/// The index of the first of these frames that has this role and its P or F bit set, from 0, or the
+/// number of frames if none has. `from` sent them.
 pub fn marked_place(frames: &[FrameOctets], from: Side, role: Role) -> usize
     ensures { result ≡ place_of_marked role from (map (λ frame. frame.items) frames.now) }
 {

@@ -1,4 +1,4 @@
-//! A law of the moves of a pair. It does nothing when it is called.
+//! A law about the moves of a pair. Calling it does nothing.
 
 ghost use Rattle.std.specs.Prelude.{◌≡◌, drop, Ok};
 ghost use Rattle.lapd_link.specs.SentFrame.{HaveFrames};
@@ -9,8 +9,9 @@ ghost use Rattle.lapd_pair_laws.specs.Kept.{IsKeptWorld};
 ghost use Rattle.lapd_pair_laws.specs.Move.{Move};
 ghost use Rattle.lapd_pair_laws.specs.World.{World, Happened, happens, view_of};
 
-/// Each output of a move that is sent has its frame, of the side that makes it, as it stands afterwards: the message that it
-/// carries is there, and its parts are a frame of the control table (Q.921 Table 5, 5.6.1, 5.9.3).
+/// In every move, each output that sends a frame has one: the message that it carries exists in the
+/// side's state after the move, and its parts form a frame of the control table (Q.921 Table 5,
+/// 5.6.1, 5.9.3).
 pub fn sent_outputs_of_moves_have_frames()
     ensures { (move : Move) (w : World) (happened : Happened) → IsKeptWorld Tagged w
         → happens Tagged move w ≡ Ok happened

@@ -1,11 +1,13 @@
-//! Two ends of one data link, after ITU-T Q.921 (09/97), and the line between them, which keeps order and may lose any
-//! frame.
+//! Both ends of one ITU-T Q.921 (09/97) data link, and the line between them, which keeps frames in
+//! order and may lose any of them.
 //!
-//! [`Pair`] is both: begin there. [`Pair::apply`] makes one [`Move`], as a message given or a frame delivered or lost, and
-//! [`Pair::run`] a list of them. Octets go over the line, and real links ([`lapd_link::Link`]) read and write them. What
-//! each side received ([`Received`]) and what became of what it was given ([`Fate`]) is kept. After every call these
-//! histories are safe, each side against the other: what a side received is among what the other was given, in order and
-//! once each; within one establishment nothing is skipped; and what a sender counts as acknowledged was received.
+//! Start with [`Pair`]. [`Pair::apply`] makes one [`Move`], for example submits a message or
+//! delivers or loses a frame; [`Pair::run`] makes a list of moves. Frames cross the line as octets,
+//! which real links ([`lapd_link::Link`]) write and read. A pair records what each side received
+//! ([`Received`]) and the [`Fate`] of each message submitted. After every call these histories are
+//! safe in both directions: a side receives only messages that the other side submitted, in order
+//! and at most once each; within one establishment it skips none; and each message that the sender
+//! counts as acknowledged was received.
 #![tactic(auto)]
 
 mod act;

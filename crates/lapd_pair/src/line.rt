@@ -7,27 +7,31 @@ use crate::frame_octets::{FrameOctets, marked_place};
 use lapd_frame::{Frame, Role, Side, write_over};
 use std::alloc::{AllocError, Global};
 
-/// How many places are worth using again while frames stand behind them.
+/// From this many removed frames on, reusing their slots may be worth moving the frames in transit.
 const MANY: usize = 32;
 
-/// One direction of the line: the octets of the frames that are on their way, in the order in which they were sent.
+/// One direction of the line: the octets of the frames in transit, in the order in which they were
+/// sent.
 ///
-/// Frames that are taken stay at the front until all are taken, or many and three times as many as are on their way. Then
-/// these go to the front, and the places of the others are written again. So, in the mean, a frame costs the same however
-/// many are on their way. Where one is lost, those before it or those behind it move, whichever are fewer.
+/// Slots of removed frames stay at the front until no frame is in transit, or until they number at
+/// least 32 and at least three times the frames in transit. Then the frames swap into the front
+/// slots, and later frames overwrite the others. So the average cost of a frame does not depend on
+/// how many are in transit. If a frame is lost, the frames before it or those after it move,
+/// whichever are fewer.
 ///
-/// A search for the first frame that asks for an answer, or gives one, goes on from where the one before ended. So each of
-/// the two reads a frame once, and again only where it stops at it.
+/// A search for the first command with P=1, or the first response with F=1, continues where the
+/// last search of its kind ended. Each search reads a frame once, and again only if it stops at it.
 #[derive(Drop)]
 pub struct Line {
     frames: Vec<FrameOctets>,
-    /// How many at the front are taken.
+    /// The number of removed frames at the front.
     first: usize,
-    /// The place behind the last. Those from there on are free.
+    /// The index after the last frame in transit. Slots from here on are free.
     end: usize,
-    /// The place from which on a command with P=1 is looked for. Of those on their way, none stands before it.
+    /// The index where the search for a command with P=1 continues. No frame in transit before it
+    /// is one.
     poll_from: usize,
-    /// The same of a response with F=1.
+    /// The same for a response with F=1.
     final_from: usize,
     ghost taken: { first ≤ end },
     ghost within: { end ≤ vec_len frames },
@@ -43,7 +47,7 @@ impl Line {
     ghost use Rattle.lapd_pair.specs.Line.{octets_on, polls_passed, finals_passed, fields_of, IsOn, IsFirst, HasRoomFor};
     ghost use Rattle.lapd_pair.specs.Marks.{place_of_marked, left_of};
 
-    /// A line with nothing on it. It takes no memory.
+    /// Creates a line with no frame in transit. Does not allocate.
     pub fn new(alloc: Global) -> Line
         ensures { (from : Side) → IsOn from result [] }
     {
@@ -56,7 +60,7 @@ impl Line {
         }
     }
 
-    /// The octets of the frames that are on their way, the first of them first.
+    /// The octets of the frames in transit, in order.
     pub fn frames(&self) -> &[FrameOctets]
         ensures octets { map (λ frame. frame.items) result.now ≡ octets_on self.now }
         ensures len { length result.now + self.now.first ≡ self.now.end }
@@ -64,7 +68,7 @@ impl Line {
         &self.frames[self.first..self.end]
     }
 
-    /// Takes the memory for so many more frames, or answers an error. What is on the line stays.
+    /// Allocates space for `additional` more frames. Frames in transit stay, also on error.
     pub fn reserve(&mut self, additional: usize) -> Result<(), AllocError>
         ensures room { OnOk result (HasRoomFor additional self.new) }
         ensures octets { octets_on self.new ≡ octets_on self.old }
@@ -75,7 +79,7 @@ impl Line {
         self.frames.try_reserve(additional)
     }
 
-    /// Puts a frame behind all others, as `from` sends it.
+    /// Appends a frame, encoded as `from` sends it.
     #[inline(always)]
     pub fn put(&mut self, from: Side, frame: &Frame<'_>)
         requires { HasRoomFor 1 self.old }
@@ -89,7 +93,7 @@ impl Line {
         self.end += 1;
     }
 
-    /// Makes sure of a free place behind all frames.
+    /// Ensures a free slot after the last frame.
     #[inline(always)]
     fn make_place(&mut self)
         requires { HasRoomFor 1 self.old }
@@ -105,7 +109,7 @@ impl Line {
         }
     }
 
-    /// The octets of the first frame, where there is one.
+    /// The octets of the first frame, if one is in transit.
     pub fn first(&self) -> Option<&[u8]>
         ensures none { IfNone result ((from : Side) (frames : List Flight)
             → IsOn from self.now frames → frames ≡ []) }
@@ -115,7 +119,7 @@ impl Line {
         self.frames().first().map(FrameOctets::as_slice)
     }
 
-    /// Takes the first frame off. Nothing changes where there is none.
+    /// Removes the first frame. Does nothing if no frame is in transit.
     pub fn take_first(&mut self)
         ensures octets { octets_on self.new ≡ drop 1 (octets_on self.old) }
         ensures shows { (from : Side) (frame : Flight) (rest : List Flight)
@@ -127,7 +131,8 @@ impl Line {
         }
     }
 
-    /// The frames on their way change places with those that are taken, where many are and three times as many.
+    /// Swaps the frames in transit into the slots of removed frames, if those are many enough (see
+    /// [`Line`]). Frees all slots if no frame is in transit.
     fn forget_taken(&mut self)
         ensures octets { octets_on self.new ≡ octets_on self.old }
         ensures polls { polls_passed self.new ≡ polls_passed self.old }
@@ -145,7 +150,8 @@ impl Line {
         }
     }
 
-    /// Loses the frame at this place, counted from 0, and tells whether there is one. Where there is none, nothing changes.
+    /// Loses the frame at this index, from 0. Returns `false` and changes nothing if it does not
+    /// exist.
     pub fn lose(&mut self, place: usize) -> bool
         ensures there { (from : Side) (frames : List Flight) → IsOn from self.old frames
             → result ≡ nat_lt place (length frames) }
@@ -161,8 +167,10 @@ impl Line {
         }
     }
 
-    /// Takes off the frame at this place, counted from 0. Those before it move, or those behind it, whichever are fewer.
-    // A call of its own, as it is rare: `RecordedLink::act` is compiled into one piece, and others would pay for it.
+    /// Removes the frame at this index, from 0. The frames before it or those after it move,
+    /// whichever are fewer.
+    // Not inlined because it is rare: `RecordedLink::act` is compiled as one piece, which inlining
+    // would slow down.
     #[inline(never)]
     fn take_out(&mut self, place: usize)
         requires { self.old.first + place < self.old.end }
@@ -177,7 +185,7 @@ impl Line {
         }
     }
 
-    /// Takes off the frame at this place, counted from 0. Those before it move up by one.
+    /// Removes the frame at this index, from 0. The frames before it move back by one slot.
     fn close_up(&mut self, place: usize)
         requires { self.old.first + place < self.old.end }
         ensures octets { octets_on self.new ≡ remove (octets_on self.old) place }
@@ -194,7 +202,7 @@ impl Line {
         self.forget_taken();
     }
 
-    /// Takes off the frame at this place, counted from 0. Those behind it move down by one.
+    /// Removes the frame at this index, from 0. The frames after it move forward by one slot.
     fn close_down(&mut self, place: usize)
         requires { self.old.first + place < self.old.end }
         ensures octets { octets_on self.new ≡ remove (octets_on self.old) place }
@@ -209,7 +217,7 @@ impl Line {
         self.final_from = self.first + finals;
     }
 
-    /// Takes all frames off, and keeps the memory.
+    /// Removes all frames and keeps the allocated memory.
     pub fn clear(&mut self)
         ensures shows { (from : Side) → IsOn from self.new [] }
         ensures octets { octets_on self.new ≡ [] }
@@ -223,7 +231,8 @@ impl Line {
         self.final_from = 0;
     }
 
-    /// The place of the first command with P=1, counted from 0, where there is one. `from` sends on this line.
+    /// The index of the first command with P=1, from 0, if one is in transit. `from` sends on this
+    /// line.
     pub fn first_poll(&mut self, from: Side) -> Option<usize>
         ensures place { (frames : List Flight) → IsOn from self.old frames
             → result ≡ first_poll frames }
@@ -236,7 +245,8 @@ impl Line {
         self.there(place)
     }
 
-    /// The place of the first response with F=1, counted from 0, where there is one. `from` sends on this line.
+    /// The index of the first response with F=1, from 0, if one is in transit. `from` sends on this
+    /// line.
     pub fn first_final(&mut self, from: Side) -> Option<usize>
         ensures place { (frames : List Flight) → IsOn from self.old frames
             → result ≡ first_final frames }
@@ -249,8 +259,8 @@ impl Line {
         self.there(place)
     }
 
-    /// The place of the first frame of this role with its P or F bit set, behind so many that are passed over, or else that
-    /// behind the last. It is counted from 0.
+    /// The index of the first frame of this role with its P or F bit set, from 0, or the number of
+    /// frames if there is no such frame. The search skips the first `passed` frames.
     fn marked_behind(&self, passed: usize, from: Side, role: Role) -> usize
         requires { self.now.first + passed ≤ self.now.end }
         ensures place { let rest = drop passed (octets_on self.now) in
@@ -260,7 +270,7 @@ impl Line {
         passed + marked_place(&self.frames()[passed..], from, role)
     }
 
-    /// This place, where a frame stands there. It is counted from 0.
+    /// This index, from 0, if a frame is in transit at it.
     fn there(&self, place: usize) -> Option<usize>
         ensures { let count = length (octets_on self.now) in
             result ≡ (if nat_lt place count then Some place else None) }
@@ -273,14 +283,15 @@ impl Line {
     }
 }
 
-/// How many are left of the first `count` frames, where the one at this place is lost.
+/// How many of the first `count` frames are left when the frame at this index is lost.
 fn left_of(place: usize, count: usize) -> usize
     ensures { result ≡ left_of place count }
 {
     if place < count { count - 1 } else { count }
 }
 
-/// The frame at this place behind `first` goes there, and those before it move up by one.
+/// Moves the frame at index `first + place` to index `first`. The frames between move back by one
+/// slot.
 fn to_first(frames: &mut [FrameOctets], first: usize, place: usize)
     requires { first + place < length frames.old }
     ensures { drop (first + 1) frames.new ≡ remove (drop first frames.old) place }
@@ -288,7 +299,8 @@ fn to_first(frames: &mut [FrameOctets], first: usize, place: usize)
     frames[first..first + place + 1].rotate_right(1);
 }
 
-/// The frame at this place goes to the last before `end`, and those behind it move down by one.
+/// Moves the frame at index `at` to the last slot before `end`. The frames between move forward by
+/// one slot.
 fn to_last(frames: &mut [FrameOctets], at: usize, end: usize)
     requires before { at < end }
     requires within { end ≤ length frames.old }
@@ -297,7 +309,7 @@ fn to_last(frames: &mut [FrameOctets], at: usize, end: usize)
     frames[at..end].rotate_left(1);
 }
 
-/// The frames from this place on, so many, change places with as many at the front.
+/// Swaps the `count` frames from index `from` on with the first `count` frames.
 fn to_front(frames: &mut [FrameOctets], from: usize, count: usize)
     requires apart { count ≤ from }
     requires within { from + count ≤ length frames.old }

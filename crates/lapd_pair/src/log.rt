@@ -10,8 +10,9 @@ use crate::fate::{Ending, Fate};
 use crate::received::Received;
 use std::alloc::{AllocError, Global};
 
-/// What is written down of a side while a pair runs: the messages that it was given and what became of each, and what it
-/// received of the other side. It knows no link: a caller tells it what each step puts out.
+/// The history of one side of a running pair: the messages that it submitted with their fates, and
+/// the messages and unit data that it received. It has no access to a link; callers record the
+/// outputs of each step.
 #[derive(Drop)]
 pub struct Log {
     given: Vec<Vec<u8>>,
@@ -28,7 +29,7 @@ pub struct Log {
 impl Log {
     ghost use Rattle.lapd_pair.specs.Histories.{IsHistory, AreSame, AreSameButFates, HasRoom, TakesRoom, no_room, message_room, receipt_room, unit_room, beginning_room, step_room};
 
-    /// Nothing is written down yet. No memory is taken.
+    /// Creates an empty history. Does not allocate.
     pub(crate) fn new(alloc: Global) -> Log
         ensures { IsHistory result [] new_history }
     {
@@ -43,8 +44,8 @@ impl Log {
         }
     }
 
-    /// Takes room for as much as one step may write down beside a message: one message received, unit data, and an
-    /// establishment.
+    /// Allocates space for the most that one step may record besides a submitted message: one
+    /// message received, one unit data and one establishment.
     pub(crate) fn reserve(&mut self) -> Result<(), AllocError>
         ensures ok { OnOk result (HasRoom step_room self.new) }
         ensures room { TakesRoom no_room self.old self.new }
@@ -57,7 +58,7 @@ impl Log {
         self.begun.try_reserve(1)
     }
 
-    /// Takes room for one more message that is given.
+    /// Allocates space for one more submitted message.
     pub(crate) fn reserve_given(&mut self) -> Result<(), AllocError>
         ensures ok { OnOk result (HasRoom message_room self.new) }
         ensures room { TakesRoom no_room self.old self.new }
@@ -69,7 +70,7 @@ impl Log {
         self.fates.try_reserve(1)
     }
 
-    /// A message is given.
+    /// Records a submitted message.
     pub(crate) fn give(&mut self, message: Vec<u8>)
         requires { HasRoom message_room self.old }
         ensures room { TakesRoom message_room self.old self.new }
@@ -85,7 +86,7 @@ impl Log {
         };
     }
 
-    /// An establishment begins.
+    /// Records the beginning of an establishment.
     pub(crate) fn begin(&mut self)
         requires { HasRoom beginning_room self.old }
         ensures room { TakesRoom beginning_room self.old self.new }
@@ -99,7 +100,7 @@ impl Log {
         };
     }
 
-    /// A message came, in the present establishment.
+    /// Records a message received in the present establishment.
     pub(crate) fn receive(&mut self, octets: Vec<u8>)
         requires { HasRoom receipt_room self.old }
         ensures room { TakesRoom receipt_room self.old self.new }
@@ -118,7 +119,7 @@ impl Log {
         };
     }
 
-    /// Unit data came.
+    /// Records received unit data.
     pub(crate) fn receive_unit(&mut self, octets: Vec<u8>)
         requires { HasRoom unit_room self.old }
         ensures room { TakesRoom unit_room self.old self.new }
@@ -131,8 +132,8 @@ impl Log {
         };
     }
 
-    /// The message at this place goes out in the present establishment. Places are counted from 0 at the first message that
-    /// waits, and where no message waits at this one nothing is written down.
+    /// Records that the message at this index is sent in the present establishment. Indices start
+    /// from 0 at the first waiting message. If no message waits at this index, nothing is recorded.
     pub(crate) fn send(&mut self, place: u16)
         ensures room { TakesRoom no_room self.old self.new }
         ensures history { (messages : List (List ℕ)) (h : world.History) (establishment : ℕ)
@@ -148,7 +149,8 @@ impl Log {
         self.fates[place].sent_in = Some(establishment);
     }
 
-    /// The first `n` messages that wait are acknowledged; all of them where fewer wait. The cost grows with `n` alone.
+    /// Records that the first `n` waiting messages are acknowledged, or all if fewer wait. The cost
+    /// grows only with `n`.
     pub(crate) fn acknowledge(&mut self, n: u16)
         ensures room { TakesRoom no_room self.old self.new }
         ensures history { (messages : List (List ℕ)) (h : world.History) → AreSettled h
@@ -158,7 +160,8 @@ impl Log {
         self.acknowledge_first(usize::from(n).min(self.waiting()));
     }
 
-    /// The first `n` messages that wait are dropped; all of them where fewer wait. The cost grows with `n` alone.
+    /// Records that the first `n` waiting messages are dropped, or all if fewer wait. The cost
+    /// grows only with `n`.
     pub(crate) fn discard(&mut self, n: u16)
         ensures room { TakesRoom no_room self.old self.new }
         ensures history { (messages : List (List ℕ)) (h : world.History) → AreSettled h
@@ -168,7 +171,7 @@ impl Log {
         self.drop_first(usize::from(n).min(self.waiting()));
     }
 
-    /// All messages that wait are dropped.
+    /// Records that all waiting messages are dropped.
     pub(crate) fn discard_rest(&mut self)
         ensures room { TakesRoom no_room self.old self.new }
         ensures history { (messages : List (List ℕ)) (h : world.History) → AreSettled h
@@ -178,7 +181,8 @@ impl Log {
         self.drop_first(self.waiting());
     }
 
-    /// How many messages are acknowledged or dropped: the place of the first that waits.
+    /// How many messages are acknowledged or dropped. This is the index of the first waiting
+    /// message.
     pub(crate) fn settled(&self) -> usize
         ensures counted { result ≡ self.now.acknowledged + self.now.dropped }
         ensures history { (messages : List (List ℕ)) (h : world.History) → AreSettled h
@@ -187,7 +191,7 @@ impl Log {
         (self.acknowledged + self.dropped) as usize
     }
 
-    /// How many messages wait: given, and neither acknowledged nor dropped.
+    /// How many messages wait: submitted, and neither acknowledged nor dropped.
     pub(crate) fn waiting(&self) -> usize
         ensures counted { self.now.acknowledged + self.now.dropped + result
             ≡ vec_len self.now.fates }
@@ -197,14 +201,14 @@ impl Log {
         self.fates.len() - self.settled()
     }
 
-    // The number of the present establishment, from 1; 0 where none has begun.
+    // The number of the present establishment, from 1, or 0 before the first.
     fn establishment(&self) -> u64
         ensures { result ≡ vec_len self.now.begun }
     {
         self.begun.len() as u64
     }
 
-    // Of the messages that wait, the first `n` are acknowledged.
+    // Marks the first `n` waiting messages as acknowledged, and counts them.
     fn acknowledge_first(&mut self, n: usize)
         requires { self.old.acknowledged + self.old.dropped + n ≤ vec_len self.old.fates }
         ensures room { TakesRoom no_room self.old self.new }
@@ -215,7 +219,7 @@ impl Log {
         self.acknowledged += n as u64;
     }
 
-    // Of the messages that wait, the first `n` are dropped.
+    // Marks the first `n` waiting messages as dropped, and counts them.
     fn drop_first(&mut self, n: usize)
         requires { self.old.acknowledged + self.old.dropped + n ≤ vec_len self.old.fates }
         ensures room { TakesRoom no_room self.old self.new }
@@ -226,7 +230,7 @@ impl Log {
         self.dropped += n as u64;
     }
 
-    // Of the messages that wait, the first `n` have this ending. They are not yet counted.
+    // Sets the ending of the first `n` waiting messages, without counting them.
     fn end_first(&mut self, n: usize, ending: Ending)
         requires { self.old.acknowledged + self.old.dropped + n ≤ vec_len self.old.fates }
         ensures fates { self.new.fates.items ≡ with_endings ending
@@ -238,49 +242,49 @@ impl Log {
         end_all(&mut self.fates[first..first + n], ending);
     }
 
-    /// The messages that were given, in order.
+    /// The submitted messages, in order.
     pub(crate) fn given(&self) -> &[Vec<u8>]
         ensures { result.now ≡ self.now.given.items }
     {
         &self.given
     }
 
-    /// The messages received of the other side, in order.
+    /// The messages received from the other side, in order.
     pub(crate) fn received(&self) -> &[Received]
         ensures { result.now ≡ self.now.received.items }
     {
         &self.received
     }
 
-    /// The unit data received of the other side, in order.
+    /// The unit data received from the other side, in order.
     pub(crate) fn units(&self) -> &[Vec<u8>]
         ensures { result.now ≡ self.now.units.items }
     {
         &self.units
     }
 
-    /// What became of each message that was given.
+    /// The fate of each submitted message.
     pub(crate) fn fates(&self) -> &[Fate]
         ensures { result.now ≡ self.now.fates.items }
     {
         &self.fates
     }
 
-    /// For each establishment, how many messages had been received before it.
+    /// For each establishment, how many messages were received before it began.
     pub(crate) fn begun(&self) -> &[u64]
         ensures { result.now ≡ self.now.begun.items }
     {
         &self.begun
     }
 
-    /// How many of the messages given are acknowledged.
+    /// How many submitted messages are acknowledged.
     pub(crate) fn acknowledged(&self) -> u64
         ensures { result ≡ self.now.acknowledged }
     {
         self.acknowledged
     }
 
-    /// How many of the messages given are dropped.
+    /// How many submitted messages are dropped.
     pub(crate) fn dropped(&self) -> u64
         ensures { result ≡ self.now.dropped }
     {
@@ -288,7 +292,7 @@ impl Log {
     }
 }
 
-// Each of these has this ending.
+// Sets the ending of all these fates.
 fn end_all(fates: &mut [Fate], ending: Ending)
     ensures { fates.new ≡ map (ended ending) fates.old }
 {

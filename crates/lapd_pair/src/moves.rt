@@ -3,33 +3,34 @@ ghost use Rattle.lapd_pair.specs.Moves.{move_of};
 
 use lapd_frame::Side;
 
-/// What one side does, or what happens to it.
+/// Something that one side does or that happens to it.
 #[derive(Debug, Drop)]
 pub enum Move {
-    /// Its layer 3 gives a message.
+    /// Layer 3 submits a message.
     Give(Side, Vec<u8>),
-    /// Its layer 3 asks for the link to be established.
+    /// Layer 3 requests establishment of the link.
     Establish(Side),
-    /// Its layer 3 asks for the link to be released.
+    /// Layer 3 requests release of the link.
     Release(Side),
-    /// The first frame on its way to this side is delivered.
+    /// The first frame in transit to this side is delivered.
     Deliver(Side),
-    /// The frame at this place among those on their way to this side is lost, counted from 0.
+    /// One frame in transit to this side is lost: the one at this index, from 0.
     Lose(Side, usize),
     /// T200 expires.
     Expire200(Side),
     /// T203 expires.
     Expire203(Side),
-    /// Its receiver becomes busy, or is no longer (Q.921 5.6.6).
+    /// The side becomes own busy, or stops being own busy (Q.921 5.6.6).
     Busy(Side, bool),
-    /// Its layer 3 sends unit data.
+    /// Layer 3 sends unit data.
     Unit(Side, Vec<u8>),
-    /// It starts anew, in state 4: its I queue is dropped, and what is on the line in both directions.
+    /// The side restarts in state 4. Its I queue and all frames in transit in both directions are
+    /// dropped.
     Restart(Side),
 }
 
 impl Move {
-    /// Whose move it is.
+    /// The side that makes this move.
     pub fn side(&self) -> Side
         ensures { result ≡ (move_of self.now).side }
     {

@@ -1,4 +1,4 @@
-//! Two ends of one data link, and the line between them.
+//! Both ends of one data link, and the line between them.
 
 ghost use Rattle.std.specs.Prelude.{◌≡◌, ◌≤◌, ◌<◌, ◌+◌, ℕ, List, [], ◌∷◌, map, take, length, true, IfOk, IfErr, OnOk, OnErr, is_ok};
 ghost use Rattle.lapd_mod128.specs.Counting.{Tagged};
@@ -16,8 +16,9 @@ use lapd_frame::Side;
 use lapd_link::{Link, Outs, Params, Timer};
 use std::alloc::{AllocError, Global};
 
-/// Two ends of one data link of SAPI 0 and TEI 64, user and network, and the line between them, which keeps the order of
-/// frames and may lose any. What each side received, and what became of what it was given, is kept.
+/// Both ends of one data link of SAPI 0 and TEI 64, user and network, and the line between them,
+/// which keeps frames in order and may lose any of them. The pair records what each side received
+/// and the fate of each submitted message.
 #[derive(Drop)]
 pub struct Pair {
     alloc: Global,
@@ -37,11 +38,11 @@ impl Pair {
     ghost use Rattle.lapd_pair.specs.Runs.{PairStandsFor, HasHappened, HasStoppedAt, IsSafePair, moves_made, refusals};
     ghost use Rattle.lapd_pair.specs.Station.{with_outs};
 
-    /// Both ends in state 4, and nothing on the line.
+    /// Creates a pair with both ends in state 4 and no frame in transit.
     ///
     /// # Errors
     ///
-    /// `AllocError` where the memory of an I queue was refused.
+    /// `AllocError` if the allocation of an I queue failed.
     pub fn new(alloc: Global, user: Params, network: Params) -> Result<Pair, AllocError>
         ensures stands { IfOk result (λ pair. PairStandsFor pair (new_world user network)) }
         ensures readers { IfOk result (λ pair. AreSafeReadings pair) }
@@ -55,19 +56,21 @@ impl Pair {
         })
     }
 
-    /// One move, and the outputs of the step that it comes to, in order. What it puts on the line is read by
-    /// [`Pair::line`].
+    /// Makes one move and returns the outputs of its step, in order. [`Pair::line`] returns the
+    /// frames that it put on the line.
     ///
-    /// After it the histories are safe, each side against the other, as after every call: what a side received is among
-    /// what the other was given, in order and once each; within one establishment nothing is skipped; and what a sender
-    /// counts as acknowledged was received. `readers` says so of what [`Pair::given`], [`Pair::fates`], [`Pair::received`]
-    /// and [`Pair::begun`] return. No report but F, G, H and I is among the outputs.
+    /// After it, as after every call, the histories are safe in both directions: a side received
+    /// only messages that the other side submitted, in order and at most once each; within one
+    /// establishment it skipped none; and each message that the sender counts as acknowledged was
+    /// received. `readers` states this for the results of [`Pair::given`], [`Pair::fates`],
+    /// [`Pair::received`] and [`Pair::begun`]. The outputs contain no error report other than F, G,
+    /// H and I.
     ///
     /// # Errors
     ///
-    /// P1 for a `Deliver` or `Lose` of a frame that is not there, P2 for a timer that does not run, P3 for T200 while what
-    /// it waits for is on the line, P4 where the link refuses, and P5, after these, where memory was refused. The pair is
-    /// unchanged.
+    /// P1 if the frame to deliver or lose does not exist. P2 if the timer does not run. P3 if T200
+    /// waits for a frame in transit. P4 if the link refuses the move. P5, after these checks, if an
+    /// allocation failed. The pair is unchanged.
     pub fn apply(&mut self, deed: &Move) -> Result<Outs, PairFault>
         ensures ok { IfOk result (λ outs. (w : World) → PairStandsFor self.old w
             → HasHappened self.new (happens Tagged (move_of deed.now) w) outs.items) }
@@ -86,11 +89,12 @@ impl Pair {
         }
     }
 
-    /// As [`Pair::apply`], with the outputs in `outs` in place of what was there. So no room for them is made anew.
+    /// Makes one move like [`Pair::apply`], and overwrites `outs` with its outputs. The caller
+    /// reuses `outs` for each move.
     ///
     /// # Errors
     ///
-    /// As [`Pair::apply`]. What is then in `outs` is not told.
+    /// As for [`Pair::apply`]. The content of `outs` is then unspecified.
     pub fn apply_into(&mut self, deed: &Move, outs: &mut Outs) -> Result<(), PairFault>
         ensures ok { IfOk (with_outs result outs.new)
             (λ made. (w : World) → PairStandsFor self.old w
@@ -122,12 +126,14 @@ impl Pair {
         }
     }
 
-    /// All moves, one after another, and how many were refused. A move that is refused by P1 to P4 is skipped. After it,
-    /// however it ends, the histories are safe, as after [`Pair::apply`].
+    /// Makes these moves one after another, and returns how many were refused. A move refused with
+    /// P1 to P4 is skipped. Afterwards the histories are safe as after [`Pair::apply`], also on
+    /// error.
     ///
     /// # Errors
     ///
-    /// `RunFault` where memory was refused, with the place of that move. What was done before stands.
+    /// `RunFault`, with the index of the move, if an allocation failed. The moves made before it
+    /// remain in effect.
     pub fn run(&mut self, moves: &[Move]) -> Result<u64, RunFault>
         ensures ok { IfOk result (λ refused. (w : World) → PairStandsFor self.old w
             → PairStandsFor self.new (run Tagged (map move_of moves.now) w)
@@ -169,7 +175,7 @@ impl Pair {
     ghost use Rattle.lapd_pair.specs.Setup.{setup_for};
     ghost use Rattle.lapd_pair.specs.Station.{IsStation};
 
-    /// This side.
+    /// The recorded link of this side.
     fn station(&self, side: Side) -> &RecordedLink
         ensures shows { (w : World) → PairStandsFor self.now w
             → IsStation side result.now (view_of side w).station }
@@ -181,7 +187,7 @@ impl Pair {
         }
     }
 
-    /// The messages that this side's layer 3 gave and that were accepted, in order.
+    /// The messages that this side's layer 3 submitted and the link accepted, in order.
     pub fn given(&self, side: Side) -> &[Vec<u8>]
         ensures shows { (w : World) → PairStandsFor self.now w
             → map (λ message. message.items) result.now ≡ (view_of side w).station.end.given }
@@ -208,7 +214,7 @@ impl Pair {
         self.station(side).history.units()
     }
 
-    /// What became of each message of [`Pair::given`].
+    /// The fate of each message of [`Pair::given`].
     pub fn fates(&self, side: Side) -> &[Fate]
         ensures shows { (w : World) → PairStandsFor self.now w
             → result.now ≡ fates_of (length (view_of side w).station.end.given)
@@ -218,7 +224,8 @@ impl Pair {
         self.station(side).history.fates()
     }
 
-    /// For each establishment of this side, how many messages it had received before it.
+    /// For each establishment of this side, how many messages the side had received before it
+    /// began.
     pub fn begun(&self, side: Side) -> &[u64]
         ensures shows { (w : World) → PairStandsFor self.now w
             → result.now ≡ (view_of side w).station.history.begun }
@@ -235,7 +242,7 @@ impl Pair {
         self.station(side).history.acknowledged()
     }
 
-    /// How many messages of this side were dropped. They may or may not have been received.
+    /// How many messages of this side were dropped. The peer may have received them.
     pub fn dropped(&self, side: Side) -> u64
         ensures { (w : World) → PairStandsFor self.now w
             → result ≡ length (view_of side w).station.history.dropped }
@@ -250,7 +257,7 @@ impl Pair {
         self.user.history.waiting() as u64 + self.network.history.waiting() as u64
     }
 
-    /// The octets of the frames on their way to this side, the first of them first.
+    /// The octets of the frames in transit to this side, in order.
     pub fn line(&self, to: Side) -> &[FrameOctets]
         ensures { (w : World) → PairStandsFor self.now w
             → map (λ frame. frame.items) result.now ≡ map
@@ -273,7 +280,7 @@ impl Pair {
     }
 }
 
-/// A pair settles.
+/// Settling a pair.
 impl Pair {
     ghost use Rattle.std.specs.Prelude.{option_map};
     ghost use Rattle.lapd_pair_laws.specs.World.{World};
@@ -283,16 +290,18 @@ impl Pair {
     ghost use Rattle.lapd_pair.specs.Runs.{PairStandsFor, IsSafePair};
     ghost use Rattle.lapd_pair.specs.Settles.{Settles, StopsSettling, EmptiesWhereQuiet, IsDrainedPair};
 
-    /// Makes moves until none is possible any more, at most 8 for each message of [`Pair::left`] and 32 more. Each is the first
-    /// possible of: the next frame is delivered to the network, or to the user; T200 of the user expires, or of the network.
+    /// Makes moves until none is possible, at most 8 for each message of [`Pair::left`] and 32
+    /// more. Each move is the first possible one of: deliver the next frame to the network; deliver
+    /// the next frame to the user; T200 of the user expires; T200 of the network expires.
     ///
-    /// Where both ends are in state 7 before it, neither receiver is busy and nothing is on the line, it makes at most 3 for
-    /// each message and 8, none is possible any more, and nothing is left: nothing was dropped, and each message that was left
-    /// is acknowledged, and was received. For no frame is lost (Q.921 5.6).
+    /// Suppose that both ends are in state 7 at the start, neither is own busy and no frame is in
+    /// transit. Then it makes at most 3 moves for each message and 8 more, no further move is
+    /// possible, and no message is left. It drops no message; each message that was left was
+    /// received and is acknowledged, because no frame is lost (Q.921 5.6).
     ///
     /// # Errors
     ///
-    /// P5 where memory was refused for a move. The moves made before stand.
+    /// P5 if an allocation failed. The moves made before it remain in effect.
     pub fn settle(&mut self) -> Result<Settled, PairFault>
         ensures ok { IfOk result (λ done. Settles self.old self.new done) }
         ensures err { IfErr result (λ fault. StopsSettling self.old self.new fault) }
@@ -318,7 +327,7 @@ impl Pair {
         })
     }
 
-    /// How many moves it makes at most.
+    /// The most moves that `settle` makes.
     fn most_moves(&self) -> u64
         ensures { (w : World) → PairStandsFor self.now w → result ≡ bound w }
     {
@@ -326,7 +335,7 @@ impl Pair {
         8 * (left + 4)
     }
 
-    /// The move that it makes next.
+    /// The move that `settle` makes next.
     fn next_move(&self) -> Option<Move>
         ensures { (w : World) → PairStandsFor self.now w
             → option_map (λ deed. move_of deed) result ≡ next_move Tagged w }

@@ -5,29 +5,29 @@ use lapd_frame::Side;
 use lapd_link::LinkFault;
 use thiserror::Error;
 
-/// Why a move is refused. The pair is unchanged.
+/// Why the pair refused a move or could not make it. The pair is unchanged.
 #[derive(Clone, Copy, Debug, PartialEq, Eq, Error)]
 pub enum PairFault {
-    /// P1: no such frame is on the line.
+    /// P1: no such frame is in transit.
     #[error("P1 NothingThere")]
     NothingThere,
     /// P2: the timer does not run.
     #[error("P2 NotRunning")]
     NotRunning,
-    /// P3: T200 may not expire yet. A command with P=1 of its end, or the response with F=1 to it, is on its way to this
-    /// side, at this place of that direction, counted from 0.
+    /// P3: T200 may not expire yet. A command with P=1 from its end, or a response with F=1 to its
+    /// end, is in transit to the named side, at the index that follows, from 0.
     #[error("P3 NotYet {0} {1}")]
     NotYet(Side, usize),
     /// P4: the link refuses the request.
     #[error("{0}")]
     Refused(LinkFault),
-    /// P5: memory was refused.
+    /// P5: an allocation failed.
     #[error("P5 Memory")]
     Memory,
 }
 
 impl PairFault {
-    /// Whether memory was refused. Every other fault refuses the move itself.
+    /// Whether an allocation failed. Every other fault refuses the move itself.
     pub fn is_memory(self) -> bool
         ensures { result ≡ is_memory self }
     {
@@ -41,10 +41,10 @@ impl PairFault {
     }
 }
 
-/// A run that ended for want of memory. What was done before stands.
+/// A run that stopped because an allocation failed. The moves made before it remain in effect.
 #[derive(Clone, Copy, Debug, PartialEq, Eq, Error)]
 #[error("no memory for move {at}")]
 pub struct RunFault {
-    /// The place of the move that found no memory, counted from 0.
+    /// The index of the move whose allocation failed, from 0.
     pub at: usize,
 }

@@ -1,4 +1,4 @@
-//! One side of a pair: its end of the link, and what is written down of it.
+//! One side of a pair: its end of the link and its recorded history.
 
 ghost use Rattle.std.specs.Prelude.{◌≡◌, ◌≤◌, ◌+◌, ◌==◌, not, ℕ, List, [], ◌∷◌, Option, Vec, IfOk, IfErr, IfSome, OnOk, OnErr, length};
 ghost use Rattle.std.specs.declared.alloc.Global.{Global};
@@ -28,14 +28,14 @@ use lapd_frame::{Sapi, Side, Tei};
 use lapd_link::{Event, Link, MOST_OUTPUTS, Out, Outs, Params};
 use std::alloc::{AllocError, Global};
 
-/// One side: its end of the link, and what is written down of it.
+/// One side of a pair: its end of the link and its recorded history.
 #[derive(Drop)]
 pub struct RecordedLink {
     pub link: Link,
     pub history: Log,
 }
 
-/// A link of this side as it is made, of SAPI 0 and TEI 64.
+/// Creates this side's link, with SAPI 0 and TEI 64.
 pub fn new_link(alloc: Global, side: Side, params: Params) -> Result<Link, AllocError>
     ensures end { IfOk result (λ link. LinkStandsFor link (new_end params)) }
     ensures setup { IfOk result (λ link. setup_of link ≡ setup_for side) }
@@ -50,7 +50,7 @@ impl RecordedLink {
     ghost use Rattle.lapd_pair.specs.Moves.{IsRefusedAs};
     ghost use Rattle.lapd_pair.specs.Telling.{IsTelling, IsCopy, flight_of, with_sent, history_told};
 
-    /// A side in state 4 to which nothing has happened yet.
+    /// Creates a side with its end of the link in state 4 and an empty history.
     pub fn new(alloc: Global, side: Side, params: Params) -> Result<RecordedLink, AllocError>
         ensures station { IfOk result (λ s. IsStation side s (new_station params)) }
         ensures window { params.k ≤ 127 }
@@ -62,7 +62,7 @@ impl RecordedLink {
         })
     }
 
-    /// Takes the room that one step may need, on the line and in what is written down.
+    /// Allocates the space on the line and in the history that one step may need.
     pub fn make_room(&mut self, outward: &mut Line) -> Result<(), AllocError>
         ensures line_room { OnOk result (HasRoomFor MOST_OUTPUTS outward.new) }
         ensures history_room { OnOk result (HasRoom step_room self.new.history) }
@@ -76,7 +76,7 @@ impl RecordedLink {
         self.history.reserve()
     }
 
-    /// Takes the room that a message needs, on the line and in what is written down.
+    /// Allocates the space on the line and in the history that a submitted message needs.
     pub fn make_room_for_message(&mut self, outward: &mut Line) -> Result<(), AllocError>
         ensures line_room { OnOk result (HasRoomFor MOST_OUTPUTS outward.new) }
         ensures history_room { OnOk result (HasRoom message_room self.new.history) }
@@ -90,7 +90,7 @@ impl RecordedLink {
         self.history.reserve_given()
     }
 
-    /// Puts the frame of an output on the line, where it is one.
+    /// Puts the frame of an output on the line, if the output sends one.
     #[inline(always)]
     fn put_sent(&self, out: &Out, octets: &[u8], outward: &mut Line)
         requires { HasRoomFor 1 outward.old }
@@ -105,7 +105,8 @@ impl RecordedLink {
         }
     }
 
-    /// Writes down what an output says. The copy of the octets just delivered is handed on where they go up.
+    /// Records an output in the history. If the output delivers to layer 3, the copy of the octets
+    /// just received moves into the history.
     #[inline(always)]
     fn write_down(&mut self, out: &Out, copy: &mut Option<Vec<u8>>)
         requires { IfSome copy.old (λ _. HasRoom data_room self.old.history) }
@@ -145,7 +146,7 @@ impl RecordedLink {
         }
     }
 
-    /// Tells all outputs of a step, one after another.
+    /// Sends and records all outputs of a step, one after another.
     #[inline(always)]
     fn carry_out(
         &mut self,
@@ -167,7 +168,7 @@ impl RecordedLink {
         }
     }
 
-    /// Where an establishment begins, writes it down.
+    /// Records the beginning of an establishment, if one begins.
     fn note_beginning(&mut self, begins: bool)
         requires { HasRoom step_room self.old.history }
         ensures shows { (messages : List (List ℕ)) (h : histories.History) (before now : ℕ)
@@ -182,8 +183,9 @@ impl RecordedLink {
         }
     }
 
-    /// One step of the state table, for any event. The frames of its outputs go on the line, and the rest is written down.
-    /// `octets` are those of the frame that is heard, with a copy of them for layer 3, or the unit data to be sent.
+    /// Runs one step of the state table for any event, puts the frames of its outputs on the line
+    /// and records the rest. `octets` are the information field of the received frame, with a copy
+    /// for layer 3 in `copy`, or the unit data to send.
     #[inline(always)]
     pub fn step(
         &mut self,
@@ -221,7 +223,7 @@ impl RecordedLink {
         }
     }
 
-    /// A message of layer 3, of which the history gets a copy.
+    /// Submits a message of layer 3, and records its copy in the history.
     pub fn give(
         &mut self,
         message: Vec<u8>,

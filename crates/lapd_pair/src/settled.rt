@@ -1,8 +1,8 @@
-/// What [`Pair::settle`](crate::Pair::settle) came to.
+/// The result of [`Pair::settle`](crate::Pair::settle).
 #[derive(Clone, Copy, Debug, PartialEq, Eq, Drop)]
 pub struct Settled {
-    /// How many moves it made.
+    /// The number of moves made.
     pub moves: u64,
-    /// Whether none of the moves that it tries is possible any more.
+    /// Whether no further move of those that `settle` tries is possible.
     pub rest: bool,
 }

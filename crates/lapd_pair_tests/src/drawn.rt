@@ -1,6 +1,7 @@
-//! Drawn moves, for each recovery at each side. After each of 10,000 moves of a pair it is looked at slowly that what a side
-//! received is what the other was given: in order and once each, and without a gap within an establishment. Then come 200 runs of
-//! 500 moves, each with a pair of its own. At the end of each run the line settles.
+//! Random moves, for each recovery at each side. After each of 10,000 moves of one pair, a slow
+//! check compares the messages that each side received with those that the other side submitted: in
+//! order, once each, and without a gap within an establishment. 200 runs of 500 moves follow, each
+//! with a new pair. At the end of each run the line settles.
 
 use crate::draws::{MoveDraws, moves};
 use crate::made::new_pair;
@@ -12,13 +13,13 @@ use lapd_pair::{Move, Pair};
 use std::alloc::Global;
 use std::test::Fail;
 
-/// How many runs there are behind the first.
+/// The number of runs after the first.
 const RUNS: u32 = 200;
 
-/// How many of all are to be quiet in the end.
+/// How many of all runs must be quiet at the end.
 const ENOUGH: u32 = 180;
 
-/// Makes the runs, and looks at whether enough of them were quiet in the end.
+/// Makes the runs, and checks that enough of them were quiet at the end.
 fn right_with(alloc: Global, user: Recovery, network: Recovery) -> Result<(), Fail> {
     let mut draws = MoveDraws::new(alloc);
     let mut quiet: u32 = 0;
@@ -40,7 +41,8 @@ fn right_with(alloc: Global, user: Recovery, network: Recovery) -> Result<(), Fa
     }
 }
 
-/// Makes a run with this pair: what is wrong. Counts it where it was quiet in the end.
+/// Makes a run with this pair, and returns the error, if any. Counts the run if it was quiet at the
+/// end.
 fn run_once(
     draws: &mut MoveDraws,
     pair: Option<Pair>,
@@ -73,7 +75,8 @@ fn run(
     }
 }
 
-/// Whether enough happened: messages were received and acknowledged in many establishments, and some were dropped.
+/// Whether the run was varied enough: messages were received and acknowledged in many
+/// establishments, and some were dropped.
 fn is_lively(pair: &Pair, side: Side) -> bool {
     pair.received(side).len() > 250
         && pair.acknowledged(side) > 200
@@ -82,8 +85,9 @@ fn is_lively(pair: &Pair, side: Side) -> bool {
         && pair.units(side).len() > 20
 }
 
-/// Neither receiver is busy any more, and all is delivered; where an end is not in state 7 then, the user establishes the link,
-/// and all is delivered again. Then both sides give a message, for which there has to be memory, and what is on the line is lost.
+/// Ends own busy on both sides and delivers all frames. If an end is then not in state 7, the user
+/// establishes the link, and all frames are delivered again. Then both sides submit a message, and
+/// all frames in transit are lost. Returns whether the messages could be allocated.
 fn is_disturbed(draws: &mut MoveDraws, pair: &mut Pair) -> bool {
     let _ = moves(pair, &Move::Busy(Side::User, false));
     let _ = moves(pair, &Move::Busy(Side::Network, false));
@@ -109,7 +113,7 @@ fn deliver_all(pair: &mut Pair) {
     );
 }
 
-/// Makes one or the other move again and again, until neither is possible.
+/// Makes either move repeatedly until both are refused.
 fn while_possible(pair: &mut Pair, one: &Move, other: &Move) {
     for _ in 0..1000u32 {
         if !(moves(pair, one) || moves(pair, other)) {
@@ -118,7 +122,7 @@ fn while_possible(pair: &mut Pair, one: &Move, other: &Move) {
     }
 }
 
-/// Whether both ends are in state 7, neither receiver is busy, and nothing is on the line.
+/// Whether both ends are in state 7, neither side is own busy, and no frame is in transit.
 fn is_quiet(pair: &Pair) -> bool {
     is_quiet_at(pair, Side::User) && is_quiet_at(pair, Side::Network)
 }
@@ -128,8 +132,8 @@ fn is_quiet_at(pair: &Pair, side: Side) -> bool {
     link.state() == 7 && !link.window().own_busy() && pair.line(side).is_empty()
 }
 
-/// Whether the line settles within its bound, and is safe then; and one that was quiet, which is counted, comes to rest sooner,
-/// with nothing left and nothing dropped.
+/// Whether the line settles within its bound and is then safe. A quiet pair is counted; it must
+/// settle sooner, with no message left and none dropped.
 fn settles(pair: &mut Pair, quiet: &mut u32) -> bool {
     let was_quiet = is_quiet(pair);
     *quiet = quiet.wrapping_add(u32::from(was_quiet));
@@ -149,7 +153,7 @@ fn settles(pair: &mut Pair, quiet: &mut u32) -> bool {
     }
 }
 
-/// How many messages were dropped.
+/// How many messages of both sides were dropped.
 fn dropped_of(pair: &Pair) -> u64 {
     pair.dropped(Side::User)
         .wrapping_add(pair.dropped(Side::Network))

@@ -1,4 +1,4 @@
-//! Moves that are drawn.
+//! Random moves.
 
 use crate::safe::are_safe;
 use lapd_frame::Side;
@@ -6,7 +6,7 @@ use lapd_pair::{Move, Pair};
 use lapd_testing::Draws;
 use std::alloc::Global;
 
-/// Draws moves of two ends, and counts the messages and unit data that they give.
+/// Draws random moves of two ends, and counts the messages and unit data that they submit.
 #[derive(Drop)]
 pub(crate) struct MoveDraws {
     alloc: Global,
@@ -23,8 +23,8 @@ impl MoveDraws {
         }
     }
 
-    /// Makes so many drawn moves, of which any may be refused and changes nothing then. Whether there is memory for each, and what
-    /// both sides received is safe, where it is looked at.
+    /// Makes this many random moves; refused ones change nothing. Returns whether all allocations
+    /// succeeded and, if `looks` is set, whether both histories were safe after each move.
     pub(crate) fn lead(&mut self, pair: &mut Pair, moves: u32, looks: bool) -> bool {
         let mut holds = true;
         for _ in 0..moves {
@@ -33,7 +33,7 @@ impl MoveDraws {
         holds
     }
 
-    /// Makes a drawn move.
+    /// Makes one random move.
     fn makes_one(&mut self, pair: &mut Pair, looks: bool) -> bool {
         match self.draw() {
             Some(deed) => match pair.apply(&deed) {
@@ -44,7 +44,8 @@ impl MoveDraws {
         }
     }
 
-    /// A side gives a message, and is refused or not. Whether there is memory for its octets.
+    /// A side submits a message, which the link may refuse. Returns whether its octets could be
+    /// allocated.
     pub(crate) fn gives(&mut self, pair: &mut Pair, side: Side) -> bool {
         match self.message(side, false) {
             Some(deed) => {
@@ -55,12 +56,12 @@ impl MoveDraws {
         }
     }
 
-    /// A number below this one.
+    /// Draws a number below the limit.
     fn below(&mut self, limit: u32) -> u32 {
         self.draws.below(limit)
     }
 
-    /// A move of one of the sides; `None` where there is no memory for it.
+    /// Draws a move of either side. `None` if its allocation fails.
     fn draw(&mut self) -> Option<Move> {
         let side = if self.below(2) == 0 {
             Side::User
@@ -74,7 +75,7 @@ impl MoveDraws {
         }
     }
 
-    /// The move of this side that is drawn so, without octets.
+    /// The move without octets of this side that the number `drawn` selects.
     fn plain_move(&mut self, side: Side, drawn: u32) -> Move {
         match drawn {
             180..680 => Move::Deliver(side),
@@ -88,7 +89,7 @@ impl MoveDraws {
         }
     }
 
-    /// The next message, given by this side, or unit data. It has its own number as its octets.
+    /// The next message of this side, or unit data. Its octets are its own number.
     pub(crate) fn message(&mut self, side: Side, is_unit: bool) -> Option<Move> {
         let octets = self.messages.to_be_bytes();
         self.messages = self.messages.wrapping_add(1);
@@ -100,7 +101,7 @@ impl MoveDraws {
     }
 }
 
-/// Makes a move, and tells whether it was admitted.
+/// Makes a move, and returns whether it was accepted.
 pub(crate) fn moves(pair: &mut Pair, deed: &Move) -> bool {
     pair.apply(deed).is_ok()
 }

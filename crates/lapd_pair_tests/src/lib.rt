@@ -1,7 +1,8 @@
-//! Tests of two ends on a lossy line: moves of a `Pair` with the octets that they put on the line, refusals, memory that is
-//! refused, 10,000 drawn moves for each recovery at each side, and how a line settles.
+//! Tests of two ends on a lossy line: moves of a `Pair` with the octets that they put on the line,
+//! refused moves, failed allocations, 10,000 random moves for each recovery at each side, and how a
+//! line settles.
 //!
-//! They stand apart from the other tests so that the check of either is short.
+//! A crate of their own keeps its check and that of the other tests short.
 #![tactic(auto)]
 
 #[cfg(test)]

@@ -6,18 +6,19 @@ use lapd_pair::{Move, Pair};
 use lapd_testing::Text;
 use std::alloc::Global;
 
-/// Frames are numbered from 1 as they come on the line, and one whose number is a multiple of ten is lost.
+/// A pair whose line loses every tenth frame. Frames are numbered from 1 in the order in which they
+/// are put on the line.
 #[derive(Drop)]
 struct Lossy<'a> {
     pair: &'a mut Pair,
-    /// How many frames came on the line.
+    /// How many frames were put on the line.
     frames: u64,
     /// How many of them were lost.
     lost: u64,
 }
 
 impl Lossy<'_> {
-    /// Makes a move, and loses the tenth frames of those that it puts on the line.
+    /// Makes a move, and loses every tenth frame that it puts on the line.
     fn makes(&mut self, deed: &Move) -> bool {
         let to = deed.side().other();
         let before = self.pair.line(to).len();
@@ -26,7 +27,7 @@ impl Lossy<'_> {
         is_made
     }
 
-    /// Numbers the frames on their way to this side, behind so many, and loses the tenth ones.
+    /// Numbers the frames in transit to this side after the first `before`, and loses every tenth.
     fn lose_tenths(&mut self, to: Side, before: usize) {
         let mut place = before;
         for _ in before..self.pair.line(to).len() {
@@ -37,7 +38,8 @@ impl Lossy<'_> {
         }
     }
 
-    /// The first of these that is possible: a frame to the network, one to the user, T200 of the user, of the network.
+    /// Makes the first possible move of these: deliver a frame to the network, deliver one to the
+    /// user, T200 of the user expires, T200 of the network expires.
     fn turn(&mut self) -> bool {
         self.makes(&Move::Deliver(Side::Network))
             || self.makes(&Move::Deliver(Side::User))
@@ -45,7 +47,7 @@ impl Lossy<'_> {
             || self.makes(&Move::Expire200(Side::Network))
     }
 
-    /// The user gives a message.
+    /// The user submits a message.
     fn gives(&mut self, draws: &mut MoveDraws) -> bool {
         match draws.message(Side::User, false) {
             Some(deed) => self.makes(&deed),
@@ -53,8 +55,8 @@ impl Lossy<'_> {
         }
     }
 
-    /// The user establishes the link and gives all messages, and then one move is made after another, until none is possible.
-    /// Whether all are taken, and there is such an end.
+    /// The user establishes the link and submits all messages; then moves are made until none is
+    /// possible. Returns whether all messages were accepted and the moves ended.
     fn plays(&mut self, alloc: Global) -> bool {
         let mut draws = MoveDraws::new(alloc);
         let mut are_taken = self.makes(&Move::Establish(Side::User)) && self.turn() && self.turn();
@@ -69,8 +71,8 @@ impl Lossy<'_> {
     }
 }
 
-/// Plays all of it, and writes what it comes to. The reports that two ends may make, F to I, come with a release or with another
-/// establishment, which the network begins too.
+/// Runs the whole exchange, and writes its result. Two ends report errors (F to I) only with a
+/// release or a new establishment, and the network's `begun` counts a new establishment too.
 pub(crate) fn lose_tenths(alloc: Global, pair: &mut Pair, text: &mut Text) {
     let mut line = Lossy {
         pair,

@@ -1,13 +1,14 @@
-//! Pairs that are made.
+//! Creation of pairs.
 
 use lapd_link::{Params, Recovery};
 use lapd_pair::Pair;
 use std::alloc::Global;
 
-/// What two ends are made with: the window and the room of both, and how the user and the network recover.
+/// The parameters of two ends: window and I queue capacity of both, and the recovery of the user
+/// and of the network.
 pub(crate) type Ends = (u8, u16, Recovery, Recovery);
 
-/// Two new ends, with N200 of 3; `None` where a number is out of range or no memory is left.
+/// Creates a pair with N200 of 3. `None` if a number is out of range or an allocation fails.
 pub(crate) fn new_pair(alloc: Global, (k, room, user, network): Ends) -> Option<Pair> {
     match Params::new(k, 3, room) {
         Some(params) => {

@@ -1,16 +1,16 @@
-//! Moves that words name, as `user give 0801`.
+//! Moves parsed from words such as `user give 0801`.
 
 use lapd_frame::Side;
 use lapd_pair::Move;
 use std::alloc::Global;
 
-/// The front of a text, and what stands behind this mark.
+/// Splits a text at the first mark into the parts before and after it.
 pub(crate) fn split<'a>(text: &'a str, mark: &str) -> (&'a str, &'a str) {
     text.split_once(mark).unwrap_or((text, ""))
 }
 
-/// The move that these words name: a side, what it does, and what that wants behind it. `None` where there is no memory for
-/// its octets, too.
+/// The move that these words name: a side, what it does, and the argument. `None` also if the
+/// allocation of its octets fails.
 pub(crate) fn move_of(alloc: Global, words: &str) -> Option<Move> {
     let (name, deed) = split(words, " ");
     let (word, behind) = split(deed, " ");
@@ -32,7 +32,8 @@ pub(crate) fn move_of(alloc: Global, words: &str) -> Option<Move> {
     }
 }
 
-/// The octets that are written in hexadecimal, or 261 of them, which are one more than a frame carries (N201).
+/// The octets written in hexadecimal. `too much` names 261 octets, one more than a frame carries
+/// (N201).
 fn octets_of(alloc: Global, text: &str) -> Option<Vec<u8>> {
     if text == "too much" {
         [7; 261].to_vec(alloc).ok()
@@ -41,7 +42,7 @@ fn octets_of(alloc: Global, text: &str) -> Option<Vec<u8>> {
     }
 }
 
-/// The move of this side that these words name, without octets.
+/// The move of this side that these words name, if it carries no octets.
 fn plain_move(side: Side, deed: &str) -> Option<Move> {
     match deed {
         "establish" => Some(Move::Establish(side)),

@@ -1,11 +1,11 @@
-//! Rows of steps: worked moves with what each comes to and what both sides show at the end, moves that are refused, and how a
-//! line settles.
+//! Rows of steps: moves with their results and the final state of both sides, refused moves, and
+//! how a line settles.
 
 use crate::steps::lead;
 use std::test::Fail;
 
-/// Moves, and in the rows behind them moves that are refused: what is not there, a timer that does not run, what T200 waits for,
-/// and the link's refusals.
+/// Moves, then refused moves: a missing frame, a timer that does not run, a frame that T200 waits
+/// for, and requests that the link refuses.
 const MOVES: &str = "\
 # a message
 new, k=1: made
@@ -246,15 +246,16 @@ user give too much: refused L3 TooLong
 user shows: state 7, V 1 0 0, RC 0, T200, layer 3 initiated, sent 1 of 01 02, begun [0], gave 01 02, in 1 0
 net shows: state 7, V 0 0 0, RC 0, T203, begun [0], line 0081000001";
 
-/// A move that finds no memory leaves all that the pair shows as it was, and then comes to what it comes to where none is refused.
-/// No test can refuse an allocation itself: `tools/refuse-memory` refuses each of a run in turn, and the test prints where it met
-/// it (docs/DEVELOPING.md).
+/// A move whose allocation fails leaves the pair unchanged, and succeeds when it is made again. No
+/// test can make an allocation fail: `tools/refuse-memory` fails each allocation of a run in turn,
+/// and the test prints which step met it (docs/DEVELOPING.md).
 #[test]
 fn moves_without_memory(rt: HostRuntime) -> Result<(), Fail> {
     lead(&rt, MOVES)
 }
 
-/// How lines settle, and what a run of moves comes to: as many of them are skipped as are refused one by one.
+/// How lines settle, and the results of runs: a run skips the moves that are refused when made one
+/// by one.
 const SETTLED: &str = "\
 # a new pair
 new, k=1: made
@@ -335,7 +336,8 @@ fn lines_settle(rt: HostRuntime) -> Result<(), Fail> {
     lead(&rt, SETTLED)
 }
 
-/// Where memory is refused to a line that settles, it settles afterwards, in at most as many moves.
+/// If an allocation fails while the line settles, a second `settle` completes, in at most as many
+/// moves.
 const SETTLED_AT_LAST: &str = "\
 # three I frames are lost
 new, k=3: made

@@ -1,9 +1,9 @@
-//! Slow looks at what both sides of a pair received.
+//! Slow checks of the histories of both sides of a pair.
 
 use lapd_frame::Side;
 use lapd_pair::{Ending, Fate, Pair, Received};
 
-/// Whether what both sides received is safe, and what is counted is so by the fates.
+/// Whether both histories are safe and the pair's counts agree with the fates.
 pub(crate) fn are_safe(pair: &Pair) -> bool {
     let mut waiting = 0;
     is_safe(pair, Side::User, &mut waiting)
@@ -11,8 +11,8 @@ pub(crate) fn are_safe(pair: &Pair) -> bool {
         && waiting == pair.left()
 }
 
-/// Whether what a side received is safe, of what the other side was given, and the other side's messages are counted. Counts
-/// those that wait.
+/// Whether one side's received messages are safe, and the counts of the other side agree with its
+/// fates. Adds the sender's waiting messages to `waiting`.
 fn is_safe(pair: &Pair, receiver: Side, waiting: &mut u64) -> bool {
     let sender = receiver.other();
     let given = pair.given(sender);
@@ -38,23 +38,24 @@ fn is_safe(pair: &Pair, receiver: Side, waiting: &mut u64) -> bool {
         && undropped.wrapping_add(pair.dropped(sender)) == fates.len() as u64
 }
 
-/// A walk over the messages that a side was given, beside those that the other received: these stand in the order in which they
-/// were given, once each, and without a gap where an establishment of the receiver goes on; and what is acknowledged is received.
+/// A walk over the messages that one side submitted, beside those that the other received. The
+/// received ones must be in the order of submission, once each, and without a gap while the
+/// receiver's establishment continues. Each acknowledged message must be received.
 #[derive(Drop)]
 struct Walk<'a> {
     received: &'a [Received],
-    /// How many of them are found.
+    /// How many received messages are found so far.
     at: usize,
-    /// In which establishment the last of these came.
+    /// The establishment in which the last found message arrived.
     establishment: u64,
-    /// Whether a message was passed over since.
+    /// Whether a message has been passed over since.
     gap: bool,
     waiting: u64,
     acknowledged: u64,
 }
 
 impl Walk<'_> {
-    /// Goes past a message, and tells whether what became of it is safe.
+    /// Passes a message, and returns whether its fate is safe.
     fn passes(&mut self, message: &[u8], fate: &Fate) -> bool {
         match fate.end {
             Ending::Waiting => self.waiting = self.waiting.wrapping_add(1),
@@ -70,7 +71,7 @@ impl Walk<'_> {
         }
     }
 
-    /// Takes the next of those that were received, and tells whether it may come in this establishment.
+    /// Takes the next received message, and returns whether it may arrive in this establishment.
     fn takes(&mut self, establishment: u64) -> bool {
         let is_next = establishment == self.establishment && !self.gap;
         let is_later = establishment > self.establishment;

@@ -1,11 +1,15 @@
-//! Steps of a pair in text, as `user give 0801: 008100000801`: what a side does, or what happens to it, and what it comes to.
+//! Steps of a pair as text, such as `user give 0801: 008100000801`: a move, and after the colon its
+//! expected result.
 //!
-//! A move comes to the frames that it puts on the line, in hexadecimal, or to `nothing`, and in some rows it `tells` its outputs;
-//! or to `refused` and the fault, where all that the pair shows has to be as before. `user shows` comes to what is known
-//! of a side, `settle` to how many moves are made and whether the line is at rest then, and `run` to how many of some moves are
-//! skipped, as they are refused. After each step what both sides received has to be safe.
+//! The result of a move is the frames that it puts on the line, in hexadecimal, or `nothing`. If a
+//! row expects them, the outputs follow after `tells`. A refused move results in `refused` and the
+//! fault, and must leave the state of the pair unchanged. `user shows` prints the state of a side,
+//! `settle` whether the line is at rest (and how many moves that took, if more than allowed), and
+//! `run` how many of its moves are skipped because they are refused. After each step both histories
+//! must be safe.
 //!
-//! A step to which memory is refused is noted, and made again: only then it has to come to what stands there.
+//! A step whose allocation fails is noted and made again; the second result must be the expected
+//! one.
 
 use crate::losses::lose_tenths;
 use crate::made::{Ends, new_pair};
@@ -19,25 +23,25 @@ use lapd_testing::Text;
 use std::alloc::Global;
 use std::test::Fail;
 
-/// What a step comes to that finds no memory, or of which the words are not known.
+/// The result of a step whose allocation fails or whose words are unknown.
 const NO_MEMORY: &str = " refused P5 Memory";
 
-/// What is led through rows of steps.
+/// The state while rows of steps are made.
 #[derive(Drop)]
 struct Scene {
     alloc: Global,
     /// The pair of the row.
     pair: Option<Pair>,
-    /// What the last step came to.
+    /// The result of the last step.
     text: Text,
-    /// The name of the row, and the line of the step.
+    /// The name of the row, and below it the line of the step.
     row: &'static str,
     line: &'static str,
-    /// The last step to which memory was refused, or none.
+    /// The last step whose allocation failed, or an empty text.
     refused: &'static str,
 }
 
-/// Leads new pairs through rows of steps, each with its name behind `#`.
+/// Makes rows of steps with new pairs. A line that begins with `#` names a row.
 pub(crate) fn lead(rt: &HostRuntime, rows: &'static str) -> Result<(), Fail> {
     let mut scene = Scene {
         alloc: rt.alloc(),
@@ -55,7 +59,7 @@ pub(crate) fn lead(rt: &HostRuntime, rows: &'static str) -> Result<(), Fail> {
 }
 
 impl Scene {
-    /// Prints where memory was refused, and fails where a step is wrong.
+    /// Prints the step whose allocation failed, and fails if a step has the wrong result.
     fn tell(&self, rt: &HostRuntime, all_hold: bool) -> Result<(), Fail> {
         if !self.refused.is_empty() {
             println!(rt; "memory is refused: {}", self.refused)?;
@@ -70,7 +74,8 @@ impl Scene {
         }
     }
 
-    /// Whether a step comes to what stands behind it, at the second try where the first finds no memory. The name of a row does.
+    /// Whether a step has the result written after its colon, on the second try if an allocation
+    /// fails on the first. Always true for the name of a row.
     fn holds(&mut self, line: &'static str) -> bool {
         if line.starts_with("#") {
             self.row = line;
@@ -86,7 +91,7 @@ impl Scene {
         self.text.as_str() == wanted
     }
 
-    /// Makes a step, or a new pair.
+    /// Makes a step or creates a new pair.
     fn make(&mut self, words: &str, wanted: &str) {
         self.text.clear();
         if words.starts_with("new") {
@@ -99,7 +104,7 @@ impl Scene {
     }
 }
 
-/// What both ends are made with.
+/// The parameters of both ends.
 fn ends_of(words: &str) -> Ends {
     match words {
         "new, k=1" => (1, 512, Enquiry, Enquiry),
@@ -111,7 +116,7 @@ fn ends_of(words: &str) -> Ends {
     }
 }
 
-/// Makes a step. Where it is refused, the pair has to show what it showed, and it always has to be safe.
+/// Makes a step, and notes a refused step that changed the pair, and an unsafe history.
 fn keep(alloc: Global, pair: &mut Pair, words: &str, wanted: &str, text: &mut Text) {
     let mut before = Text::new();
     put_pair(&mut before, pair);
@@ -123,7 +128,7 @@ fn keep(alloc: Global, pair: &mut Pair, words: &str, wanted: &str, text: &mut Te
     text.mark(", and unsafe", !are_safe(pair));
 }
 
-/// Makes a step, and writes what it comes to.
+/// Makes a step, and writes its result.
 fn act(alloc: Global, pair: &mut Pair, words: &str, wanted: &str, text: &mut Text) {
     match words {
         "user shows" => put_side(text, pair, Side::User),
@@ -136,7 +141,7 @@ fn act(alloc: Global, pair: &mut Pair, words: &str, wanted: &str, text: &mut Tex
     }
 }
 
-/// Lets the line settle, and writes how many moves that takes where they are more than these.
+/// Lets the line settle, and writes how many moves that took, if more than `most`.
 fn settle(pair: &mut Pair, most: u64, text: &mut Text) {
     match pair.settle() {
         Ok(done) => {
@@ -149,7 +154,8 @@ fn settle(pair: &mut Pair, most: u64, text: &mut Text) {
     }
 }
 
-/// Makes the moves that are named with `, ` between two at once, behind the word `run`, and writes how many of them are skipped.
+/// Makes the moves after the word `run`, separated by `, `, in one call, and writes how many are
+/// skipped.
 fn run(alloc: Global, pair: &mut Pair, words: &str, text: &mut Text) {
     let mut all = Vec::new(alloc);
     let mut are_put = true;
@@ -172,7 +178,7 @@ fn make_named(alloc: Global, pair: &mut Pair, words: &str, wanted: &str, text: &
     }
 }
 
-/// Makes a move, and writes what it comes to.
+/// Makes a move, and writes its result.
 fn make_move(pair: &mut Pair, deed: &Move, wanted: &str, text: &mut Text) {
     let to = deed.side().other();
     let before = pair.line(to).len();

@@ -1,10 +1,15 @@
-//! What a pair shows, as text.
+//! The state of a pair as text.
 //!
-//! A side shows ` state 7, V 3 2 0, RC 1, T200, sent 1 of 03, begun [0], gave 01 02 03, in 1 acked 1 acked 1, line 00810106`: its
-//! state, V(S), V(A) and V(R), each condition that is set, RC, each timer that runs, how many messages of its I queue are sent, for
-//! each establishment how many messages it had received before, the messages that it was given, for each of these the
-//! establishment in which it was last sent, 0 for none, and what became of it, the messages that it `got`, each with the
-//! establishment in which it came, the unit data that it received, and what is on its way to it.
+//! A side prints as ` state 7, V 3 2 0, RC 1, T200, sent 1 of 03, begun [0], gave 01 02 03, in 1
+//! acked 1 acked 1, line 00810106`, in this order:
+//!
+//! - its state, V(S), V(A) and V(R), each condition that is set, RC, and each timer that runs;
+//! - how many messages of its I queue are sent;
+//! - for each establishment, how many messages it had received before;
+//! - the messages that it submitted, and for each the establishment in which it was last sent (0 if
+//!   never) and its fate;
+//! - the messages that it `got`, each with the establishment in which it arrived;
+//! - the unit data that it received, and the frames in transit to it.
 
 use arrayvec::ArrayVec;
 use lapd_frame::Side;
@@ -12,13 +17,13 @@ use lapd_link::{IQueue, Link, Timer, Window};
 use lapd_pair::{Ending, Fate, Pair, Received};
 use lapd_testing::Text;
 
-/// Puts octets behind a space, in hexadecimal digits.
+/// Appends a space and the octets in hexadecimal digits.
 fn put_hex(text: &mut Text, octets: &[u8]) {
     text.put(" ");
     text.hex(octets);
 }
 
-/// Puts a word and frames behind, where there are some.
+/// Appends a word and the frames, if there are any.
 pub(crate) fn put_frames(text: &mut Text, word: &str, frames: &[ArrayVec<u8, 264>]) {
     text.mark(word, !frames.is_empty());
     for frame in frames {
@@ -26,13 +31,13 @@ pub(crate) fn put_frames(text: &mut Text, word: &str, frames: &[ArrayVec<u8, 264
     }
 }
 
-/// Puts behind what both sides show.
+/// Appends the state of both sides.
 pub(crate) fn put_pair(text: &mut Text, pair: &Pair) {
     put_side(text, pair, Side::User);
     put_side(text, pair, Side::Network);
 }
 
-/// Puts behind what a side shows.
+/// Appends the state of one side.
 pub(crate) fn put_side(text: &mut Text, pair: &Pair, side: Side) {
     put_link(text, pair.link(side));
     text.made(", begun ", pair.begun(side));

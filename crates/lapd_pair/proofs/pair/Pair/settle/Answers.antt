@@ -28,13 +28,13 @@ returns-in_default-clause-safe c = pair_is_safe _
 pub returns-in_default-clause-readers : goal.returns-in_default-clause-readers
 returns-in_default-clause-readers c = readings_are_safe _
 
--- ---- Memory is refused.
+-- ---- An allocation fails.
 
 pub returns-in-Err-clause-err : goal.returns-in-Err-clause-err
 returns-in-Err-clause-err c = λ w s. stopped_at c.args.self.now c.loop-moves.self c.apply_into.new.self c.loop-moves.moves (move_of c.in-Some.deed) c.in-Err.fault c.loop-moves.invariant c.in-Some.ensures c.in-Err.ensures.err c.in-Err.ensures.unchanged w s
     (omega (arith, c.most_moves-most.ensures w s, c.loop-moves-test.true))
 
--- ---- All are made.
+-- ---- All moves are made.
 
 pub returns-clause-ok : goal.returns-clause-ok
 returns-clause-ok c = λ w s. all_made c.args.self.now c.loop-moves.self c.most_moves-most.result c.is_none.result (subst (λ n. AreMade c.args.self.now n c.loop-moves.self) (omega (arith, c.loop-moves-test.false, c.loop-moves.auto.moves-end)) c.loop-moves.invariant) (λ u su. none_told c.next_move-2.result c.is_none.result c.is_none.ensures ∙ sym (none_mapped (λ m. move_of m) c.next_move-2.result) ∙ ap is_none (c.next_move-2.ensures u su)) w s (c.most_moves-most.ensures w s)
