@@ -162,7 +162,7 @@ impl Pair {
     }
 }
 
-/// What a pair shows.
+/// The contents of a pair.
 impl Pair {
     ghost use Rattle.lapd_link.specs.Link.{LinkStandsFor, setup_of};
     ghost use Rattle.lapd_frame.specs.Address.{other_side};
