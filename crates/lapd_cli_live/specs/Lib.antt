@@ -9,4 +9,5 @@ pub mod LineDone
 pub mod PromptLine
 pub mod Passed
 pub mod Typed
+pub mod Unseen
 pub mod Delays

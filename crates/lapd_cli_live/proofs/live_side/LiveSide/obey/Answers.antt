@@ -11,7 +11,7 @@ pub returns : goal.returns
 returns g c =
     let asked = c.in_ok-line.line in
     let done_at = state_of g.O.Outside.deeds g.W.Write.contents c.do_line.new.self in
-    let begun = ap (λ x. state_of g.O.Outside.deeds g.W.Write.contents x) c.begin_line.ensures in
+    let begun = ap (λ x. state_of g.O.Outside.deeds g.W.Write.contents x) c.begin_line.ensures.same in
     on_ok c.flush-2.result _ _
     (λ prints. record {
       own = c.own_tei-own.result;
