@@ -8,3 +8,4 @@ pub mod LineDone
 pub mod PromptLine
 pub mod Typed
 pub mod Sessions
+pub mod Unseen

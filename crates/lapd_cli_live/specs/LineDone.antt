@@ -44,3 +44,8 @@ pub record Obeys (octets : List ℕ) (lines : Lines) (a b : LiveState) : Type 0 
   pub done_at : LiveState
   pub does : LineDone asked lines a done_at
   pub beside : HappenBeside [] done_at b
+
+-- `expect` where no line that begins so was printed before: only a line that is printed from here on is found
+abbrev pub ExpectsFromHere : List ℕ → ℕ → Lines → Bool → LiveState → LiveState → Type 0
+ExpectsFromHere words ms lines true a b = Expects words ms lines true a b
+ExpectsFromHere words ms lines false a b = MissesLine words ms lines a b

@@ -13,10 +13,12 @@ use lapd_sides::{EitherSide, LinkId, SideKind, Tei};
 use std::io::Write;
 
 impl<O: Outside, W: Write> LiveSide<O, W> {
-    ghost use Rattle.lapd_cli_live.specs.Log.{Between};
+    ghost use Rattle.std.specs.Prelude.{[], true, false, Ok, if◌then◌else◌};
+    ghost use Rattle.lapd_cli_live.specs.Log.{Between, HappenBeside};
     ghost use Rattle.lapd_cli_live.specs.StateLines.{PutsManagement, PutsState, StateEach, StatesAll, StatesCounts, StatesLink};
-    ghost use Rattle.lapd_cli_live.specs.LineDone.{ExpectDone};
+    ghost use Rattle.lapd_cli_live.specs.LineDone.{ExpectDone, ExpectsFromHere};
     ghost use Rattle.lapd_cli_live.specs.Sessions.{AwaitsInput, ObeysAs, RequestEnds};
+    ghost use Rattle.lapd_cli_live.specs.Unseen.{has_line, kept_lines};
     ghost use Rattle.lapd_cli_live.specs.WaitingLines.{Expects, Reads, Runs};
 
     /// Does what a line requests, which comes without its line feed. If `lines` are awaited, a further line of input cuts the waits
@@ -52,9 +54,11 @@ impl<O: Outside, W: Write> LiveSide<O, W> {
 
     /// A line of input is done now. Unless it expects a line, those that were printed before are forgotten.
     fn begin_line(&mut self, is_expect: bool)
-        ensures { self.new ≡ record self.old {
+        ensures same { self.new ≡ record self.old {
           printer = record self.old.printer { unseen = self.new.printer.unseen };
         } }
+        ensures lines { kept_lines self.new.printer.unseen
+            ≡ (if is_expect then kept_lines self.old.printer.unseen else []) }
     {
         if !is_expect {
             self.printer.forget_unseen();
@@ -137,8 +141,13 @@ impl<O: Outside, W: Write> LiveSide<O, W> {
     /// Serves the side until a line is printed that begins with these words, unless one was printed while this line of input was
     /// awaited. Whether one was; else that is printed.
     fn expect(&mut self, words: &[u8], ms: u64, lines: Lines) -> Result<bool, LiveFault>
-        ensures { IfOk result (λ found. Between O.deeds W.contents self.old self.new
+        ensures done { IfOk result (λ found. Between O.deeds W.contents self.old self.new
             (ExpectDone words.now ms lines found)) }
+        ensures seen { has_line words.now self.old.printer.unseen ≡ true
+            → (result ≡ Ok true) × Between O.deeds W.contents self.old self.new (HappenBeside []) }
+        ensures unseen { has_line words.now self.old.printer.unseen ≡ false → IfOk result
+            (λ found. Between O.deeds W.contents self.old self.new
+            (ExpectsFromHere words.now ms lines found)) }
     {
         if self.printer.take_unseen(words) {
             return Ok(true);

@@ -44,7 +44,9 @@ pub struct Printer<W> {
 }
 
 impl<W: Write> Printer<W> {
+    ghost use Rattle.std.specs.Prelude.{true, false};
     ghost use Rattle.lapd_cli_live.specs.Printers.{Awaits, PrintsOn, PutsLine};
+    ghost use Rattle.lapd_cli_live.specs.Unseen.{has_line, kept_lines, with_line};
 
     /// Prints lines of this style.
     pub fn new(alloc: Global, out: W, style: Style) -> Printer<W>
@@ -52,6 +54,8 @@ impl<W: Write> Printer<W> {
         ensures text { result.text.items ≡ [] }
         ensures style { result.style ≡ style }
         ensures moment { result.moment ≡ 0 }
+        ensures lines { kept_lines result.unseen ≡ [] }
+        ensures kept { result.unseen.is_kept ≡ false }
     {
         Printer {
             alloc,
@@ -115,14 +119,18 @@ impl<W: Write> Printer<W> {
 
     /// A line of input is awaited: lines that are printed meanwhile are kept for an `expect` that comes next.
     pub(crate) fn keep_unseen(&mut self)
-        ensures { self.new ≡ record self.old { unseen = self.new.unseen } }
+        ensures same { self.new ≡ record self.old { unseen = self.new.unseen } }
+        ensures lines { kept_lines self.new.unseen ≡ kept_lines self.old.unseen }
+        ensures kept { self.new.unseen.is_kept ≡ true }
     {
         self.unseen.keep();
     }
 
     /// A line of input is done now, which looks for no line.
     pub(crate) fn forget_unseen(&mut self)
-        ensures { self.new ≡ record self.old { unseen = self.new.unseen } }
+        ensures same { self.new ≡ record self.old { unseen = self.new.unseen } }
+        ensures lines { kept_lines self.new.unseen ≡ [] }
+        ensures kept { self.new.unseen.is_kept ≡ false }
     {
         self.unseen.forget();
     }
@@ -130,7 +138,9 @@ impl<W: Write> Printer<W> {
     /// Whether a line was printed that begins with these words, while a line of input was awaited. It is forgotten, with the lines
     /// before it; all of them are, if there is none.
     pub(crate) fn take_unseen(&mut self, words: &[u8]) -> bool
-        ensures { self.new ≡ record self.old { unseen = self.new.unseen } }
+        ensures same { self.new ≡ record self.old { unseen = self.new.unseen } }
+        ensures found { result ≡ has_line words.now self.old.unseen }
+        ensures kept { self.new.unseen.is_kept ≡ false }
     {
         self.unseen.take(words)
     }
@@ -387,10 +397,13 @@ impl<W: Write> Printer<W> {
 
     /// Notices whether the line that stands in the room for it is awaited, and keeps it for an `expect` to come.
     fn notice_line(&mut self) -> Result<(), AllocError>
-        ensures { OnOk result (self.new ≡ record self.old {
+        ensures found { OnOk result (self.new ≡ record self.old {
           is_found = self.old.is_found || begins self.old.awaited.items (string_bytes self.old.line);
           unseen = self.new.unseen;
         }) }
+        ensures lines { OnOk result (kept_lines self.new.unseen ≡ with_line
+            self.old.unseen.is_kept (string_bytes self.old.line) (kept_lines self.old.unseen)) }
+        ensures kept { OnOk result (self.new.unseen.is_kept ≡ self.old.unseen.is_kept) }
     {
         if begins_so(self.awaited.as_slice(), self.line.as_bytes()) {
             self.is_found = true;

@@ -1,0 +1,23 @@
+-- Lines that were printed while a line of input was awaited, for an `expect` to come.
+use Rattle.std.specs.Prelude.{ℕ, Bool, nat_le, nat_eq, if◌then◌else◌, List, [], ◌∷◌, ◌++◌, length, map}
+use Rattle.std.specs.List.{list_any, starts_with}
+use Rattle.std.specs.declared.alloc.Global.{Global}
+use Rattle.std.specs.declared.vec.Vec.{Vec}
+use Rattle.lapd_cli_live.specs.declared.unseen.Unseen.{Unseen}
+
+-- the octets of the kept lines, in the order in which they were printed
+abbrev pub kept_lines : Unseen → List (List ℕ)
+kept_lines unseen = map (λ line. line.items) unseen.lines.items
+
+-- A line is printed. If lines are kept, it is kept behind the others; the others are forgotten if they are 1,000.
+abbrev pub with_line : Bool → List ℕ → List (List ℕ) → List (List ℕ)
+with_line kept line lines = if kept
+    then (if nat_le 1000 (length lines) then [] else lines) ++ line ∷ [] else lines
+
+-- a line begins with these words
+abbrev pub begins_with : List ℕ → Vec ℕ Global → Bool
+begins_with words line = starts_with nat_eq line.items words
+
+-- one of the lines that are kept begins with these words
+abbrev pub has_line : List ℕ → Unseen → Bool
+has_line words unseen = list_any (begins_with words) unseen.lines.items
