@@ -4,10 +4,10 @@ use thiserror::Error;
 #[derive(Clone, Copy, Debug, PartialEq, Eq, Error)]
 pub enum CaptureFault {
     /// It begins as no pcap and no pcapng, or a section tells no byte order.
-    #[error("no pcap or pcapng")]
+    #[error("not a pcap or pcapng file")]
     NotACapture,
     /// The link type of a pcap file is none of those that may hold frames.
-    #[error("link type is not served")]
+    #[error("unsupported link type")]
     LinkNotServed,
     /// It ends inside a header, a packet or a block.
     #[error("cut short")]
