@@ -4,10 +4,10 @@ use thiserror::Error;
 #[derive(Clone, Copy, Debug, PartialEq, Eq, Error)]
 pub enum CaptureFault {
     /// Neither a pcap nor a pcapng file, or a section has an unknown byte order.
-    #[error("no pcap or pcapng")]
+    #[error("not a pcap or pcapng file")]
     NotACapture,
     /// Frames can't be read from the link type of a pcap file.
-    #[error("link type is not served")]
+    #[error("unsupported link type")]
     LinkNotServed,
     /// It ends within a header, a packet or a block.
     #[error("cut short")]

@@ -73,7 +73,7 @@ pub fn say_ending(rt: &HostRuntime, ending: &Ending<'_>, ended: &Result<(), Stop
             Some(*fault)
         }
         Err(Stop::Unmet) => {
-            let _ = eprintln!(rt; "a line that was expected did not come in time");
+            let _ = eprintln!(rt; "an expected line was not printed in time");
             return ExitCode::from(REFUSED);
         }
     };

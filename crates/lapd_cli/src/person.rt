@@ -43,9 +43,9 @@ impl Person for Speaker<'_> {
 
     fn refuse_line(&mut self, line: &[u8]) {
         match reason(self.alloc, self.script, line) {
-            Ok(Some(why)) => self.notes.say(format_args!("not done: {why}")),
+            Ok(Some(why)) => self.notes.say(format_args!("refused: {why}")),
             Ok(None) => self.notes.say("not done"),
-            Err(_) => self.notes.say("not done: out of memory"),
+            Err(_) => self.notes.say("refused: out of memory"),
         }
     }
 

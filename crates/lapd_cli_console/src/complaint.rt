@@ -103,7 +103,7 @@ fn put_out_of_range<W: fmt::Write>(
 fn put_no_digit<W: fmt::Write>(form: &Form, octet: u8, f: &mut fmt::Formatter<W>) -> fmt::Result {
     write!(
         f,
-        "{form}: '{}' is no hexadecimal digit",
+        "{form}: '{}' is not a hexadecimal digit",
         octet.escape_ascii()
     )
 }

@@ -133,7 +133,7 @@ fn accepted(
         }),
         Ok(None) => None,
         Err(error) => {
-            notes.say(format_args!("no connection can be accepted now: {}", Reason(&error)));
+            notes.say(format_args!("cannot accept connections: {}", Reason(&error)));
             None
         }
     }

@@ -36,10 +36,10 @@ impl fmt::Display for Lost {
 pub fn words_of(fault: PortFault) -> &'static str {
     match fault {
         PortFault::End => "the other side has closed the connection",
-        PortFault::BadLength => "a length that is not from 3 to 264 came over the connection",
+        PortFault::BadLength => "received a bad frame length (not 3 to 264)",
         PortFault::Cut => "the other side closed the connection inside a frame",
         PortFault::Device => "the connection failed",
-        PortFault::TooManyTurns => "4,096 reads or writes did not move a whole frame",
-        PortFault::Failed => "the connection failed before",
+        PortFault::TooManyTurns => "no complete frame after 4,096 reads or writes",
+        PortFault::Failed => "the connection had already failed",
     }
 }

@@ -51,7 +51,7 @@ pub const SAPI16: &str = "With --pri, serves SAPI 16 beside SAPI 0, as is done w
 
 /// The help of the options of `decode`.
 pub const LOOSE: &str =
-    "Takes spaces, colons and brackets among the digits, and libpri's own lines";
+    "Allows spaces, colons and brackets among the digits, and libpri's own lines";
 
 pub const SENDER: &str =
     "Who sent what is behind > in libpri's lines, and frames of which a capture does not tell";
@@ -120,7 +120,7 @@ At a terminal:
   frame are those between its flags, without the frame check sequence. If there are no octets, HEX is
   left out together with the space before it, in what is read and in what is printed.
 
-Faults of octets that are no frame:
+Faults of octets that do not form a valid frame:
   F1 TooShort          there are fewer than 3 octets, or the second control octet is missing
   F2 BadAddress        the EA bit of the first octet is 1, or that of the second octet is 0
   F3 SapiNotServed     the SAPI is not 0, 16 or 63
@@ -143,7 +143,7 @@ Exit status:
      the file or the socket can't be had
   4  `out of memory`
   5  with --strict: the script was answered to its end, and `refused` was printed for a line; with
-     --clock real: a line that was expected did not come in time
+     --clock real: an expected line was not printed in time
 The text goes to standard error; of 1, 3 and 5 a second line tells why. Nothing is said where standard
 output is a pipe that nobody reads any more.";
 
@@ -158,7 +158,7 @@ Lines of the script:
   release            layer 3 asks for the link to be released (DL-RELEASE request)
   give HEX           layer 3 gives a message of at most 260 octets (DL-DATA request)
   unit HEX           layer 3 gives unit data of at most 260 octets (DL-UNIT DATA request)
-  busy on, busy off  this end becomes unable, or able again, to take messages (own receiver busy)
+  busy on, busy off  this end becomes unable, or able again, to receive messages (own receiver busy)
   state              the state is asked for
 There is no clock: a timer that was started expires where the script says so.
 
@@ -294,7 +294,7 @@ What is printed for a line: nothing, or in this form each thing that it leads to
                     there is no such terminal or message, or the timer does not run
   refused U2 HeardBefore
                     the terminal has heard this message before
-What is refused changes nothing.
+A refused request changes nothing.
 
 States of a terminal:
   1  TEI unassigned: it hears checks and removals, and does nothing
@@ -343,7 +343,7 @@ Lines of the script:
   lose SIDE N        frame N of those on their way to this side is lost; the first is 0
   expire200 SIDE     its timer T200 expires
   expire203 SIDE     its timer T203 expires
-  busy SIDE on       it becomes unable to take messages (own receiver busy)
+  busy SIDE on       it becomes unable to receive messages (own receiver busy)
   busy SIDE off      it is able again
   restart SIDE       it begins anew in state 4; its I queue is dropped, and the line is empty in both
                      directions
@@ -506,7 +506,7 @@ then what the layers above are told:
   refused L1 NotEstablished
                         the link refuses, by one of L1 to L5
   refused S1 End        `read`: the other side has closed the connection
-What is refused changes nothing. Octets with one of F1 to F3, and what is for no link, are printed and
+A refused request changes nothing. Octets with one of F1 to F3, and what is for no link, are printed and
 discarded. Octets with one of F4 to F7 are printed, and their link reports them.
 
 With --json each line is an object, with its members in the order of their names. A frame has those that
@@ -558,7 +558,7 @@ done. These lines wait:
   expect WORDS.. MS     until a line is printed that begins with WORDS, for MS milliseconds at most; then
                         `expected WORDS..` is printed, and the script ends with exit status 5
 MS is 1 to 3600000. `tick` is not valid then; the other lines above are, and these:
-  busy SAPI TEI on      this side becomes unable to take messages of the link (own receiver busy)
+  busy SAPI TEI on      this side becomes unable to receive messages of the link (own receiver busy)
   busy SAPI TEI off     it is able again
   state [SAPI TEI]      the state of the link, or of each: state, V(S), V(A), V(R), RC, the messages in its
                         queue, who is busy, and the timers that run with the milliseconds left of each
@@ -633,7 +633,7 @@ then what the layers above are told:
   refused L1 NotEstablished
                         the link refuses, by one of L1 to L5
   refused S1 End        `read`: the other side has closed the connection
-What is refused changes nothing. Octets with one of F1 to F3, and what is for no link, are printed and
+A refused request changes nothing. Octets with one of F1 to F3, and what is for no link, are printed and
 discarded. Octets with one of F4 to F7 are printed, and their link reports them.
 
 With --json each line is an object, with its members in the order of their names. A frame has those that

@@ -34,10 +34,10 @@ impl fmt::Display for NoInvocation<'_> {
             NoInvocation::OutOfRange(fault) => writeln!(f, "{fault}"),
             NoInvocation::NoAddress(fault) => writeln!(f, "{fault}"),
             NoInvocation::NotReal(option) => {
-                writeln!(f, "error: --{option} goes with --clock real")
+                writeln!(f, "error: --{option} requires --clock real")
             }
             NoInvocation::OneTerminal => {
-                f.write_str("error: --idle-limit goes with --terminals above 1\n")
+                f.write_str("error: --idle-limit requires --terminals above 1\n")
             }
             NoInvocation::Memory => f.write_str("out of memory\n"),
         }

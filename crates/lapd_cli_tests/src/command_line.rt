@@ -161,18 +161,18 @@ lapd answer --room 18446744073709551617 => error: invalid value '184467440737095
 lapd loop --n200 101 => error: invalid value '101' for '--n200 <TIMES>': not a number from 1 to 100 in decimal digits~
 lapd bus --terminals 0 => error: invalid value '0' for '--terminals <TERMINALS>': not a number from 1 to 127 in decimal digits~
 lapd bus --terminals 128 => error: invalid value '128' for '--terminals <TERMINALS>': not a number from 1 to 127 in decimal digits~
-lapd user --connect=a:1 --time => error: --time goes with --clock real~
-lapd net --listen=a:1 --clock=script --quiet => error: --quiet goes with --clock real~
-lapd net --listen=a:1 --terminals 1 => error: --terminals goes with --clock real~
-lapd net --listen=a:1 --serve => error: --serve goes with --clock real~
-lapd user --connect=a:1 --clock=script --keep => error: --keep goes with --clock real~
-lapd net --listen=a:1 --idle-limit 1000 => error: --idle-limit goes with --clock real~
-lapd net --listen=a:1 --clock=real --idle-limit 1000 => error: --idle-limit goes with --terminals above 1~
-lapd net --listen=a:1 --clock=real --terminals=1 --idle-limit=1000 => error: --idle-limit goes with --terminals above 1~
+lapd user --connect=a:1 --time => error: --time requires --clock real~
+lapd net --listen=a:1 --clock=script --quiet => error: --quiet requires --clock real~
+lapd net --listen=a:1 --terminals 1 => error: --terminals requires --clock real~
+lapd net --listen=a:1 --serve => error: --serve requires --clock real~
+lapd user --connect=a:1 --clock=script --keep => error: --keep requires --clock real~
+lapd net --listen=a:1 --idle-limit 1000 => error: --idle-limit requires --clock real~
+lapd net --listen=a:1 --clock=real --idle-limit 1000 => error: --idle-limit requires --terminals above 1~
+lapd net --listen=a:1 --clock=real --terminals=1 --idle-limit=1000 => error: --idle-limit requires --terminals above 1~
 lapd net --listen=a:1 --clock=real --terminals=2 --idle-limit=0 => error: invalid value '0' for '--idle-limit <MS>': not a number from 1 to 3600000 in decimal digits~
 lapd net --listen=a:1 --clock=real --terminals=2 --idle-limit=3600001 => error: invalid value '3600001' for '--idle-limit <MS>': not a number from 1 to 3600000 in decimal digits~
-lapd net --listen=a:1 --pcap line.pcap => error: --pcap goes with --clock real~
-lapd user --connect=a:1 --gsmtap b:4729 => error: --gsmtap goes with --clock real~
+lapd net --listen=a:1 --pcap line.pcap => error: --pcap requires --clock real~
+lapd user --connect=a:1 --gsmtap b:4729 => error: --gsmtap requires --clock real~
 lapd net --listen=a:1 --clock=real --terminals=128 => error: invalid value '128' for '--terminals <TERMINALS>': not a number from 1 to 127 in decimal digits~
 lapd user --connect=a:1 --clock=real --gsmtap=b => error: invalid value 'b' for '--gsmtap <ADDRESS>': ADDRESS is an address and a port, as 127.0.0.1:4000~
 lapd net --listen foo => error: invalid value 'foo' for '--listen <ADDRESS>': ADDRESS is an address and a port, as 127.0.0.1:4000~

@@ -40,7 +40,7 @@ const UNSEEN: &[(&[u8], &str)] = &[
         "there is a tab in the line, and single spaces part its words",
     ),
     (b"user \xff", "the line is not UTF-8"),
-    (b"user 0\x1b", "user HEX: '\\x1b' is no hexadecimal digit"),
+    (b"user 0\x1b", "user HEX: '\\x1b' is not a hexadecimal digit"),
     (
         b"\x1b[A'",
         "'\\x1b[A\\'' is no line of decode; its lines are: user HEX, net HEX",

@@ -180,9 +180,9 @@ help
       state
     and help, which tells these, and quit, which ends the script
 fram 00
-    not done: 'fram' is no line of answer; its lines are: frame HEX, t200, t203, establish, release, give HEX, unit HEX, busy on|off, state
+    refused: 'fram' is no line of answer; its lines are: frame HEX, t200, t203, establish, release, give HEX, unit HEX, busy on|off, state
 frame 0
-    not done: frame HEX: an odd number of digits
+    refused: frame HEX: an odd number of digits
 
 # frame 0
 state 

@@ -148,7 +148,7 @@ pub const T201: NumberOption = NumberOption {
 pub const T202: NumberOption = NumberOption {
     name: "t202",
     value_name: "MS",
-    help: "How long T202 of the user side runs before a TEI is asked for again, in milliseconds, 1 to 3600000",
+    help: "How long T202 of the user side runs before a TEI is requested again, in milliseconds, 1 to 3600000",
     default: "2000",
     least: 1,
     most: 3_600_000,

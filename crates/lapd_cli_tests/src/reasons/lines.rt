@@ -3,8 +3,8 @@
 /// Bad lines, and why they are bad.
 pub(crate) const BAD: &str = "\
 answer: frame 0 => frame HEX: an odd number of digits
-answer: frame 0g => frame HEX: 'g' is no hexadecimal digit
-answer: give 0x1 => give HEX: 'x' is no hexadecimal digit
+answer: frame 0g => frame HEX: 'g' is not a hexadecimal digit
+answer: give 0x1 => give HEX: 'x' is not a hexadecimal digit
 answer: frame 00 01 => frame HEX: nothing may stand behind it, and '01' does
 answer: busy => busy on|off: on|off is missing
 answer: busy of => busy on|off: on|off is 'on' or 'off', not 'of'
@@ -34,7 +34,7 @@ net: establish 5 64 => establish SAPI TEI: SAPI is 0, 16 or 63, not '5'
 net: establish 256 64 => establish SAPI TEI: SAPI is 0, 16 or 63, not '256'
 net: check 128 => check TEI: TEI is a number from 0 to 127, not '128'
 net: ask => 'ask' is no line of net; its lines are: read, tick MS, establish SAPI TEI, release SAPI TEI, give SAPI TEI HEX, unit SAPI TEI HEX, check TEI
-user: give 0 64 0g => give SAPI TEI HEX: 'g' is no hexadecimal digit
+user: give 0 64 0g => give SAPI TEI HEX: 'g' is not a hexadecimal digit
 user: check 64 => 'check' is no line of user; its lines are: read, tick MS, establish SAPI TEI, release SAPI TEI, give SAPI TEI HEX, unit SAPI TEI HEX, ask
 net: state => 'state' needs --clock real
 net: run 5 => 'run' needs --clock real
