@@ -24,7 +24,7 @@ impl<R: Read, E: Write> Read for Greeting<R, E> {
     fn read(&mut self, octets: &mut [u8]) -> io::Result<usize> {
         if !self.is_said {
             self.is_said = true;
-            let greeting = b"lines are awaited: help lists them, and quit ends the script\n";
+            let greeting = b"type a line; help lists the lines, quit ends the script\n";
             let _ = self.errors.write_all(greeting);
         }
         self.reader.read(octets)

@@ -34,7 +34,7 @@ impl<'a> Speaker<'a> {
 
 impl Person for Speaker<'_> {
     fn greet(&mut self) {
-        self.notes.say("lines are awaited: help lists them, and quit ends the session");
+        self.notes.say("type a line; help lists the lines, quit ends the session");
     }
 
     fn tidied(&self, line: &[u8]) -> Result<Vec<u8>, AllocError> {
@@ -43,9 +43,9 @@ impl Person for Speaker<'_> {
 
     fn refuse_line(&mut self, line: &[u8]) {
         match reason(self.alloc, self.script, line) {
-            Ok(Some(why)) => self.notes.say(format_args!("refused: {why}")),
-            Ok(None) => self.notes.say("not done"),
-            Err(_) => self.notes.say("refused: out of memory"),
+            Ok(Some(why)) => self.notes.say(format_args!("not executed: {why}")),
+            Ok(None) => self.notes.say("not executed"),
+            Err(_) => self.notes.say("not executed: out of memory"),
         }
     }
 

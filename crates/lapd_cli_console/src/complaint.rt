@@ -41,7 +41,7 @@ impl fmt::Display for Complaint<'_> {
             Complaint::NotUtf8 => f.write_str("the line is not UTF-8"),
             Complaint::CarriageReturn => f.write_str("the line ends with a carriage return"),
             Complaint::Tab => f.write_str(
-                "there is a tab in the line, and single spaces part its words",
+                "the line contains a tab; separate words by single spaces",
             ),
             Complaint::SpaceAtFront => f.write_str("the line begins with a space"),
             Complaint::SpaceAtEnd => f.write_str("the line ends with a space"),
@@ -73,11 +73,11 @@ fn put_no_line<W: fmt::Write>(
         return write!(f, "{shown} {PASSES}");
     }
     let lines = Forms(forms(script));
-    write!(f, "{shown} is no line of {script}; its lines are: {lines}")
+    write!(f, "{shown} is not a line of {script}; valid lines: {lines}")
 }
 
 /// Why the real clock has no `tick`.
-const PASSES: &str = "is a line of the script's clock; with --clock real time passes by itself";
+const PASSES: &str = "is not valid with --clock real, where time passes by itself";
 
 /// Whether only the same command with the real clock has lines that begin with this word.
 fn needs_real_clock(script: Script, word: &[u8]) -> bool {
@@ -111,5 +111,5 @@ fn put_no_digit<W: fmt::Write>(form: &Form, octet: u8, f: &mut fmt::Formatter<W>
 /// Says which word follows a line that is complete without it.
 fn put_behind<W: fmt::Write>(form: &Form, word: &[u8], f: &mut fmt::Formatter<W>) -> fmt::Result {
     let word = Shown(word);
-    write!(f, "{form}: nothing may stand behind it, and {word} does")
+    write!(f, "{form}: unexpected {word} after it")
 }

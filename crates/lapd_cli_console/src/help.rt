@@ -22,6 +22,6 @@ pub fn put_help<W: Write>(script: Script, out: &mut W) -> io::Result<()> {
     }
     writeln!(
         out,
-        "and help, which tells these, and quit, which ends the {end}"
+        "help (prints this list), quit (ends the {end})"
     )
 }

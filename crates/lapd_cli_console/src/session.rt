@@ -89,7 +89,7 @@ impl<R: BufRead, E: Write> Session<R, E> {
             b"quit" | b"exit" => Ok(Fate::Ends),
             typed => match reason(self.alloc, self.script, typed)? {
                 Some(reason) => {
-                    let _ = writeln!(self.errors, "refused: {reason}");
+                    let _ = writeln!(self.errors, "not executed: {reason}");
                     Ok(Fate::Answered)
                 }
                 None => {

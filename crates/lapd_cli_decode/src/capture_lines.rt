@@ -92,7 +92,7 @@ fn print_next<W: Write, E: Write>(
             if !how.keeping {
                 return Err(stop);
             }
-            let _ = writeln!(errors, "passed over: {stop}");
+            let _ = writeln!(errors, "skipped: {stop}");
             Ok(false)
         }
         Err(fault) => Err(CaptureStop::Capture(fault, place)),

@@ -131,7 +131,7 @@ impl<E: Write> Command for GoodLines<E> {
     fn run<W: Write>(&mut self, line: &[u8], out: &mut W) -> Result<(), LineFault> {
         match self.decoder.decode(line, out) {
             Err(LineFault::Bad) => {
-                let _ = writeln!(self.errors, "passed over: {}", line.escape_ascii());
+                let _ = writeln!(self.errors, "skipped: {}", line.escape_ascii());
                 Ok(())
             }
             ended => ended,

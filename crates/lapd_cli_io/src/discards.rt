@@ -62,7 +62,7 @@ fn place_of(id: &LinkId) -> usize
 impl fmt::Display for Discard {
     fn fmt<W: fmt::Write>(&self, f: &mut fmt::Formatter<W>) -> fmt::Result {
         let (sapi, tei) = (self.id.sapi, self.id.tei);
-        write!(f, "discarded: no link of SAPI {sapi} TEI {tei}")?;
+        write!(f, "discarded: no link with SAPI {sapi} TEI {tei}")?;
         // TEI 0 is the usual TEI at primary rate.
         match (tei.value(), self.is_primary) {
             (0, false) => f.write_str("; is the other side --pri and this one not?"),

@@ -26,8 +26,8 @@ impl fmt::Display for Lost {
     fn fmt<W: fmt::Write>(&self, f: &mut fmt::Formatter<W>) -> fmt::Result {
         match self {
             Lost::Port(fault) => f.write_str(words_of(*fault)),
-            Lost::NotTaken => f.write_str("what was sent was not taken"),
-            Lost::Idle(limit) => write!(f, "no whole frame came for {limit} ms"),
+            Lost::NotTaken => f.write_str("the peer did not accept a frame in time"),
+            Lost::Idle(limit) => write!(f, "no complete frame was received for {limit} ms"),
         }
     }
 }

@@ -91,7 +91,7 @@ impl Errors {
     fn text_of<D: Display + Drop>(&self, rt: &HostRuntime, note: D) -> Result<Vec<u8>, AllocError> {
         let text = match self.given_up {
             0 => format!(in rt.alloc(); "{note}")?,
-            count => format!(in rt.alloc(); "notes that were given up here: {count}\n{note}")?,
+            count => format!(in rt.alloc(); "dropped notes: {count}\n{note}")?,
         };
         let mut octets = text.into_bytes();
         octets.truncate(MOST_OCTETS - 1);

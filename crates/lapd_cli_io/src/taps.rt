@@ -93,7 +93,7 @@ impl Taps<'_> {
         self.begun = Some(begun);
         if let Err(error) = capture.write(from, begun.saturating_add(moment), frame) {
             self.notes
-                .say(format_args!("the capture ends here: {}", Reason(&error)));
+                .say(format_args!("capture stopped: {}", Reason(&error)));
             self.capture = None;
         }
     }

@@ -37,13 +37,13 @@ const UNSEEN: &[(&[u8], &str)] = &[
     (b"user 00\r", "the line ends with a carriage return"),
     (
         b"user\t00",
-        "there is a tab in the line, and single spaces part its words",
+        "the line contains a tab; separate words by single spaces",
     ),
     (b"user \xff", "the line is not UTF-8"),
     (b"user 0\x1b", "user HEX: '\\x1b' is not a hexadecimal digit"),
     (
         b"\x1b[A'",
-        "'\\x1b[A\\'' is no line of decode; its lines are: user HEX, net HEX",
+        "'\\x1b[A\\'' is not a line of decode; valid lines: user HEX, net HEX",
     ),
 ];
 

@@ -178,11 +178,11 @@ help
       unit HEX
       busy on|off
       state
-    and help, which tells these, and quit, which ends the script
+    help (prints this list), quit (ends the script)
 fram 00
-    refused: 'fram' is no line of answer; its lines are: frame HEX, t200, t203, establish, release, give HEX, unit HEX, busy on|off, state
+    not executed: 'fram' is not a line of answer; valid lines: frame HEX, t200, t203, establish, release, give HEX, unit HEX, busy on|off, state
 frame 0
-    refused: frame HEX: an odd number of digits
+    not executed: frame HEX: an odd number of digits
 
 # frame 0
 state 

@@ -65,7 +65,7 @@ fn is_address(text: &str) -> bool {
 
 /// The value of an option is not an address.
 #[derive(Clone, Copy, Debug, Error)]
-#[error("error: invalid value '{shown}' for '--{name} <ADDRESS>': ADDRESS is an address and a port, as 127.0.0.1:4000", shown = .written.escape_debug(), name = .option.name)]
+#[error("error: invalid value '{shown}' for '--{name} <ADDRESS>': expected HOST:PORT, such as 127.0.0.1:4000", shown = .written.escape_debug(), name = .option.name)]
 pub struct NoAddress<'a> {
     option: AddressOption,
     written: &'a str,

@@ -84,7 +84,7 @@ fn passes_over(alloc: Global, printed: &mut Vec<u8>, told: &mut Vec<u8>) -> Resu
     let mut script = PASSED_OVER.as_bytes();
     let ended = decode_good_lines(alloc, &mut script, printed, form, style, &mut *told);
     let text = b"U>N SAPI 0 TEI 64 C SABME P=1\nN>U SAPI 0 TEI 64 R UA F=1\n".as_slice();
-    let passed = b"passed over: user  00817f\n".as_slice();
+    let passed = b"skipped: user  00817f\n".as_slice();
     all_hold(&[
         (ended == Ok(()), PASSED_OVER, "its end"),
         (printed.as_slice() == text, PASSED_OVER, "its text"),
