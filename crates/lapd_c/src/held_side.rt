@@ -5,11 +5,11 @@ ghost use Rattle.lapd_sides_links.specs.Effects.{no_effects};
 ghost use Rattle.lapd_sides.specs.Either.{Takes, Answers};
 ghost use Rattle.lapd_c.specs.Calls.{or_never, waiting, gives_nothing, is_full, without_first_frame, without_first_primitive, Asks, Ticks, TellsDeadline, TellsDiscarded, TellsState, FetchesFrame, FetchesPrimitive, overwritten};
 
+use crate::backlog::Backlog;
 use crate::codes::{DONE, MEMORY, NO_LINK, OUT_OF_RANGE, PENDING, code_of};
 use crate::flat_primitive::{FlatPrimitive, octets_of};
 use crate::link_state::LinkState;
 use lapd_sides::{Acts, EitherSide, LinkId, Primitive, Request};
-use lapd_sides_links::Backlog;
 use std::alloc::{AllocError, Global};
 
 /// A side, and the results of its calls that C has not fetched: the last in `acts`, the earlier

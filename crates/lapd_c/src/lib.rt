@@ -17,6 +17,7 @@ ghost use Rattle.lapd_trace.specs.Trace.{trace_line};
 ghost use Rattle.lapd_c.specs.FlatPrimitives.{link_of, nothing, sender};
 ghost use Rattle.lapd_c.specs.Settings.{IsNewNetwork, IsNewUser, network_config, user_config};
 
+mod backlog;
 mod box_parts;
 mod codes;
 mod flat_primitive;

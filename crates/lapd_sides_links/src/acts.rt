@@ -112,7 +112,7 @@ impl Acts {
     /// # Errors
     ///
     /// `AllocError` if an allocation failed. Nothing is moved.
-    pub(crate) fn move_behind(
+    pub fn move_behind(
         &mut self,
         frames: &mut Vec<ArrayVec<u8, MOST_OCTETS>>,
         primitives: &mut Vec<Primitive>,
@@ -210,7 +210,7 @@ fn fill_up(primitive: &mut Primitive, of: &LinkId, octets: &[u8])
 
 /// Removes the first item. The only item is dropped in place, not moved out.
 #[inline(always)]
-pub(crate) fn remove_first<T: Drop>(items: &mut Vec<T>)
+pub fn remove_first<T: Drop>(items: &mut Vec<T>)
     requires { 0 < length items.old.items }
     ensures items { items.new.items ≡ drop 1 items.old.items }
     ensures capacity { vec_capacity items.new ≡ vec_capacity items.old }

@@ -6,7 +6,6 @@
 #![tactic(auto)]
 
 mod acts;
-mod backlog;
 mod config;
 mod deadlines;
 mod link_set;
@@ -19,8 +18,7 @@ mod telling;
 mod timer_places;
 mod tournament;
 
-pub use acts::Acts;
-pub use backlog::Backlog;
+pub use acts::{Acts, remove_first};
 pub use config::Config;
 pub use deadlines::{due, next_deadline};
 pub use lapd_link::{Letter, LinkFault, Params, Sapi, Side, Tei};

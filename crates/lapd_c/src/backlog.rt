@@ -1,10 +1,10 @@
 ghost use Rattle.std.specs.Prelude.{◌≡◌, ◌<◌, length, drop, map, OnOk, OnErr};
 ghost use Rattle.lapd_sides_links.specs.Effects.{and_then, no_effects};
 
-use crate::acts::remove_first;
-use crate::{Acts, Primitive};
 use arrayvec::ArrayVec;
 use lapd_frame::MOST_OCTETS;
+use lapd_sides::{Acts, Primitive};
+use lapd_sides_links::remove_first;
 use std::alloc::{AllocError, Global};
 use std::marker::Model;
 
