@@ -33,7 +33,8 @@ beginning first next passed rejecting x = record {
   takes = record { vr = 0; rejecting = rejecting; received = x.takes.received };
 }
 
--- that place is among those submitted, and the peer received no message from there on
+-- that place is at most the number of messages submitted, and the peer received no message from
+-- there on
 pub record IsFresh (first next passed : ℕ) (x y : Party) : Type 0 where
   pub unsent : next ≡ first
   pub gone : passed ≡ first
@@ -67,14 +68,14 @@ known_of_none : (base low : ℕ) (received : List Receipt) (ns : List ℕ) → I
 known_of_none base low received [] climb = tt
 known_of_none base low received (n ∷ ns) climb = let none : n ≤ 0 = climb_top n 0 ns climb.1 in ((λ m less. absurd (omega (arith, less, none))), known_of_none base n received ns climb.1)
 
--- an end that has just begun meets the state 5 conditions on polls and REJ
+-- in state 5 the invariant excludes polls, finals and REJ
 none_asked : (state : State) (base : ℕ) (received : List Receipt) (out back : List Kind) → state ≡ AwaitingEstablishment → AreAsked state base received out back → NoneAsked out back
 none_asked state base received out back is w = subst (λ st. AreAsked st base received out back) is w
 
 none_rejected : (state : State) (vs base : ℕ) (received : List Receipt) (waiting : Option Hearing) (ns : List ℕ) → state ≡ AwaitingEstablishment → AreRejected state vs base received waiting ns → ns ≡ []
 none_rejected state vs base received waiting ns is w = subst (λ st. AreRejected st vs base received waiting ns) is w
 
--- the peer's state variables are 0
+-- the peer will process frames with V(R) = V(A) = 0
 pub record AreZero (h : Hearing) : Type 0 where
   pub vr : h.vr ≡ 0
   pub va : h.va ≡ 0
@@ -88,7 +89,7 @@ heard_from_start x y out here back come h (inl now) =
     record { vr = omega (arith, top, vr); va = omega (arith, low, va) }
 heard_from_start x y out here back come h (inr later) = record { vr = later.vr; va = later.va }
 
--- the frames to be processed carry no N(R)
+-- no message and no N(R) is to be processed
 silent_stream : (z y : Party) (first vr : ℕ) (rejecting : Bool) (ms : List Message) → ms ≡ [] → vr ≡ 0 → z.sends.base ≡ first → z.sends.va ≡ 0 → high y.takes.received ≤ first → IsStream true z.sends y.takes.received vr rejecting ms
 silent_stream z y first vr rejecting ms none zero_ base va above = rw (none, zero_) (record {
   placed = tt;

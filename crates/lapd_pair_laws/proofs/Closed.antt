@@ -97,7 +97,7 @@ unsaid_rejections (Enquiry nr ∷ ks) none = cc
 unsaid_rejections (Final nr ∷ ks) none = cc
 unsaid_rejections (k ∷ ks) none = unsaid_rejections ks none
 
--- the frames that follow an answer, and are processed, were sent after it
+-- if no N(R) is on the line, none is to be processed
 heard_part_nothing : (state : State) (leaving : Bool) (now : Hearing) (ks : List Kind) → numbers now.frames ≡ [] → numbers ks ≡ [] → numbers (frames_heard (heard_in state leaving now ks)) ≡ []
 heard_part_nothing TeiAssigned leaving now ks none gone = refl
 heard_part_nothing AwaitingEstablishment true now ks none gone = refl

@@ -165,7 +165,7 @@ module _ (base its_base place : ℕ) (octets : List ℕ) (view : View) (peer : S
     ready = d.ready;
   }
 
-  -- ---- It goes back.
+  -- ---- The side sets V(S) back.
 
   as_back : (state : State) (busy : Bool) (nr u v : ℕ) (out : List Kind) (a : ℕ) → state ≡ MultipleFrameEstablished → busy ≡ false → u ≡ v
       → Stream (record { state = MultipleFrameEstablished; t200 = false; busy = false; vs = nr; va = nr; unsent = v }) (sink peer.end) out ks a

@@ -48,8 +48,8 @@ pub ready_more : (fs : List Flight) (f : Flight) → is_ready f.control ≡ true
 ready_more [] f is ready = (is, tt)
 ready_more (g ∷ fs) f is ready = (ready.0, ready_more fs f is ready.1)
 
--- In mid-step, or between two steps: the frames in transit from the acting side, and the work still
--- to come.
+-- In mid-step, or between two steps: the frames in transit from the acting side, and the remaining
+-- work.
 pub record Draws (c : Context) (peer : End) (ks : List Kind) (n : ℕ) (s : StepState) : Type 0 where
   pub frames : List Flight
   pub so : (story c s).line ≡ frames
