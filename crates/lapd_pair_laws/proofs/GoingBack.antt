@@ -29,7 +29,7 @@ placed_backing nr s m p = record { place = p.place; same = p.same; sent = p.sent
 awaits_backing : (x : Party) (nr : ℕ) (back : List Kind) (n : ℕ) → IsAwaiting n (hearing_now x back) → IsAwaiting n (hearing_now (backing nr x) back)
 awaits_backing x nr back n w = record { rejecting = w.rejecting; at = w.at; above = w.above }
 
--- if the speaker received all that the numbers acknowledge, they are below what it received
+-- if none of the numbers exceeds `limit`, they do not decrease up to `limit`
 climb_within : (low top limit : ℕ) (ns : List ℕ) → low ≤ limit → Each (λ n. n ≤ limit) ns → IsClimb low top ns → IsClimb low limit ns
 climb_within low top limit [] le each climb = le
 climb_within low top limit (n ∷ ns) le each climb = (climb.0, climb_within n top limit ns each.0 each.1 climb.1)
@@ -38,7 +38,7 @@ known_below : (base limit n : ℕ) (received : List Receipt) → IsRow 0 0 recei
 known_below base limit zero received row names got = omega arith
 known_below base limit (suc n) received row names got = let last : base + n < high received = place_below 0 0 (base + n) received row (got n (omega arith)) in omega (arith, last, names)
 
--- no REJ of the peer is in hand or follows it, if this side is in state 7 afterwards
+-- if no REJ is in transit, the condition on REJ holds
 pub no_rejections : (state : State) (vs base : ℕ) (received : List Receipt) (waiting : Option Hearing) (ns : List ℕ) → ns ≡ [] → AreRejected state vs base received waiting ns
 no_rejections TeiAssigned vs base received waiting ns none = tt
 no_rejections AwaitingEstablishment vs base received waiting ns none = none
@@ -137,7 +137,8 @@ pub polls_heard : (P : List Kind → Type 0) (o : Option Hearing) → P (frames_
 polls_heard P None p = tt
 polls_heard P (Some h) p = p
 
--- the messages that the peer will process are stale, above the number that it awaits
+-- the messages that the peer will process are stale, above the number that it awaits, and so in
+-- order
 all_junk : (nr : ℕ) (h : Hearing) → IsAwaiting nr h → tally poll_of h.frames ≡ 0 → IsInOrder h.rejecting h.vr nr (messages h.frames)
 all_junk nr h w none = subst (λ b. IsInOrder b h.vr nr (messages h.frames)) (sym w.rejecting)
     (all_is_junk h.vr nr (messages h.frames) (none_polls h.frames none) (subst (λ v. Each (λ m. m.polled ≡ false → v < m.number) (messages h.frames)) (sym w.at) w.above))

@@ -119,7 +119,7 @@ asked_less AwaitingRelease base received p q w = tt
 asked_less MultipleFrameEstablished base received p q w = none_less p q w
 asked_less TimerRecovery base received p q w = one_less base received p q w
 
--- no frame of it is processed
+-- if none of the sender's frames will be processed
 none_at_all : (out : List Kind) {back back_was : List Kind} → Part back back_was → NoneAsked out back_was → NoneAsked [] back
 none_at_all out q w = let finals = part_tally final_of q in record { polls = refl; finals = omega (arith, w.finals, finals) }
 

@@ -73,7 +73,7 @@ open_asks_none TeiAssigned opened = cc
 open_asks_none AwaitingEstablishment opened = cc
 open_asks_none AwaitingRelease opened = cc
 
--- this side received all messages up to its V(R), as the peer will learn
+-- if the peer will process frames, this side received all its messages up to V(R)
 pub got_where_heard : {x y : Party} {out back : List Kind} → Mid x y out back → OnHearing (λ h. IsGot y.sends.base x.takes.vr x.takes.received) (hears y out)
 got_where_heard {x = x} {y = y} {out = out} {back = back} m =
     on_both (IsHeardAs y out) (IsHeard x y (Some (hearing_now x back))) (λ h. IsGot y.sends.base x.takes.vr x.takes.received) (hears y out) (λ h so i. got h so i) (heard_as y out) m.mine.heard

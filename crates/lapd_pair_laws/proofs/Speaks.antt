@@ -21,7 +21,7 @@ coming_more : (rejecting : Bool) (low end : ℕ) (ms : List Message) (m : Messag
 coming_more false low end ms m is c = whole_more low end ms m is c
 coming_more true low end ms m is c = junk_more low end ms m is c
 
--- The stream is unchanged.
+-- A stream depends on the line only through messages, polls, REJ, N(R) and finals.
 pub as_said : (x : Source) (y : Sink) (out back now left : List Kind) (a : ℕ) → messages now ≡ messages out → tally poll_of now ≡ tally poll_of out → rejections left ≡ rejections back → numbers left ≡ numbers back → tally final_of left ≡ tally final_of back
     → Stream x y out back a → Stream x y now left a
 as_said x y out back now left a same_messages polls same_rejections same_numbers finals s = by_stage s.stage s.so s.most

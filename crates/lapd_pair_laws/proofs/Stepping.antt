@@ -61,7 +61,7 @@ module _ (r : Reading) where
   stops zero w none = refl
   stops (suc n) w none = rw none refl
 
-  -- a fact of the settling moves is one of the first and the rest
+  -- the first settling move and the rest lead to the same next move as all of them
   behind : (n : ℕ) (w : World) (first : Move) (o : Option Move) → next_move r w ≡ Some first → next_move r (run r (settling r (suc n) w) w) ≡ o → next_move r (run r (settling r n (then_ first w)) (then_ first w)) ≡ o
   behind n w first o some is = ap (λ l. next_move r (run r l w)) (sym (first_is n w first some)) ∙ is
 

@@ -68,8 +68,8 @@ module _ (y : Source) (x : Sink) (m : Message) (nr : ℕ) (ks out : List Kind) w
   abbrev left : List Kind
   left = Status nr ∷ ks
 
-  -- The message is accepted, and its acknowledgement is appended to the line: an RR, a pending one,
-  -- or a final.
+  -- The message is accepted, and its acknowledgement is appended: a Status (an RR or an I frame
+  -- that will be sent) or a final.
   clean_taken : (u : Kind) → number_of u ≡ (x.vr + 1) ∷ [] → rejection_of u ≡ [] → m.number ≡ x.vr → IsClean y x back out → IsClean y (taking x) left (out ++ u ∷ [])
   clean_taken u says mild is c =
       let rest = whole_taken x.rejecting x.vr y.vs m (messages ks) is c.coming in
@@ -150,7 +150,7 @@ done y x k ks out b no_message no_poll s = by_stage s.stage s.so s.most
     by_stage Polling w most = record { stage = Polling; so = (w.0, omega (arith, w.1, no_poll)); most = most }
     by_stage Answered w most = record { stage = Answered; so = w; most = most }
 
--- The receiving side sends more, or the same.
+-- The receiving side sends more N(R), but no more REJ and finals.
 pub said_more : (y : Source) (x : Sink) (back out more : List Kind) (b : ℕ) → rejections more ≡ rejections out → ((n : ℕ) → IsAmong n (numbers out) → IsAmong n (numbers more)) → tally final_of more ≡ tally final_of out
     → Stream y x back out b → Stream y x back more b
 said_more y x back out more b same_rejections among finals s = by_stage s.stage s.so s.most

@@ -31,8 +31,8 @@ taking_receiver era m r = record { vr = r.vr + 1; rejecting = false; received = 
 abbrev pub taking : Message → Party → Party
 taking m x = record x { takes = taking_receiver x.sends.era m x.takes }
 
--- while a message is in hand, the peer processes no final and no REJ that would acknowledge what
--- was received without it
+-- while a message is in hand, the peer processes no final and no REJ that acknowledges only what
+-- was received before it
 with_message_asked : (state : State) (base : ℕ) (received after : List Receipt) (m : Message) (nr : ℕ) (ks back : List Kind)
     → AreAsked state base received (Numbered m nr ∷ ks) back → AreAsked state base received (left_of m.polled nr ∷ ks) back → AreAsked state base after (left_of m.polled nr ∷ ks) back
 with_message_asked TeiAssigned base received after m nr ks back w t = tt

@@ -29,7 +29,7 @@ pub record TellsFrame (c : Context) (frame : Flight) (s t : StepState) : Type 0 
 pub then_no_frame : {c : Context} {s t u : StepState} → TellsNoFrame c s t → TellsNoFrame c t u → TellsNoFrame c s u
 then_no_frame a b = record { line = b.line ∙ a.line; dropped = b.dropped ∙ a.dropped }
 
--- if the record is unchanged
+-- an action that leaves line and history unchanged sends no frame
 by_story : (c : Context) (s t : StepState) → story c t ≡ story c s → TellsNoFrame c s t
 by_story c s t same = record { line = ap (λ u. u.line) same; dropped = ap (λ u. u.history.dropped) same }
 
@@ -67,7 +67,7 @@ module _ (c : Context) (s : StepState) where
 
   -- ---- Frames.
 
-  -- if the record gains exactly this frame
+  -- an action that only appends this frame to the line sends this frame
   frame_by_story : (t : StepState) (frame : Flight) → story c t ≡ with_frame frame (story c s) → TellsFrame c frame s t
   frame_by_story t frame same = record { line = ap (λ u. u.line) same; dropped = ap (λ u. u.history.dropped) same }
 
