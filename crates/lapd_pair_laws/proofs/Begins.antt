@@ -33,8 +33,8 @@ beginning first next passed rejecting x = record {
   takes = record { vr = 0; rejecting = rejecting; received = x.takes.received };
 }
 
--- that place is at most the number of messages submitted, and the peer received no message from
--- there on
+-- the first waiting place is at most the number of messages submitted, and the peer received no
+-- message from there on
 pub record IsFresh (first next passed : ℕ) (x y : Party) : Type 0 where
   pub unsent : next ≡ first
   pub gone : passed ≡ first

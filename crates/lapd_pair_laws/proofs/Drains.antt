@@ -1,4 +1,4 @@
--- Each settling move reduces the remaining work: a frame is delivered.
+-- Delivering a frame reduces the remaining work.
 use Rattle.std.proofs.Common.{◌≡◌, ℕ, ◌-◌, true, false, List, ◌∷◌, refl, sym, subst, arith}
 use Rattle.lapd_frame.specs.declared.Side.TheVariants as side
 use Rattle.lapd_frame.specs.declared.Role.{Role}

@@ -29,7 +29,7 @@ placed_backing nr s m p = record { place = p.place; same = p.same; sent = p.sent
 awaits_backing : (x : Party) (nr : ℕ) (back : List Kind) (n : ℕ) → IsAwaiting n (hearing_now x back) → IsAwaiting n (hearing_now (backing nr x) back)
 awaits_backing x nr back n w = record { rejecting = w.rejecting; at = w.at; above = w.above }
 
--- if none of the numbers exceeds `limit`, they do not decrease up to `limit`
+-- if none of the rising numbers exceeds `limit`, they rise from `low` to at most `limit`
 climb_within : (low top limit : ℕ) (ns : List ℕ) → low ≤ limit → Each (λ n. n ≤ limit) ns → IsClimb low top ns → IsClimb low limit ns
 climb_within low top limit [] le each climb = le
 climb_within low top limit (n ∷ ns) le each climb = (climb.0, climb_within n top limit ns each.0 each.1 climb.1)

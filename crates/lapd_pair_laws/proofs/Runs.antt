@@ -22,7 +22,7 @@ next_rest false low end number rest next = next.2
 pub run_rest : (low end : ℕ) (m : Message) (ms : List Message) → IsRun low end (m ∷ ms) → IsRun (m.number + 1) end ms
 run_rest low end m ms run = next_rest m.polled low end m.number ms run
 
--- a message that polls, or has a number below `end`, is below it
+-- the first number of a run is below `end`, whether its message polls or not
 next_below : (polled : Bool) (low end number : ℕ) (rest : List Message) (Run : Type 0) → IsNext polled low end number rest Run → number < end
 next_below true low end number rest Run next = omega (arith, next.0)
 next_below false low end number rest Run next = next.1
@@ -97,7 +97,7 @@ first_gone : (polled : Bool) (low end number : ℕ) (rest : List Message) → Is
 first_gone true low end number rest next = subst (λ l. IsRun low end l) (sym next.1) tt
 first_gone false low end number rest next = run_lower (number + 1) low end rest (omega (arith, next.0)) next.2
 
--- a hearer that begins to reject
+-- messages in order for a hearer stay in order when it begins to reject
 pub order_is_junk : (rejecting : Bool) (low end : ℕ) (ms : List Message) → IsInOrder rejecting low end ms → IsJunkThenRun low end ms
 order_is_junk true low end ms order = order
 order_is_junk false low end ms order = run_is_junk low end ms order

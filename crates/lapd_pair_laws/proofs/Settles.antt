@@ -62,7 +62,7 @@ user_kept deed w same = rw (after_by_user w (acts Whole side.User deed (view_of 
 network_kept : (deed : Deed) (w : World) → SameDropped (swapped w) (world_after (swapped w) (happens Whole (user_move deed) (swapped w))) → SameDropped w (world_after w (happens Whole (network_move deed) w))
 network_kept deed w same = rw (network_alike Whole deed w) (record { user = same.network; network = same.user })
 
--- a settling line: a move is made, or none is possible, and then no T200 runs and the line is empty
+-- one settling move, if any is possible; else no T200 runs and the line is empty
 pub record MovesOn (n : ℕ) (w : World) : Type 0 where
   pub move : Move
   pub is : next_move Whole w ≡ Some move

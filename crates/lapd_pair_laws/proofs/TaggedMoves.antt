@@ -1,5 +1,5 @@
--- A move on tags has the same effect as on whole numbers if they are near each other; and so has a
--- run of moves.
+-- A move on tags has the same effect as on whole numbers if the numbers are near each other; and so
+-- has a run of moves.
 use Rattle.std.proofs.Common.{◌≡◌, ◌↔◌, ℕ, zero, suc, ◌+◌, ◌≤◌, nat_lt, if◌then◌else◌, Bool, true, false, List, [], ◌∷◌, map, length, Option, Some, None, Result, Ok, Err, refl, ap, ◌∙◌}
 use Rattle.std.specs.List.{position, position_or_len, remove}
 use Rattle.std.proofs.lemmas.List.{map-append, length-map}

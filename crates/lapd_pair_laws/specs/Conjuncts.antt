@@ -1,5 +1,6 @@
 -- The conjuncts of the invariant. Each is stated over the values that it reads, with one side as
--- speaker (it sends) and the other as hearer (it receives). All of them hold in both directions.
+-- speaker (it sends) and the other as hearer (it receives). All of them hold in both directions. A
+-- side is open in states 7 and 8, and closed otherwise.
 use Rattle.std.specs.Prelude.{◌≡◌, ◌⊎◌, ℕ, ◌+◌, ◌<◌, ◌≤◌, Bool, true, false, List, [], ◌∷◌, length, map, slice_get, Option, Some}
 use Rattle.lapd_link_definition.specs.declared.state.State.{State}
 use Rattle.lapd_link_definition.specs.declared.state.State.TheVariants.{TeiAssigned, AwaitingEstablishment, AwaitingRelease, MultipleFrameEstablished, TimerRecovery}

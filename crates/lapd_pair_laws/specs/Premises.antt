@@ -55,7 +55,7 @@ stale = admitted (of_network Establish ∷ of_user Deliver ∷ []) ++ StartsAnew
     ∷ admitted (of_network Establish ∷ of_user (Give (1 ∷ [])) ∷ of_user Deliver
     ∷ of_user (Give (2 ∷ [])) ∷ of_network Deliver ∷ of_network Deliver ∷ of_user Deliver ∷ [])
 
--- a SABME of the network overtakes its acknowledgement
+-- a SABME of the network overtakes the RR that the network sent before it
 abbrev pub overtaken : List Free
 overtaken = admitted (establishing ++ of_user (Give (1 ∷ [])) ∷ of_network Deliver
     ∷ of_network Establish ∷ []) ++ Overtakes side.User 1

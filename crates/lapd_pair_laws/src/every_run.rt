@@ -19,11 +19,11 @@ ghost use Rattle.lapd_pair_laws.specs.Invariant.{IsInvariant};
 ghost use Rattle.lapd_pair_laws.specs.Premises.{run_freely, hasty, stale, overtaken};
 ghost use Rattle.lapd_pair_laws.specs.Reports.{ReportsExpected, AllReportsExpected, AreFirstDue};
 
-/// A side receives what the other side submitted, in order and once each, after every run. A run is
-/// a list of moves from a new world, on whole numbers or on tags, with windows of up to 127. An end
-/// may use either procedure when T200 expires. Within one establishment no message is skipped, and
-/// every message that a sender counts as acknowledged was received. A move reports only F, G, H and
-/// I. The next frame to be delivered has a valid N(R), and no response arrives unsolicited.
+/// After every run, a side has received only messages that the other side submitted, in order and
+/// once each. A run is a list of moves from a new world, on whole numbers or on tags, with windows
+/// of up to 127 and either `Recovery`. Within one establishment no message is skipped, and every
+/// message that a sender counts as acknowledged was received. A move reports only F, G, H and I.
+/// The next frame to be delivered has a valid N(R), and no response arrives unsolicited.
 pub fn every_run_is_safe()
     ensures safe { (r : Reading) (user network : Parameters) → user.k ≤ 127 → network.k ≤ 127
         → (moves : List Move) → AreSafe (run r moves (new_world user network)) }

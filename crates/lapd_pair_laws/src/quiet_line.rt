@@ -11,10 +11,10 @@ ghost use Rattle.lapd_pair_laws.specs.Settle.{IsQuiet};
 ghost use Rattle.lapd_pair_laws.specs.Timed.{AreRested};
 ghost use Rattle.lapd_pair_laws.specs.Worked.{outcome_of, new_pair, sabme_lost, three_lost, busy, nothing_to_do, established, recovered, held_up};
 
-/// A quiet line drains after any run: its settling moves acknowledge each message that was left,
-/// and drop none (Q.921 5.6). So each was received. They are at most three moves per message left,
-/// and eight more. The run starts in a new world, on whole numbers or on tags, with windows of 1 to
-/// 127. An end may use either procedure when T200 expires.
+/// A line that is quiet after a run drains: its settling moves acknowledge each message that was
+/// left, and drop none (Q.921 5.6). So each was received. They are at most three moves per message
+/// left, and eight more. The run starts in a new world, on whole numbers or on tags, with windows
+/// of 1 to 127 and either `Recovery`.
 pub fn every_quiet_line_drains()
     ensures { (r : Reading) (user network : Parameters)
         → user.k ≤ 127 → network.k ≤ 127 → 1 ≤ user.k → 1 ≤ network.k → (moves : List Move)
