@@ -63,7 +63,7 @@ with_view side.Network v w = record {
   to_network = v.incoming;
 }
 
--- the world after an admitted move, and what the move put out
+-- the world after an admitted move, and its outputs
 pub record Happened : Type 0 where
   pub world : World
   pub outs : List Out

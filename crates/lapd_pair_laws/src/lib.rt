@@ -11,7 +11,7 @@
 //! moves (begin with [`schedule_is_computed`]), say what every run keeps ([`worlds_are_kept`]), and
 //! that a run on tags is the tag of the run on whole numbers ([`tags_move_as_whole_numbers`]).
 //!
-//! **Every run is safe.** A side receives the messages that the other side submitted, in order and
+//! **Every run is safe.** A side receives only messages that the other side submitted, in order and
 //! once each. Read next: `Kinds`, the kinds of frames in transit; `Parties`, the values of a side
 //! that the invariant reads, and the frames that it will process; `Conjuncts`, each a statement
 //! about a few of these values; `Invariant`, all of them; `Reports`; `Fresh`, that no old message
